@@ -10,7 +10,7 @@ from ldvtools.errors import Malformed                                        # n
 from ldvtools.join import clash_of                                           # noqa: E402
 from ldvtools.packages import Joined, read_any, read_package                   # noqa: E402
 from package_versions import parts_of                                        # noqa: E402
-from packages import encode, foreign                                         # noqa: E402
+from spelling import encode, foreign                                         # noqa: E402
 from packages_joined import joined                                           # noqa: E402
 
 LENGTH = 4

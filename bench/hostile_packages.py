@@ -8,8 +8,8 @@ sys.path.insert(0, os.path.join(os.path.dirname(os.path.abspath(__file__)), '..'
 from ldvtools.errors import Malformed                                        # noqa: E402
 from ldvtools.packages import read_package                                   # noqa: E402
 from package_versions import event_of, in_version, parts_of                  # noqa: E402
-from packages import MAGIC, cut, encode                                      # noqa: E402
-from packages import run as run_of                                           # noqa: E402
+from spelling import MAGIC, cut, encode                                      # noqa: E402
+from spelling import run as run_of                                           # noqa: E402
 
 DIGEST_LENGTH = 32
 EDGES = [0, 1, 2, 255, 256, 65535, 65536, 2**31 - 1, 2**31, 2**32 - 1, 2**32, 2**63 - 1, 2**63, 2**64 - 1,

@@ -2,7 +2,7 @@
 writes the cases, and says what a rule is."""
 import hashlib
 
-from packages import *
+from spelling import *
 
 FORM = Rules()
 rule, allowed = FORM.rule, FORM.allowed

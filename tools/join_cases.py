@@ -5,7 +5,7 @@ the other one. package_cases.py writes them.
 What is replied and needed was worked out by hand. The tables are `p` with the keys 1, 2 and 3, and `c`, whose
 column p refers to it: 10 to 1, 11 to 2, and 12 to none."""
 from need_cases import reply_text
-from packages import *
+from spelling import *
 from packages_joined import check_joined, encode_joined, joined_parts, reason
 
 PARENTS = [(1,), (2,), (3,)]

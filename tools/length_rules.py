@@ -1,6 +1,6 @@
 """The rules of the counts and lengths in a package. Those of LARGE have cases that are too long to be stored.
 package_cases.py writes the cases, and says what a rule is."""
-from packages import *
+from spelling import *
 
 COUNTED, LARGE = Rules(), Rules()
 

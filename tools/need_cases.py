@@ -5,7 +5,7 @@ A script is a name, its statements, and how many of the rows below its table has
 text, its reply, and the rows that it needs with their rules: by their lineage (L), hidden by HAVING or LIMIT
 (H), or by a refused key (K). A row that was changed before has its version there, and a statement that
 changes rows says which versions it makes."""
-from packages import *
+from spelling import *
 
 GREATEST_NUMBER, LEAST_NUMBER = 2 ** 63 - 1, -2 ** 63
 T = [(1, 'a', 10), (2, 'a', 20), (3, 'b', 5), (4, 'b', None), (5, 'c', 10),

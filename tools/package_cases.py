@@ -1,6 +1,6 @@
 #!/usr/bin/env python3
 """Writes the cases of packages: for each rule of a valid package some that break this rule only, each with a
-right digest, beside some that come as close and are valid. packages.py makes the bytes.
+right digest, beside some that come as close and are valid. spelling.py makes the bytes.
 
     python3 tools/package_cases.py                writes packages.json, packages_in_runs.json, traces.json,
                                                   needs.json, migrate.json and joined_packages.json into
@@ -23,7 +23,7 @@ from join_cases import JOINED, join_cases, large_join_cases
 from length_rules import COUNTED, LARGE
 from need_cases import need_cases
 from package_versions import migrations
-from packages import case, check_encoder, described, encode, lines, tell
+from spelling import case, check_encoder, described, encode, lines, tell
 from packages_in_runs import RUNS
 from table_rules import TABLES
 from trace_cases import CASES, trace_case

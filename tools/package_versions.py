@@ -1,6 +1,6 @@
 #!/usr/bin/env python3
 """Packages of one version as packages of the other.
-packages.py says what both are; nothing is taken from the program.
+spelling.py says what both are; nothing is taken from the program.
 
     python3 tools/package_versions.py 2 <in >out         spells the package on standard input in this version
     python3 tools/package_versions.py --cases FILE..     in files of cases, a line each, spells each output
@@ -8,17 +8,17 @@ packages.py says what both are; nothing is taken from the program.
 
 package_cases.py writes its `migrations`: valid packages of both versions, and the one that `migrate` makes of
 each. No rule of a valid package is tested here: what is read is a package that a run has given, or one of
-packages.py.
+spelling.py.
 """
 import json
 import sys
 
 from ldvtools.language import KEYED_REFUSALS
 from ldvtools.packages import read_package
-from packages import *
+from spelling import *
 
 
-# ---- what is read, as packages.py describes it
+# ---- what is read, as spelling.py describes it
 
 def table_of(each):
     names = each.names()

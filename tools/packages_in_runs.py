@@ -1,6 +1,6 @@
 """The cases of packages whose traces stand in runs: version 2.
 package_cases.py writes them, and says what a rule is."""
-from packages import *
+from spelling import *
 
 RUNS = Rules()
 EVENTS = 20000001                           # the most events of a trace

@@ -1,13 +1,13 @@
 """Joined packages as Python structures, and their bytes: written from docs/FORMATS.md and from nothing else.
 
 A joined package is a dict of its sections, whose `runs` are two: what each needs, and its trace. As in
-packages.py, raw bytes may stand in place of any field, and a list or a text may say another count than it
+spelling.py, raw bytes may stand in place of any field, and a list or a text may say another count than it
 has.
 """
 import hashlib
 
 from package_versions import parts_of
-from packages import (BASES, spell_file, spell_list, spell_number, spell_rule, spell_table, spell_text,
+from spelling import (BASES, spell_file, spell_list, spell_number, spell_rule, spell_table, spell_text,
                       spell_trace, spell_u32, spell_value)
 
 MAGIC = b'LDVJOIN1'
@@ -49,7 +49,7 @@ def common_tables(packages):
 
 
 def joined_parts(first, second):
-    """The joined package of two packages of packages.py that don't clash."""
+    """The joined package of two packages of spelling.py that don't clash."""
     both = first, second
     return dict(magic=MAGIC, files=common_files(both), tables=common_tables(both),
                 runs=[picked(p) for p in both], body=lambda body: body,

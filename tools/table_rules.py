@@ -1,6 +1,6 @@
 """The rules of the tables and the logs of a package.
 package_cases.py writes the cases, and says what a rule is."""
-from packages import *
+from spelling import *
 
 TABLES = Rules()
 rule, allowed = TABLES.rule, TABLES.allowed

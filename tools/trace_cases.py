@@ -1,6 +1,6 @@
 """The cases of reports on traces that no run leaves, with what each depends on by the table of acts in
 docs/FORMATS.md. package_cases.py writes them."""
-from packages import *
+from spelling import *
 
 
 def lines_of(words):

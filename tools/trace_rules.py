@@ -1,5 +1,5 @@
 """The rules of the trace of a package. package_cases.py writes the cases, and says what a rule is."""
-from packages import *
+from spelling import *
 
 TRACES = Rules()
 rule, allowed = TRACES.rule, TRACES.allowed

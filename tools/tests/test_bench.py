@@ -10,7 +10,7 @@ from unittest import mock
 
 import join_cases
 import package_versions
-import packages
+import spelling
 import packages_joined
 
 from ldvtools.errors import Malformed
@@ -33,7 +33,7 @@ PROVENANCE = document_text(Provenance(
     [Node("path", "main"), Node("process", "0"), Node("path", "g")],
     [Edge(0, 1, 0, 0), Edge(1, 2, 1, 1)])).encode()
 # Two runs of a world with rows.
-TWO = read_package(packages.encode(packages.BASES["rows"]))
+TWO = read_package(spelling.encode(spelling.BASES["rows"]))
 JOINED = packages_joined.joined(TWO, TWO._replace(seed=5))
 # Two runs over tables with a foreign key.
 WITH_PARENTS = packages_joined.encode_joined(join_cases.BOTH)
@@ -60,11 +60,11 @@ class RefusedMemory(InFolder):
 
     def setUp(self):
         super().setUp()
-        rows = {"s": [packages.row(0, 1)], "t": [packages.row(3, 1), packages.row(5, 2)], "u": []}
-        tables = [packages.table(name, [packages.column("k")], rows=rows[name]) for name in rows]
-        trace = [packages.started(), packages.act("wrote", "f"), packages.act("opened append", "g"),
-                 packages.asked(), packages.ended()]
-        self.package = packages.encode(packages.package(steps=8, tables=tables, trace=trace))
+        rows = {"s": [spelling.row(0, 1)], "t": [spelling.row(3, 1), spelling.row(5, 2)], "u": []}
+        tables = [spelling.table(name, [spelling.column("k")], rows=rows[name]) for name in rows]
+        trace = [spelling.started(), spelling.act("wrote", "f"), spelling.act("opened append", "g"),
+                 spelling.asked(), spelling.ended()]
+        self.package = spelling.encode(spelling.package(steps=8, tables=tables, trace=trace))
 
     def answered(self, number="3\n", other=None):
         """What refused.py ends with and prints where each command has so many requests,
@@ -95,7 +95,7 @@ class RefusedMemory(InFolder):
         self.assertIn("no request of memory", self.answered(number="0\n")[0])
 
     def test_no_rows(self):
-        items = refused.items_of(read_package(packages.encode(packages.package())))
+        items = refused.items_of(read_package(spelling.encode(spelling.package())))
         self.assertEqual(list(items), [["inspect", "depends", "main"]])
 
     @unittest.skipUnless(shutil.which("cc") and sys.platform == "linux", "there is no cc")
@@ -230,7 +230,7 @@ class HostileInputs(InFolder):
     def asked(self, answer):
         """The calls of a few inputs where each but `record` gets this answer."""
         asked_here, document = [], read(f"{EXAMPLES}/orders.json")
-        made = packages.encode(packages.package())
+        made = spelling.encode(spelling.package())
         job = ("program", {"modes": [[], ["--excluded"]]}, 1, 200, self.folder, list(hostile.STATUSES),
                self.folder)
         with mock.patch("hostile.Calls", lambda *_: FakeCalls(answer, asked_here)), \
@@ -267,8 +267,8 @@ class HostileInputs(InFolder):
         """Pairs are made that are joined, that clash in each way, and that are none."""
         chance, counts = hostile.random.Random(1), collections.Counter()
         names = ("rows", "picked", "plain in runs", "logs")
-        bases = [packages.encode(packages.BASES[name]) for name in names]
-        bases += map(packages.encode, (join_cases.FIRST, join_cases.SECOND))
+        bases = [spelling.encode(spelling.BASES[name]) for name in names]
+        bases += map(spelling.encode, (join_cases.FIRST, join_cases.SECOND))
         for _ in range(1500):
             made = hostile_joins.mutated_pair(chance, bases, bases)
             pair = hostile_joins.pair_in(made)
@@ -328,8 +328,8 @@ class HostileInputs(InFolder):
         """Packages are made of both versions, with right digests and wrong ones; of runs those at the limits
         of their numbers, and those that could be longer."""
         chance, counts = hostile.random.Random(1), collections.Counter()
-        loop = packages.encode(packages.BASES["loop"])
-        for base in (loop, packages.encode(packages.BASES["rows"])) * 1000:
+        loop = spelling.encode(spelling.BASES["loop"])
+        for base in (loop, spelling.encode(spelling.BASES["rows"])) * 1000:
             made = hostile.package_input(chance, base)
             try:
                 found = read_package(made)
@@ -339,7 +339,7 @@ class HostileInputs(InFolder):
             counts[found.version] += 1
             counts["as many as may be"] += found.event_count() == 20_000_001
             if found.version == 2 and found.event_count() < 100:
-                longest = packages.cut(package_versions.event_of(each) for each in found.events)
+                longest = spelling.cut(package_versions.event_of(each) for each in found.events)
                 counts["could be longer"] += longest != hostile_packages.runs_of(found)
         for each in (1, 2, b"LDVPACK1", b"LDVPACK2", "its digest is another one", "as many as may be",
                      "could be longer"):
@@ -348,7 +348,7 @@ class HostileInputs(InFolder):
     def test_other_version(self):
         """A package in the other version is the same package; what is none stays."""
         for base in ("rows", "acts in runs", "logs"):
-            given = packages.encode(packages.BASES[base])
+            given = spelling.encode(spelling.BASES[base])
             other = hostile_packages.in_other_version(given)
             self.assertNotEqual(other[:8], given[:8])
             self.assertEqual(list(read_package(other).events), list(read_package(given).events))
@@ -356,18 +356,18 @@ class HostileInputs(InFolder):
         self.assertEqual(hostile_packages.in_other_version(b"LDVPACK1"), b"LDVPACK1")
         # What only a program with foreign keys takes for a package.
         rule = {"trace.1.reads.0.rows.0.rule": 4, "trace.1.reads.0.rows.1.rule": 5, "tables.0.rows.0.rule": 4}
-        given = packages.encode(packages.changed("rows", rule))
+        given = spelling.encode(spelling.changed("rows", rule))
         self.assertEqual(hostile_packages.in_other_version(hostile_packages.in_other_version(given)), given)
         # The second event's step has no spelling in 32 bits.
-        runs = [packages.run(packages.started()), packages.run(packages.act("tested", "f", 2**32 - 1), 2, 1)]
-        given = packages.encode(packages.package(2, runs=runs))
+        runs = [spelling.run(spelling.started()), spelling.run(spelling.act("tested", "f", 2**32 - 1), 2, 1)]
+        given = spelling.encode(spelling.package(2, runs=runs))
         self.assertEqual([event.step for event in read_package(given).events], [0, 2**32 - 1, 2**32])
         self.assertEqual(hostile_packages.in_other_version(given), given)
 
     def test_no_other_runs(self):
         """Steps that go down aren't those of runs, so that the package has no other runs."""
-        trace = [packages.started(), packages.act("tested", "f", 9), packages.act("tested", "f", 2)]
-        given = packages.encode(packages.package(trace=trace))
+        trace = [spelling.started(), spelling.act("tested", "f", 9), spelling.act("tested", "f", 2)]
+        given = spelling.encode(spelling.package(trace=trace))
         self.assertEqual([event.step for event in read_package(given).events], [0, 9, 2])
         for seed in range(50):
             other = hostile_packages.with_other_runs(random.Random(seed), given)
@@ -376,7 +376,7 @@ class HostileInputs(InFolder):
 
     def test_migrated(self):
         """What `migrate` wrote is judged by its version, by what it becomes again and by its replay."""
-        old, new = (packages.encode(packages.BASES[name]) for name in ("plain", "plain in runs"))
+        old, new = (spelling.encode(spelling.BASES[name]) for name in ("plain", "plain in runs"))
         right = {("migrate", new): (0, new, b""),
                  ("replay", old): (0, b"x", b""), ("replay", new): (0, b"x", b"")}
 

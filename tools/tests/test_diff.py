@@ -1,7 +1,7 @@
 """diff.py, over outcomes and packages."""
 import os
 
-import packages
+import spelling
 
 from ldvtools import diff
 
@@ -47,80 +47,80 @@ class Differences(InFolder):
         self.assertEqual(self.compared(text % (30, many), text % (0, b""), "--all")[1].count(b"\n"), 31)
 
     def test_packages(self):
-        columns = [packages.column("k", "INT NOT NULL")]
-        tables = [packages.table("t", columns, next=5, rows=[packages.row(0, 1), packages.row(2, 3)])]
-        trace = [packages.started(),
-                 packages.asked(0, tables=["t"], reads=[packages.group("t", packages.read(0))]),
-                 packages.ended()]
+        columns = [spelling.column("k", "INT NOT NULL")]
+        tables = [spelling.table("t", columns, next=5, rows=[spelling.row(0, 1), spelling.row(2, 3)])]
+        trace = [spelling.started(),
+                 spelling.asked(0, tables=["t"], reads=[spelling.group("t", spelling.read(0))]),
+                 spelling.ended()]
         base = dict(tables=tables, trace=trace)
-        before = packages.encode(packages.package(**base))
+        before = spelling.encode(spelling.package(**base))
         self.assertEqual(self.compared(before, before), (0, b"", ""))
         for change, said in (
                 (dict(seed=7), b"seed: 0, and 7\n"),
-                (dict(files=[packages.file("main", "exit 1")]), b"file main: 6 bytes, and 6 bytes\n"),
-                (dict(tables=[packages.table("t", columns, next=5, rows=[packages.row(0, 2)])]),
+                (dict(files=[spelling.file("main", "exit 1")]), b"file main: 6 bytes, and 6 bytes\n"),
+                (dict(tables=[spelling.table("t", columns, next=5, rows=[spelling.row(0, 2)])]),
                  b"table t: 2 packed rows, and 1\n  - row 0: 1\n  + row 0: 2\n  - row 2: 3\n"),
-                (dict(tables=[packages.table("t", columns, next=6,
-                                             rows=[packages.row(0, 1), packages.row(2, 3)])]),
+                (dict(tables=[spelling.table("t", columns, next=6,
+                                             rows=[spelling.row(0, 1), spelling.row(2, 3)])]),
                  b"table t: next row 5, and 6\n"),
-                (dict(tables=[packages.table("t", [*columns, packages.column("g", "TEXT")], key=[0], next=5,
-                                             rows=[packages.row(0, 1, "a"), packages.row(2, 3, "a")])]),
+                (dict(tables=[spelling.table("t", [*columns, spelling.column("g", "TEXT")], key=[0], next=5,
+                                             rows=[spelling.row(0, 1, "a"), spelling.row(2, 3, "a")])]),
                  b"table t: columns k INT NOT NULL, and k INT NOT NULL, g TEXT\ntable t: key none, and k\n"),
                 (dict(tables=[]), b"- table t\n"),
-                (dict(trace=[packages.started(), packages.asked(0, tables=["t"]), packages.ended()]),
+                (dict(trace=[spelling.started(), spelling.asked(0, tables=["t"]), spelling.ended()]),
                  b"process 0 statement 0: needs 1 row, and 0\n  - t 0 version 0 rule L\n")):
-            status, out, err = self.compared(before, packages.encode(packages.package(**{**base, **change})))
+            status, out, err = self.compared(before, spelling.encode(spelling.package(**{**base, **change})))
             self.assertEqual((status, err), (1, ""))
             self.assertIn(said, out)
 
     def test_traces(self):
         """The first event that differs is shown, as `inspect trace` has it; also one that one trace lacks."""
-        found = packages.act("tested", "f", step=1, found=1)
+        found = spelling.act("tested", "f", step=1, found=1)
         for trace, other, said in (
-                ([packages.started(), found, packages.ended(2)],
-                 [packages.started(), packages.act("tested", "f", step=1, found=0), packages.ended(2)],
+                ([spelling.started(), found, spelling.ended(2)],
+                 [spelling.started(), spelling.act("tested", "f", step=1, found=0), spelling.ended(2)],
                  "the traces differ: 3 events, and 3; first at event 1, counted from 0\n"
                  "  - 1 0 tested found f\n  + 1 0 tested absent f\n"),
-                ([packages.started(), found, packages.ended(2)], [packages.started(), packages.ended(2)],
+                ([spelling.started(), found, spelling.ended(2)], [spelling.started(), spelling.ended(2)],
                  "the traces differ: 3 events, and 2; first at event 1, counted from 0\n"
                  "  - 1 0 tested found f\n  + 2 0 ended 0\n"),
-                ([packages.started(), found], [packages.started()],
+                ([spelling.started(), found], [spelling.started()],
                  "the traces differ: 2 events, and 1; first at event 1, counted from 0\n"
                  "  - 1 0 tested found f\n"),
-                ([packages.started(), packages.spawned(1), packages.waited(1, 2), packages.ended(3)],
-                 [packages.started(), packages.spawned(1), packages.waited(1, 3), packages.ended(3)],
+                ([spelling.started(), spelling.spawned(1), spelling.waited(1, 2), spelling.ended(3)],
+                 [spelling.started(), spelling.spawned(1), spelling.waited(1, 3), spelling.ended(3)],
                  "first at event 2, counted from 0\n  - 2 0 waited 0.0\n  + 3 0 waited 0.0\n")):
-            status, out, err = self.compared(*(packages.encode(packages.package(steps=3, trace=each))
+            status, out, err = self.compared(*(spelling.encode(spelling.package(steps=3, trace=each))
                                                for each in (trace, other)))
             self.assertEqual((status, err), (1, ""))
             self.assertIn(said, out.decode())
         # Of runs that stand for many events only the place is worked out.
-        found = packages.act("wrote", "f", step=1)
-        whole, part = (packages.encode(packages.package(version=2, steps=9_000_001, runs=[
-            packages.run(packages.started()), packages.run(packages.act("opened write", "f")),
-            packages.run(found, count, 2)], trace=[])) for count in (4_000_000, 4_000_001))
+        found = spelling.act("wrote", "f", step=1)
+        whole, part = (spelling.encode(spelling.package(version=2, steps=9_000_001, runs=[
+            spelling.run(spelling.started()), spelling.run(spelling.act("opened write", "f")),
+            spelling.run(found, count, 2)], trace=[])) for count in (4_000_000, 4_000_001))
         self.assertIn("the traces differ: 4000002 events, and 4000003; first at event 4000002, counted from "
                       "0\n"
                       "  + 8000001 0 wrote f\n", self.compared(whole, part)[1].decode())
 
     def test_logs(self):
         def spelled(*entries):
-            return packages.encode(packages.package(mode=2, logs=[packages.log([0], *entries)],
-                                                    trace=[packages.started(), packages.asked(0),
-                                                           packages.ended()]))
-        before = spelled(packages.entry("SELECT 1", [1], dict(changed=1)))
-        status, out, _ = self.compared(before, spelled(packages.entry("SELECT 2", [1], dict(changed=2))))
+            return spelling.encode(spelling.package(mode=2, logs=[spelling.log([0], *entries)],
+                                                    trace=[spelling.started(), spelling.asked(0),
+                                                           spelling.ended()]))
+        before = spelled(spelling.entry("SELECT 1", [1], dict(changed=1)))
+        status, out, _ = self.compared(before, spelled(spelling.entry("SELECT 2", [1], dict(changed=2))))
         self.assertEqual(out.decode(),
                          "process 0 statement 0 is another one\n  - SELECT 1 with 1\n  + SELECT 2 with 1\n"
                                        "process 0 statement 0: 1 row changed, and 2 rows changed\n")
 
     def test_misuse(self):
-        self.assertEqual(self.compared(BEFORE, packages.encode(packages.package()))[0], 2)
+        self.assertEqual(self.compared(BEFORE, spelling.encode(spelling.package()))[0], 2)
         self.assertEqual(self.compared(BEFORE, b"x")[0], 2)
         world = read(f"{EXAMPLES}/orders.json")
         for before, after, said in ((world, b" " + world, "these are worlds"),
                                     (world, BEFORE, "the first is a world"),
-                                    (packages.encode(packages.package()), world, "the second is a world")):
+                                    (spelling.encode(spelling.package()), world, "the second is a world")):
             self.assertEqual(self.compared(before, after),
                              (2, b"", f"diff.py: {said}: compare the outcomes that ldv run makes, or the "
                                       "packages of ldv record\n"))

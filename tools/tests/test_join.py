@@ -1,6 +1,6 @@
-"""join.py, over packages that packages.py spells and over those of the cases."""
+"""join.py, over packages that spelling.py spells and over those of the cases."""
 import join_cases
-import packages
+import spelling
 import packages_joined
 
 from ldvtools import join
@@ -28,23 +28,23 @@ class Joins(InFolder):
     """Two packages that differ in one thing."""
 
     def made(self, name, start="main", files=None, rows=None, **fields):
-        columns = [packages.column("k", "INT NOT NULL"), packages.column("v", "TEXT")]
-        rows = rows if rows is not None else [packages.row(0, 1, "a"), packages.row(1, 2, "b")]
-        table = packages.table("t", columns, **{"key": [0], "next": 5, "rows": rows, **fields})
-        files = files or [packages.file("main", "exit 0\n"), packages.file("seen", "x\ny\n")]
-        trace = [packages.started(), packages.asked(0), packages.ended()]
-        return self.put(name, packages.encode(packages.package(tables=[table], files=files, trace=trace)))
+        columns = [spelling.column("k", "INT NOT NULL"), spelling.column("v", "TEXT")]
+        rows = rows if rows is not None else [spelling.row(0, 1, "a"), spelling.row(1, 2, "b")]
+        table = spelling.table("t", columns, **{"key": [0], "next": 5, "rows": rows, **fields})
+        files = files or [spelling.file("main", "exit 0\n"), spelling.file("seen", "x\ny\n")]
+        trace = [spelling.started(), spelling.asked(0), spelling.ended()]
+        return self.put(name, spelling.encode(spelling.package(tables=[table], files=files, trace=trace)))
 
     def joined(self, *words):
         return tool(join, *words)
 
     def test_input(self):
         """The input has each package with its length before it."""
-        first, second = self.made("a"), self.made("b", rows=[packages.row(1, 2, "b")])
+        first, second = self.made("a"), self.made("b", rows=[spelling.row(1, 2, "b")])
         self.assertEqual(self.joined(first, second), (0, sized(read(first)) + sized(read(second)), ""))
 
     def test_file(self):
-        files = [packages.file("main", "exit 0\n"), packages.file("seen", "x\nz\n")]
+        files = [spelling.file("main", "exit 0\n"), spelling.file("seen", "x\nz\n")]
         first, second = self.made("a"), self.made("b", files=files)
         status, out, err = self.joined(first, second)
         self.assertEqual((status, out), (1, b""))
@@ -53,22 +53,22 @@ class Joins(InFolder):
 
     def test_present_file(self):
         """A file that only one has whole doesn't clash."""
-        files = [packages.file("main", "exit 0\n"), packages.file("seen")]
+        files = [spelling.file("main", "exit 0\n"), spelling.file("seen")]
         self.assertEqual(self.joined(self.made("a"), self.made("b", files=files))[0], 0)
 
     def test_table(self):
         """Columns, key and next number are named where they differ; a table comes before its rows."""
-        first, second = self.made("a"), self.made("b", next=7, key=[], rows=[packages.row(0, 1, "other")])
+        first, second = self.made("a"), self.made("b", next=7, key=[], rows=[spelling.row(0, 1, "other")])
         self.assertEqual(self.joined(first, second)[2],
                          f"join.py: clash: table t\n  key: k in {first}, none in {second}\n"
                          f"  next row number: 5 in {first}, 7 in {second}\n")
 
     def test_foreign(self):
         """Foreign keys are named with their columns and parents, in their order."""
-        to_p, to_q = packages.foreign([1], "p"), packages.foreign([1, 2], "q")
+        to_p, to_q = spelling.foreign([1], "p"), spelling.foreign([1, 2], "q")
         one, both, other, none = (
             self.put(f"{len(foreigns)}{foreigns[:1] == [to_p]}",
-                     packages.encode(join_cases.bare(join_cases.wide(*foreigns))))
+                     spelling.encode(join_cases.bare(join_cases.wide(*foreigns))))
             for foreigns in ([to_p], [to_p, to_q], [to_q, to_p], []))
         said = "join.py: clash: table c\n  foreign keys: "
         self.assertEqual(self.joined(one, both)[2],
@@ -80,27 +80,27 @@ class Joins(InFolder):
     def test_row(self):
         """The columns that differ, with the values of both."""
         first = self.made("a")
-        second = self.made("b", rows=[packages.row(1, 2, None), packages.row(3, 1, "a")])
+        second = self.made("b", rows=[spelling.row(1, 2, None), spelling.row(3, 1, "a")])
         self.assertEqual(self.joined(first, second)[2],
                          f"join.py: clash: row t 1\n  column v: b in {first}, NULL in {second}\n")
 
     def test_key(self):
         """Keys are judged over the rows of both, and it is said which of the two has a row."""
         first = self.made("a")
-        second = self.made("b", rows=[packages.row(0, 1, "a"), packages.row(3, 2, "c")])
+        second = self.made("b", rows=[spelling.row(0, 1, "a"), spelling.row(3, 2, "c")])
         self.assertEqual(self.joined(first, second)[2],
                          f"join.py: clash: key t 3\n  row 1 of {first} and row 3 of {second} have the same "
                          "key: k 2\n")
-        rows = [packages.row(0, 1, "a"), packages.row(1, 2, "b"), packages.row(2, 1, "d")]
+        rows = [spelling.row(0, 1, "a"), spelling.row(1, 2, "b"), spelling.row(2, 1, "d")]
         twin = self.made("c", rows=rows)
         self.assertIn(f"row 0 of {first} and {twin} and row 2 of {twin}", self.joined(first, twin)[2])
 
     def test_order(self):
         """Files are looked at before tables, and these before rows."""
-        files = [packages.file("main", "exit 1\n")]
-        second = self.made("b", files=files, next=7, rows=[packages.row(0, 9, "a")])
+        files = [spelling.file("main", "exit 1\n")]
+        second = self.made("b", files=files, next=7, rows=[spelling.row(0, 9, "a")])
         self.assertIn("clash: file main", self.joined(self.made("a"), second)[2])
-        second = self.made("b", next=7, rows=[packages.row(0, 9, "a")])
+        second = self.made("b", next=7, rows=[spelling.row(0, 9, "a")])
         self.assertIn("clash: table t", self.joined(self.made("a"), second)[2])
 
     def test_no_packages(self):
@@ -108,7 +108,7 @@ class Joins(InFolder):
         self.assertEqual(self.joined(first, self.put("n", b"no package"))[0], 1)
         self.assertIn("standard input", self.joined("-", "-")[2])
         self.assertEqual(self.joined(first)[0], 2)
-        replies = self.put("r", packages.encode(packages.package(mode=2)))
+        replies = self.put("r", spelling.encode(spelling.package(mode=2)))
         self.assertIn("recorded replies", self.joined(first, replies)[2])
         both = self.put("j", packages_joined.joined(read_package(read(first)), read_package(read(first))))
         self.assertEqual(self.joined(both, first), (1, b"", f"join.py: {both} is a joined package already; "

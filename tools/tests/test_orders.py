@@ -1,11 +1,11 @@
-"""orders.py, over packages that packages.py spells, with a program in place of ldv; runs in all orders."""
+"""orders.py, over packages that spelling.py spells, with a program in place of ldv; runs in all orders."""
 import json
 import os
 import random
 import shlex
 import unittest.mock
 
-import packages
+import spelling
 
 from ldvtools import orders
 from ldvtools.outcomes import read_outcome
@@ -42,14 +42,14 @@ STEPS = {"apart": 82, "jobs": 66, "orders": 28}
 
 def spelled(*trace, children=2, **parts):
     """A package of a run of two children and of these events."""
-    made = [packages.spawned(1 + place, 0, "s") for place in range(children)]
-    trace = [packages.started(), *made, *trace, packages.ended(9)]
+    made = [spelling.spawned(1 + place, 0, "s") for place in range(children)]
+    trace = [spelling.started(), *made, *trace, spelling.ended(9)]
     given = dict(version=2, mode=EXCLUDED, steps=9, trace=trace)
-    return packages.encode(packages.package(**{**given, **parts}))
+    return spelling.encode(spelling.package(**{**given, **parts}))
 
 
 def act(name, process, path="f", step=3):
-    return packages.act(name, path, step, process)
+    return spelling.act(name, path, step, process)
 
 
 class Shared(InFolder):
@@ -82,7 +82,7 @@ class Shared(InFolder):
     def test_absent(self):
         """A path that isn't there, and is asked for, is named too."""
         for name in ("tested", "unopened", "unspawned"):
-            events = [act("removed", 1), packages.act(name, "f", 4, 2, found=0)]
+            events = [act("removed", 1), spelling.act(name, "f", 4, 2, found=0)]
             self.assertIn("file f\n  process 0.0: removed it\n", self.kind(*events))
 
     def test_script(self):
@@ -108,8 +108,8 @@ file b
 """)
 
     def test_one_process(self):
-        trace = [packages.started(), act("wrote", 0, "main", 1), packages.ended()]
-        self.assertEqual(tool(orders, given=packages.encode(packages.package(mode=EXCLUDED, trace=trace))),
+        trace = [spelling.started(), act("wrote", 0, "main", 1), spelling.ended()]
+        self.assertEqual(tool(orders, given=spelling.encode(spelling.package(mode=EXCLUDED, trace=trace))),
                          (0, b"private: one process, which has one order of steps\n", ""))
 
     def test_rows(self):
@@ -121,9 +121,9 @@ file b
     def test_processes(self):
         """The first process and 65,533 others are fewer than 65,535."""
         for times, said in ((65_533, "private: 65534 processes,"), (65_534, "65535 processes were made")):
-            runs = [packages.run(packages.started()), packages.run(packages.spawned(1, 0, "s"), times, 1),
-                    packages.run(packages.ended(70_000))]
-            data = packages.encode(packages.package(version=2, mode=EXCLUDED, steps=70_000, runs=runs))
+            runs = [spelling.run(spelling.started()), spelling.run(spelling.spawned(1, 0, "s"), times, 1),
+                    spelling.run(spelling.ended(70_000))]
+            data = spelling.encode(spelling.package(version=2, mode=EXCLUDED, steps=70_000, runs=runs))
             status, out, err = tool(orders, given=data)
             self.assertEqual((status, err), (1 if times == 65_534 else 0, ""))
             self.assertIn(said, out.decode())
@@ -362,13 +362,13 @@ class Orders(InFolder):
         if not os.access(support.PROGRAM, os.X_OK):
             self.skipTest(f"{support.PROGRAM} isn't there; compile it with ./ldv")
         # The first child removes d, and the second one asks SELECT 0 where d is gone, else SELECT 1.
-        files = [packages.file("d", ""), packages.file("m", 'spawn a "o" else z\nspawn b "t" else z\nz:\n'),
-                 packages.file("o", 'remove "d" else z\nz:\n'),
-                 packages.file("t", 'exists x "d"\nlet q = "SELECT " ++ x\nsql c q\n')]
-        trace = [packages.started("m"), packages.spawned(1, 0, "o"), packages.spawned(2, 0, "t"),
-                 packages.ended(9)]
-        logs = [packages.log([0, 1], packages.entry("SELECT 0"))]
-        data = packages.encode(packages.package(version=2, mode=EXCLUDED, start=["m"], steps=9, files=files,
+        files = [spelling.file("d", ""), spelling.file("m", 'spawn a "o" else z\nspawn b "t" else z\nz:\n'),
+                 spelling.file("o", 'remove "d" else z\nz:\n'),
+                 spelling.file("t", 'exists x "d"\nlet q = "SELECT " ++ x\nsql c q\n')]
+        trace = [spelling.started("m"), spelling.spawned(1, 0, "o"), spelling.spawned(2, 0, "t"),
+                 spelling.ended(9)]
+        logs = [spelling.log([0, 1], spelling.entry("SELECT 0"))]
+        data = spelling.encode(spelling.package(version=2, mode=EXCLUDED, start=["m"], steps=9, files=files,
                                                 logs=logs, trace=trace))
         status, out, err = tool(orders, "--ldv", support.PROGRAM, "--seeds", "9", given=data)
         self.assertEqual((status, err), (1, ""))

@@ -1,4 +1,4 @@
-"""package.py, over packages that packages.py spells and over those of the cases."""
+"""package.py, over packages that spelling.py spells and over those of the cases."""
 import hashlib
 import json
 import os
@@ -6,7 +6,7 @@ import sqlite3
 
 import join_cases
 import package_cases
-import packages
+import spelling
 
 from ldvtools import package, page_data
 from ldvtools.errors import Malformed
@@ -19,17 +19,17 @@ from .test_check import cases
 
 
 class Packages(InFolder):
-    """tools/package.py, over packages that packages.py spells."""
+    """tools/package.py, over packages that spelling.py spells."""
 
     def setUp(self):
         super().setUp()
-        columns = [packages.column("k", "INT NOT NULL"), packages.column("g", "TEXT"), packages.column("v")]
-        rows = [packages.row(0, 1, 'a "x", y', None), packages.row(2, 3, "", -5, statement=1, rule="K")]
-        tables = [packages.table("t", columns, key=[0], next=5, rows=rows)]
-        files = [packages.file("main", ""), packages.file("seen")]
-        trace = [packages.started(), packages.asked(0), packages.asked(1), packages.ended()]
+        columns = [spelling.column("k", "INT NOT NULL"), spelling.column("g", "TEXT"), spelling.column("v")]
+        rows = [spelling.row(0, 1, 'a "x", y', None), spelling.row(2, 3, "", -5, statement=1, rule="K")]
+        tables = [spelling.table("t", columns, key=[0], next=5, rows=rows)]
+        files = [spelling.file("main", ""), spelling.file("seen")]
+        trace = [spelling.started(), spelling.asked(0), spelling.asked(1), spelling.ended()]
         self.path = self.put("t.package",
-                             packages.encode(packages.package(tables=tables, files=files, trace=trace)))
+                             spelling.encode(spelling.package(tables=tables, files=files, trace=trace)))
 
     def test_summary(self):
         self.assertEqual(tool(package, given=read(self.path)),
@@ -62,7 +62,7 @@ table t (k INT NOT NULL, g TEXT, v INT, key k): 2 rows, next row 5
 
     def test_no_rows(self):
         """Recorded replies make no tables, and nothing is written."""
-        data = packages.encode(packages.package(mode=2))
+        data = spelling.encode(spelling.package(mode=2))
         for word in ("--csv", "--sqlite"):
             path = os.path.join(self.folder, "new")
             self.assertEqual(tool(package, word, path, given=data),
@@ -83,9 +83,9 @@ table t (k INT NOT NULL, g TEXT, v INT, key k): 2 rows, next row 5
     def test_names(self):
         """A table whose name leads out of the folder, or out of a statement, is refused."""
         for table, name in (("../t", "k"), ("t", 'k" INT); --'), ("", "k"), ("T", "k"), ("t", "k" * 64)):
-            trace = [packages.started(), packages.ended()]
-            bytes_of = packages.encode(packages.package(
-                tables=[packages.table(table, [packages.column(name)], next=0)], trace=trace))
+            trace = [spelling.started(), spelling.ended()]
+            bytes_of = spelling.encode(spelling.package(
+                tables=[spelling.table(table, [spelling.column(name)], next=0)], trace=trace))
             for words in (["--csv", os.path.join(self.folder, "tables")],
                           ["--sqlite", os.path.join(self.folder, "t.db")]):
                 status, out, err = tool(package, *words, given=bytes_of)
@@ -95,11 +95,11 @@ table t (k INT NOT NULL, g TEXT, v INT, key k): 2 rows, next row 5
 
     def test_reserved_names(self):
         """A name that SQLite keeps for itself is refused, and no file is left."""
-        trace = [packages.started(), packages.ended()]
+        trace = [spelling.started(), spelling.ended()]
         for names in (["sqlite_t"], ["a", "sqlite_t"]):
-            tables = [packages.table(name, [packages.column("k")], next=0) for name in names]
+            tables = [spelling.table(name, [spelling.column("k")], next=0) for name in names]
             status, _, err = tool(package, "--sqlite", os.path.join(self.folder, "t.db"),
-                                  given=packages.encode(packages.package(tables=tables, trace=trace)))
+                                  given=spelling.encode(spelling.package(tables=tables, trace=trace)))
             self.assertEqual((status, err),
                              (1, "package.py: object name reserved for internal use: sqlite_t\n"))
             self.assertEqual(os.listdir(self.folder), ["t.package"])
@@ -242,18 +242,18 @@ table t (k INT NOT NULL, g TEXT, v INT, key k): 2 rows, next row 5
         alone = first._replace(tables=[])
         self.assertIn(b"t: 2 rows, 0 of them needed by both runs",
                       tool(package, "--rows", self.put("a", version2.joined(alone, first)))[1])
-        replies = packages.encode(packages.package(mode=2))
+        replies = spelling.encode(spelling.package(mode=2))
         self.assertIn("no table", tool(package, "--rows", given=replies)[2])
 
     def test_statement(self):
         """The rows that a statement needed, with the rule in words."""
-        tables = [packages.table("t", [packages.column("k"), packages.column("g", "TEXT")], next=5,
-                                 rows=[packages.row(0, 1, "a"), packages.row(2, 3, "b", rule="H")])]
-        trace = [packages.started(), packages.asked(0), packages.asked(
+        tables = [spelling.table("t", [spelling.column("k"), spelling.column("g", "TEXT")], next=5,
+                                 rows=[spelling.row(0, 1, "a"), spelling.row(2, 3, "b", rule="H")])]
+        trace = [spelling.started(), spelling.asked(0), spelling.asked(
             1, 3, tables=["t"],
-            reads=[packages.group("t", packages.read(0), packages.read(2, 1, "H"), packages.read(9))],
-            made=[packages.group("t", packages.made(2))]), packages.ended(4)]
-        data = packages.encode(packages.package(steps=4, tables=tables, trace=trace))
+            reads=[spelling.group("t", spelling.read(0), spelling.read(2, 1, "H"), spelling.read(9))],
+            made=[spelling.group("t", spelling.made(2))]), spelling.ended(4)]
+        data = spelling.encode(spelling.package(steps=4, tables=tables, trace=trace))
         self.assertEqual(tool(package, "--statement", "1", given=data), (0, b"""\
 statement 1: process 0 at step 3, tables t
 it needed 3 rows of t:
@@ -275,11 +275,11 @@ it made 1 version of rows of t
         """A package of recorded replies has no row, and names each row that a statement needed, in 9 bytes.
         The documents say so where they say what it has, with a way around."""
         def spelled(*rows):
-            asked = packages.asked(0, tables=["t"], reads=[packages.group("t", *rows)])
-            trace = [packages.started(), asked, packages.ended()]
-            log = packages.log([0], packages.entry())
-            return packages.encode(packages.package(mode=2, logs=[log], trace=trace))
-        one, two = spelled(packages.read(7)), spelled(packages.read(7), packages.read(12, 1, "H"))
+            asked = spelling.asked(0, tables=["t"], reads=[spelling.group("t", *rows)])
+            trace = [spelling.started(), asked, spelling.ended()]
+            log = spelling.log([0], spelling.entry())
+            return spelling.encode(spelling.package(mode=2, logs=[log], trace=trace))
+        one, two = spelled(spelling.read(7)), spelled(spelling.read(7), spelling.read(12, 1, "H"))
         self.assertEqual(len(two) - len(one), 9)
         self.assertEqual(read_package(two).tables, [])
         out = tool(package, "--statement", "0", given=two)[1].decode()
@@ -297,14 +297,14 @@ it made 1 version of rows of t
     def test_byte(self):
         """What stands at a byte that another package has otherwise, section by section."""
         def spelled(rule="L", value="b", read=0, made=2, version=2, **parts):
-            tables = [packages.table("t", [packages.column("k"), packages.column("g", "TEXT")], next=5,
-                                     rows=[packages.row(0, 1, "a"), packages.row(2, 3, value, rule=rule)])]
-            trace = [packages.started(), packages.asked(0), packages.asked(
-                1, 3, tables=["t"], reads=[packages.group("t", packages.read(2, 0), packages.read(3, read))],
-                made=[packages.group("t", packages.made(made))]), packages.ended(4)]
+            tables = [spelling.table("t", [spelling.column("k"), spelling.column("g", "TEXT")], next=5,
+                                     rows=[spelling.row(0, 1, "a"), spelling.row(2, 3, value, rule=rule)])]
+            trace = [spelling.started(), spelling.asked(0), spelling.asked(
+                1, 3, tables=["t"], reads=[spelling.group("t", spelling.read(2, 0), spelling.read(3, read))],
+                made=[spelling.group("t", spelling.made(made))]), spelling.ended(4)]
             given = dict(version=version, steps=4, tables=tables, trace=trace,
-                         files=[packages.file("main", "x"), packages.file("seen")])
-            return packages.encode(packages.package(**{**given, **parts}))
+                         files=[spelling.file("main", "x"), spelling.file("seen")])
+            return spelling.encode(spelling.package(**{**given, **parts}))
 
         def lines(data, at):
             status, out, err = tool(package, "--byte", str(at), given=data)
@@ -324,7 +324,7 @@ it made 1 version of rows of t
                     (dict(made=3), ["section trace", event, "versions of rows of t that it made",
                                     "row 2, version 1"]),
                     (dict(seed=5), ["section seed, steps"]),
-                    (dict(files=[packages.file("main", "y"), packages.file("seen")]),
+                    (dict(files=[spelling.file("main", "y"), spelling.file("seen")]),
                      ["section files", "file main"])):
                 other = spelled(version=version, **change)
                 at = next(place for place, pair in enumerate(zip(data, other)) if pair[0] != pair[1])
@@ -346,16 +346,16 @@ it made 1 version of rows of t
                              (1, b"", f"package.py: there is no byte {at}; the package has {len(data)}, "
                                       "counted "
                                       "from 0\n"))
-        log = packages.log([0], packages.entry("SELECT 1", [1]))
-        trace = [packages.started(), packages.asked(0), packages.ended()]
-        logged = packages.encode(packages.package(mode=2, logs=[log], trace=trace))
+        log = spelling.log([0], spelling.entry("SELECT 1", [1]))
+        trace = [spelling.started(), spelling.asked(0), spelling.ended()]
+        logged = spelling.encode(spelling.package(mode=2, logs=[log], trace=trace))
         self.assertEqual(lines(logged, logged.index(b"SELECT")),
                          ["section logs", "log of process 0", "statement SELECT 1"])
 
     def test_files(self):
         """Files go into a new folder, and none leads out of it."""
-        files = [packages.file("a/b", b"\xff"), packages.file("main", "x"), packages.file("seen")]
-        data = packages.encode(packages.package(files=files))
+        files = [spelling.file("a/b", b"\xff"), spelling.file("main", "x"), spelling.file("seen")]
+        data = spelling.encode(spelling.package(files=files))
         folder = os.path.join(self.folder, "new")
         status, out, err = tool(package, "--files", folder, given=data)
         self.assertEqual((status, err), (0, ""))
@@ -365,12 +365,12 @@ it made 1 version of rows of t
         self.assertEqual(tool(package, "--file", "a/b", given=data), (0, b"\xff", ""))
         self.assertIn("there are a/b, main", tool(package, "--file", "seen", given=data)[2])
         for path in ("../x", "/x", "a/../../x", "a//x", ".", "a/"):
-            data = packages.encode(packages.package(files=[packages.file(path, "x")], start=[path]))
+            data = spelling.encode(spelling.package(files=[spelling.file(path, "x")], start=[path]))
             status, _, err = tool(package, "--files", os.path.join(self.folder, "other"), given=data)
             self.assertEqual(status, 1)
             self.assertIn("leads out of a folder", err)
         self.assertFalse(os.path.exists(os.path.join(self.folder, "other")))
-        data = packages.encode(packages.package(files=[packages.file("a", "x"), packages.file("a/b", "x")],
+        data = spelling.encode(spelling.package(files=[spelling.file("a", "x"), spelling.file("a/b", "x")],
                                                 start=["a"]))
         self.assertIn("needs a folder",
                       tool(package, "--files", os.path.join(self.folder, "third"), given=data)[2])
@@ -390,7 +390,7 @@ it made 1 version of rows of t
         self.assertEqual((status, err), (0, "package.py: note: t: its rows get the numbers 0 to 1\n"
                                             "package.py: note: counts and sums are over these packed rows "
                                             "alone\n"))
-        data = packages.encode(packages.package(mode=2))
+        data = spelling.encode(spelling.package(mode=2))
         self.assertIn("so that it makes no world", tool(package, "--world", given=data)[2])
         self.assertEqual(tool(package, "--ask", "x")[0], 2)
 

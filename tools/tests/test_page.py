@@ -5,7 +5,7 @@ import re
 import time
 import unittest
 
-import packages
+import spelling
 
 from ldvtools import package, page
 from ldvtools.packages import read_any, read_package
@@ -32,24 +32,24 @@ def orders(mode=1):
 
 def large(count):
     """A package of many rows, each needed by one of two statements."""
-    columns = [packages.column("k", "INT NOT NULL"), packages.column("g", "TEXT")]
-    rows = [packages.row(n, n, f"row {n}") for n in range(count)]
-    needs = [packages.group("t", *(packages.read(n) for n in range(count)))]
-    trace = [packages.started(), packages.asked(0, tables=["t"], reads=needs), packages.ended(2)]
-    return packages.encode(packages.package(steps=2, tables=[packages.table("t", columns, [0], count, rows)],
+    columns = [spelling.column("k", "INT NOT NULL"), spelling.column("g", "TEXT")]
+    rows = [spelling.row(n, n, f"row {n}") for n in range(count)]
+    needs = [spelling.group("t", *(spelling.read(n) for n in range(count)))]
+    trace = [spelling.started(), spelling.asked(0, tables=["t"], reads=needs), spelling.ended(2)]
+    return spelling.encode(spelling.package(steps=2, tables=[spelling.table("t", columns, [0], count, rows)],
                                             trace=trace))
 
 
 def hostile():
     """Names and texts that would be HTML, and numbers that JavaScript doesn't carry exactly."""
-    columns = [packages.column("k"), packages.column("g", "TEXT")]
-    rows = [packages.row(0, 9223372036854775807, HOSTILE), packages.row(1, None, "")]
-    trace = [packages.started(HOSTILE), packages.act("wrote", HOSTILE, 1),
-             packages.asked(0, 2, tables=["t"], reads=[packages.group("t", packages.read(0))]),
-             packages.ended(3)]
-    return packages.encode(packages.package(start=[HOSTILE], steps=3,
-                                            files=[packages.file(HOSTILE, "exit 0")],
-                                            tables=[packages.table("t", columns, next=2, rows=rows)],
+    columns = [spelling.column("k"), spelling.column("g", "TEXT")]
+    rows = [spelling.row(0, 9223372036854775807, HOSTILE), spelling.row(1, None, "")]
+    trace = [spelling.started(HOSTILE), spelling.act("wrote", HOSTILE, 1),
+             spelling.asked(0, 2, tables=["t"], reads=[spelling.group("t", spelling.read(0))]),
+             spelling.ended(3)]
+    return spelling.encode(spelling.package(start=[HOSTILE], steps=3,
+                                            files=[spelling.file(HOSTILE, "exit 0")],
+                                            tables=[spelling.table("t", columns, next=2, rows=rows)],
                                             trace=trace))
 
 
@@ -126,9 +126,9 @@ class Pages(PageMaker):
     def test_not_audited(self):
         """Without a program a page is made of what the bytes say, also where rows are out of order, which
         `replay` refuses. It says that nobody audited it, and so do the documents."""
-        table = packages.table("t", [packages.column("k")], rows=[packages.row(2, 1), packages.row(0, 2)])
-        trace = [packages.started(), packages.asked(0), packages.ended()]
-        data = packages.encode(packages.package(tables=[table], trace=trace))
+        table = spelling.table("t", [spelling.column("k")], rows=[spelling.row(2, 1), spelling.row(0, 2)])
+        trace = [spelling.started(), spelling.asked(0), spelling.ended()]
+        data = spelling.encode(spelling.package(tables=[table], trace=trace))
         path = self.made(data)
         shown = self.data_of(path)
         self.assertEqual((shown["verdict"], [row[0] for row in shown["tables"][0]["rows"]]), (None, [2, 0]))
@@ -179,19 +179,19 @@ class Browsers(PageMaker):
     def test_all_kinds(self):
         """Packages of each kind and version, with each act, and without a statement or a file are shown."""
         first = read_package(orders())
-        acts = packages.encode(packages.changed("acts", {}))
-        trace = [packages.started(), packages.spawned(1, 0), packages.spawned(2, 1), packages.spawned(3, 0),
-                 packages.act("read", "\uffee", 4, 3), packages.act("read", "\U0001f600", 4, 2),
-                 packages.waited(1, 5), packages.waited(2, 5, 1), packages.waited(3, 6),
-                 packages.waited(1, 6), packages.act("wrote", "out", 7),
-                 packages.ended(8)]
-        order = packages.encode(packages.package(steps=8, trace=trace))
+        acts = spelling.encode(spelling.changed("acts", {}))
+        trace = [spelling.started(), spelling.spawned(1, 0), spelling.spawned(2, 1), spelling.spawned(3, 0),
+                 spelling.act("read", "\uffee", 4, 3), spelling.act("read", "\U0001f600", 4, 2),
+                 spelling.waited(1, 5), spelling.waited(2, 5, 1), spelling.waited(3, 6),
+                 spelling.waited(1, 6), spelling.act("wrote", "out", 7),
+                 spelling.ended(8)]
+        order = spelling.encode(spelling.package(steps=8, trace=trace))
         self.assertEqual(graph_of(read_package(order)).depends("out"), [
             "path f", "path main", "path \uffee", "path \U0001f600", "process 0", "process 0.0",
             "process 0.0.0", "process 0.1"])
         kinds = [(order, []), (orders(2), []), (version2.spelled(first), []), (acts, []),
-                 (version2.joined(first, first), ["--run", "2"]), (packages.encode(packages.package()), []),
-                 (packages.encode(packages.changed("logs", {})), [])]
+                 (version2.joined(first, first), ["--run", "2"]), (spelling.encode(spelling.package()), []),
+                 (spelling.encode(spelling.changed("logs", {})), [])]
         for data, words in kinds:
             browser = self.opened(data, *words)
             self.assertEqual(browser.problems(), [])

@@ -16,7 +16,7 @@ import against_sqlite
 import check_docs
 import check_page
 import check_scripts
-import packages
+import spelling
 
 from ldvtools import outcome, package, world
 from ldvtools.language import RESERVED
@@ -323,7 +323,7 @@ class Program(InFolder):
         """The examples of the manual page, in their order."""
         check_page.folder_with(support.PROGRAM, self.folder)
         for name in ("old.package", "first.package", "second.package"):
-            self.put(name, packages.encode(packages.package()))
+            self.put(name, spelling.encode(spelling.package()))
         page = read(os.path.join(ROOT, check_docs.MANUAL)).decode()
         lines = re.findall(r"(?m)^\.Dl (.*)$", page)
         for block in re.findall(r"(?s)\n\.Bd .*?\n(.*?)\n\.Ed", page):

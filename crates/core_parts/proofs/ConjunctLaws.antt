@@ -4,9 +4,9 @@ use Rattle.std.specs.List.{flat_map}
 use Rattle.ldv_value.proofs.Booleans.{and-assoc, and-true}
 use Rattle.core_parts.proofs.Places.{places-append, placed-front, others-front, placed-more}
 use Rattle.core_parts.specs.Conditions.{Adds, AreConditions, meets}
-use Rattle.core_parts.specs.Placing.{own_places, other_places, AllPlaced}
+use Rattle.core_parts.specs.Placing.{own_places, other_places, AreAllPlaced}
 use Rattle.core_parts.specs.Types.{Truth, True, False, Unknown, And, Expr, Operator, Value}
-use Rattle.core_parts.specs.declared.placed.Placed.{Placed}
+use Rattle.core_parts.specs.declared.placed.BoundExpr.{BoundExpr}
 use Rattle.sql_model.proofs.Folds.{fold-Both}
 use Rattle.sql_model.specs.Kinds.{names_in, names_step}
 use Rattle.sql_model.specs.Meaning.{Environment, Meaning, eval_step, is_true, truth, truth_and}
@@ -27,7 +27,7 @@ conjunction a b env =
     ap (λ (f : List Environment → Meaning). is_true (f (env ∷ [])).truth) (fold-Both eval_step And a b)
     ∙ both-true (truth a env) (truth b env)
 
-meets-more : (scope : List InScope) (old : List Placed) (placed : Placed) (values : List Value)
+meets-more : (scope : List InScope) (old : List BoundExpr) (placed : BoundExpr) (values : List Value)
     → meets scope (old ++ placed ∷ []) values ≡ (meets scope old values && is_true (truth placed.expr (environment scope values)))
 meets-more scope [] placed values = and-true (is_true (truth placed.expr (environment scope values)))
 meets-more scope (c ∷ old) placed values =
@@ -35,17 +35,17 @@ meets-more scope (c ∷ old) placed values =
     ∙ sym (and-assoc (is_true (truth c.expr (environment scope values))) (meets scope old values) (is_true (truth placed.expr (environment scope values))))
 
 -- a condition as it is
-pub added-one : (old new : List Placed) (expr : Expr) (places left : List ℕ) (placed : Placed) → placed.expr ≡ expr → placed.places ≡ own_places expr places
+pub added-one : (old new : List BoundExpr) (expr : Expr) (places left : List ℕ) (placed : BoundExpr) → placed.expr ≡ expr → placed.places ≡ own_places expr places
     → left ≡ other_places expr places → new ≡ old ++ placed ∷ [] → Adds old expr places new left
 added-one old new expr places left placed same own others is scope more at = (
   others-front scope expr places more left at others,
-  (λ all. subst (AllPlaced scope) (sym is) (placed-more scope old placed all (placed-front scope expr places more placed at same own))),
-  (λ values. ap (λ (cs : List Placed). meets scope cs values) is ∙ meets-more scope old placed values
+  (λ all. subst (AreAllPlaced scope) (sym is) (placed-more scope old placed all (placed-front scope expr places more placed at same own))),
+  (λ values. ap (λ (cs : List BoundExpr). meets scope cs values) is ∙ meets-more scope old placed values
       ∙ ap (λ (e : Expr). meets scope old values && is_true (truth e (environment scope values))) same),
 )
 
 -- both sides of a conjunction
-pub added-both : (old mid new : List Placed) (op : Operator) (a b expr : Expr) (places after left : List ℕ) → expr ≡ Both op a b → op ≡ And
+pub added-both : (old mid new : List BoundExpr) (op : Operator) (a b expr : Expr) (places after left : List ℕ) → expr ≡ Both op a b → op ≡ And
     → Adds old a places mid after → Adds mid b after new left → Adds old expr places new left
 added-both old mid new op a b expr places after left is conj first second scope more at =
     let whole : expr ≡ Both And a b = is ∙ ap (λ o. Both o a b) conj in
@@ -64,10 +64,10 @@ added-both old mid new op a b expr places after left is conj first second scope 
     )
 
 -- one condition more of those that are left
-pub more-conditions : (scope : List InScope) (conds new : List Placed) (pick : Expr) (rest : List Expr) (places left more : List ℕ)
-    → Adds conds pick places new left → places ≡ places_in scope (flat_map names_in (pick ∷ rest)) ++ more → AllPlaced scope conds
+pub more-conditions : (scope : List InScope) (conds new : List BoundExpr) (pick : Expr) (rest : List Expr) (places left more : List ℕ)
+    → Adds conds pick places new left → places ≡ places_in scope (flat_map names_in (pick ∷ rest)) ++ more → AreAllPlaced scope conds
     → (left ≡ places_in scope (flat_map names_in rest) ++ more)
-    × AllPlaced scope new
+    × AreAllPlaced scope new
     × ((values : List Value) → (meets scope new values && meets_all rest (environment scope values)) ≡ (meets scope conds values && meets_all (pick ∷ rest) (environment scope values)))
 more-conditions scope conds new pick rest places left more adds is all =
     let one = adds scope (places_in scope (flat_map names_in rest) ++ more) (is ∙ places-append scope (names_in pick) (flat_map names_in rest) more) in (
@@ -78,7 +78,7 @@ more-conditions scope conds new pick rest places left more adds is all =
     )
 
 -- one condition, of which the places are given
-pub one-condition : (conds : List Placed) (pick : Expr) (places left : List ℕ) → Adds [] pick places conds left → (scope : List InScope) → places ≡ places_in scope (names_in pick)
+pub one-condition : (conds : List BoundExpr) (pick : Expr) (places left : List ℕ) → Adds [] pick places conds left → (scope : List InScope) → places ≡ places_in scope (names_in pick)
     → AreConditions scope (pick ∷ []) conds
 one-condition conds pick places left adds scope is =
     let one = adds scope [] (is ∙ sym (append-nil (places_in scope (names_in pick)))) in record {

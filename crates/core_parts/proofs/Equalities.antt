@@ -5,8 +5,8 @@ use Rattle.core_parts.specs.Constants.{IsConstant}
 use Rattle.core_parts.specs.Equality.{equals}
 use Rattle.core_parts.specs.Placing.{IsPlaced}
 use Rattle.core_parts.specs.Types.{ColumnName, Compare, Expr, Null, Int, Text, Value}
-use Rattle.core_parts.specs.declared.placed.Placed.{Placed}
-use Rattle.ldv_value.specs.Order.{known, test_of}
+use Rattle.core_parts.specs.declared.placed.BoundExpr.{BoundExpr}
+use Rattle.ldv_value.specs.Order.{truth_of_bool, test_of}
 use Rattle.ldv_value.specs.declared.value.Cmp.{Cmp}
 use Rattle.sql_model.proofs.Folds.{fold-Both, fold-Column, fold-IsNull}
 use Rattle.sql_model.specs.KeyOrder.{order_total}
@@ -20,17 +20,17 @@ equals-turned Null Null = refl
 equals-turned Null (Int n) = refl
 equals-turned Null (Text t) = refl
 equals-turned (Int m) Null = refl
-equals-turned (Int m) (Int n) = ap (λ b. is_true (known b)) ((eq_by_cmp_equiv order_total).symm (Int m) (Int n))
+equals-turned (Int m) (Int n) = ap (λ b. is_true (truth_of_bool b)) ((eq_by_cmp_equiv order_total).symm (Int m) (Int n))
 equals-turned (Int m) (Text t) = refl
 equals-turned (Text s) Null = refl
 equals-turned (Text s) (Int n) = refl
-equals-turned (Text s) (Text t) = ap (λ b. is_true (known b)) ((eq_by_cmp_equiv order_total).symm (Text s) (Text t))
+equals-turned (Text s) (Text t) = ap (λ b. is_true (truth_of_bool b)) ((eq_by_cmp_equiv order_total).symm (Text s) (Text t))
 
 -- ---- what each side means
 
-known-true : (b : Bool) → is_true (known b) ≡ b
-known-true true = refl
-known-true false = refl
+truth_of_bool-true : (b : Bool) → is_true (truth_of_bool b) ≡ b
+truth_of_bool-true true = refl
+truth_of_bool-true false = refl
 
 -- whether a value is NULL, or isn't
 abbrev pub is_null_as : Bool → Value → Bool
@@ -70,8 +70,8 @@ constant-first test left right v name first second = (
 
 -- a column that is tested for NULL
 null-true : (negative : Bool) (v : Value) → is_true (null_test negative v) ≡ is_null_as negative v
-null-true false v = known-true (is_null v)
-null-true true v = known-true (not (is_null v))
+null-true false v = truth_of_bool-true (is_null v)
+null-true true v = truth_of_bool-true (not (is_null v))
 
 pub column-null : (inner : Expr) (negative : Bool) (name : ColumnName) → inner ≡ Column name
     → (names_in (IsNull inner negative) ≡ name ∷ []) × ((env : Environment) → is_true (truth (IsNull inner negative) env) ≡ is_null_as negative (env name))
@@ -83,7 +83,7 @@ column-null inner negative name is = (
 )
 
 -- the place of the only name is the first one
-pub first-place : (scope : List InScope) (cond : Placed) (name : ColumnName) (place : ℕ) (more : List ℕ) → names_in cond.expr ≡ name ∷ [] → IsPlaced scope cond → cond.places ≡ place ∷ more
+pub first-place : (scope : List InScope) (cond : BoundExpr) (name : ColumnName) (place : ℕ) (more : List ℕ) → names_in cond.expr ≡ name ∷ [] → IsPlaced scope cond → cond.places ≡ place ∷ more
     → place_of scope name ≡ place
 first-place scope cond name place more names placed places =
     heads (place_of scope name) place [] more (sym (ap (places_in scope) names) ∙ placed ∙ places)

@@ -10,11 +10,11 @@ use Rattle.core_parts.specs.Conditions.{meets}
 use Rattle.core_parts.specs.Constants.{IsConstant}
 use Rattle.core_parts.specs.Equality.{IsColumn, equals}
 use Rattle.core_parts.specs.Fixing.{IsFixing, Fixes, AllFix, FixesColumn, FixesAll, FixesKey}
-use Rattle.core_parts.specs.Placing.{IsPlaced, AllPlaced}
+use Rattle.core_parts.specs.Placing.{IsPlaced, AreAllPlaced}
 use Rattle.core_parts.specs.Types.{Compare, Expr, Null, Int, Text, Value}
-use Rattle.core_parts.specs.declared.placed.Placed.{Placed}
+use Rattle.core_parts.specs.declared.placed.BoundExpr.{BoundExpr}
 use Rattle.ldv_value.proofs.Booleans.{and-parts}
-use Rattle.ldv_value.specs.Order.{order, known}
+use Rattle.ldv_value.specs.Order.{order, truth_of_bool}
 use Rattle.ldv_value.specs.declared.value.Cmp.TheVariants.{Eq}
 use Rattle.sql_model.specs.KeyOrder.{values_total}
 use Rattle.sql_model.specs.Keys.{same_values, values_at}
@@ -24,7 +24,7 @@ use Rattle.sql_model.specs.declared.expr.Expr.TheVariants.{Both}
 
 -- ---- where `=` is True, values are equal
 
-equal-by : (o : Ordering) → is_true (known (is_eq o)) ≡ true → o ≡ Equal
+equal-by : (o : Ordering) → is_true (truth_of_bool (is_eq o)) ≡ true → o ≡ Equal
 equal-by Less is = cc
 equal-by Equal is = refl
 equal-by Greater is = cc
@@ -57,31 +57,31 @@ constant_column left right value constant (name, is) =
     }
 
 -- the column's place is the one that the condition has
-pub fixes-is : (cond : Placed) (at place : ℕ) (more : List ℕ) (value : Value) → IsFixing cond.expr value → cond.places ≡ place ∷ more → place ≡ at → Fixes cond at value
+pub fixes-is : (cond : BoundExpr) (at place : ℕ) (more : List ℕ) (value : Value) → IsFixing cond.expr value → cond.places ≡ place ∷ more → place ≡ at → Fixes cond at value
 fixes-is cond at place more value is places here scope row placed holds =
     ap (value_at row) (sym (first-place scope cond is.name place more is.names placed places ∙ here))
     ∙ equals-is (environment scope row is.name) value (sym (is.same (environment scope row)) ∙ holds)
 
 -- ---- a condition among others
 
-module _ (scope : List InScope) (row : List Value) (cond : Placed) (rest : List Placed) where
-  pub at-index : (conds : List Placed) (i : ℕ) → drop i conds ≡ cond ∷ rest → AllPlaced scope conds → meets scope conds row ≡ true
+module _ (scope : List InScope) (row : List Value) (cond : BoundExpr) (rest : List BoundExpr) where
+  pub at-index : (conds : List BoundExpr) (i : ℕ) → drop i conds ≡ cond ∷ rest → AreAllPlaced scope conds → meets scope conds row ≡ true
       → IsPlaced scope cond × (is_true (truth cond.expr (environment scope row)) ≡ true)
   at-index [] zero split placed met = cc
   at-index [] (suc i) split placed met = cc
   at-index (first ∷ conds) zero split placed met =
       let same : first ≡ cond = cc in
       let both = and-parts (is_true (truth first.expr (environment scope row))) (meets scope conds row) met in
-      (subst (IsPlaced scope) same placed.0, ap (λ (c : Placed). is_true (truth c.expr (environment scope row))) (sym same) ∙ both.0)
+      (subst (IsPlaced scope) same placed.0, ap (λ (c : BoundExpr). is_true (truth c.expr (environment scope row))) (sym same) ∙ both.0)
   at-index (first ∷ conds) (suc i) split placed met =
       at-index conds i split placed.1 (and-parts (is_true (truth first.expr (environment scope row))) (meets scope conds row) met).1
 
-pub all-fix : (conds rest : List Placed) (i : ℕ) (cond : Placed) (at : ℕ) (value : Value) → drop i conds ≡ cond ∷ rest → Fixes cond at value → AllFix conds at value
+pub all-fix : (conds rest : List BoundExpr) (i : ℕ) (cond : BoundExpr) (at : ℕ) (value : Value) → drop i conds ≡ cond ∷ rest → Fixes cond at value → AllFix conds at value
 all-fix conds rest i cond at value split fixes scope row placed met =
     let here = at-index scope row cond rest conds i split placed met in
     fixes scope row here.0 here.1
 
-pub fixed-column : (conds : List Placed) (before width column at : ℕ) (value : Value) → column < width → at ≡ before + column → AllFix conds at value → FixesColumn conds before width column value
+pub fixed-column : (conds : List BoundExpr) (before width column at : ℕ) (value : Value) → column < width → at ≡ before + column → AllFix conds at value → FixesColumn conds before width column value
 fixed-column conds before width column at value within is all = record {
   within = within;
   fixed = subst (λ (n : ℕ). AllFix conds n value) is all;
@@ -89,7 +89,7 @@ fixed-column conds before width column at value within is all = record {
 
 -- ---- columns, one by one
 
-pub fixed_step : (conds : List Placed) (before width : ℕ) (columns others : List ℕ) (column : ℕ) (values new : List Value) (value copy : Value)
+pub fixed_step : (conds : List BoundExpr) (before width : ℕ) (columns others : List ℕ) (column : ℕ) (values new : List Value) (value copy : Value)
     → copy ≡ value → new ≡ values ++ copy ∷ [] → FixesColumn conds before width column value
     → ((rest : List Value) → FixesAll conds before width (column ∷ others) rest → FixesAll conds before width columns (values ++ rest))
     → (rest : List Value) → FixesAll conds before width others rest → FixesAll conds before width columns (new ++ rest)
@@ -97,7 +97,7 @@ fixed_step conds before width columns others column values new value copy is mad
     let whole : FixesAll conds before width columns (values ++ (copy ∷ rest)) = all (copy ∷ rest) (subst (FixesColumn conds before width column) (sym is) fixed, are) in
     subst (FixesAll conds before width columns) (sym (ap (λ (l : List Value). l ++ rest) made ∙ append_assoc values (copy ∷ []) rest)) whole
 
-pub fixed_none : (conds : List Placed) (before width : ℕ) (columns left : List ℕ) (values : List Value) → length left < 1
+pub fixed_none : (conds : List BoundExpr) (before width : ℕ) (columns left : List ℕ) (values : List Value) → length left < 1
     → ((rest : List Value) → FixesAll conds before width left rest → FixesAll conds before width columns (values ++ rest)) → FixesAll conds before width columns values
 fixed_none conds before width columns [] values end all = subst (FixesAll conds before width columns) (append-nil values) (all [] tt)
 fixed_none conds before width columns (column ∷ left) values end all = absurd (omega (arith, end))
@@ -107,7 +107,7 @@ pub ruleset fixed_end = (fixed_step, fixed_none)
 -- ---- a row has the values of the key
 
 -- the row is a part of a whole over which the conditions are True, after its first values
-module _ (scope : List InScope) (conds : List Placed) (placed : AllPlaced scope conds) (before width : ℕ) (whole row : List Value)
+module _ (scope : List InScope) (conds : List BoundExpr) (placed : AreAllPlaced scope conds) (before width : ℕ) (whole row : List Value)
     (there : (column : ℕ) → column < width → value_at whole (before + column) ≡ value_at row column) (met : meets scope conds whole ≡ true) where
   fixed-value : (column : ℕ) (value : Value) → FixesColumn conds before width column value → value_at row column ≡ value
   fixed-value column value is = sym (there column is.within) ∙ is.fixed scope whole placed met

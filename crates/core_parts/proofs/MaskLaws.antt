@@ -11,14 +11,14 @@ use Rattle.core_parts.proofs.FixingLaws.{at-index}
 use Rattle.core_parts.specs.Conditions.{meets}
 use Rattle.core_parts.specs.Constants.{IsConstant}
 use Rattle.core_parts.specs.Equality.{IsColumn}
-use Rattle.core_parts.specs.Masking.{AreMasks, IsFound, IsMask, IsTest, fits, passes, passes_all, passes_at, suits, turned}
-use Rattle.core_parts.specs.Placing.{AllPlaced}
+use Rattle.core_parts.specs.Masking.{AreMasks, IsFound, IsMask, IsTest, fits, passes, passes_all, passes_at, suits, commuted_cmp}
+use Rattle.core_parts.specs.Placing.{AreAllPlaced}
 use Rattle.core_parts.specs.Types.{Column, Compare, Expr, Int, Null, Text, Value}
-use Rattle.core_parts.specs.declared.masking.Mask.{Mask}
-use Rattle.core_parts.specs.declared.masking.MaskTest.{MaskTest}
-use Rattle.core_parts.specs.declared.masking.MaskTest.TheVariants.{Compares, IsNull as TestsNull, IsNotNull}
-use Rattle.core_parts.specs.declared.placed.Placed.{Placed}
-use Rattle.ldv_value.specs.Order.{order, meets as meets_order, known, test_of}
+use Rattle.core_parts.specs.declared.mask.Mask.{Mask}
+use Rattle.core_parts.specs.declared.mask.MaskTest.{MaskTest}
+use Rattle.core_parts.specs.declared.mask.MaskTest.TheVariants.{Compares, IsNull as TestsNull, IsNotNull}
+use Rattle.core_parts.specs.declared.placed.BoundExpr.{BoundExpr}
+use Rattle.ldv_value.specs.Order.{order, meets as meets_order, truth_of_bool, test_of}
 use Rattle.ldv_value.specs.declared.value.Cmp.{Cmp}
 use Rattle.ldv_value.specs.declared.value.Cmp.TheVariants.{Eq, Ne, Lt, Le, Gt, Ge}
 use Rattle.sql_model.specs.KeyOrder.{order_total}
@@ -29,33 +29,33 @@ use Rattle.sql_model.specs.declared.expr.Expr.TheVariants.{Both, IsNull}
 
 -- ---- comparisons
 
-meets-turned : (op : Cmp) (o : Ordering) → meets_order op o ≡ meets_order (turned op) (ordering_reverse o)
-meets-turned Eq Less = refl
-meets-turned Eq Equal = refl
-meets-turned Eq Greater = refl
-meets-turned Ne Less = refl
-meets-turned Ne Equal = refl
-meets-turned Ne Greater = refl
-meets-turned Lt Less = refl
-meets-turned Lt Equal = refl
-meets-turned Lt Greater = refl
-meets-turned Le Less = refl
-meets-turned Le Equal = refl
-meets-turned Le Greater = refl
-meets-turned Gt Less = refl
-meets-turned Gt Equal = refl
-meets-turned Gt Greater = refl
-meets-turned Ge Less = refl
-meets-turned Ge Equal = refl
-meets-turned Ge Greater = refl
+meets-commuted_cmp : (op : Cmp) (o : Ordering) → meets_order op o ≡ meets_order (commuted_cmp op) (ordering_reverse o)
+meets-commuted_cmp Eq Less = refl
+meets-commuted_cmp Eq Equal = refl
+meets-commuted_cmp Eq Greater = refl
+meets-commuted_cmp Ne Less = refl
+meets-commuted_cmp Ne Equal = refl
+meets-commuted_cmp Ne Greater = refl
+meets-commuted_cmp Lt Less = refl
+meets-commuted_cmp Lt Equal = refl
+meets-commuted_cmp Lt Greater = refl
+meets-commuted_cmp Le Less = refl
+meets-commuted_cmp Le Equal = refl
+meets-commuted_cmp Le Greater = refl
+meets-commuted_cmp Gt Less = refl
+meets-commuted_cmp Gt Equal = refl
+meets-commuted_cmp Gt Greater = refl
+meets-commuted_cmp Ge Less = refl
+meets-commuted_cmp Ge Equal = refl
+meets-commuted_cmp Ge Greater = refl
 
-known-turned : (op : Cmp) (a b : Value) → known (meets_order op (order a b)) ≡ known (meets_order (turned op) (order b a))
-known-turned op a b = ap known (meets-turned op (order a b) ∙ ap (meets_order (turned op)) (sym (order_total.antisymm b a)))
+truth_of_bool-commuted_cmp : (op : Cmp) (a b : Value) → truth_of_bool (meets_order op (order a b)) ≡ truth_of_bool (meets_order (commuted_cmp op) (order b a))
+truth_of_bool-commuted_cmp op a b = ap truth_of_bool (meets-commuted_cmp op (order a b) ∙ ap (meets_order (commuted_cmp op)) (sym (order_total.antisymm b a)))
 
-test-turned : (op : Cmp) (n : ℤ) (v : Value) → test_of op (Int n) v ≡ test_of (turned op) v (Int n)
-test-turned op n Null = refl
-test-turned op n (Int m) = known-turned op (Int n) (Int m)
-test-turned op n (Text t) = known-turned op (Int n) (Text t)
+test-commuted_cmp : (op : Cmp) (n : ℤ) (v : Value) → test_of op (Int n) v ≡ test_of (commuted_cmp op) v (Int n)
+test-commuted_cmp op n Null = refl
+test-commuted_cmp op n (Int m) = truth_of_bool-commuted_cmp op (Int n) (Int m)
+test-commuted_cmp op n (Text t) = truth_of_bool-commuted_cmp op (Int n) (Text t)
 
 pub column_number : (test : Cmp) (left right : Expr) (n : ℤ) → IsColumn left → IsConstant right (Int n) → IsTest (Both (Compare test) left right) (Compares test n)
 column_number test left right n (name, is) number =
@@ -65,12 +65,12 @@ column_number test left right n (name, is) number =
       same = compared.1;
     }
 
-pub number_column : (test : Cmp) (left right : Expr) (n : ℤ) → IsConstant left (Int n) → IsColumn right → IsTest (Both (Compare test) left right) (Compares (turned test) n)
+pub number_column : (test : Cmp) (left right : Expr) (n : ℤ) → IsConstant left (Int n) → IsColumn right → IsTest (Both (Compare test) left right) (Compares (commuted_cmp test) n)
 number_column test left right n number (name, is) =
     let compared = constant-first test left right (Int n) name number is in record {
       name = name;
       names = compared.0;
-      same = λ env. compared.1 env ∙ ap is_true (test-turned test n (env name));
+      same = λ env. compared.1 env ∙ ap is_true (test-commuted_cmp test n (env name));
     }
 
 -- ---- tests for NULL
@@ -97,7 +97,7 @@ pub ruleset null_tests = (null_column, known_column)
 
 -- ---- masks
 
-pub mask-found : (cond : Placed) (before column place : ℕ) (more : List ℕ) (columns : List Column) (test : MaskTest) (mask : Mask)
+pub mask-found : (cond : BoundExpr) (before column place : ℕ) (more : List ℕ) (columns : List Column) (test : MaskTest) (mask : Mask)
     → IsTest cond.expr test → cond.places ≡ place ∷ more → before + column ≡ place → mask ≡ record { column = column; test = test } → fits columns mask ≡ true
     → IsFound cond before columns mask
 mask-found cond before column place more columns test mask is places at made suit = record {
@@ -114,7 +114,7 @@ masks-joined P [] (Some mask) all one = (one, tt)
 masks-joined P (m ∷ masks) found all one = (all.0, masks-joined P masks found all.1 one)
 
 -- the mask of one condition is one of all conditions
-pub masks-more : (conds rest : List Placed) (i before : ℕ) (cond : Placed) (columns : List Column) (masks : List Mask) (found : Option Mask) → drop i conds ≡ cond ∷ rest
+pub masks-more : (conds rest : List BoundExpr) (i before : ℕ) (cond : BoundExpr) (columns : List Column) (masks : List Mask) (found : Option Mask) → drop i conds ≡ cond ∷ rest
     → IfSome found (IsFound cond before columns) → AreMasks conds before columns masks → AreMasks conds before columns (masks ++ option_to_list found)
 masks-more conds rest i before cond columns masks found split is all =
     masks-joined (λ mask. (fits columns mask ≡ true) × IsMask conds before mask) masks found all (found-one found is)
@@ -147,7 +147,7 @@ module _ (scope : List InScope) (before : ℕ) (row : List Value) where
   one-passes mask = passes mask.test (value_at row (before + mask.column))
 
   -- a condition goes from those that are left to the masks
-  pub exact-more : (masks : List Mask) (mask : Mask) (cond : Placed) (rest : List Placed) (all : Bool)
+  pub exact-more : (masks : List Mask) (mask : Mask) (cond : BoundExpr) (rest : List BoundExpr) (all : Bool)
       → passes mask.test (value_at row (before + mask.column)) ≡ is_true (truth cond.expr (environment scope row))
       → (passes_at before masks row && meets scope (cond ∷ rest) row) ≡ all
       → (passes_at before (masks ++ mask ∷ []) row && meets scope rest row) ≡ all
@@ -157,16 +157,16 @@ module _ (scope : List InScope) (before : ℕ) (row : List Value) where
       ∙ ap (λ b. passes_at before masks row && (b && meets scope rest row)) same
       ∙ is
 
-  pub exact-end : (masks : List Mask) (left : List Placed) (all : Bool) → left ≡ [] → (passes_at before masks row && meets scope left row) ≡ all → passes_at before masks row ≡ all
+  pub exact-end : (masks : List Mask) (left : List BoundExpr) (all : Bool) → left ≡ [] → (passes_at before masks row && meets scope left row) ≡ all → passes_at before masks row ≡ all
   exact-end masks left all none is =
-      sym (and-true (passes_at before masks row)) ∙ ap (λ (cs : List Placed). passes_at before masks row && meets scope cs row) (sym none) ∙ is
+      sym (and-true (passes_at before masks row)) ∙ ap (λ (cs : List BoundExpr). passes_at before masks row && meets scope cs row) (sym none) ∙ is
 
 pub fit-more : (columns : List Column) (masks : List Mask) (mask : Mask) → AllByRecursion (λ m. fits columns m ≡ true) masks → fits columns mask ≡ true
     → AllByRecursion (λ m. fits columns m ≡ true) (masks ++ mask ∷ [])
 fit-more columns [] mask fit one = (one, tt)
 fit-more columns (m ∷ masks) mask fit one = (fit.0, fit-more columns masks mask fit.1 one)
 
-pub masks-fit : (conds : List Placed) (before : ℕ) (columns : List Column) (masks : List Mask) → AreMasks conds before columns masks → AllByRecursion (λ mask. fits columns mask ≡ true) masks
+pub masks-fit : (conds : List BoundExpr) (before : ℕ) (columns : List Column) (masks : List Mask) → AreMasks conds before columns masks → AllByRecursion (λ mask. fits columns mask ≡ true) masks
 masks-fit conds before columns [] are = tt
 masks-fit conds before columns (mask ∷ masks) are = (are.0.0, masks-fit conds before columns masks are.1)
 
@@ -181,7 +181,7 @@ within columns mask is = got columns mask.column is
     got (c ∷ cs) (suc i) h = let below : i < length cs = got cs i h in omega (arith, below)
 
 -- the row is a part of a whole over which the conditions are True, after its first values
-module _ (scope : List InScope) (conds : List Placed) (placed : AllPlaced scope conds) (before : ℕ) (columns : List Column) (whole row : List Value)
+module _ (scope : List InScope) (conds : List BoundExpr) (placed : AreAllPlaced scope conds) (before : ℕ) (columns : List Column) (whole row : List Value)
     (there : (column : ℕ) → column < length columns → value_at whole (before + column) ≡ value_at row column) (met : meets scope conds whole ≡ true) where
   pub masks-pass : (masks : List Mask) → AreMasks conds before columns masks → passes_all masks row ≡ true
   masks-pass [] are = refl

@@ -9,7 +9,7 @@ use Rattle.std.specs.declared.cmp.Ordering.TheVariants.{Less, Equal, Greater}
 use Rattle.std.proofs.lemmas.Bool.{cases_Bool}
 use Rattle.std.proofs.lemmas.Cmp.{on_total, then_total, nat_cmp_total, nat_list_cmp_total}
 use Rattle.std.proofs.lemmas.List.{length-append}
-use Rattle.core_parts.specs.Needing.{member_order, need_order, united, into, united_by, sorted_once, is_last_row, others_onto, once_each}
+use Rattle.core_parts.specs.Needing.{member_order, need_order, union_of_needs, into, united_by, needs_in_order, is_last_row, others_onto, once_each}
 use Rattle.core_parts.specs.Types.{Member, Need}
 use Rattle.sql_model.specs.Sorting.{put_sorted, sorted_by}
 
@@ -71,11 +71,11 @@ after_tied n y tie (x ∷ xs) =
 
 module _ (n : Need) where
   abbrev placed : List Need → List Need
-  placed needs = into n (united []) needs
+  placed needs = into n (union_of_needs []) needs
 
   placed_by : (x : Need) (xs : List Need) (r : Ordering) → need_order n x ≡ r
-      → placed (x ∷ xs) ≡ united_by r n (united []) x xs (placed xs)
-  placed_by x xs r is = λ j. united_by (is j) n (united []) x xs (placed xs)
+      → placed (x ∷ xs) ≡ united_by r n (union_of_needs []) x xs (placed xs)
+  placed_by x xs r is = λ j. united_by (is j) n (union_of_needs []) x xs (placed xs)
 
   after_front : (x : Need) (xs : List Need) → need_order n x ≡ Less → after_last n (x ∷ xs) ≡ x ∷ after_last x xs
   after_front x xs is = λ j. if is_eq (is j) then after_last n xs else x ∷ after_last x xs
@@ -133,9 +133,9 @@ module _ (n : Need) where
           ap (λ (l : List Need). x ∷ l) (put_after x (need_total.antisymm x n ∙ ap ordering_reverse is) xs)
           ∙ sym (placed_by x (after_last x xs) Greater is)
 
-firsts_sorted : (ns : List Need) → firsts (sorted_by need_order ns) ≡ sorted_once ns
+firsts_sorted : (ns : List Need) → firsts (sorted_by need_order ns) ≡ needs_in_order ns
 firsts_sorted [] = refl
-firsts_sorted (n ∷ ns) = put_firsts n (sorted_by need_order ns) ∙ ap (into n (united [])) (firsts_sorted ns)
+firsts_sorted (n ∷ ns) = put_firsts n (sorted_by need_order ns) ∙ ap (into n (union_of_needs [])) (firsts_sorted ns)
 
-pub once_sorted : (ns : List Need) → once_each (sorted_by need_order ns) ≡ sorted_once ns
+pub once_sorted : (ns : List Need) → once_each (sorted_by need_order ns) ≡ needs_in_order ns
 once_sorted ns = firsts_are (sorted_by need_order ns) ∙ firsts_sorted ns

@@ -3,9 +3,9 @@ use Rattle.std.proofs.Common.{◌≡◌, ◌∙◌, sym, ap, ℕ, ◌+◌, List,
 use Rattle.std.specs.List.{flat_map}
 use Rattle.std.proofs.lemmas.List.{map-append}
 use Rattle.core_parts.proofs.Lists.{take-mapped, drop-mapped}
-use Rattle.core_parts.specs.Placing.{own_places, other_places, IsPlaced, AllPlaced}
+use Rattle.core_parts.specs.Placing.{own_places, other_places, IsPlaced, AreAllPlaced}
 use Rattle.core_parts.specs.Types.{ColumnName, Expr}
-use Rattle.core_parts.specs.declared.placed.Placed.{Placed}
+use Rattle.core_parts.specs.declared.placed.BoundExpr.{BoundExpr}
 use Rattle.sql_model.specs.Kinds.{names_in}
 use Rattle.sql_model.specs.Scope.{InScope, place_of, places_in}
 
@@ -14,7 +14,7 @@ module _ (scope : List InScope) where
   places-append a b more = ap (λ l. l ++ more) (map-append (place_of scope) a b) ∙ append_assoc (places_in scope a) (places_in scope b) more
 
   -- the places that come first are those of the expression
-  pub placed-front : (e : Expr) (l more : List ℕ) (placed : Placed) → l ≡ places_in scope (names_in e) ++ more → placed.expr ≡ e → placed.places ≡ own_places e l
+  pub placed-front : (e : Expr) (l more : List ℕ) (placed : BoundExpr) → l ≡ places_in scope (names_in e) ++ more → placed.expr ≡ e → placed.places ≡ own_places e l
       → IsPlaced scope placed
   placed-front e l more placed is expr places =
       ap (λ (x : Expr). places_in scope (names_in x)) expr
@@ -23,7 +23,7 @@ module _ (scope : List InScope) where
   pub others-front : (e : Expr) (l more new : List ℕ) → l ≡ places_in scope (names_in e) ++ more → new ≡ other_places e l → new ≡ more
   others-front e l more new is left = left ∙ ap (other_places e) is ∙ drop-mapped (place_of scope) (names_in e) more
 
-  pub placed-more : (made : List Placed) (placed : Placed) → AllPlaced scope made → IsPlaced scope placed → AllPlaced scope (made ++ placed ∷ [])
+  pub placed-more : (made : List BoundExpr) (placed : BoundExpr) → AreAllPlaced scope made → IsPlaced scope placed → AreAllPlaced scope (made ++ placed ∷ [])
   placed-more [] placed all one = (one, tt)
   placed-more (m ∷ made) placed all one = (all.0, placed-more made placed all.1 one)
 

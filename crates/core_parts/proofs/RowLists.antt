@@ -9,7 +9,7 @@ use Rattle.std.specs.declared.cmp.Ordering.{Ordering}
 use Rattle.std.specs.declared.cmp.Ordering.TheVariants.{Less, Equal, Greater}
 use Rattle.std.proofs.lemmas.Cmp.{on_total, then_total, nat_cmp_total, nat_list_cmp_total}
 use Rattle.std.proofs.lemmas.Map.Text.{is_eq-slice_cmp}
-use Rattle.core_parts.specs.Needing.{united, into, united_by, sorted_once}
+use Rattle.core_parts.specs.Needing.{union_of_needs, into, united_by, needs_in_order}
 use Rattle.core_parts.specs.Types.{Need}
 use Rattle.sql_model.specs.Needs.{NeededRow, Versions, is_same_row, is_earlier_row, put_row, sorted_needs, read_of}
 
@@ -317,27 +317,27 @@ module _ (versions : Versions) where
       ap (united_by (row_order n m) (read n) reads (read m) (map read ms)) (read_into n more reads same ms)
       ∙ read_by (row_order n m) n more reads same m ms (row_into n more ms)
 
-  pub read_united : (ns ms : List NeededRow) → united (map read ns) (map read ms) ≡ map read (rows_united ns ms)
+  pub read_united : (ns ms : List NeededRow) → union_of_needs (map read ns) (map read ms) ≡ map read (rows_united ns ms)
   read_united [] ms = refl
-  read_united (n ∷ ns) ms = read_into n (rows_united ns) (united (map read ns)) (read_united ns) ms
+  read_united (n ∷ ns) ms = read_into n (rows_united ns) (union_of_needs (map read ns)) (read_united ns) ms
 
   -- rows in any order
-  pub read_once : (ns : List NeededRow) → sorted_once (map read ns) ≡ map read (sorted_needs ns)
+  pub read_once : (ns : List NeededRow) → needs_in_order (map read ns) ≡ map read (sorted_needs ns)
   read_once [] = refl
   read_once (n ∷ ns) =
-      ap (united (read n ∷ [])) (read_once ns)
+      ap (union_of_needs (read n ∷ [])) (read_once ns)
       ∙ read_united (n ∷ []) (sorted_needs ns)
       ∙ ap (map read) (one_united n (sorted_needs ns))
 
   -- a list that is sorted, and one in any order
   pub read_with : (ns ms : List NeededRow) → Rises ns
-      → united (map read ns) (sorted_once (map read ms)) ≡ map read (sorted_needs (ns ++ ms))
+      → union_of_needs (map read ns) (needs_in_order (map read ms)) ≡ map read (sorted_needs (ns ++ ms))
   read_with ns ms h =
-      ap (united (map read ns)) (read_once ms)
+      ap (union_of_needs (map read ns)) (read_once ms)
       ∙ read_united ns (sorted_needs ms)
       ∙ ap (map read) (sym (sorted_with ns ms h))
 
   -- and a last row
   pub read_last : (ns : List NeededRow) (c : NeededRow)
-      → united (map read (sorted_needs ns)) (read c ∷ []) ≡ map read (sorted_needs (ns ++ c ∷ []))
+      → union_of_needs (map read (sorted_needs ns)) (read c ∷ []) ≡ map read (sorted_needs (ns ++ c ∷ []))
   read_last ns c = read_united (sorted_needs ns) (c ∷ []) ∙ ap (map read) (sym (sorted_last ns c))

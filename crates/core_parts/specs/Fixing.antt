@@ -2,9 +2,9 @@
 use Rattle.std.specs.Prelude.{◌≡◌, ◌+◌, ◌<◌, ℕ, List, [], ◌∷◌, length, true}
 use Rattle.core_parts.specs.Conditions.{meets}
 use Rattle.core_parts.specs.Equality.{equals}
-use Rattle.core_parts.specs.Placing.{IsPlaced, AllPlaced}
+use Rattle.core_parts.specs.Placing.{IsPlaced, AreAllPlaced}
 use Rattle.core_parts.specs.Types.{ColumnName, Expr, Value}
-use Rattle.core_parts.specs.declared.placed.Placed.{Placed}
+use Rattle.core_parts.specs.declared.placed.BoundExpr.{BoundExpr}
 use Rattle.sql_model.specs.Kinds.{names_in}
 use Rattle.sql_model.specs.Meaning.{Environment, is_true, truth}
 use Rattle.sql_model.specs.Scope.{InScope, environment, value_at}
@@ -16,26 +16,26 @@ pub record IsFixing (expr : Expr) (value : Value) : Type 0 where
   pub same : (env : Environment) → is_true (truth expr env) ≡ equals (env name) value
 
 -- where the condition is True, a place of the joined row has a value
-abbrev pub Fixes : Placed → ℕ → Value → Type 0
+abbrev pub Fixes : BoundExpr → ℕ → Value → Type 0
 Fixes cond at value = (scope : List InScope) (row : List Value) → IsPlaced scope cond
     → is_true (truth cond.expr (environment scope row)) ≡ true
     → value_at row at ≡ value
 
 -- and where all conditions are
-abbrev pub AllFix : List Placed → ℕ → Value → Type 0
-AllFix conds at value = (scope : List InScope) (row : List Value) → AllPlaced scope conds
+abbrev pub AllFix : List BoundExpr → ℕ → Value → Type 0
+AllFix conds at value = (scope : List InScope) (row : List Value) → AreAllPlaced scope conds
     → meets scope conds row ≡ true
     → value_at row at ≡ value
 
 -- ---- the columns of a source, which come after so many values of the joined row
 
 -- a column, of so many, has a value
-pub record FixesColumn (conds : List Placed) (before width column : ℕ) (value : Value) : Type 0 where
+pub record FixesColumn (conds : List BoundExpr) (before width column : ℕ) (value : Value) : Type 0 where
   pub within : column < width
   pub fixed : AllFix conds (before + column) value
 
 -- columns have values, one by one
-abbrev pub FixesAll : List Placed → ℕ → ℕ → List ℕ → List Value → Type 0
+abbrev pub FixesAll : List BoundExpr → ℕ → ℕ → List ℕ → List Value → Type 0
 FixesAll conds before width [] [] = Unit {0}
 FixesAll conds before width [] (value ∷ values) = ⊥
 FixesAll conds before width (column ∷ columns) [] = ⊥
@@ -43,7 +43,7 @@ FixesAll conds before width (column ∷ columns) (value ∷ values) =
     FixesColumn conds before width column value × FixesAll conds before width columns values
 
 -- the columns of a key, of which there is one at least
-pub record FixesKey (conds : List Placed) (before width : ℕ) (key : List ℕ) (values : List Value)
+pub record FixesKey (conds : List BoundExpr) (before width : ℕ) (key : List ℕ) (values : List Value)
     : Type 0 where
   pub some : 0 < length key
   pub all : FixesAll conds before width key values

@@ -3,12 +3,12 @@ use Rattle.std.specs.Prelude.{◌≡◌, ◌+◌, ℕ, List, [], ◌∷◌, Bool
 use Rattle.std.specs.List.{list_all, AllByRecursion}
 use Rattle.std.specs.Option.{option_map_or}
 use Rattle.core_parts.specs.Conditions.{meets}
-use Rattle.core_parts.specs.Placing.{IsPlaced, AllPlaced}
+use Rattle.core_parts.specs.Placing.{IsPlaced, AreAllPlaced}
 use Rattle.core_parts.specs.Types.{Column, ColumnName, Expr, Int, Value}
-use Rattle.core_parts.specs.declared.masking.Mask.{Mask}
-use Rattle.core_parts.specs.declared.masking.MaskTest.{MaskTest}
-use Rattle.core_parts.specs.declared.masking.MaskTest.TheVariants.{Compares, IsNull, IsNotNull}
-use Rattle.core_parts.specs.declared.placed.Placed.{Placed}
+use Rattle.core_parts.specs.declared.mask.Mask.{Mask}
+use Rattle.core_parts.specs.declared.mask.MaskTest.{MaskTest}
+use Rattle.core_parts.specs.declared.mask.MaskTest.TheVariants.{Compares, IsNull, IsNotNull}
+use Rattle.core_parts.specs.declared.placed.BoundExpr.{BoundExpr}
 use Rattle.ldv_value.specs.Order.{test_of}
 use Rattle.ldv_value.specs.declared.value.Cmp.{Cmp}
 use Rattle.ldv_value.specs.declared.value.Cmp.TheVariants.{Eq, Ne, Lt, Le, Gt, Ge}
@@ -40,13 +40,13 @@ passes_all masks values = list_all (λ mask. passes mask.test (value_at values m
 -- ---- the masks of a source, whose columns come after so many values of the joined row
 
 -- where all conditions are True, the value of the column passes
-abbrev pub IsMask : List Placed → ℕ → Mask → Type 0
-IsMask conds before mask = (scope : List InScope) (row : List Value) → AllPlaced scope conds
+abbrev pub IsMask : List BoundExpr → ℕ → Mask → Type 0
+IsMask conds before mask = (scope : List InScope) (row : List Value) → AreAllPlaced scope conds
     → meets scope conds row ≡ true
     → passes mask.test (value_at row (before + mask.column)) ≡ true
 
 -- and each is of a column that it suits
-abbrev pub AreMasks : List Placed → ℕ → List Column → List Mask → Type 0
+abbrev pub AreMasks : List BoundExpr → ℕ → List Column → List Mask → Type 0
 AreMasks conds before columns masks =
     AllByRecursion (λ mask. (fits columns mask ≡ true) × IsMask conds before mask) masks
 
@@ -56,22 +56,22 @@ passes_at before masks row =
     list_all (λ mask. passes mask.test (value_at row (before + mask.column))) masks
 
 -- each mask is of a column that it suits, and all conditions are True just where the values pass
-pub record AreExact (conds : List Placed) (before : ℕ) (columns : List Column) (masks : List Mask)
+pub record AreExact (conds : List BoundExpr) (before : ℕ) (columns : List Column) (masks : List Mask)
     : Type 0 where
   pub fit : AllByRecursion (λ mask. fits columns mask ≡ true) masks
-  pub same : (scope : List InScope) (row : List Value) → AllPlaced scope conds
+  pub same : (scope : List InScope) (row : List Value) → AreAllPlaced scope conds
       → passes_at before masks row ≡ meets scope conds row
 
 -- ---- conditions
 
 -- the operator with its sides exchanged
-abbrev pub turned : Cmp → Cmp
-turned Eq = Eq
-turned Ne = Ne
-turned Lt = Gt
-turned Le = Ge
-turned Gt = Lt
-turned Ge = Le
+abbrev pub commuted_cmp : Cmp → Cmp
+commuted_cmp Eq = Eq
+commuted_cmp Ne = Ne
+commuted_cmp Lt = Gt
+commuted_cmp Le = Ge
+commuted_cmp Gt = Lt
+commuted_cmp Ge = Le
 
 -- the expression tests a column, which alone it names
 pub record IsTest (expr : Expr) (test : MaskTest) : Type 0 where
@@ -80,12 +80,12 @@ pub record IsTest (expr : Expr) (test : MaskTest) : Type 0 where
   pub same : (env : Environment) → is_true (truth expr env) ≡ passes test (env name)
 
 -- the condition is True just where the value of the column passes
-abbrev pub IsMaskOf : Placed → ℕ → Mask → Type 0
+abbrev pub IsMaskOf : BoundExpr → ℕ → Mask → Type 0
 IsMaskOf cond before mask = (scope : List InScope) (row : List Value) → IsPlaced scope cond
     → passes mask.test (value_at row (before + mask.column))
     ≡ is_true (truth cond.expr (environment scope row))
 
 -- and the column suits
-pub record IsFound (cond : Placed) (before : ℕ) (columns : List Column) (mask : Mask) : Type 0 where
+pub record IsFound (cond : BoundExpr) (before : ℕ) (columns : List Column) (mask : Mask) : Type 0 where
   pub fits : fits columns mask ≡ true
   pub is : IsMaskOf cond before mask

@@ -31,14 +31,14 @@ into need more (other ∷ others) =
     united_by (member_order need.member other.member) need more other others (into need more others)
 
 -- two sorted lists as one; of a row that is in both, the first need
-abbrev pub united : List Need → List Need → List Need
-united [] others = others
-united (need ∷ needs) others = into need (united needs) others
+abbrev pub union_of_needs : List Need → List Need → List Need
+union_of_needs [] others = others
+union_of_needs (need ∷ needs) others = into need (union_of_needs needs) others
 
 -- needs in any order, sorted, each row once, with its first need
-abbrev pub sorted_once : List Need → List Need
-sorted_once [] = []
-sorted_once (need ∷ needs) = united (need ∷ []) (sorted_once needs)
+abbrev pub needs_in_order : List Need → List Need
+needs_in_order [] = []
+needs_in_order (need ∷ needs) = union_of_needs (need ∷ []) (needs_in_order needs)
 
 -- ---- on the way
 
@@ -65,5 +65,5 @@ IsLast needs others = (needs ≡ []) × (others ≡ [])
 
 -- the first need of two lists as one, and what is left of them
 pub record IsNext (needs others : List Need) (next : Next) : Type 0 where
-  pub united : united needs others ≡ next.need.now ∷ united next.needs.now next.others.now
+  pub united : union_of_needs needs others ≡ next.need.now ∷ union_of_needs next.needs.now next.others.now
   pub fewer : length next.needs.now + length next.others.now < length needs + length others

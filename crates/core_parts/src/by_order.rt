@@ -24,7 +24,7 @@ pub trait Ordered {
     ghost is_total: { IsTotalOrder order };
 
     /// Compares two items.
-    fn compared(&self, other: &Self) -> Ordering
+    fn compare_items(&self, other: &Self) -> Ordering
         ensures { result ≡ order self.now other.now };
 }
 
@@ -33,7 +33,7 @@ impl Ordered for Value {
 
     ghost is_total = { order_total };
 
-    fn compared(&self, other: &Value) -> Ordering {
+    fn compare_items(&self, other: &Value) -> Ordering {
         compare(self, other)
     }
 }
@@ -44,7 +44,7 @@ impl Ordered for Values {
 
     ghost is_total = { values_total };
 
-    fn compared(&self, other: &Values) -> Ordering {
+    fn compare_items(&self, other: &Values) -> Ordering {
         compare_values(self.items(), other.items())
     }
 }
@@ -106,6 +106,6 @@ impl<'a, X: Ordered> Ord for ByOrder<'a, X> {
     ghost matches_eq = { λ x y. refl };
 
     fn cmp(&self, other: &ByOrder<'a, X>) -> Ordering {
-        self.item.compared(other.item)
+        self.item.compare_items(other.item)
     }
 }

@@ -6,7 +6,7 @@ ghost use Rattle.core_parts.specs.Conditions.{Adds, AreConditions};
 ghost use Rattle.sql_model.specs.Kinds.{names_in};
 ghost use Rattle.sql_model.specs.Scope.{InScope, places_in};
 
-use crate::placed::{Placed, placed_at};
+use crate::placed::{BoundExpr, placed_at};
 use ldv_value::{List, Places};
 use sql_model::{Expr, Operator};
 use std::alloc::{AllocError, Global};
@@ -17,7 +17,7 @@ pub fn conjuncts(
     picks: &[Expr],
     places: &Places,
     from: usize,
-) -> Result<List<Placed>, AllocError>
+) -> Result<List<BoundExpr>, AllocError>
     ensures { IfOk result (λ conds. (scope : Items InScope) (more : Items ℕ)
         → drop from places.now ≡ places_in scope (flat_map names_in picks.now) ++ more
         → AreConditions scope picks.now conds) }
@@ -31,7 +31,7 @@ pub fn conjuncts(
 }
 
 /// The conjuncts of one condition, of which the places are given.
-pub fn conjuncts_of(alloc: Global, pick: &Expr, places: &Places) -> Result<List<Placed>, AllocError>
+pub fn conjuncts_of(alloc: Global, pick: &Expr, places: &Places) -> Result<List<BoundExpr>, AllocError>
     ensures { IfOk result (λ conds. (scope : Items InScope)
         → places.now ≡ places_in scope (names_in pick.now)
         → AreConditions scope (pick.now ∷ []) conds) }
@@ -45,7 +45,7 @@ pub fn conjuncts_of(alloc: Global, pick: &Expr, places: &Places) -> Result<List<
 // Adds the conjuncts of a condition.
 fn add_conjuncts(
     alloc: Global,
-    conds: &mut List<Placed>,
+    conds: &mut List<BoundExpr>,
     expr: &Expr,
     places: &Places,
     at: &mut usize,
@@ -69,7 +69,7 @@ fn add_conjuncts(
 // Adds a condition as it is.
 fn add_condition(
     alloc: Global,
-    conds: &mut List<Placed>,
+    conds: &mut List<BoundExpr>,
     expr: &Expr,
     places: &Places,
     at: &mut usize,

@@ -38,7 +38,7 @@ pub fn query_of(checked: &Checked) -> &Query
 
 /// The places of the column names of the core at a place, or a given empty list where there is no such
 /// core. After the places of the last core come those of ORDER BY.
-pub fn places_or<'a>(checked: &'a Checked, place: usize, none: &'a Places) -> &'a Places
+pub fn column_indexes<'a>(checked: &'a Checked, place: usize, none: &'a Places) -> &'a Places
     requires { none.now ≡ [] }
     ensures { result.now ≡ places_at checked.now place }
 {

@@ -9,7 +9,7 @@ ghost use Rattle.sql_model.specs.declared.expr.Expr.TheVariants.{Both};
 
 use crate::constants::constant_of;
 use crate::equality::{is_column, is_equal_test};
-use crate::placed::Placed;
+use crate::placed::BoundExpr;
 use ldv_value::{Cmp, List, Value, Values};
 use sql_model::{Expr, Operator, Schema};
 use std::alloc::{AllocError, Global};
@@ -19,7 +19,7 @@ use std::alloc::{AllocError, Global};
 /// the joined row. `None` where its table has no key, too.
 pub fn fixed_key(
     alloc: Global,
-    conds: &[Placed],
+    conds: &[BoundExpr],
     before: u128,
     schema: &Schema,
 ) -> Result<Option<Values>, AllocError>
@@ -43,7 +43,7 @@ pub fn fixed_key(
 #[tactic(auto, using(crate::proofs::FixingLaws::fixed_end))]
 fn fixed_values(
     alloc: Global,
-    conds: &[Placed],
+    conds: &[BoundExpr],
     before: u128,
     width: usize,
     columns: &[usize],
@@ -67,7 +67,7 @@ fn fixed_values(
 // The value of a column of a source, if it is fixed.
 fn fixed_value(
     alloc: Global,
-    conds: &[Placed],
+    conds: &[BoundExpr],
     before: u128,
     width: usize,
     column: usize,
@@ -84,7 +84,7 @@ fn fixed_value(
 }
 
 // The constant at a place of the joined row, by the first condition that says it.
-fn constant_at(alloc: Global, conds: &[Placed], at: u128) -> Result<Option<Value>, AllocError>
+fn constant_at(alloc: Global, conds: &[BoundExpr], at: u128) -> Result<Option<Value>, AllocError>
     ensures { IfOk result (λ found. IfSome found (AllFix conds.now at)) }
 {
     for cond in conds {
@@ -97,7 +97,7 @@ fn constant_at(alloc: Global, conds: &[Placed], at: u128) -> Result<Option<Value
 }
 
 // The constant at a place of the joined row, if a condition says it.
-fn constant_by(alloc: Global, cond: &Placed, at: u128) -> Result<Option<Value>, AllocError>
+fn constant_by(alloc: Global, cond: &BoundExpr, at: u128) -> Result<Option<Value>, AllocError>
     ensures { IfOk result (λ found. IfSome found (Fixes cond.now at)) }
 {
     let Some(place) = cond.places.get(0) else {
@@ -105,14 +105,14 @@ fn constant_by(alloc: Global, cond: &Placed, at: u128) -> Result<Option<Value>, 
     };
     let place = *place as u128;
     if place == at {
-        fixing(alloc, &cond.expr)
+        constant_of_equality(alloc, &cond.expr)
     } else {
         Ok(None)
     }
 }
 
 // The constant of an equality of a column with a constant.
-fn fixing(alloc: Global, expr: &Expr) -> Result<Option<Value>, AllocError>
+fn constant_of_equality(alloc: Global, expr: &Expr) -> Result<Option<Value>, AllocError>
     ensures { IfOk result (λ found. IfSome found (IsFixing expr.now)) }
 {
     match expr {

@@ -1,10 +1,10 @@
 //! The parts of a checked statement, for the crates that evaluate it.
 //!
 //! It promises to the layers above:
-//! - `core_of`, `query_of` and `places_or` lend a core, the query and the places of a core's column names, as
-//!   the check of the statement gave them (`specs/Checking.antt`);
-//! - `Placed` is an expression with the places of its columns in the joined row. `placed_at`, `placed_items`,
-//!   `take_places` and `take_place` take the places of expressions from the front of a list
+//! - `core_of`, `query_of` and `column_indexes` lend a core, the query and the places of a core's column
+//!   names, as the check of the statement gave them (`specs/Checking.antt`);
+//! - `BoundExpr` is an expression with the places of its columns in the joined row. `placed_at`,
+//!   `placed_items`, `take_places` and `take_place` take the places of expressions from the front of a list
 //!   (`specs/Placing.antt`);
 //! - `conjuncts` and `conjuncts_of` take conditions apart at their ANDs (`specs/Conditions.antt`);
 //! - `fixed_key` has the constants to which conditions fix the columns of a key (`specs/Fixing.antt`).
@@ -12,7 +12,7 @@
 //!   `exact_masks` those that say all that the conditions say (`specs/Masking.antt`). `constant_of` has the
 //!   value of an expression that names no column (`specs/Constants.antt`); `is_column` and `is_equal_test`
 //!   tell comparisons of columns (`specs/Equality.antt`);
-//! - `needed_by`, `sorted_once` and `united` make lists of needed rows, sorted by table and number
+//! - `needed_by`, `needs_in_order` and `union_of_needs` make lists of needed rows, sorted by table and number
 //!   (`specs/Needing.antt`);
 //! - `Refs` is a list of references, which contracts see as the list of what they refer to, and `RefsBy` has
 //!   such lists under keys (`specs/Listing.antt`);
@@ -31,7 +31,7 @@ mod constants;
 mod cores;
 mod equality;
 mod fixing;
-mod masking;
+mod mask;
 mod needs;
 mod placed;
 mod refs;
@@ -41,12 +41,12 @@ mod truths;
 pub use by_order::{ByOrder, Ordered};
 pub use conditions::{conjuncts, conjuncts_of};
 pub use constants::constant_of;
-pub use cores::{core_of, places_or, query_of};
+pub use cores::{core_of, column_indexes, query_of};
 pub use equality::{is_column, is_equal_test};
 pub use fixing::fixed_key;
-pub use masking::{Mask, MaskTest, exact_masks, masks_of};
-pub use needs::{needed_by, sorted_once, united};
-pub use placed::{Placed, placed_at, placed_items, take_place, take_places};
+pub use mask::{Mask, MaskTest, exact_masks, masks_of};
+pub use needs::{needed_by, needs_in_order, union_of_needs};
+pub use placed::{BoundExpr, placed_at, placed_items, take_place, take_places};
 pub use refs::Refs;
 pub use refs_by::RefsBy;
 pub use truths::is_certain;

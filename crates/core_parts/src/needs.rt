@@ -1,7 +1,7 @@
 //! Lists of needed rows, sorted by table and number.
 
 ghost use Rattle.std.specs.Prelude.{◌≡◌, [], ◌∷◌, map, IfOk, MatchOption, OnOk};
-ghost use Rattle.core_parts.specs.Needing.{need_by, need_order, member_order, sorted_once, united};
+ghost use Rattle.core_parts.specs.Needing.{need_by, need_order, member_order, needs_in_order, union_of_needs};
 ghost use Rattle.core_parts.specs.Needing.{is_last_row, once_each, with_other, IsLast, IsNext};
 ghost use Rattle.sql_model.specs.Sorting.{sorted_by};
 
@@ -31,16 +31,16 @@ pub fn needed_by(rule: Rule, members: Members) -> Result<Needs, AllocError>
 
 /// Needs in any order, sorted by table and number, each row once; of a row that is there several times, the
 /// first need.
-pub fn sorted_once(alloc: Global, needs: Needs) -> Result<Needs, AllocError>
-    ensures { IfOk result (λ made. made ≡ sorted_once needs) }
+pub fn needs_in_order(alloc: Global, needs: Needs) -> Result<Needs, AllocError>
+    ensures { IfOk result (λ made. made ≡ needs_in_order needs) }
 {
-    let ordered = sorted(needs)?;
+    let ordered = sort_needs(needs)?;
     let made = once_each(alloc, ordered)?;
     Ok(made)
 }
 
 // Needs sorted by table and number; those of one row keep their order.
-fn sorted(needs: Needs) -> Result<Needs, AllocError>
+fn sort_needs(needs: Needs) -> Result<Needs, AllocError>
     ensures { IfOk result (λ made. made ≡ sorted_by need_order needs) }
 {
     let mut items = needs.into_vec();
@@ -164,8 +164,8 @@ fn next_of<'a>(needs: &'a [Need], others: &'a [Need]) -> Option<Next<'a>>
 }
 
 /// Two lists that are sorted by table and number as one; of a row that is in both, the first need.
-pub fn united(alloc: Global, needs: &[Need], others: &[Need]) -> Result<Needs, AllocError>
-    ensures { IfOk result (λ made. made ≡ united needs.now others.now) }
+pub fn union_of_needs(alloc: Global, needs: &[Need], others: &[Need]) -> Result<Needs, AllocError>
+    ensures { IfOk result (λ made. made ≡ union_of_needs needs.now others.now) }
 {
     let mut made = List::with_capacity(alloc, needs.len())?;
     let mut left = needs;

@@ -10,7 +10,7 @@ use std::mem;
 
 /// An expression, and the place in the joined row of each column that it names, left to right.
 #[derive(Drop)]
-pub struct Placed {
+pub struct BoundExpr {
     pub expr: Expr,
     pub places: Places,
 }
@@ -27,7 +27,7 @@ pub fn take_places(
     ensures others { OnOk result (drop at.new places.now ≡ other_places expr.now (drop at.old places.now)) }
     ensures err { OnErr result ((own.new ≡ own.old) × (at.new ≡ at.old)) }
 {
-    let end = passed(expr, places, *at);
+    let end = place_after(expr, places, *at);
     add_between(places, *at, end, own)?;
     *at = end;
     Ok(())
@@ -35,7 +35,7 @@ pub fn take_places(
 
 // The index after the places that an expression takes of those from an index on.
 #[tactic(auto, using(crate::proofs::Names::own_forms))]
-fn passed(expr: &Expr, places: &Places, at: usize) -> usize
+fn place_after(expr: &Expr, places: &Places, at: usize) -> usize
     ensures onward { at ≤ result }
     ensures within { at ≤ length places.now → result ≤ length places.now }
     ensures others { drop result places.now ≡ other_places expr.now (drop at places.now) }
@@ -43,15 +43,15 @@ fn passed(expr: &Expr, places: &Places, at: usize) -> usize
     match expr {
         Expr::Constant(_) => at,
         Expr::Column(_) => next_after(places, at),
-        Expr::Negate(inner) => passed(inner.get(), places, at),
-        Expr::Not(inner) => passed(inner.get(), places, at),
+        Expr::Negate(inner) => place_after(inner.get(), places, at),
+        Expr::Not(inner) => place_after(inner.get(), places, at),
         Expr::Both(_, left, right) => {
-            let middle = passed(left.get(), places, at);
-            passed(right.get(), places, middle)
+            let middle = place_after(left.get(), places, at);
+            place_after(right.get(), places, middle)
         }
-        Expr::IsNull(inner, _) => passed(inner.get(), places, at),
+        Expr::IsNull(inner, _) => place_after(inner.get(), places, at),
         Expr::Aggregate(_, None) => at,
-        Expr::Aggregate(_, Some(inner)) => passed(inner.get(), places, at),
+        Expr::Aggregate(_, Some(inner)) => place_after(inner.get(), places, at),
     }
 }
 
@@ -109,14 +109,14 @@ pub fn placed_at(
     expr: &Expr,
     places: &Places,
     at: &mut usize,
-) -> Result<Placed, AllocError>
+) -> Result<BoundExpr, AllocError>
     ensures expr { IfOk result (λ placed. placed.expr ≡ expr.now) }
     ensures places { IfOk result (λ placed. placed.places ≡ own_places expr.now (drop at.old places.now)) }
     ensures others { OnOk result (drop at.new places.now ≡ other_places expr.now (drop at.old places.now)) }
 {
     let mut own = List::new(alloc);
     take_places(expr, places, at, &mut own)?;
-    Ok(Placed {
+    Ok(BoundExpr {
         expr: expr.copy_item(alloc)?,
         places: own,
     })
@@ -128,7 +128,7 @@ pub fn placed_items(
     items: &[Item],
     places: &Places,
     at: &mut usize,
-) -> Result<List<Placed>, AllocError>
+) -> Result<List<BoundExpr>, AllocError>
     ensures { IfOk result (λ placed.
         PlacesItems items.now placed (drop at.old places.now) (drop at.new places.now)) }
 {

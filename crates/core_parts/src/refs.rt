@@ -56,7 +56,7 @@ impl<'a, X> Refs<'a, X> {
     }
 
     /// A copy, with one reference more at the end.
-    pub fn extended(&self, item: &'a X) -> Result<Refs<'a, X>, AllocError>
+    pub fn with_item(&self, item: &'a X) -> Result<Refs<'a, X>, AllocError>
         ensures { IfOk result (λ made. made ≡ self.now ++ item.now ∷ []) }
     {
         let count = self.held.len().saturating_add(1);

@@ -10,7 +10,7 @@ use Rattle.sql_model.proofs.Databases.{valid_of_database}
 use Rattle.sql_model.proofs.Equations.{table_schema, schema_found}
 use Rattle.sql_model.specs.Kinds.{names_in}
 use Rattle.sql_model.specs.Places.{places_of, checked_statement, checked_unless}
-use Rattle.sql_model.specs.Refusals.{is_missing, insert_names, insert_lacks_column, insert_clashes, update_clashes, row_fits, target_columns, set_fits, pick_fits, check_refusal, unresolved}
+use Rattle.sql_model.specs.Refusals.{is_missing, insert_names, insert_lacks_column, insert_clashes, update_clashes, row_fits, target_columns, set_fits, pick_fits, check_refusal, has_unresolved_name}
 use Rattle.sql_model.specs.Scope.{InScope, is_table, table_at, catalog_of, schema_at, columns_of, has_column, own_scope, resolves}
 use Rattle.sql_model.specs.Tables.{is_valid_table, are_distinct}
 use Rattle.dml_versions.specs.Changing.{IsCheckedOver}
@@ -119,14 +119,14 @@ module _ (insert : Insert) (catalog : Catalog) (check : check_refusal (TheInsert
   pub values-plain : AllByRecursion ArePlain insert.rows
   values-plain =
       let lacks : insert_lacks_column insert (columns_of (schema_at insert.table catalog)) ≡ false = (check-parts (TheInsert insert) catalog check).1 in
-      let parts = first_of (list_all (has_column (columns_of (schema_at insert.table catalog))) (unwrap_or insert.columns [])) (unresolved [] (insert_names insert)) lacks in
+      let parts = first_of (list_all (has_column (columns_of (schema_at insert.table catalog))) (unwrap_or insert.columns [])) (has_unresolved_name [] (insert_names insert)) lacks in
       all_plain insert.rows (none_resolved (insert_names insert) (not_not (list_all (resolves []) (insert_names insert)) parts.1))
 
   module _ (schema : Schema) (found : schema_at insert.table catalog ≡ Some schema) where
     pub names-there : list_all (has_column schema.columns) (unwrap_or insert.columns []) ≡ true
     names-there =
         let lacks : insert_lacks_column insert schema.columns ≡ false = sym (ap (λ (s : Option Schema). insert_lacks_column insert (columns_of s)) found) ∙ (check-parts (TheInsert insert) catalog check).1 in
-        (first_of (list_all (has_column schema.columns) (unwrap_or insert.columns [])) (unresolved [] (insert_names insert)) lacks).0
+        (first_of (list_all (has_column schema.columns) (unwrap_or insert.columns [])) (has_unresolved_name [] (insert_names insert)) lacks).0
 
     pub rows-fit : list_all (row_fits (target_columns insert.columns schema.columns)) insert.rows ≡ true
     rows-fit =

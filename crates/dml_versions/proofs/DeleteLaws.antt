@@ -14,11 +14,11 @@ use Rattle.sql_model.specs.Refusals.{check_refusal}
 use Rattle.sql_model.specs.Scope.{InScope, table_at, catalog_of, own_scope}
 use Rattle.sql_model.specs.Statements.{target, refusal_of, after_unless}
 use Rattle.sql_model.specs.Tables.{is_valid_table}
-use Rattle.table_store.specs.Histories.{tables_now, table_now, history_at, rows_now, last_next, changed_at, removed, dropped, dropping, changed_by, AreKeptBefore, history_of_row}
+use Rattle.table_store.specs.Histories.{tables_now, table_now, history_at, rows_now, last_next_number, changed_at, table_without, rows_without, row_delete, changed_by, AreKeptBefore, history_of_row}
 use Rattle.table_store.specs.Referring.{child_stop, orphan_stop, delete_refusal}
 use Rattle.table_store.specs.RowOrder.{AreInOrder}
 use Rattle.table_store.specs.Stops.{is_among, with_removed, with_changed, are_sorted_numbers, all_stand, StopsAs}
-use Rattle.table_store.specs.declared.stop.StoreStop.{StoreStop}
+use Rattle.table_store.specs.declared.error.StoreStop.{StoreStop}
 use Rattle.dml_versions.proofs.AfterLaws.{all_needed, after-by}
 use Rattle.dml_versions.proofs.CheckLaws.{found-valid}
 use Rattle.dml_versions.proofs.ClashLaws.{no-clash-fewer}
@@ -40,7 +40,7 @@ use Rattle.dml_versions.specs.declared.change.Change.{Change}
 use Rattle.dml_versions.specs.declared.found.Found.{Found}
 
 module _ (store : StoreHistory) (delete : Delete) (table : TableHistory) (there : history_at delete.table store ≡ Some table)
-    (order : AreInOrder table.slots (last_next table.nexts)) (formed : AreWellFormed (tables_now store)) where
+    (order : AreInOrder table.slots (last_next_number table.nexts)) (formed : AreWellFormed (tables_now store)) where
   abbrev s : Statement
   s = TheDelete delete
 
@@ -211,22 +211,22 @@ module _ (store : StoreHistory) (delete : Delete) (table : TableHistory) (there 
           (sorted_of_database db formed.database)
 
       module _ (time : ℕ) where
-        dropped_is : dropped time (map number_found found) table.slots ≡ map (changed_by (map (λ row. dropping time row.number) gone)) table.slots
+        dropped_is : rows_without time (map number_found found) table.slots ≡ map (changed_by (map (λ row. row_delete time row.number) gone)) table.slots
         dropped_is =
-            ap (λ (l : List ℕ). dropped time l table.slots) numbers_is
-            ∙ ap (λ l. map (changed_by l) table.slots) (map-map (dropping time) (λ (row : TableRow). row.number) gone)
+            ap (λ (l : List ℕ). rows_without time l table.slots) numbers_is
+            ∙ ap (λ l. map (changed_by l) table.slots) (map-map (row_delete time) (λ (row : TableRow). row.number) gone)
 
         none_updated : updated_unless None (Some s) db ≡ []
         none_updated = ap (updated_in s (catalog_of db)) target_is
 
         pub delete-after : (new : StoreHistory) → tables_now new ≡ with_changed delete.table (with_removed (map number_found found)) db
-            → new ≡ changed_at time delete.table (removed time (map number_found found)) store → AreKeptBefore time store new
+            → new ≡ changed_at time delete.table (table_without time (map number_found found)) store → AreKeptBefore time store new
             → IsStoreAfter s time store new
         delete-after new tables made earlier =
             after-by s store None refused_not time new
             (tables ∙ tables_are)
             (ap versions_now made
-            ∙ versions-changed delete.table store table there time (removed time (map number_found found)) (λ u. refl) [] (λ other number apart. refl)
+            ∙ versions-changed delete.table store table there time (table_without time (map number_found found)) (λ u. refl) [] (λ other number apart. refl)
             (λ number. ap (λ l. updates_of (history_of_row number l)) dropped_is
             ∙ updates-dropped table.slots time gone (matched-stand store delete.table table there order test) number)
             ∙ ap (λ l. versions_after l (versions_now store)) (sym none_updated))

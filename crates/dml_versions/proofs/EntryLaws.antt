@@ -2,7 +2,7 @@
 use Rattle.std.proofs.Common.{◌≡◌, ℕ, ◌+◌, ◌<◌, ◌≤◌, ◌^◌, List, [], ◌∷◌, map, length, ap, sym, ◌∙◌, arith, Some, None, is_some, cond, Bool, true, false, suc, ◌==◌}
 use Rattle.std.specs.Prelude.{unwrap_or, slice_get, find, IsSome}
 use Rattle.std.specs.List.{AllByRecursion}
-use Rattle.row_version.specs.History.{Change, current, version, last_time, IsSorted, IsSortedFrom}
+use Rattle.row_version.specs.History.{Change, current_values, version, last_time, IsSorted, IsSortedFrom}
 use Rattle.sql_model.specs.Places.{places_of}
 use Rattle.sql_model.specs.Refusals.{check_refusal, update_names}
 use Rattle.sql_model.specs.Scope.{InScope, catalog_of, places_in, table_at}
@@ -54,7 +54,7 @@ counted [] sorted = omega arith
 counted (first ∷ rest) sorted = omega (arith, counted_from first rest sorted)
 
 version_by : (time : ℕ) (row : RowHistory) → IsTimed time row → unwrap_or (version_now (Some row)) 0 ≤ time
-version_by time row timed = by (is_some (current row.changes))
+version_by time row timed = by (is_some (current_values row.changes))
   where
     by : (b : Bool) → unwrap_or (cond b (Some (version row.changes)) None) 0 ≤ time
     by true = omega (arith, counted row.changes timed.sorted, timed.by)

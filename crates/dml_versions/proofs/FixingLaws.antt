@@ -3,13 +3,13 @@ use Rattle.std.proofs.Common.{◌≡◌, ◌∙◌, ◌+◌, ◌<◌, ap, sym, �
 use Rattle.core_parts.proofs.FixingLaws.{fixed-key}
 use Rattle.core_parts.specs.Conditions.{AreConditions}
 use Rattle.core_parts.specs.Fixing.{FixesKey as FixesBy}
-use Rattle.core_parts.specs.declared.placed.Placed.{Placed}
+use Rattle.core_parts.specs.declared.placed.BoundExpr.{BoundExpr}
 use Rattle.sql_model.specs.Kinds.{names_in}
 use Rattle.sql_model.specs.Scope.{InScope, places_in, value_at}
 use Rattle.dml_versions.specs.Fixing.{FixesKey}
 use Rattle.dml_versions.specs.Types.{Expr, Value}
 
-pub key-fixed : (expr : Expr) (places key : List ℕ) (width : ℕ) (conds : List Placed) (values : List Value)
+pub key-fixed : (expr : Expr) (places key : List ℕ) (width : ℕ) (conds : List BoundExpr) (values : List Value)
     → ((scope : List InScope) → places ≡ places_in scope (names_in expr) → AreConditions scope (expr ∷ []) conds)
     → FixesBy conds 0 width key values → FixesKey (Some expr) places key values
 key-fixed expr places key width conds values are fixed = (

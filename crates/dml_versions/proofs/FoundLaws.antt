@@ -6,7 +6,7 @@ use Rattle.std.proofs.lemmas.Bool.{cases_lt}
 use Rattle.std.proofs.lemmas.List.{get_or_past, map-append}
 use Rattle.std.proofs.Math.ListN.{drop_of_length-le}
 use Rattle.ldv_value.proofs.Lists.{filter-append}
-use Rattle.row_version.specs.History.{current}
+use Rattle.row_version.specs.History.{current_values}
 use Rattle.table_store.proofs.StandingRows.{not-there}
 use Rattle.table_store.proofs.TableLaws.{left_more}
 use Rattle.table_store.specs.Histories.{RowHistory, no_history, row_of, row_now, rows_now}
@@ -54,13 +54,13 @@ module _ (slots : List RowHistory) (slot : ℕ) where
   here = get_or slots slot no_history
 
   -- a row that has a number stands
-  pub slot-stands : (number : ℕ) → Some number ≡ option_map (λ row. row.number) (row_now here) → IsSome (current here.changes)
-  slot-stands number is = stands_by (current here.changes) here.number number is
+  pub slot-stands : (number : ℕ) → Some number ≡ option_map (λ row. row.number) (row_now here) → IsSome (current_values here.changes)
+  slot-stands number is = stands_by (current_values here.changes) here.number number is
 
   -- and is that number with the values
-  pub row-here : (number : ℕ) (values : List Value) → Some number ≡ option_map (λ row. row.number) (row_now here) → Some values ≡ current here.changes
+  pub row-here : (number : ℕ) (values : List Value) → Some number ≡ option_map (λ row. row.number) (row_now here) → Some values ≡ current_values here.changes
       → row_now here ≡ Some (record { number = number; values = values })
-  row-here number values is held = row_by (current here.changes) here.number number values is held
+  row-here number values is held = row_by (current_values here.changes) here.number number values is held
 
   module _ (test : TableRow → Bool) (old : List Found) where
     -- no row stands in it
@@ -68,12 +68,12 @@ module _ (slots : List RowHistory) (slot : ℕ) where
     found-gone is =
         sym (ap (λ (o : Option TableRow). old ++ map (found_row slots) (filter test (option_to_list o))) (not-there (row_now here) is) ∙ append-nil old)
 
-    module _ (number : ℕ) (values : List Value) (is : Some number ≡ option_map (λ row. row.number) (row_now here)) (held : Some values ≡ current here.changes) where
+    module _ (number : ℕ) (values : List Value) (is : Some number ≡ option_map (λ row. row.number) (row_now here)) (held : Some values ≡ current_values here.changes) where
       abbrev row : TableRow
       row = record { number = number; values = values }
 
       found_is : old ++ found_at test slots slot ≡ old ++ map (found_row slots) (cond (test row) (row ∷ []) [])
-      found_is = ap (λ (o : Option TableRow). old ++ map (found_row slots) (filter test (option_to_list o))) (row_by (current here.changes) here.number number values is held)
+      found_is = ap (λ (o : Option TableRow). old ++ map (found_row slots) (filter test (option_to_list o))) (row_by (current_values here.changes) here.number number values is held)
 
       -- its row isn't matched
       pub found-missed : test row ≡ false → old ≡ old ++ found_at test slots slot

@@ -4,7 +4,7 @@ use Rattle.std.specs.Prelude.{unwrap_or, nat_lt, Err, is_none, IfSome}
 use Rattle.std.specs.List.{list_all}
 use Rattle.std.specs.Option.{option_and_then, option_map, option_or}
 use Rattle.std.proofs.lemmas.Bool.Decides.{Decides-eqb}
-use Rattle.core_parts.specs.Needing.{sorted_once, united}
+use Rattle.core_parts.specs.Needing.{needs_in_order, union_of_needs}
 use Rattle.ldv_value.proofs.Booleans.{and-parts, and-from}
 use Rattle.ldv_value.proofs.Lists.{length-map}
 use Rattle.ldv_value.proofs.Options.{option_or-none}
@@ -12,20 +12,20 @@ use Rattle.ldv_value.specs.Limits.{max_next}
 use Rattle.ldv_value.specs.Sorted.{is_strictly_sorted}
 use Rattle.sql_laws.proofs.NewRows.{AllFirst, all_first, new_kinds}
 use Rattle.sql_model.proofs.Databases.{sorted_of_database}
-use Rattle.sql_model.specs.Changes.{new_values, numbered, inserted, with_rows, lacks_value, key_clash, changed, is_full}
+use Rattle.sql_model.specs.Changes.{new_values, numbered_rows, rows_of_insert, with_rows, lacks_value, key_clash, table_after, is_full}
 use Rattle.sql_model.proofs.ValidTables.{table-parts}
 use Rattle.sql_model.specs.Needs.{NeededRow, new_member, members_made, made_unless, updated_unless, updated_in, versions_after, matched_rows, parent_rows, sorted_needs, read_of}
-use Rattle.sql_model.specs.References.{Missing, Orphan, first_missing, first_orphan, is_changed, parents_needed, parents_of, tables_after}
+use Rattle.sql_model.specs.References.{MissingParent, Orphan, first_missing_parent, first_orphan, is_changed, parents_needed, parents_of, tables_after}
 use Rattle.sql_model.specs.Refusals.{check_refusal, row_fits, target_columns}
 use Rattle.sql_model.specs.Scope.{table_at, catalog_of, has_column}
 use Rattle.sql_model.specs.Statements.{target, refusal_of, after_unless}
 use Rattle.sql_model.specs.Tables.{is_valid_table, has_kind, each_value}
-use Rattle.table_store.specs.Histories.{tables_now, table_now, history_at, last_next, changed_at, inserted as history_inserted, AreKeptBefore}
+use Rattle.table_store.specs.Histories.{tables_now, table_now, history_at, last_next_number, changed_at, table_with_rows as history_inserted, AreKeptBefore}
 use Rattle.table_store.specs.Referring.{parent_stop, child_stop, missing_stop, insert_refusal, with_put, are_apart, parents_in_db}
 use Rattle.table_store.specs.RowOrder.{AreInOrder}
 use Rattle.table_store.specs.Stops.{with_inserted, with_changed, have_shape, has_shape, insert_stop, key_stop, stop_if, StopsAs}
-use Rattle.table_store.specs.declared.stop.StoreStop.{StoreStop}
-use Rattle.table_store.specs.declared.stop.StoreStop.TheVariants as stop
+use Rattle.table_store.specs.declared.error.StoreStop.{StoreStop}
+use Rattle.table_store.specs.declared.error.StoreStop.TheVariants as stop
 use Rattle.dml_versions.proofs.AfterLaws.{all_needed, change-by, after-by}
 use Rattle.dml_versions.proofs.CheckLaws.{found-distinct, found-valid, names-there, rows-fit}
 use Rattle.dml_versions.proofs.KeptLaws.{SameAll}
@@ -34,16 +34,16 @@ use Rattle.dml_versions.proofs.NumberLaws.{precedes}
 use Rattle.dml_versions.proofs.ReferLaws.{or-nothing, refs_stop, added-childless, put-inserted, parents-same}
 use Rattle.dml_versions.proofs.RefuseLaws.{stop_by, due_by, not-refused, not-full, no-clash-by, child-there, same-all-by, all-needs, refused-change, refused-after}
 use Rattle.dml_versions.proofs.TableLaws.{table-now, history-name, schema-now}
-use Rattle.dml_versions.proofs.VersionLaws.{updates-added, versions-changed}
+use Rattle.dml_versions.proofs.VersionLaws.{updates-history_of_new_row, versions-changed}
 use Rattle.dml_versions.specs.Changing.{IsWhole, IsStoreAfter, IsChildThere, inserted_change, refused_change}
 use Rattle.sql_model.specs.Tables.{AreWellFormed}
-use Rattle.dml_versions.specs.Needing.{made_new, parent_needs, HaveParents}
+use Rattle.dml_versions.specs.Needing.{inserted_member, parent_needs, HaveParents}
 use Rattle.dml_versions.specs.Types.{Need, Statement, TheInsert, Insert, Changed, Column, Expr, Value, Table, TableRow, StoreHistory, TableHistory}
 use Rattle.dml_versions.specs.Versions.{versions_now}
 use Rattle.dml_versions.specs.declared.change.Change.{Change}
 
 module _ (store : StoreHistory) (insert : Insert) (table : TableHistory) (there : history_at insert.table store ≡ Some table)
-    (order : AreInOrder table.slots (last_next table.nexts)) (formed : AreWellFormed (tables_now store))
+    (order : AreInOrder table.slots (last_next_number table.nexts)) (formed : AreWellFormed (tables_now store))
     (check : check_refusal (TheInsert insert) (catalog_of (tables_now store)) ≡ None) where
   abbrev s : Statement
   s = TheInsert insert
@@ -92,34 +92,34 @@ module _ (store : StoreHistory) (insert : Insert) (table : TableHistory) (there 
     count_is : length new ≡ length insert.rows
     count_is = length-map insert.rows (new_values insert.columns columns)
 
-    inserted_is : with_inserted new t ≡ changed s (catalog_of db) t
-    inserted_is = ap (λ (n : ℕ). with_rows t (t.rows ++ inserted insert t) (t.next + n)) count_is
+    inserted_is : with_inserted new t ≡ table_after s (catalog_of db) t
+    inserted_is = ap (λ (n : ℕ). with_rows t (t.rows ++ rows_of_insert insert t) (t.next + n)) count_is
 
     changed_tables : with_changed t.name (with_inserted new) db ≡ tables_after s (catalog_of db) db
     changed_tables =
         ap (λ (n : List ℕ). with_changed n (with_inserted new) db) named
-        ∙ same-changed (with_inserted new) (changed s (catalog_of db)) insert.table t inserted_is db target_is
+        ∙ same-changed (with_inserted new) (table_after s (catalog_of db)) insert.table t inserted_is db target_is
         (sorted_of_database db formed.database)
 
     -- what refuses it
-    abbrev missing : Option Missing
-    missing = first_missing s (catalog_of db) t db
+    abbrev missing : Option MissingParent
+    missing = first_missing_parent s (catalog_of db) t db
 
     abbrev orphan : Option Orphan
     orphan = first_orphan s (catalog_of db) t db
 
-    own_is : insert_stop new t ≡ stop_by t (lacks_value s (catalog_of db) t) (key_clash (changed s (catalog_of db) t)) (is_full s t)
+    own_is : insert_stop new t ≡ stop_by t (lacks_value s (catalog_of db) t) (key_clash (table_after s (catalog_of db) t)) (is_full s t)
     own_is = λ j. option_or (stop_if (lacks_value s (catalog_of db) t) stop.NotNull) (option_or (key_stop t (key_clash (inserted_is j))) (stop_if (nat_lt max_next (t.next + count_is j)) stop.Full))
 
-    refs_are : missing_stop t.schema.foreign (numbered t.next new) (with_changed t.name (with_inserted new) db) ≡ refs_stop missing orphan
+    refs_are : missing_stop t.schema.foreign (numbered_rows t.next new) (with_changed t.name (with_inserted new) db) ≡ refs_stop missing orphan
     refs_are =
-        ap (λ (after : List Table). missing_stop t.schema.foreign (numbered t.next new) after) changed_tables
+        ap (λ (after : List Table). missing_stop t.schema.foreign (numbered_rows t.next new) after) changed_tables
         ∙ sym (option_or-none (option_map parent_stop missing))
         ∙ ap (λ (o : Option Orphan). option_or (option_map parent_stop missing) (option_map child_stop o))
-        (sym (added-childless (is_changed s (catalog_of db)) t (changed s (catalog_of db) t) (inserted insert t) refl db))
+        (sym (added-childless (is_changed s (catalog_of db)) t (table_after s (catalog_of db) t) (rows_of_insert insert t) refl db))
 
     pub insert-due : option_and_then (insert_refusal rows db) (table_at insert.table db)
-        ≡ due_by t (lacks_value s (catalog_of db) t) (key_clash (changed s (catalog_of db) t)) (is_full s t) missing orphan
+        ≡ due_by t (lacks_value s (catalog_of db) t) (key_clash (table_after s (catalog_of db) t)) (is_full s t) missing orphan
     insert-due =
         ap (option_and_then (insert_refusal rows db)) target_is
         ∙ ap (λ (l : List (List Value)). insert_refusal l db t) rows_is
@@ -133,49 +133,49 @@ module _ (store : StoreHistory) (insert : Insert) (table : TableHistory) (there 
     below : list_all (λ (row : TableRow). nat_lt row.number t.next) t.rows ≡ true
     below = (and-parts (is_strictly_sorted precedes t.rows) (list_all (λ (row : TableRow). nat_lt row.number t.next) t.rows) (table-parts t valid).numbers).1
 
-    apart : key_clash (changed s (catalog_of db) t) ≡ None → are_apart (numbered t.next new) t ≡ true
+    apart : key_clash (table_after s (catalog_of db) t) ≡ None → are_apart (numbered_rows t.next new) t ≡ true
     apart none = ap (λ (u : Table). is_none (key_clash u)) (put-inserted t below new) ∙ ap is_none none
 
-    origins_are : parents_needed s (catalog_of db) t db ≡ parents_in_db (numbered t.next new) db t
+    origins_are : parents_needed s (catalog_of db) t db ≡ parents_in_db (numbered_rows t.next new) db t
     origins_are =
-        parents-same insert.table (changed s (catalog_of db)) (with_put (numbered t.next new)) (λ u. refl) (λ u. refl)
-        db t target_is refl (sym (ap (λ (u : Table). u.rows) (put-inserted t below new))) t.schema.foreign (numbered t.next new)
-        ∙ ap (λ (n : List ℕ). parents_of db (with_changed n (with_put (numbered t.next new)) db) t.schema.foreign (numbered t.next new)) (sym named)
+        parents-same insert.table (table_after s (catalog_of db)) (with_put (numbered_rows t.next new)) (λ u. refl) (λ u. refl)
+        db t target_is refl (sym (ap (λ (u : Table). u.rows) (put-inserted t below new))) t.schema.foreign (numbered_rows t.next new)
+        ∙ ap (λ (n : List ℕ). parents_of db (with_changed n (with_put (numbered_rows t.next new)) db) t.schema.foreign (numbered_rows t.next new)) (sym named)
 
-    pub insert-fits : stop_by t (lacks_value s (catalog_of db) t) (key_clash (changed s (catalog_of db) t)) (is_full s t) ≡ None
+    pub insert-fits : stop_by t (lacks_value s (catalog_of db) t) (key_clash (table_after s (catalog_of db) t)) (is_full s t) ≡ None
         → nat_lt max_next (t.next + length rows) ≡ false
     insert-fits fine =
         ap (λ (l : List (List Value)). nat_lt max_next (t.next + length l)) rows_is
         ∙ ap (λ (n : ℕ). nat_lt max_next (t.next + n)) count_is
-        ∙ not-full t (lacks_value s (catalog_of db) t) (key_clash (changed s (catalog_of db) t)) (is_full s t) fine
+        ∙ not-full t (lacks_value s (catalog_of db) t) (key_clash (table_after s (catalog_of db) t)) (is_full s t) fine
 
     abbrev whole : List Need
     whole = all_needed s store
 
-    pub insert-needs : (next : ℕ) → next ≡ t.next → (needs : List Need) → HaveParents store insert.table (numbered next rows) [] needs
-        → stop_by t (lacks_value s (catalog_of db) t) (key_clash (changed s (catalog_of db) t)) (is_full s t) ≡ None
+    pub insert-needs : (next : ℕ) → next ≡ t.next → (needs : List Need) → HaveParents store insert.table (numbered_rows next rows) [] needs
+        → stop_by t (lacks_value s (catalog_of db) t) (key_clash (table_after s (catalog_of db) t)) (is_full s t) ≡ None
         → needs ≡ whole
     insert-needs next next_is needs have fine =
-        let given : numbered next rows ≡ numbered t.next new = λ j. numbered (next_is j) (rows_is j) in
-        let are : are_apart (numbered t.next new) t ≡ true → needs ≡ united [] (sorted_once (parent_needs store (numbered t.next new) t)) =
-        subst (λ (l : List TableRow). are_apart l t ≡ true → needs ≡ united [] (sorted_once (parent_needs store l t))) given
-        (subst (λ (o : Option Table). IfSome o (λ u. are_apart (numbered next rows) u ≡ true → needs ≡ united [] (sorted_once (parent_needs store (numbered next rows) u)))) target_is have) in
-        are (apart (no-clash-by t (lacks_value s (catalog_of db) t) (key_clash (changed s (catalog_of db) t)) (is_full s t) fine))
-        ∙ all-needs store s insert.table table there order target_is check [] refl refl tt (parents_in_db (numbered t.next new) db t) origins_are
+        let given : numbered_rows next rows ≡ numbered_rows t.next new = λ j. numbered_rows (next_is j) (rows_is j) in
+        let are : are_apart (numbered_rows t.next new) t ≡ true → needs ≡ union_of_needs [] (needs_in_order (parent_needs store (numbered_rows t.next new) t)) =
+        subst (λ (l : List TableRow). are_apart l t ≡ true → needs ≡ union_of_needs [] (needs_in_order (parent_needs store l t))) given
+        (subst (λ (o : Option Table). IfSome o (λ u. are_apart (numbered_rows next rows) u ≡ true → needs ≡ union_of_needs [] (needs_in_order (parent_needs store (numbered_rows next rows) u)))) target_is have) in
+        are (apart (no-clash-by t (lacks_value s (catalog_of db) t) (key_clash (table_after s (catalog_of db) t)) (is_full s t) fine))
+        ∙ all-needs store s insert.table table there order target_is check [] refl refl tt (parents_in_db (numbered_rows t.next new) db t) origins_are
 
     -- ---- nothing refuses it
 
     module _ (fine : option_and_then (insert_refusal rows db) (table_at insert.table db) ≡ None) where
-      none_due : due_by t (lacks_value s (catalog_of db) t) (key_clash (changed s (catalog_of db) t)) (is_full s t) missing orphan ≡ None
+      none_due : due_by t (lacks_value s (catalog_of db) t) (key_clash (table_after s (catalog_of db) t)) (is_full s t) missing orphan ≡ None
       none_due = sym insert-due ∙ fine
 
       refused_not : refusal_of (Some s) db ≡ None
       refused_not = not-refused store s insert.table table there order target_is check none_due
 
-      pub insert-fine : stop_by t (lacks_value s (catalog_of db) t) (key_clash (changed s (catalog_of db) t)) (is_full s t) ≡ None
-      insert-fine = (or-nothing (stop_by t (lacks_value s (catalog_of db) t) (key_clash (changed s (catalog_of db) t)) (is_full s t)) (refs_stop missing orphan) none_due).0
+      pub insert-fine : stop_by t (lacks_value s (catalog_of db) t) (key_clash (table_after s (catalog_of db) t)) (is_full s t) ≡ None
+      insert-fine = (or-nothing (stop_by t (lacks_value s (catalog_of db) t) (key_clash (table_after s (catalog_of db) t)) (is_full s t)) (refs_stop missing orphan) none_due).0
 
-      made_is : made_unless None (versions_now store) (Some s) db ≡ map (new_member t) (inserted insert t)
+      made_is : made_unless None (versions_now store) (Some s) db ≡ map (new_member t) (rows_of_insert insert t)
       made_is = ap (members_made (versions_now store) s (catalog_of db)) target_is
 
       whole_is : whole ≡ map (read_of (versions_now store)) (sorted_needs (parent_rows s (catalog_of db) (target s db) db))
@@ -187,13 +187,13 @@ module _ (store : StoreHistory) (insert : Insert) (table : TableHistory) (there 
       insert-change next next_is =
           change-by s store None refused_not (inserted_change insert.table next rows whole)
           (ap Changed (ap length rows_is ∙ count_is))
-          ((λ j. map (made_new (sym named j)) (numbered (next_is j) (rows_is j))) ∙ sym made_is)
+          ((λ j. map (inserted_member (sym named j)) (numbered_rows (next_is j) (rows_is j))) ∙ sym made_is)
           whole_is
 
       tables_are : with_changed insert.table (with_inserted rows) db ≡ after_unless None (Some s) db
       tables_are =
           ap (λ (l : List (List Value)). with_changed insert.table (with_inserted l) db) rows_is
-          ∙ same-changed (with_inserted new) (changed s (catalog_of db)) insert.table t inserted_is db target_is
+          ∙ same-changed (with_inserted new) (table_after s (catalog_of db)) insert.table t inserted_is db target_is
           (sorted_of_database db formed.database)
 
       none_updated : updated_unless None (Some s) db ≡ []
@@ -208,7 +208,7 @@ module _ (store : StoreHistory) (insert : Insert) (table : TableHistory) (there 
             (tables ∙ tables_are)
             (ap versions_now is_made
             ∙ versions-changed insert.table store table there time (history_inserted time rows) (λ u. refl) [] (λ other number apart. refl)
-            (λ number. updates-added table.slots time (numbered (last_next table.nexts) rows) number)
+            (λ number. updates-history_of_new_row table.slots time (numbered_rows (last_next_number table.nexts) rows) number)
             ∙ ap (λ l. versions_after l (versions_now store)) (sym none_updated))
             (subst (λ (n : StoreHistory). n.time ≤ time) (sym is_made) (omega arith))
             earlier
@@ -216,7 +216,7 @@ module _ (store : StoreHistory) (insert : Insert) (table : TableHistory) (there 
     -- ---- the store refuses it
 
     module _ (X : Type 0) (at : StoreStop) (stops : StopsAs {X = X} (option_and_then (insert_refusal rows db) (table_at insert.table db)) (Err at)) where
-      stops_by : StopsAs {X = X} (due_by t (lacks_value s (catalog_of db) t) (key_clash (changed s (catalog_of db) t)) (is_full s t) missing orphan) (Err at)
+      stops_by : StopsAs {X = X} (due_by t (lacks_value s (catalog_of db) t) (key_clash (table_after s (catalog_of db) t)) (is_full s t) missing orphan) (Err at)
       stops_by = subst (λ (o : Option StoreStop). StopsAs {X = X} o (Err at)) insert-due stops
 
       pub insert-child : IsChildThere db at
@@ -227,7 +227,7 @@ module _ (store : StoreHistory) (insert : Insert) (table : TableHistory) (there 
           refused-change store s insert.table table there order target_is check [] refl refl tt whole (λ none. refl) X at change stops_by made
 
       pub insert-same : (all : List Need)
-          → (stop_by t (lacks_value s (catalog_of db) t) (key_clash (changed s (catalog_of db) t)) (is_full s t) ≡ None → all ≡ whole)
+          → (stop_by t (lacks_value s (catalog_of db) t) (key_clash (table_after s (catalog_of db) t)) (is_full s t) ≡ None → all ≡ whole)
           → SameAll at all whole
       insert-same all same = same-all-by store s insert.table table there order target_is check all whole same X at stops_by
 

@@ -2,12 +2,12 @@
 use Rattle.std.proofs.Common.{◌≡◌, ℕ, List, [], refl, ap, sym, ◌∙◌, Some, Bool, true, false, IsTrue}
 use Rattle.ldv_value.proofs.Booleans.{true≢false}
 use Rattle.sql_model.specs.Needs.{Versions}
-use Rattle.dml_versions.specs.Changing.{IsChange, IsWhole, refused_by, refused_change, reply_alone, told}
+use Rattle.dml_versions.specs.Changing.{IsChange, IsWhole, refused_by, refused_change, reply_alone, change_with_lists}
 use Rattle.dml_versions.specs.Needing.{with_key_rows, with_child_row}
 use Rattle.dml_versions.specs.Types.{Need, RowHistory, Statement, StoreHistory, NotNull, KeyTaken, Full, NoParent, HasChild}
 use Rattle.dml_versions.specs.declared.change.Change.{Change}
-use Rattle.table_store.specs.declared.stop.StoreStop.{StoreStop}
-use Rattle.table_store.specs.declared.stop.StoreStop.TheVariants as stop
+use Rattle.table_store.specs.declared.error.StoreStop.{StoreStop}
+use Rattle.table_store.specs.declared.error.StoreStop.TheVariants as stop
 
 pub whole-change : (s : Statement) (keep : Bool) (store : StoreHistory) (change : Change)
     → IsWhole s store change → IsChange s keep store change
@@ -18,14 +18,14 @@ whole-change s keep store change is = record {
 }
 
 -- the lists may be left out where they aren't kept
-pub told-change : (s : Statement) (keep : Bool) (store : StoreHistory) (whole change : Change)
-    → IsWhole s store whole → change ≡ told keep whole → IsChange s keep store change
-told-change s true store whole change is same = record {
+pub change_with_lists-change : (s : Statement) (keep : Bool) (store : StoreHistory) (whole change : Change)
+    → IsWhole s store whole → change ≡ change_with_lists keep whole → IsChange s keep store change
+change_with_lists-change s true store whole change is same = record {
   reply = ap (λ (c : Change). c.reply) same ∙ is.reply;
   made = λ kept. ap (λ (c : Change). c.made) same ∙ is.made;
   needs = λ kept. ap (λ (c : Change). c.needs) same ∙ is.needs;
 }
-told-change s false store whole change is same = record {
+change_with_lists-change s false store whole change is same = record {
   reply = ap (λ (c : Change). c.reply) same ∙ is.reply;
   made = λ kept. absurd (true≢false (sym kept));
   needs = λ kept. absurd (true≢false (sym kept));
@@ -121,23 +121,23 @@ module _ (versions : Versions) (name : List ℕ) (slots : List RowHistory) (need
   refused-over stop.NoMemory change is = cc
 
   -- a refusal over needs that are there where they are kept
-  pub refused-told : (s : Statement) (keep : Bool) (store : StoreHistory) (at : StoreStop) (change : Change)
+  pub refused-change_with_lists : (s : Statement) (keep : Bool) (store : StoreHistory) (at : StoreStop) (change : Change)
       → (over : IsRefusedOver versions name slots needs others all all_others at change)
       → (IsTrue keep → SameOwn at needs others) → (IsTrue keep → SameAll at all all_others)
       → IsWhole s store over.whole → IsChange s keep store change
-  refused-told s keep store at change over own more is = record {
+  refused-change_with_lists s keep store at change over own more is = record {
     reply = over.reply ∙ is.reply;
     made = λ kept. over.made ∙ is.made;
     needs = λ kept. over.needs_are (own kept) (more kept) ∙ is.needs;
   }
 
 -- what is told of a change with needs that are there where they are kept
-pub told-over : (keep : Bool) (of : List Need → Change) → ((a b : List Need) → (of a).reply ≡ (of b).reply) → (needs others : List Need)
-    → (IsTrue keep → needs ≡ others) → told keep (of needs) ≡ told keep (of others)
-told-over true of same needs others are = ap of (are refl)
-told-over false of same needs others are = ap reply_alone (same needs others)
+pub change_with_lists-over : (keep : Bool) (of : List Need → Change) → ((a b : List Need) → (of a).reply ≡ (of b).reply) → (needs others : List Need)
+    → (IsTrue keep → needs ≡ others) → change_with_lists keep (of needs) ≡ change_with_lists keep (of others)
+change_with_lists-over true of same needs others are = ap of (are refl)
+change_with_lists-over false of same needs others are = ap reply_alone (same needs others)
 
 -- the needs of a change that is told
-pub told-needs : (keep : Bool) (whole change : Change) → change ≡ told keep whole → IsTrue keep → change.needs ≡ whole.needs
-told-needs true whole change same kept = ap (λ (c : Change). c.needs) same
-told-needs false whole change same kept = absurd (true≢false (sym kept))
+pub change_with_lists-needs : (keep : Bool) (whole change : Change) → change ≡ change_with_lists keep whole → IsTrue keep → change.needs ≡ whole.needs
+change_with_lists-needs true whole change same kept = ap (λ (c : Change). c.needs) same
+change_with_lists-needs false whole change same kept = absurd (true≢false (sym kept))

@@ -14,13 +14,13 @@ use Rattle.sql_model.proofs.ValidTables.{table-parts}
 use Rattle.sql_model.specs.Needs.{matched_row, next_member, read_of}
 use Rattle.sql_model.specs.Scope.{same_text, is_table}
 use Rattle.sql_model.specs.Tables.{is_valid_table, table_precedes}
-use Rattle.table_store.specs.Histories.{history_at, rows_now, last_next}
+use Rattle.table_store.specs.Histories.{history_at, rows_now, last_next_number}
 use Rattle.table_store.specs.RowOrder.{AreInOrder}
 use Rattle.table_store.specs.Stops.{with_changed}
 use Rattle.dml_versions.proofs.NumberLaws.{AreSorted, precedes}
-use Rattle.dml_versions.proofs.StandingLaws.{Stands, version-is, all-stand, all-filter}
+use Rattle.dml_versions.proofs.StandingLaws.{IsStanding, version-is, all-stand, all-filter}
 use Rattle.dml_versions.specs.Finding.{found_row, version_of}
-use Rattle.dml_versions.specs.Needing.{need_found, made_found}
+use Rattle.dml_versions.specs.Needing.{need_found, updated_member}
 use Rattle.dml_versions.specs.Types.{L, Table, TableRow, StoreHistory, TableHistory}
 use Rattle.dml_versions.specs.Versions.{updates_in, versions_now}
 
@@ -61,26 +61,26 @@ same-changed f g name t same (u ∷ us) found sorted = elim (cases-bool (is_tabl
 
 -- ---- versions
 
-module _ (store : StoreHistory) (name : List ℕ) (table : TableHistory) (found : history_at name store ≡ Some table) (order : AreInOrder table.slots (last_next table.nexts)) where
-  pub versions-are : (number : ℕ) → Stands table.slots number → version_of table.slots number ≡ versions_now store name number
+module _ (store : StoreHistory) (name : List ℕ) (table : TableHistory) (found : history_at name store ≡ Some table) (order : AreInOrder table.slots (last_next_number table.nexts)) where
+  pub versions-are : (number : ℕ) → IsStanding table.slots number → version_of table.slots number ≡ versions_now store name number
   versions-are number s = version-is table.slots number s ∙ sym (ap (updates_in number) found)
 
   abbrev pub AllStand : List TableRow → Type 0
-  AllStand rows = AllByRecursion (λ row. Stands table.slots row.number) rows
+  AllStand rows = AllByRecursion (λ row. IsStanding table.slots row.number) rows
 
   pub matched-stand : (test : TableRow → Bool) → AllStand (filter test (rows_now table.slots))
-  matched-stand test = all-filter (λ (row : TableRow). Stands table.slots row.number) test (rows_now table.slots) (all-stand table.slots (last_next table.nexts) order)
+  matched-stand test = all-filter (λ (row : TableRow). IsStanding table.slots row.number) test (rows_now table.slots) (all-stand table.slots (last_next_number table.nexts) order)
 
   module _ (t : Table) (named : t.name ≡ name) (rows : List TableRow) (stand : AllStand rows) where
-    version_at : (row : TableRow) → Stands table.slots row.number → version_of table.slots row.number ≡ versions_now store t.name row.number
+    version_at : (row : TableRow) → IsStanding table.slots row.number → version_of table.slots row.number ≡ versions_now store t.name row.number
     version_at row s = versions-are row.number s ∙ ap (λ (n : List ℕ). versions_now store n row.number) (sym named)
 
     -- what is made of matched rows
-    pub made-is : map (made_found name) (map (found_row table.slots) rows) ≡ map (next_member (versions_now store) t) rows
+    pub made-is : map (updated_member name) (map (found_row table.slots) rows) ≡ map (next_member (versions_now store) t) rows
     made-is =
-        map-map (made_found name) (found_row table.slots) rows
-        ∙ map-agree (λ row. made_found name (found_row table.slots row)) (next_member (versions_now store) t) rows
-        (all-weaker (λ (row : TableRow). Stands table.slots row.number) (λ row. made_found name (found_row table.slots row) ≡ next_member (versions_now store) t row)
+        map-map (updated_member name) (found_row table.slots) rows
+        ∙ map-agree (λ row. updated_member name (found_row table.slots row)) (next_member (versions_now store) t) rows
+        (all-weaker (λ (row : TableRow). IsStanding table.slots row.number) (λ row. updated_member name (found_row table.slots row) ≡ next_member (versions_now store) t row)
         (λ row s j. record { table = sym named j; row = row.number; version = version_at row s j + 1 }) rows stand)
 
     -- what is needed of them
@@ -88,6 +88,6 @@ module _ (store : StoreHistory) (name : List ℕ) (table : TableHistory) (found 
     needs-is =
         map-map (need_found name) (found_row table.slots) rows
         ∙ map-agree (λ row. need_found name (found_row table.slots row)) (λ row. read_of (versions_now store) (matched_row t row)) rows
-        (all-weaker (λ (row : TableRow). Stands table.slots row.number) (λ row. need_found name (found_row table.slots row) ≡ read_of (versions_now store) (matched_row t row))
+        (all-weaker (λ (row : TableRow). IsStanding table.slots row.number) (λ row. need_found name (found_row table.slots row) ≡ read_of (versions_now store) (matched_row t row))
         (λ row s j. record { member = record { table = sym named j; row = row.number; version = version_at row s j }; rule = L }) rows stand)
         ∙ sym (map-map (read_of (versions_now store)) (matched_row t) rows)

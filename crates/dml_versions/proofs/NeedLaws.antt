@@ -12,7 +12,7 @@ use Rattle.ldv_value.proofs.Booleans.{and-parts}
 use Rattle.ldv_value.proofs.Lists.{map-map}
 use Rattle.ldv_value.proofs.SameBytes.{bytes_eq-itself}
 use Rattle.ldv_value.specs.Sorted.{is_strictly_sorted}
-use Rattle.sql_model.specs.Needs.{NeededRow, needed_row, put_row, sorted_needs, Versions, matched_row, key_row, stood, read_of}
+use Rattle.sql_model.specs.Needs.{NeededRow, needed_row, put_row, sorted_needs, Versions, matched_row, key_row, had_row, read_of}
 use Rattle.table_store.specs.Stops.{stood_number}
 use Rattle.dml_versions.specs.Needing.{put_need, put_some}
 use Rattle.dml_versions.proofs.NumberLaws.{AreSorted, precedes}
@@ -235,8 +235,8 @@ needs-matched t rows is =
 
 -- those that stood
 stood_keys : (t : Table) (earlier later : TableRow)
-    → map (key_row t) (filter (stood t) (earlier ∷ later ∷ [])) ≡ map (needed t.name) (keys (stood_number t earlier) (stood_number t later))
-stood_keys t earlier later = by (stood t earlier) (stood t later)
+    → map (key_row t) (filter (had_row t) (earlier ∷ later ∷ [])) ≡ map (needed t.name) (keys (stood_number t earlier) (stood_number t later))
+stood_keys t earlier later = by (had_row t earlier) (had_row t later)
   where
     by : (a b : Bool) → map (key_row t) (cond a (earlier ∷ cond b (later ∷ []) []) (cond b (later ∷ []) []))
         ≡ map (needed t.name) (keys (if a then Some earlier.number else None) (if b then Some later.number else None))
@@ -246,7 +246,7 @@ stood_keys t earlier later = by (stood t earlier) (stood t later)
     by false false = refl
 
 pub needs-refused : (t : Table) (versions : Versions) (rows : List TableRow) (earlier later : TableRow)
-    → map (read_of versions) (sorted_needs (map (matched_row t) rows ++ map (key_row t) (filter (stood t) (earlier ∷ later ∷ []))))
+    → map (read_of versions) (sorted_needs (map (matched_row t) rows ++ map (key_row t) (filter (had_row t) (earlier ∷ later ∷ []))))
     ≡ added t.name versions (stood_number t earlier) (added t.name versions (stood_number t later) (map (read_of versions) (sorted_needs (map (matched_row t) rows))))
 needs-refused t versions rows earlier later =
     let ns : List Numbered = map matched_at rows in

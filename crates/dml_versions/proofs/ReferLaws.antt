@@ -5,7 +5,7 @@ use Rattle.std.specs.Prelude.{filter, find, not, ◌&&◌, ◌||◌, nat_lt, if�
 use Rattle.std.specs.List.{flat_map, filter_map, cons_option, list_any, list_all, AllByRecursion}
 use Rattle.std.specs.Option.{option_map, option_or, option_and_then}
 use Rattle.std.proofs.lemmas.Bool.{ne_eqb, ltb-true}
-use Rattle.core_parts.specs.Needing.{need_by, sorted_once, united}
+use Rattle.core_parts.specs.Needing.{need_by, needs_in_order, union_of_needs}
 use Rattle.ldv_value.proofs.Booleans.{and-parts, and-from, and-false, or-cases, or-left, or-right, false≢true}
 use Rattle.ldv_value.proofs.Cases.{cases-bool}
 use Rattle.ldv_value.proofs.Lists.{list_any-append, list_all-append, found-passes}
@@ -16,19 +16,19 @@ use Rattle.sql_laws.proofs.Orphans.{first_holds}
 use Rattle.sql_laws.proofs.TableNames.{table-trans, more-differs}
 use Rattle.sql_laws.specs.StatementLaw.{has_row}
 use Rattle.sql_model.proofs.SortedLists.{sorted-all, sorted-tail}
-use Rattle.sql_model.specs.Changes.{numbered, or_else, stood, with_rows}
+use Rattle.sql_model.specs.Changes.{numbered_rows, or_else, had_row, with_rows}
 use Rattle.sql_model.specs.Needs.{needed_by, read_of}
 use Rattle.sql_model.specs.QueryAnswer.{Origin}
-use Rattle.sql_model.specs.References.{reference, has_key, is_lost, Missing, Child, Orphan, orphan_by, orphans_of, other_rows, child_of, children, orphans, first_in, parents_in, parents_by, parents_of}
+use Rattle.sql_model.specs.References.{reference, has_key, is_lost, MissingParent, Child, Orphan, orphan_by, orphans_of, other_rows, child_of, children, orphans, first_in, parents_in, parents_by, parents_of}
 use Rattle.sql_model.specs.Scope.{same_text, is_table, table_at}
 use Rattle.sql_model.specs.Statements.{parent_refusal, child_refusal}
 use Rattle.sql_model.specs.Tables.{table_precedes}
-use Rattle.table_store.specs.Histories.{tables_now, table_now, history_at, history_of_row, version_now, last_next}
+use Rattle.table_store.specs.Histories.{tables_now, table_now, history_at, history_of_row, version_now, last_next_number}
 use Rattle.table_store.specs.RowOrder.{AreInOrder}
 use Rattle.table_store.specs.Referring.{CanBePut, parent_stop, child_stop, with_put, are_apart, parents_in_db, version_at, origin_now, parents_now, IsAtVersion}
-use Rattle.table_store.specs.Stops.{replaced_by, with_changed, with_replaced, all_stood, has_number, values_of}
-use Rattle.table_store.specs.declared.stop.StoreStop.{StoreStop}
-use Rattle.table_store.specs.declared.stop.StoreStop.TheVariants as stop
+use Rattle.table_store.specs.Stops.{replaced_by, with_changed, with_replaced, had_rows, has_number, values_of}
+use Rattle.table_store.specs.declared.error.StoreStop.{StoreStop}
+use Rattle.table_store.specs.declared.error.StoreStop.TheVariants as stop
 use Rattle.dml_versions.proofs.StandingLaws.{updates-are, number-stands, version-is}
 use Rattle.dml_versions.proofs.TableLaws.{table-found, table-now}
 use Rattle.dml_versions.specs.Finding.{version_of}
@@ -49,34 +49,34 @@ or-nothing (Some y) b is = cc
 
 -- ---- a parent that is missing, or a child that loses its own
 
-abbrev pub refs_stop : Option Missing → Option Orphan → Option StoreStop
+abbrev pub refs_stop : Option MissingParent → Option Orphan → Option StoreStop
 refs_stop missing orphan = option_or (option_map parent_stop missing) (option_map child_stop orphan)
 
-abbrev pub refs_refusal : Option Missing → Option Orphan → Option SqlRefusal
+abbrev pub refs_refusal : Option MissingParent → Option Orphan → Option SqlRefusal
 refs_refusal missing orphan = or_else (option_map parent_refusal missing) (option_map child_refusal orphan)
 
-pub refs-none : (m : Option Missing) (o : Option Orphan) → refs_stop m o ≡ None → refs_refusal m o ≡ None
+pub refs-none : (m : Option MissingParent) (o : Option Orphan) → refs_stop m o ≡ None → refs_refusal m o ≡ None
 refs-none None None is = refl
 refs-none None (Some o) is = cc
 refs-none (Some m) o is = cc
 
-pub refs-null : (m : Option Missing) (o : Option Orphan) → refs_stop m o ≡ Some stop.NotNull → ⊥
+pub refs-null : (m : Option MissingParent) (o : Option Orphan) → refs_stop m o ≡ Some stop.NotNull → ⊥
 refs-null None None is = cc
 refs-null None (Some o) is = cc
 refs-null (Some m) o is = cc
 
-pub refs-key : (m : Option Missing) (o : Option Orphan) (earlier later : Option ℕ) (key : List Value)
+pub refs-key : (m : Option MissingParent) (o : Option Orphan) (earlier later : Option ℕ) (key : List Value)
     → refs_stop m o ≡ Some (stop.KeyTaken earlier later key) → ⊥
 refs-key None None earlier later key is = cc
 refs-key None (Some o) earlier later key is = cc
 refs-key (Some m) o earlier later key is = cc
 
-pub refs-full : (m : Option Missing) (o : Option Orphan) → refs_stop m o ≡ Some stop.Full → ⊥
+pub refs-full : (m : Option MissingParent) (o : Option Orphan) → refs_stop m o ≡ Some stop.Full → ⊥
 refs-full None None is = cc
 refs-full None (Some o) is = cc
 refs-full (Some m) o is = cc
 
-pub refs-parent : (m : Option Missing) (o : Option Orphan) (table : List ℕ) (key : List Value)
+pub refs-parent : (m : Option MissingParent) (o : Option Orphan) (table : List ℕ) (key : List Value)
     → refs_stop m o ≡ Some (stop.NoParent table key) → refs_refusal m o ≡ Some (NoParent table key)
 refs-parent None None table key is = cc
 refs-parent None (Some o) table key is = cc
@@ -86,14 +86,14 @@ refs-parent (Some m) o table key is =
     λ j. Some (NoParent (t j) (k j))
 
 -- the child that refuses
-pub record IsChild (m : Option Missing) (o : Option Orphan) (table : List ℕ) (row : ℕ) (key : List Value) : Type 0 where
+pub record IsChild (m : Option MissingParent) (o : Option Orphan) (table : List ℕ) (row : ℕ) (key : List Value) : Type 0 where
   pub orphan : Orphan
   pub is : o ≡ Some orphan
   pub table_is : orphan.table ≡ table
   pub row_is : orphan.row ≡ row
   pub refusal : refs_refusal m o ≡ Some (HasChild table key)
 
-pub refs-child : (m : Option Missing) (o : Option Orphan) (table : List ℕ) (row : ℕ) (key : List Value)
+pub refs-child : (m : Option MissingParent) (o : Option Orphan) (table : List ℕ) (row : ℕ) (key : List Value)
     → refs_stop m o ≡ Some (stop.HasChild table row key) → IsChild m o table row key
 refs-child None None table row key is = cc
 refs-child None (Some o) table row key is =
@@ -284,38 +284,38 @@ parents_read store (o ∷ os) all =
 pub with-parents : (store : StoreHistory) (rows : List TableRow) (needs all : List Need) (members : List Member) (o : Option Table)
     → IfSome o (λ own. are_apart rows own ≡ true → members ≡ parents_now store rows own)
     → AllByRecursion (IsAtVersion store) members
-    → all ≡ united needs (sorted_once (map (need_by P) members))
-    → IfSome o (λ own. are_apart rows own ≡ true → all ≡ united needs (sorted_once (parent_needs store rows own)))
+    → all ≡ union_of_needs needs (needs_in_order (map (need_by P) members))
+    → IfSome o (λ own. are_apart rows own ≡ true → all ≡ union_of_needs needs (needs_in_order (parent_needs store rows own)))
 with-parents store rows needs all members None are versions is = tt
 with-parents store rows needs all members (Some own) are versions is = λ apart.
     let same : members ≡ parents_now store rows own = are apart in
-    is ∙ ap (λ (ns : List Need). united needs (sorted_once ns))
+    is ∙ ap (λ (ns : List Need). union_of_needs needs (needs_in_order ns))
     (ap (map (need_by P)) same
     ∙ parents_read store (parents_in_db rows (tables_now store) own) (subst (AllByRecursion (IsAtVersion store)) same versions))
 
 -- ---- rows that are put
 
 -- those that stood
-none_new : (t : Table) (rows : List TableRow) → list_all (stood t) rows ≡ true → filter (λ row. not (stood t row)) rows ≡ []
+none_new : (t : Table) (rows : List TableRow) → list_all (had_row t) rows ≡ true → filter (λ row. not (had_row t row)) rows ≡ []
 none_new t [] all = refl
 none_new t (row ∷ rows) all =
-    let both = and-parts (stood t row) (list_all (stood t) rows) all in
+    let both = and-parts (had_row t row) (list_all (had_row t) rows) all in
     rw both.0 (none_new t rows both.1)
 
-pub put-replaced : (rows : List TableRow) (t : Table) → all_stood rows t ≡ true → with_put rows t ≡ with_replaced rows t
+pub put-replaced : (rows : List TableRow) (t : Table) → had_rows rows t ≡ true → with_put rows t ≡ with_replaced rows t
 put-replaced rows t stand =
     ap (λ (l : List TableRow). with_rows t (map (replaced_by rows) t.rows ++ l) t.next) (none_new t rows stand)
     ∙ ap (λ (l : List TableRow). with_rows t l t.next) (append-nil (map (replaced_by rows) t.rows))
 
 -- those that are new
-none_found : (number n : ℕ) → number < n → (values : List (List Value)) → find (λ (new : TableRow). new.number == number) (numbered n values) ≡ None
+none_found : (number n : ℕ) → number < n → (values : List (List Value)) → find (λ (new : TableRow). new.number == number) (numbered_rows n values) ≡ None
 none_found number n less [] = refl
 none_found number n less (v ∷ vs) =
     let other : (n == number) ≡ false = ne_eqb n number (λ same. absurd (omega (arith, less, same))) in
     rw other (none_found number (n + 1) (omega (arith, less)) vs)
 
 none_replaced : (next : ℕ) (values : List (List Value)) (rows : List TableRow) → list_all (λ (row : TableRow). nat_lt row.number next) rows ≡ true
-    → map (replaced_by (numbered next values)) rows ≡ rows
+    → map (replaced_by (numbered_rows next values)) rows ≡ rows
 none_replaced next values [] below = refl
 none_replaced next values (row ∷ rows) below =
     let both = and-parts (nat_lt row.number next) (list_all (λ (r : TableRow). nat_lt r.number next) rows) below in
@@ -332,18 +332,18 @@ not_stood number next from (row ∷ rows) below =
     rw other (not_stood number next from rows both.1)
 
 all_new : (t : Table) → list_all (λ (row : TableRow). nat_lt row.number t.next) t.rows ≡ true → (n : ℕ) → t.next ≤ n → (values : List (List Value))
-    → filter (λ row. not (stood t row)) (numbered n values) ≡ numbered n values
+    → filter (λ row. not (had_row t row)) (numbered_rows n values) ≡ numbered_rows n values
 all_new t below n from [] = refl
 all_new t below n from (v ∷ vs) =
     let more = all_new t below (n + 1) (omega (arith, from)) vs in
     rw (not_stood n t.next from t.rows below) (ap (λ (l : List TableRow). record { number = n; values = v } ∷ l) more)
 
 pub put-inserted : (t : Table) → list_all (λ (row : TableRow). nat_lt row.number t.next) t.rows ≡ true → (values : List (List Value))
-    → with_put (numbered t.next values) t ≡ with_rows t (t.rows ++ numbered t.next values) t.next
+    → with_put (numbered_rows t.next values) t ≡ with_rows t (t.rows ++ numbered_rows t.next values) t.next
 put-inserted t below values =
     λ j. with_rows t (none_replaced t.next values t.rows below j ++ all_new t below t.next (omega arith) values j) t.next
 
-pub values-back : (next : ℕ) (values : List (List Value)) → values_of (numbered next values) ≡ values
+pub values-back : (next : ℕ) (values : List (List Value)) → values_of (numbered_rows next values) ≡ values
 values-back next [] = refl
 values-back next (v ∷ vs) = ap (λ (l : List (List Value)). v ∷ l) (values-back (next + 1) vs)
 
@@ -381,11 +381,11 @@ module _ (name : List ℕ) (f g : Table → Table) (f_named : (t : Table) → (f
           let same : u ≡ t = same-some u t (sym is ∙ ap (λ (n : List ℕ). table_at n db) (sym parent ∙ own) ∙ found) in
           rw hit (
           (λ j. map (λ (row : TableRow). record { table = foreign.parent; row = row.number })
-          (filter (λ row. has_key (f (same j)).schema.key key row && stood u row) (f (same j)).rows))
+          (filter (λ row. has_key (f (same j)).schema.key key row && had_row u row) (f (same j)).rows))
           ∙ (λ j. map (λ (row : TableRow). record { table = foreign.parent; row = row.number })
-          (filter (λ row. has_key (schema j).key key row && stood u row) (rows j)))
+          (filter (λ row. has_key (schema j).key key row && had_row u row) (rows j)))
           ∙ (λ j. map (λ (row : TableRow). record { table = foreign.parent; row = row.number })
-          (filter (λ row. has_key (g (sym same j)).schema.key key row && stood u row) (g (sym same j)).rows))
+          (filter (λ row. has_key (g (sym same j)).schema.key key row && had_row u row) (g (sym same j)).rows))
           )
       | inr miss ↦ rw miss refl
     ]
@@ -417,11 +417,11 @@ next-there next None is = cc
 next-there next (Some t) is = refl
 
 pub next-put : (next : ℕ) (values : List (List Value)) (o : Option Table) → option_map (λ (table : Table). table.next) o ≡ Some next
-    → IfSome o (CanBePut (numbered next values))
+    → IfSome o (CanBePut (numbered_rows next values))
 next-put next values None is = tt
 next-put next values (Some t) is =
     let same : t.next ≡ next = same-some t.next next is in
-    inr (λ j. numbered (sym same j) (sym (values-back next values) j))
+    inr (λ j. numbered_rows (sym same j) (sym (values-back next values) j))
 
 -- ---- the version of a row that is there
 
@@ -430,9 +430,9 @@ none-held store name number none there =
     none-some there.table (sym (table-found name store ∙ ap (option_map table_now) none) ∙ there.found)
 
 pub held-version : (store : StoreHistory) (name : List ℕ) (number : ℕ) (h : TableHistory) → history_at name store ≡ Some h
-    → AreInOrder h.slots (last_next h.nexts) → IsRowThere (tables_now store) name number
+    → AreInOrder h.slots (last_next_number h.nexts) → IsRowThere (tables_now store) name number
     → version_of h.slots number ≡ versions_now store name number
 held-version store name number h found order there =
     let same : table_now h ≡ there.table = same-some (table_now h) there.table (sym (table-now name store h found) ∙ there.found) in
-    let stands = number-stands h.slots (last_next h.nexts) order number (ap (λ (t : Table). has_number t number) same ∙ there.has) in
+    let stands = number-stands h.slots (last_next_number h.nexts) order number (ap (λ (t : Table). has_number t number) same ∙ there.has) in
     version-is h.slots number stands ∙ sym (ap (updates_in number) found)

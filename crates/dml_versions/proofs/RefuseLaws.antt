@@ -3,30 +3,30 @@ use Rattle.std.proofs.Common.{◌≡◌, ◌≢◌, ℕ, ◌<◌, List, [], ◌�
 use Rattle.std.specs.Prelude.{filter, Err, if◌then◌else◌}
 use Rattle.std.specs.Option.{option_map, option_or, option_to_list}
 use Rattle.core_parts.proofs.RowLists.{Rises, needs_rise, read_with, read_last}
-use Rattle.core_parts.specs.Needing.{sorted_once, united}
+use Rattle.core_parts.specs.Needing.{needs_in_order, union_of_needs}
 use Rattle.ldv_value.proofs.Options.{none-some}
 use Rattle.ldv_value.specs.Sorted.{is_strictly_sorted}
-use Rattle.sql_model.specs.Changes.{KeyClash, lacks_value, key_clash, changed, is_full, key_refusal, refusal_if, or_else, matched}
+use Rattle.sql_model.specs.Changes.{KeyClash, lacks_value, key_clash, table_after, is_full, key_refusal, refusal_if, or_else, matched}
 use Rattle.sql_model.specs.Keys.{values_at}
-use Rattle.sql_model.specs.Needs.{NeededRow, Versions, needed_row, needed_by, matched_row, matched_rows, key_row, key_rows, parent_rows, child_row, child_rows, clash_rows, stood, sorted_needs, read_of}
+use Rattle.sql_model.specs.Needs.{NeededRow, Versions, needed_row, needed_by, matched_row, matched_rows, key_row, key_rows, parent_rows, child_row, child_rows, clash_rows, had_row, sorted_needs, read_of}
 use Rattle.sql_model.specs.QueryAnswer.{Origin}
-use Rattle.sql_model.specs.References.{Missing, Orphan, first_missing, is_changed, first_orphan, parents_needed}
+use Rattle.sql_model.specs.References.{MissingParent, Orphan, first_missing_parent, is_changed, first_orphan, parents_needed}
 use Rattle.sql_model.specs.Refusals.{check_refusal}
 use Rattle.sql_model.specs.Scope.{catalog_of}
 use Rattle.sql_model.specs.Statements.{target, refusal_of}
 use Rattle.sql_model.specs.Tables.{table_precedes}
-use Rattle.table_store.specs.Histories.{tables_now, table_now, history_at, last_next}
+use Rattle.table_store.specs.Histories.{tables_now, table_now, history_at, last_next_number}
 use Rattle.table_store.specs.RowOrder.{AreInOrder}
 use Rattle.table_store.specs.Stops.{stop_if, key_stop, stood_number, StopsAs}
-use Rattle.table_store.specs.declared.stop.StoreStop.{StoreStop}
-use Rattle.table_store.specs.declared.stop.StoreStop.TheVariants as stop
+use Rattle.table_store.specs.declared.error.StoreStop.{StoreStop}
+use Rattle.table_store.specs.declared.error.StoreStop.TheVariants as stop
 use Rattle.dml_versions.proofs.AfterLaws.{all_needed, refusal-is, change-by, after-refused}
 use Rattle.dml_versions.proofs.KeptLaws.{SameOwn, SameAll}
 use Rattle.dml_versions.proofs.MatchLaws.{AllStand, versions-are, needs-is}
 use Rattle.dml_versions.proofs.NeedLaws.{added, needs-matched, needs-refused}
 use Rattle.dml_versions.proofs.NumberLaws.{AreSorted}
 use Rattle.dml_versions.proofs.ReferLaws.{or-case, or-nothing, refs_stop, refs_refusal, refs-none, refs-null, refs-key, refs-full, refs-parent, refs-child, IsChild, orphan-there, row-there}
-use Rattle.dml_versions.proofs.StandingLaws.{Stands, number-stands}
+use Rattle.dml_versions.proofs.StandingLaws.{IsStanding, number-stands}
 use Rattle.dml_versions.proofs.TableLaws.{history-name}
 use Rattle.dml_versions.specs.Changing.{IsWhole, IsStoreAfter, IsChildThere, refused_change, refused_by}
 use Rattle.dml_versions.specs.Finding.{found_row, version_of}
@@ -88,7 +88,7 @@ no-clash-by t false None full is = refl
 no-clash-by t false (Some clash) full is = cc
 
 -- then what references refuse
-abbrev pub due_by : Table → Bool → Option KeyClash → Bool → Option Missing → Option Orphan → Option StoreStop
+abbrev pub due_by : Table → Bool → Option KeyClash → Bool → Option MissingParent → Option Orphan → Option StoreStop
 due_by t lacks clash full missing orphan = option_or (stop_by t lacks clash full) (refs_stop missing orphan)
 
 -- two rows of one key, with the numbers of those that stood
@@ -112,7 +112,7 @@ by_key t false (Some rows) full earlier later key is =
     (record { rows = rows; is = refl; earlier_is = sym e; later_is = sym l; key_is = sym k }, ap (λ (v : List Value). Some (KeyTaken t.name v)) k)
 
 module _ (store : StoreHistory) (s : Statement) (name : List ℕ) (table : TableHistory) (there : history_at name store ≡ Some table)
-    (order : AreInOrder table.slots (last_next table.nexts)) (target_is : target s (tables_now store) ≡ Some (table_now table))
+    (order : AreInOrder table.slots (last_next_number table.nexts)) (target_is : target s (tables_now store) ≡ Some (table_now table))
     (check : check_refusal s (catalog_of (tables_now store)) ≡ None) where
   abbrev db : List Table
   db = tables_now store
@@ -124,13 +124,13 @@ module _ (store : StoreHistory) (s : Statement) (name : List ℕ) (table : Table
   lacks = lacks_value s (catalog_of db) t
 
   abbrev clash : Option KeyClash
-  clash = key_clash (changed s (catalog_of db) t)
+  clash = key_clash (table_after s (catalog_of db) t)
 
   abbrev full : Bool
   full = is_full s t
 
-  abbrev missing : Option Missing
-  missing = first_missing s (catalog_of db) t db
+  abbrev missing : Option MissingParent
+  missing = first_missing_parent s (catalog_of db) t db
 
   abbrev orphan : Option Orphan
   orphan = first_orphan s (catalog_of db) t db
@@ -206,7 +206,7 @@ module _ (store : StoreHistory) (s : Statement) (name : List ℕ) (table : Table
   child-there sorted X (stop.HasChild of row key) stops =
       let c = refs-child missing orphan of row key (refs_child of row key stops).1 in
       let found = row-there c.orphan.table c.orphan.row db sorted
-      (orphan-there db (is_changed s (catalog_of db)) t (changed s (catalog_of db) t) c.orphan c.is) in
+      (orphan-there db (is_changed s (catalog_of db)) t (table_after s (catalog_of db) t) c.orphan c.is) in
       subst (λ (n : List ℕ). IsRowThere db n row) c.table_is (subst (λ (r : ℕ). IsRowThere db c.orphan.table r) c.row_is found)
   child-there sorted X stop.NoMemory stops = tt
 
@@ -232,13 +232,13 @@ module _ (store : StoreHistory) (s : Statement) (name : List ℕ) (table : Table
   -- ---- the rows of a refused key
 
   stood_need : (row : TableRow) → option_map (key_need name table.slots) (stood_number t row) ≡ option_map (λ (n : ℕ). read_of (versions_now store) (record { table = t.name; row = n; rule = K })) (stood_number t row)
-  stood_need row = by (stood t row) refl
+  stood_need row = by (had_row t row) refl
     where
-      by : (b : Bool) → stood t row ≡ b → option_map (key_need name table.slots) (if b then Some row.number else None)
+      by : (b : Bool) → had_row t row ≡ b → option_map (key_need name table.slots) (if b then Some row.number else None)
           ≡ option_map (λ (n : ℕ). read_of (versions_now store) (record { table = t.name; row = n; rule = K })) (if b then Some row.number else None)
       by false is = refl
       by true is =
-          let s : Stands table.slots row.number = number-stands table.slots (last_next table.nexts) order row.number is in
+          let s : IsStanding table.slots row.number = number-stands table.slots (last_next_number table.nexts) order row.number is in
           let version : version_of table.slots row.number ≡ versions_now store t.name row.number =
           versions-are store name table there order row.number s ∙ ap (λ (n : List ℕ). versions_now store n row.number) (sym named) in
           λ j. Some (record { member = record { table = sym named j; row = row.number; version = version j }; rule = K })
@@ -270,10 +270,10 @@ module _ (store : StoreHistory) (s : Statement) (name : List ℕ) (table : Table
 
     -- the matched rows and the parents of new ones
     pub all-needs : (origins : List Origin) → parents_needed s (catalog_of db) t db ≡ origins
-        → united needs (sorted_once (map (read_of (versions_now store)) (map (needed_by P) origins)))
+        → union_of_needs needs (needs_in_order (map (read_of (versions_now store)) (map (needed_by P) origins)))
         ≡ all_needed s store
     all-needs origins is =
-        ap (λ (l : List Need). united l (sorted_once (map (read_of (versions_now store)) (map (needed_by P) origins))))
+        ap (λ (l : List Need). union_of_needs l (needs_in_order (map (read_of (versions_now store)) (map (needed_by P) origins))))
         (needs-is store name table there order t named rows stand)
         ∙ read_with (versions_now store) (map (matched_row t) rows) (map (needed_by P) origins)
         (subst Rises (needs-matched t rows sorted) (needs_rise (map (matched_row t) rows)))
@@ -295,7 +295,7 @@ module _ (store : StoreHistory) (s : Statement) (name : List ℕ) (table : Table
         ∙ ap (λ (l : List Need). added t.name (versions_now store) (stood_number t two.earlier) (added t.name (versions_now store) (stood_number t two.later) l)) needs_are
         ∙ sym (needs-refused t (versions_now store) rows two.earlier two.later)
         ∙ ap (λ (l : List NeededRow). map (read_of (versions_now store)) (sorted_needs l))
-        (λ j. sym matched_are j ++ sym (ap (key_rows s (catalog_of db)) target_is ∙ ap (λ (o : Option KeyClash). map (key_row t) (filter (stood t) (clash_rows o))) is) j)
+        (λ j. sym matched_are j ++ sym (ap (key_rows s (catalog_of db)) target_is ∙ ap (λ (o : Option KeyClash). map (key_row t) (filter (had_row t) (clash_rows o))) is) j)
 
     key_change : (earlier later : Option ℕ) (key : List Value) → own ≡ Some (stop.KeyTaken earlier later key)
         → IsWhole s store (refused_by (KeyTaken name key) (with_key_rows name table.slots earlier later needs))
@@ -327,7 +327,7 @@ module _ (store : StoreHistory) (s : Statement) (name : List ℕ) (table : Table
           ap (λ (o : Option Table). child_rows s (catalog_of db) o db) target_is
           ∙ ap (λ (o : Option Orphan). option_to_list (option_map child_row o)) c.is
           ∙ (λ j. needed_row C (c.table_is j) (c.row_is j) ∷ []) in
-          ap (λ (ns : List Need). united ns (read_of (versions_now store) child ∷ [])) (all_are none)
+          ap (λ (ns : List Need). union_of_needs ns (read_of (versions_now store) child ∷ [])) (all_are none)
           ∙ read_last (versions_now store) (mine ++ parents) child
           ∙ ap (λ (l : List NeededRow). map (read_of (versions_now store)) (sorted_needs l))
           (append_assoc mine parents (child ∷ []) ∙ ap (λ (l : List NeededRow). mine ++ (parents ++ l)) (sym rows_is))

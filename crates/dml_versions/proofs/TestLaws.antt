@@ -8,10 +8,10 @@ use Rattle.std.proofs.Math.ListN.{drop_of_length-le}
 use Rattle.core_parts.proofs.MaskLaws.{masks-fit, masks-pass}
 use Rattle.core_parts.specs.Conditions.{AreConditions}
 use Rattle.core_parts.specs.Masking.{AreMasks, AreExact, fits, passes, passes_all, passes_at, suits as suits_mask}
-use Rattle.core_parts.specs.declared.masking.Mask.{Mask}
-use Rattle.core_parts.specs.declared.masking.MaskTest.{MaskTest}
-use Rattle.core_parts.specs.declared.masking.MaskTest.TheVariants as mask_test
-use Rattle.core_parts.specs.declared.placed.Placed.{Placed}
+use Rattle.core_parts.specs.declared.mask.Mask.{Mask}
+use Rattle.core_parts.specs.declared.mask.MaskTest.{MaskTest}
+use Rattle.core_parts.specs.declared.mask.MaskTest.TheVariants as mask_test
+use Rattle.core_parts.specs.declared.placed.BoundExpr.{BoundExpr}
 use Rattle.lanes.proofs.SetLaws.{no_member}
 use Rattle.lanes.specs.Sets.{member, IsNext}
 use Rattle.ldv_value.proofs.Booleans.{true≢false}
@@ -57,7 +57,7 @@ all_pass row [] = refl
 all_pass row (mask ∷ masks) =
     λ j. (passes_same mask.test (value_at row.values mask.column) ∙ ap (cell_passes (cell_test mask.test)) (place_index row.values mask.column)) j && all_pass row masks j
 
-pub tests-are : (expr : Expr) (places : List ℕ) (columns : List Column) (conds : List Placed) (masks : List Mask)
+pub tests-are : (expr : Expr) (places : List ℕ) (columns : List Column) (conds : List BoundExpr) (masks : List Mask)
     → ((scope : List InScope) → places ≡ places_in scope (names_in expr) → AreConditions scope (expr ∷ []) conds)
     → AreMasks conds 0 columns masks → AreTests (Some expr) places columns (map column_test masks)
 tests-are expr places columns conds masks are found = record {
@@ -85,7 +85,7 @@ from-first (mask ∷ masks) row =
 pub no_tests_exact : (places : List ℕ) (tests : List ColumnTest) → AreExactTests None places tests
 no_tests_exact places tests scope placed row passed = refl
 
-module _ (expr : Expr) (places : List ℕ) (columns : List Column) (conds : List Placed) (masks : List Mask)
+module _ (expr : Expr) (places : List ℕ) (columns : List Column) (conds : List BoundExpr) (masks : List Mask)
     (are : (scope : List InScope) → places ≡ places_in scope (names_in expr) → AreConditions scope (expr ∷ []) conds) (exact : AreExact conds 0 columns masks) where
   same-tests : (scope : List InScope) → places_in scope (names_in expr) ≡ places → (row : TableRow) → passes_columns (map column_test masks) row ≡ is_matched scope (Some expr) row
   same-tests scope placed row =

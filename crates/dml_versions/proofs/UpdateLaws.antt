@@ -3,7 +3,7 @@ use Rattle.std.proofs.Common.{◌≡◌, ◌==◌, ℕ, ◌+◌, ◌<◌, ◌≤
 use Rattle.std.specs.Prelude.{filter, zip, Err, if◌then◌else◌, ◌&&◌, is_none, IfSome}
 use Rattle.std.specs.List.{flat_map, list_any, list_all, AllByRecursion}
 use Rattle.std.specs.Option.{option_map, option_or, option_and_then}
-use Rattle.core_parts.specs.Needing.{sorted_once, united}
+use Rattle.core_parts.specs.Needing.{needs_in_order, union_of_needs}
 use Rattle.std.proofs.lemmas.Bool.Decides.{Decides-eqb}
 use Rattle.ldv_value.proofs.Booleans.{and-parts, and-from}
 use Rattle.ldv_value.proofs.Lists.{map-map, list_all-map, list_all-filter, list_all-weaker, list_any-map, list_any-false, all-weaker}
@@ -12,19 +12,19 @@ use Rattle.ldv_value.proofs.SameBytes.{bytes_eq-itself}
 use Rattle.sql_laws.proofs.NewRows.{all_first, updated_kinds, updated_length}
 use Rattle.sql_model.proofs.Databases.{sorted_of_database}
 use Rattle.sql_model.proofs.ValidTables.{table-parts, kinds-fits}
-use Rattle.sql_model.specs.Changes.{is_matched, matched_in, matched, changed, after_update, updated_row, updated_values, with_rows, has_null, new_rows, lacks_value, key_clash}
+use Rattle.sql_model.specs.Changes.{is_matched, matched_in, matched, table_after, after_update, updated_row, updated_values, with_rows, has_null, new_rows, lacks_value, key_clash}
 use Rattle.sql_model.specs.Needs.{updated_unless, updated_in, updated_origin, versions_after, is_row_of}
-use Rattle.sql_model.specs.References.{Missing, Orphan, first_missing, first_orphan, first_in, is_changed, is_lost, children, orphans_of, parents_needed, parents_of, tables_after}
+use Rattle.sql_model.specs.References.{MissingParent, Orphan, first_missing_parent, first_orphan, first_in, is_changed, is_lost, children, orphans_of, parents_needed, parents_of, tables_after}
 use Rattle.sql_model.specs.Refusals.{check_refusal, set_fits}
 use Rattle.sql_model.specs.Scope.{InScope, same_text, table_at, catalog_of, own_scope}
 use Rattle.sql_model.specs.Statements.{refusal_of, after_unless}
 use Rattle.sql_model.specs.Tables.{is_valid_table, has_kind, fits, each_value, is_row}
-use Rattle.table_store.specs.Histories.{tables_now, table_now, history_at, rows_now, last_next, changed_at, replaced, rewritten, AreKeptBefore, history_of_row}
+use Rattle.table_store.specs.Histories.{tables_now, table_now, history_at, rows_now, last_next_number, changed_at, table_with_values, rows_with_values, AreKeptBefore, history_of_row}
 use Rattle.table_store.specs.Referring.{parent_stop, child_stop, missing_stop, orphan_stop, is_of, replace_refusal, with_put, are_apart, parents_in_db, CanBePut}
 use Rattle.table_store.specs.RowOrder.{AreInOrder}
-use Rattle.table_store.specs.Stops.{is_among, with_replaced, with_changed, are_sorted_rows, all_stood, have_shape, has_shape, values_of, replace_stop, stop_if, key_stop, StopsAs}
-use Rattle.table_store.specs.declared.stop.StoreStop.{StoreStop}
-use Rattle.table_store.specs.declared.stop.StoreStop.TheVariants as stop
+use Rattle.table_store.specs.Stops.{is_among, with_replaced, with_changed, are_sorted_rows, had_rows, have_shape, has_shape, values_of, replace_stop, stop_if, key_stop, StopsAs}
+use Rattle.table_store.specs.declared.error.StoreStop.{StoreStop}
+use Rattle.table_store.specs.declared.error.StoreStop.TheVariants as stop
 use Rattle.dml_versions.proofs.AfterLaws.{all_needed, after-by}
 use Rattle.dml_versions.proofs.CheckLaws.{found-valid, found-distinct, sets-fit}
 use Rattle.dml_versions.proofs.KeptLaws.{SameAll}
@@ -33,9 +33,9 @@ use Rattle.dml_versions.proofs.MatchedChange.{matched-change}
 use Rattle.dml_versions.proofs.NumberLaws.{AreSorted, replaced-some, made-sorted, some-sorted, made-in, among-some}
 use Rattle.dml_versions.proofs.ReferLaws.{or-nothing, refs_stop, children-same, others-agree, put-replaced}
 use Rattle.dml_versions.proofs.RefuseLaws.{stop_by, due_by, not-refused, no-clash-by, child-there, same-all-by, all-needs, refused-change, refused-after}
-use Rattle.dml_versions.proofs.StandingLaws.{Stands}
+use Rattle.dml_versions.proofs.StandingLaws.{IsStanding}
 use Rattle.dml_versions.proofs.TableLaws.{table-now, scope-is, history-name, schema-now}
-use Rattle.dml_versions.proofs.VersionLaws.{updates-rewritten, versions-changed}
+use Rattle.dml_versions.proofs.VersionLaws.{updates-rows_with_values, versions-changed}
 use Rattle.dml_versions.specs.Changing.{IsWhole, IsStoreAfter, IsChildThere, matched_change, refused_change}
 use Rattle.sql_model.specs.Tables.{AreWellFormed}
 use Rattle.dml_versions.specs.Finding.{scope_in, test_in, found_row, row_of}
@@ -50,7 +50,7 @@ map_itself [] = refl
 map_itself (x ∷ xs) = ap (λ l. x ∷ l) (map_itself xs)
 
 module _ (store : StoreHistory) (update : Update) (table : TableHistory) (there : history_at update.table store ≡ Some table)
-    (order : AreInOrder table.slots (last_next table.nexts)) (formed : AreWellFormed (tables_now store))
+    (order : AreInOrder table.slots (last_next_number table.nexts)) (formed : AreWellFormed (tables_now store))
     (check : check_refusal (TheUpdate update) (catalog_of (tables_now store)) ≡ None) where
   abbrev s : Statement
   s = TheUpdate update
@@ -102,7 +102,7 @@ module _ (store : StoreHistory) (update : Update) (table : TableHistory) (there 
   old_sorted = some-sorted test t.rows sorted_all
 
   abbrev AllStand : List TableRow → Type 0
-  AllStand rows = AllByRecursion (λ row. Stands table.slots row.number) rows
+  AllStand rows = AllByRecursion (λ row. IsStanding table.slots row.number) rows
 
   old_stand : AllStand old
   old_stand = matched-stand store update.table table there order test
@@ -131,33 +131,33 @@ module _ (store : StoreHistory) (update : Update) (table : TableHistory) (there 
 
   -- ---- the table afterwards
 
-  replaced_is : with_replaced new t ≡ changed s (catalog_of db) t
+  replaced_is : with_replaced new t ≡ table_after s (catalog_of db) t
   replaced_is =
       ap (λ (l : List TableRow). with_rows t l t.next) (replaced-some make (λ row. refl) test t.rows sorted_all)
       ∙ ap (λ (l : List InScope). after_update l update t) (sym own_is)
 
   -- what refuses it
-  stop_is : replace_stop new t ≡ stop_by t (lacks_value s (catalog_of db) t) (key_clash (changed s (catalog_of db) t)) false
+  stop_is : replace_stop new t ≡ stop_by t (lacks_value s (catalog_of db) t) (key_clash (table_after s (catalog_of db) t)) false
   stop_is =
       (λ j. option_or (stop_if (list_any (has_null columns) (sym new_is j)) stop.NotNull) (key_stop t (key_clash (replaced_is j))))
-      ∙ ap (option_or (stop_if (lacks_value s (catalog_of db) t) stop.NotNull)) (sym (option_or-none (key_stop t (key_clash (changed s (catalog_of db) t)))))
+      ∙ ap (option_or (stop_if (lacks_value s (catalog_of db) t) stop.NotNull)) (sym (option_or-none (key_stop t (key_clash (table_after s (catalog_of db) t)))))
 
   changed_tables : with_changed update.table (with_replaced new) db ≡ tables_after s (catalog_of db) db
   changed_tables =
-      same-changed (with_replaced new) (changed s (catalog_of db)) update.table t replaced_is db target_is
+      same-changed (with_replaced new) (table_after s (catalog_of db)) update.table t replaced_is db target_is
       (sorted_of_database db formed.database)
 
   named : t.name ≡ update.table
   named = history-name update.table store table there
 
-  abbrev missing : Option Missing
-  missing = first_missing s (catalog_of db) t db
+  abbrev missing : Option MissingParent
+  missing = first_missing_parent s (catalog_of db) t db
 
   abbrev orphan : Option Orphan
   orphan = first_orphan s (catalog_of db) t db
 
   abbrev own : Option StoreStop
-  own = stop_by t (lacks_value s (catalog_of db) t) (key_clash (changed s (catalog_of db) t)) false
+  own = stop_by t (lacks_value s (catalog_of db) t) (key_clash (table_after s (catalog_of db) t)) false
 
   -- the rows that it leaves alone
   of_test : (row : TableRow) → is_of new row ≡ is_among (map (λ (one : TableRow). one.number) old) row
@@ -186,24 +186,24 @@ module _ (store : StoreHistory) (update : Update) (table : TableHistory) (there 
   orphan_is =
       λ j. option_map child_stop (first_in (flat_map (orphans_of t.name (is_lost t.schema.key t.rows (replaced_is j).rows)) (others_are j)))
 
-  due_new : replace_refusal new db t ≡ due_by t (lacks_value s (catalog_of db) t) (key_clash (changed s (catalog_of db) t)) false missing orphan
+  due_new : replace_refusal new db t ≡ due_by t (lacks_value s (catalog_of db) t) (key_clash (table_after s (catalog_of db) t)) false missing orphan
   due_new = λ j. option_or (stop_is j) (option_or (missing_is j) (orphan_is j))
 
   -- ---- the parents of its new values
 
-  stood_all : all_stood new t ≡ true
+  stood_all : had_rows new t ≡ true
   stood_all = made-in make (λ row. refl) test t.rows
 
-  put_is : with_put new t ≡ changed s (catalog_of db) t
+  put_is : with_put new t ≡ table_after s (catalog_of db) t
   put_is = put-replaced new t stood_all ∙ replaced_is
 
-  apart : key_clash (changed s (catalog_of db) t) ≡ None → are_apart new t ≡ true
+  apart : key_clash (table_after s (catalog_of db) t) ≡ None → are_apart new t ≡ true
   apart none = ap (λ (u : Table). is_none (key_clash u)) put_is ∙ ap is_none none
 
   origins_are : parents_needed s (catalog_of db) t db ≡ parents_in_db new db t
   origins_are =
       (λ j. parents_of db
-      (same-changed (changed s (catalog_of db)) (with_put new) update.table t (sym put_is) db target_is (sorted_of_database db formed.database) j)
+      (same-changed (table_after s (catalog_of db)) (with_put new) update.table t (sym put_is) db target_is (sorted_of_database db formed.database) j)
       t.schema.foreign (new_is j))
       ∙ ap (λ (n : List ℕ). parents_of db (with_changed n (with_put new) db) t.schema.foreign new) (sym named)
 
@@ -227,14 +227,14 @@ module _ (store : StoreHistory) (update : Update) (table : TableHistory) (there 
     pub update-sorted : are_sorted_rows rows ≡ true
     update-sorted = ap are_sorted_rows rows_is ∙ made-sorted make (λ row. refl) old old_sorted
 
-    pub update-stand : all_stood rows t ≡ true
-    update-stand = ap (λ (l : List TableRow). all_stood l t) rows_is ∙ made-in make (λ row. refl) test t.rows
+    pub update-stand : had_rows rows t ≡ true
+    update-stand = ap (λ (l : List TableRow). had_rows l t) rows_is ∙ made-in make (λ row. refl) test t.rows
 
     pub update-put : IfSome (table_at update.table db) (CanBePut rows)
     update-put = subst (λ (o : Option Table). IfSome o (CanBePut rows)) (sym target_is) (inl (update-stand, update-sorted))
 
     pub update-due : option_and_then (replace_refusal rows db) (table_at update.table db)
-        ≡ due_by t (lacks_value s (catalog_of db) t) (key_clash (changed s (catalog_of db) t)) false missing orphan
+        ≡ due_by t (lacks_value s (catalog_of db) t) (key_clash (table_after s (catalog_of db) t)) false missing orphan
     update-due =
         ap (option_and_then (replace_refusal rows db)) target_is
         ∙ ap (λ (l : List TableRow). replace_refusal l db t) rows_is
@@ -246,17 +246,17 @@ module _ (store : StoreHistory) (update : Update) (table : TableHistory) (there 
     pub update-needs : (needs all : List Need) → needs ≡ map (need_found update.table) found → HaveParents store update.table rows needs all
         → own ≡ None → all ≡ whole
     update-needs needs all needs_is have fine =
-        let are : are_apart new t ≡ true → all ≡ united needs (sorted_once (parent_needs store new t)) =
-        subst (λ (l : List TableRow). are_apart l t ≡ true → all ≡ united needs (sorted_once (parent_needs store l t))) rows_is
-        (subst (λ (o : Option Table). IfSome o (λ u. are_apart rows u ≡ true → all ≡ united needs (sorted_once (parent_needs store rows u)))) target_is have) in
-        are (apart (no-clash-by t (lacks_value s (catalog_of db) t) (key_clash (changed s (catalog_of db) t)) false fine))
-        ∙ ap (λ (l : List Need). united l (sorted_once (parent_needs store new t))) (update-own needs needs_is)
+        let are : are_apart new t ≡ true → all ≡ union_of_needs needs (needs_in_order (parent_needs store new t)) =
+        subst (λ (l : List TableRow). are_apart l t ≡ true → all ≡ union_of_needs needs (needs_in_order (parent_needs store l t))) rows_is
+        (subst (λ (o : Option Table). IfSome o (λ u. are_apart rows u ≡ true → all ≡ union_of_needs needs (needs_in_order (parent_needs store rows u)))) target_is have) in
+        are (apart (no-clash-by t (lacks_value s (catalog_of db) t) (key_clash (table_after s (catalog_of db) t)) false fine))
+        ∙ ap (λ (l : List Need). union_of_needs l (needs_in_order (parent_needs store new t))) (update-own needs needs_is)
         ∙ all-needs store s update.table table there order target_is check old old_is old_sorted old_stand (parents_in_db new db t) origins_are
 
     -- ---- nothing refuses it
 
     module _ (fine : option_and_then (replace_refusal rows db) (table_at update.table db) ≡ None) where
-      none_due : due_by t (lacks_value s (catalog_of db) t) (key_clash (changed s (catalog_of db) t)) false missing orphan ≡ None
+      none_due : due_by t (lacks_value s (catalog_of db) t) (key_clash (table_after s (catalog_of db) t)) false missing orphan ≡ None
       none_due = sym update-due ∙ fine
 
       refused_not : refusal_of (Some s) db ≡ None
@@ -271,7 +271,7 @@ module _ (store : StoreHistory) (update : Update) (table : TableHistory) (there 
       tables_are : with_changed update.table (with_replaced rows) db ≡ after_unless None (Some s) db
       tables_are =
           ap (λ (l : List TableRow). with_changed update.table (with_replaced l) db) rows_is
-          ∙ same-changed (with_replaced new) (changed s (catalog_of db)) update.table t replaced_is db target_is
+          ∙ same-changed (with_replaced new) (table_after s (catalog_of db)) update.table t replaced_is db target_is
           (sorted_of_database db formed.database)
 
       updated_are : updated_unless None (Some s) db ≡ map (updated_origin t) old
@@ -294,21 +294,21 @@ module _ (store : StoreHistory) (update : Update) (table : TableHistory) (there 
       new_stand (row ∷ rows) all = (all.0, new_stand rows all.1)
 
       module _ (time : ℕ) where
-        versions_are : (number : ℕ) → updates_of (history_of_row number (rewritten time rows table.slots))
+        versions_are : (number : ℕ) → updates_of (history_of_row number (rows_with_values time rows table.slots))
             ≡ (if list_any (is_row_of update.table number) (map (updated_origin t) old) then updates_of (history_of_row number table.slots) + 1 else updates_of (history_of_row number table.slots))
         versions_are number =
-            ap (λ (l : List TableRow). updates_of (history_of_row number (rewritten time l table.slots))) rows_is
-            ∙ updates-rewritten table.slots time new (new_stand old old_stand) number
+            ap (λ (l : List TableRow). updates_of (history_of_row number (rows_with_values time l table.slots))) rows_is
+            ∙ updates-rows_with_values table.slots time new (new_stand old old_stand) number
             ∙ ap (λ (b : Bool). if b then updates_of (history_of_row number table.slots) + 1 else updates_of (history_of_row number table.slots)) (sym (own_rows number))
 
         pub update-after : (made : StoreHistory) → tables_now made ≡ with_changed update.table (with_replaced rows) db
-            → made ≡ changed_at time update.table (replaced time rows) store → AreKeptBefore time store made
+            → made ≡ changed_at time update.table (table_with_values time rows) store → AreKeptBefore time store made
             → IsStoreAfter s time store made
         update-after made tables is_made earlier =
             after-by s store None refused_not time made
             (tables ∙ tables_are)
             (ap versions_now is_made
-            ∙ versions-changed update.table store table there time (replaced time rows) (λ u. refl) (map (updated_origin t) old) other_rows versions_are
+            ∙ versions-changed update.table store table there time (table_with_values time rows) (λ u. refl) (map (updated_origin t) old) other_rows versions_are
             ∙ ap (λ l. versions_after l (versions_now store)) (sym updated_are))
             (subst (λ (n : StoreHistory). n.time ≤ time) (sym is_made) (omega arith))
             earlier
@@ -316,7 +316,7 @@ module _ (store : StoreHistory) (update : Update) (table : TableHistory) (there 
     -- ---- the store refuses it
 
     module _ (X : Type 0) (at : StoreStop) (stops : StopsAs {X = X} (option_and_then (replace_refusal rows db) (table_at update.table db)) (Err at)) where
-      stops_by : StopsAs {X = X} (due_by t (lacks_value s (catalog_of db) t) (key_clash (changed s (catalog_of db) t)) false missing orphan) (Err at)
+      stops_by : StopsAs {X = X} (due_by t (lacks_value s (catalog_of db) t) (key_clash (table_after s (catalog_of db) t)) false missing orphan) (Err at)
       stops_by = subst (λ (o : Option StoreStop). StopsAs {X = X} o (Err at)) update-due stops
 
       pub update-child : IsChildThere db at

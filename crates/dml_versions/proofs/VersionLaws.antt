@@ -8,12 +8,12 @@ use Rattle.ldv_value.proofs.Lists.{found-passes, find-append}
 use Rattle.ldv_value.proofs.Options.{same-some}
 use Rattle.ldv_value.proofs.SameBytes.{bytes_eq-true, bytes_eq-itself, nat_eq-true}
 use Rattle.row_version.proofs.Later.{current_after}
-use Rattle.row_version.specs.History.{Change, written, deleted, current, version}
+use Rattle.row_version.specs.History.{Change, write_at, delete_at, current_values, version}
 use Rattle.sql_model.specs.Needs.{versions_after, is_row_of}
 use Rattle.sql_model.specs.QueryAnswer.{Origin}
 use Rattle.sql_model.specs.Scope.{same_text}
-use Rattle.table_store.specs.Histories.{RowHistory, TableHistory, StoreHistory, is_of_number, history_of_row, history_at, added, with_change, changed_by, writing, rewritten, dropping, in_table, changed_at}
-use Rattle.dml_versions.proofs.StandingLaws.{Stands}
+use Rattle.table_store.specs.Histories.{RowHistory, TableHistory, StoreHistory, is_of_number, history_of_row, history_at, history_of_new_row, with_change, changed_by, row_write, rows_with_values, row_delete, in_table, changed_at}
+use Rattle.dml_versions.proofs.StandingLaws.{IsStanding}
 use Rattle.dml_versions.proofs.TableLaws.{history-after, history-name, in-table-named, in-table-other}
 use Rattle.dml_versions.specs.Types.{TableRow, Value}
 use Rattle.dml_versions.specs.Versions.{updates, updates_of, updates_in, versions_now}
@@ -21,7 +21,7 @@ use Rattle.dml_versions.specs.Versions.{updates, updates_of, updates_in, version
 -- ---- one row
 
 abbrev begun : List Change → Type 0
-begun changes = is_some (current changes) ≡ true
+begun changes = is_some (current_values changes) ≡ true
 
 some_changes : (changes : List Change) → begun changes → 0 < length changes
 some_changes [] is = cc
@@ -33,19 +33,19 @@ version_more changes change is = omega (arith, length-append changes (change ∷
 updates_now : (changes : List Change) → begun changes → updates changes ≡ version changes
 updates_now changes is = ap (λ b. cond b (version changes) (version changes - 1)) is
 
-updates_written : (changes : List Change) (time : ℕ) (values : List Value) → begun changes → updates (changes ++ written time values ∷ []) ≡ updates changes + 1
+updates_written : (changes : List Change) (time : ℕ) (values : List Value) → begun changes → updates (changes ++ write_at time values ∷ []) ≡ updates changes + 1
 updates_written changes time values is =
-    ap (λ (o : Option (List Value)). cond (is_some o) (version (changes ++ written time values ∷ [])) (version (changes ++ written time values ∷ []) - 1)) (current_after changes (written time values))
-    ∙ version_more changes (written time values) is
+    ap (λ (o : Option (List Value)). cond (is_some o) (version (changes ++ write_at time values ∷ [])) (version (changes ++ write_at time values ∷ []) - 1)) (current_after changes (write_at time values))
+    ∙ version_more changes (write_at time values) is
     ∙ ap (λ (n : ℕ). n + 1) (sym (updates_now changes is))
 
 back : (n : ℕ) → n + 1 - 1 ≡ n
 back n = omega arith
 
-updates_deleted : (changes : List Change) (time : ℕ) → begun changes → updates (changes ++ deleted time ∷ []) ≡ updates changes
+updates_deleted : (changes : List Change) (time : ℕ) → begun changes → updates (changes ++ delete_at time ∷ []) ≡ updates changes
 updates_deleted changes time is =
-    ap (λ (o : Option (List Value)). cond (is_some o) (version (changes ++ deleted time ∷ [])) (version (changes ++ deleted time ∷ []) - 1)) (current_after changes (deleted time))
-    ∙ ap (λ (n : ℕ). n - 1) (version_more changes (deleted time) is)
+    ap (λ (o : Option (List Value)). cond (is_some o) (version (changes ++ delete_at time ∷ [])) (version (changes ++ delete_at time ∷ []) - 1)) (current_after changes (delete_at time))
+    ∙ ap (λ (n : ℕ). n - 1) (version_more changes (delete_at time) is)
     ∙ back (version changes)
     ∙ sym (updates_now changes is)
 
@@ -94,7 +94,7 @@ has_number number row = row.number == number
 
 module _ (slots : List RowHistory) where
   -- rows that stand, each changed
-  module _ (rows : List TableRow) (stand : AllByRecursion (λ row. Stands slots row.number) rows) (change : TableRow → ℕ × Change)
+  module _ (rows : List TableRow) (stand : AllByRecursion (λ row. IsStanding slots row.number) rows) (change : TableRow → ℕ × Change)
       (same : (row : TableRow) → (change row).0 ≡ row.number) where
     abbrev changes : List (ℕ × Change)
     changes = map change rows
@@ -107,7 +107,7 @@ module _ (slots : List RowHistory) where
         → (old : RowHistory) × (history_of_row number slots ≡ Some old) × begun old.changes
         × (history_of_row number (map (changed_by changes) slots) ≡ Some (record { number = old.number; changes = old.changes ++ (change row).1 ∷ [] }))
     changed_some number row is =
-        let s : Stands slots row.number = all_found (λ (r : TableRow). Stands slots r.number) (has_number number) rows row stand is in
+        let s : IsStanding slots row.number = all_found (λ (r : TableRow). IsStanding slots r.number) (has_number number) rows row stand is in
         let number_is : row.number ≡ number = nat_eq-true row.number number (found-passes (has_number number) rows row is) in
         let old_is : history_of_row number slots ≡ Some s.row = ap (λ (n : ℕ). history_of_row n slots) (sym number_is) ∙ s.is in
         let own : s.row.number ≡ number = nat_eq-true s.row.number number (found-passes (is_of_number number) slots s.row old_is) in
@@ -126,45 +126,45 @@ module _ (slots : List RowHistory) where
             ap (λ (o : Option (ℕ × Change)). Some (with_change o old)) (ap (λ (n : ℕ). find (λ (c : ℕ × Change). c.0 == n) changes) own ∙ found_change number ∙ ap (option_map change) none)
 
   -- one more for each row that is written
-  pub updates-rewritten : (time : ℕ) (rows : List TableRow) → AllByRecursion (λ row. Stands slots row.number) rows → (number : ℕ)
-      → updates_of (history_of_row number (rewritten time rows slots)) ≡ (if list_any (has_number number) rows then updates_of (history_of_row number slots) + 1 else updates_of (history_of_row number slots))
-  updates-rewritten time rows stand number = by (find (has_number number) rows) refl
+  pub updates-rows_with_values : (time : ℕ) (rows : List TableRow) → AllByRecursion (λ row. IsStanding slots row.number) rows → (number : ℕ)
+      → updates_of (history_of_row number (rows_with_values time rows slots)) ≡ (if list_any (has_number number) rows then updates_of (history_of_row number slots) + 1 else updates_of (history_of_row number slots))
+  updates-rows_with_values time rows stand number = by (find (has_number number) rows) refl
     where
       any_is : (o : Option TableRow) → find (has_number number) rows ≡ o → list_any (has_number number) rows ≡ is_some o
       any_is o is = any_found (has_number number) rows ∙ ap is_some is
 
       by : (o : Option TableRow) → find (has_number number) rows ≡ o
-          → updates_of (history_of_row number (rewritten time rows slots)) ≡ (if list_any (has_number number) rows then updates_of (history_of_row number slots) + 1 else updates_of (history_of_row number slots))
-      by None is = rw (any_is None is) (ap updates_of (changed_none rows stand (writing time) (λ row. refl) number is))
+          → updates_of (history_of_row number (rows_with_values time rows slots)) ≡ (if list_any (has_number number) rows then updates_of (history_of_row number slots) + 1 else updates_of (history_of_row number slots))
+      by None is = rw (any_is None is) (ap updates_of (changed_none rows stand (row_write time) (λ row. refl) number is))
       by (Some row) is =
-          let c = changed_some rows stand (writing time) (λ row. refl) number row is in
+          let c = changed_some rows stand (row_write time) (λ row. refl) number row is in
           rw (any_is (Some row) is) (ap updates_of c.3 ∙ updates_written c.0.changes time row.values c.2 ∙ sym (ap (λ (o : Option RowHistory). updates_of o + 1) c.1))
 
   -- a row that is dropped keeps its number of updates
-  pub updates-dropped : (time : ℕ) (rows : List TableRow) → AllByRecursion (λ row. Stands slots row.number) rows → (number : ℕ)
-      → updates_of (history_of_row number (map (changed_by (map (λ row. dropping time row.number) rows)) slots)) ≡ updates_of (history_of_row number slots)
+  pub updates-dropped : (time : ℕ) (rows : List TableRow) → AllByRecursion (λ row. IsStanding slots row.number) rows → (number : ℕ)
+      → updates_of (history_of_row number (map (changed_by (map (λ row. row_delete time row.number) rows)) slots)) ≡ updates_of (history_of_row number slots)
   updates-dropped time rows stand number = by (find (has_number number) rows) refl
     where
       by : (o : Option TableRow) → find (has_number number) rows ≡ o
-          → updates_of (history_of_row number (map (changed_by (map (λ row. dropping time row.number) rows)) slots)) ≡ updates_of (history_of_row number slots)
-      by None is = ap updates_of (changed_none rows stand (λ row. dropping time row.number) (λ row. refl) number is)
+          → updates_of (history_of_row number (map (changed_by (map (λ row. row_delete time row.number) rows)) slots)) ≡ updates_of (history_of_row number slots)
+      by None is = ap updates_of (changed_none rows stand (λ row. row_delete time row.number) (λ row. refl) number is)
       by (Some row) is =
-          let c = changed_some rows stand (λ row. dropping time row.number) (λ row. refl) number row is in
+          let c = changed_some rows stand (λ row. row_delete time row.number) (λ row. refl) number row is in
           ap updates_of c.3 ∙ updates_deleted c.0.changes time c.2 ∙ sym (ap updates_of c.1)
 
   -- new rows have none
-  new_none : (time number : ℕ) (rows : List TableRow) → updates_of (history_of_row number (map (added time) rows)) ≡ 0
+  new_none : (time number : ℕ) (rows : List TableRow) → updates_of (history_of_row number (map (history_of_new_row time) rows)) ≡ 0
   new_none time number [] = refl
   new_none time number (row ∷ rows) = elim (cases-bool (row.number == number)) [
     | inl hit ↦ rw hit refl
     | inr miss ↦ rw miss (new_none time number rows)
   ]
 
-  pub updates-added : (time : ℕ) (rows : List TableRow) (number : ℕ) → updates_of (history_of_row number (slots ++ map (added time) rows)) ≡ updates_of (history_of_row number slots)
-  updates-added time rows number =
-      ap updates_of (find-append (is_of_number number) slots (map (added time) rows)) ∙ by (history_of_row number slots)
+  pub updates-history_of_new_row : (time : ℕ) (rows : List TableRow) (number : ℕ) → updates_of (history_of_row number (slots ++ map (history_of_new_row time) rows)) ≡ updates_of (history_of_row number slots)
+  updates-history_of_new_row time rows number =
+      ap updates_of (find-append (is_of_number number) slots (map (history_of_new_row time) rows)) ∙ by (history_of_row number slots)
     where
-      by : (o : Option RowHistory) → updates_of (option_or o (history_of_row number (map (added time) rows))) ≡ updates_of o
+      by : (o : Option RowHistory) → updates_of (option_or o (history_of_row number (map (history_of_new_row time) rows))) ≡ updates_of o
       by None = new_none time number rows
       by (Some row) = refl
 

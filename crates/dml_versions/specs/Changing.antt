@@ -1,16 +1,16 @@
 -- What INSERT, UPDATE and DELETE return over a store, and what they make of it.
 use Rattle.std.specs.Prelude.{◌≡◌, ℕ, ◌≤◌, List, [], map, length, Bool, true, false, IsTrue, Option, Some, None, Ok}
-use Rattle.sql_model.specs.Changes.{numbered, new_values, updated_row}
+use Rattle.sql_model.specs.Changes.{numbered_rows, new_values, updated_row}
 use Rattle.sql_model.specs.Needs.{Versions, need_of, made_by, updated_rows, versions_after, read_of}
 use Rattle.sql_model.specs.Places.{checked_of}
 use Rattle.sql_model.specs.Scope.{catalog_of}
 use Rattle.sql_model.specs.Statements.{reply_of, after}
 use Rattle.table_store.specs.Histories.{tables_now, history_at, AreKeptBefore}
-use Rattle.table_store.specs.declared.stop.StoreStop.{StoreStop}
-use Rattle.table_store.specs.declared.stop.StoreStop.TheVariants as stop
+use Rattle.table_store.specs.declared.error.StoreStop.{StoreStop}
+use Rattle.table_store.specs.declared.error.StoreStop.TheVariants as stop
 use Rattle.dml_versions.specs.Finding.{scope_in, test_in, row_of, found_from}
 use Rattle.dml_versions.specs.Holding.{IsHeld}
-use Rattle.dml_versions.specs.Needing.{made_found, made_new, with_key_rows, with_child_row, IsRowThere}
+use Rattle.dml_versions.specs.Needing.{updated_member, inserted_member, with_key_rows, with_child_row, IsRowThere}
 use Rattle.dml_versions.specs.Types.{Checked, Expr, Need, Reply, Changed, Refused, SqlRefusal}
 use Rattle.dml_versions.specs.Types.{NotNull, KeyTaken, Full, NoParent, HasChild}
 use Rattle.dml_versions.specs.Types.{Statement, TheQuery, TheInsert, TheUpdate, TheDelete, Insert, Update}
@@ -73,9 +73,9 @@ abbrev pub reply_alone : Reply → Change
 reply_alone reply = record { reply = reply; made = []; needs = [] }
 
 -- a change with its lists, or with its reply alone
-abbrev pub told : Bool → Change → Change
-told true change = change
-told false change = reply_alone change.reply
+abbrev pub change_with_lists : Bool → Change → Change
+change_with_lists true change = change
+change_with_lists false change = reply_alone change.reply
 
 -- the rows that WHERE matches in the table of a name
 pub record AreFound (name : List ℕ) (pick : Option Expr) (store : StoreHistory) (found : List Found)
@@ -89,7 +89,7 @@ pub record AreFound (name : List ℕ) (pick : Option Expr) (store : StoreHistory
 abbrev pub matched_change : List ℕ → List Found → List Need → Change
 matched_change name found needs = record {
   reply = Changed (length found);
-  made = map (made_found name) found;
+  made = map (updated_member name) found;
   needs = needs;
 }
 
@@ -97,7 +97,7 @@ matched_change name found needs = record {
 abbrev pub inserted_change : List ℕ → ℕ → List (List Value) → List Need → Change
 inserted_change name next rows needs = record {
   reply = Changed (length rows);
-  made = map (made_new name) (numbered next rows);
+  made = map (inserted_member name) (numbered_rows next rows);
   needs = needs;
 }
 

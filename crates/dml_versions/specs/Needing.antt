@@ -2,7 +2,7 @@
 use Rattle.std.specs.Prelude.{◌≡◌, ℕ, ◌+◌, ◌==◌, map, nat_lt, List, [], ◌∷◌, true, Option, Some, None, IfSome}
 use Rattle.std.specs.Prelude.{if◌then◌else◌}
 use Rattle.std.specs.Option.{option_map}
-use Rattle.core_parts.specs.Needing.{need_by, sorted_once, united}
+use Rattle.core_parts.specs.Needing.{need_by, needs_in_order, union_of_needs}
 use Rattle.sql_model.specs.Needs.{Versions, needed_by, needed_row, read_of}
 use Rattle.sql_model.specs.Scope.{table_at}
 use Rattle.table_store.specs.Histories.{tables_now}
@@ -21,16 +21,16 @@ member_at name number version = record { table = name; row = number; version = v
 abbrev pub need_found : List ℕ → Found → Need
 need_found name found = record { member = member_at name found.number found.version; rule = L }
 
-abbrev pub made_found : List ℕ → Found → Member
-made_found name found = member_at name found.number (found.version + 1)
+abbrev pub updated_member : List ℕ → Found → Member
+updated_member name found = member_at name found.number (found.version + 1)
 
 abbrev pub number_found : Found → ℕ
 number_found found = found.number
 
 -- ---- new rows
 
-abbrev pub made_new : List ℕ → TableRow → Member
-made_new name row = member_at name row.number 0
+abbrev pub inserted_member : List ℕ → TableRow → Member
+inserted_member name row = member_at name row.number 0
 
 -- ---- the rows of a refused key
 
@@ -59,7 +59,7 @@ with_key_rows name slots earlier later needs =
 
 -- needs, and the parent rows, in any order, that are needed beside them
 abbrev pub with_parent_rows : List Member → List Need → List Need
-with_parent_rows parents needs = united needs (sorted_once (map (need_by P) parents))
+with_parent_rows parents needs = union_of_needs needs (needs_in_order (map (need_by P) parents))
 
 -- the needs of the parents of rows of a table, once these are put
 abbrev pub parent_needs : StoreHistory → List TableRow → Table → List Need
@@ -69,7 +69,8 @@ parent_needs store rows own =
 -- needs with these beside them, where no two rows have one key then
 abbrev pub HaveParents : StoreHistory → List ℕ → List TableRow → List Need → List Need → Type 0
 HaveParents store name rows needs all = IfSome (table_at name (tables_now store))
-    (λ own. are_apart rows own ≡ true → all ≡ united needs (sorted_once (parent_needs store rows own)))
+    (λ own. are_apart rows own ≡ true
+    → all ≡ union_of_needs needs (needs_in_order (parent_needs store rows own)))
 
 -- a table has a row of a number
 pub record IsRowThere (db : List Table) (name : List ℕ) (number : ℕ) : Type 0 where
@@ -82,4 +83,4 @@ child_need versions table row = read_of versions (needed_row C table row)
 
 -- needs, and the child row that is needed beside them
 abbrev pub with_child_row : Versions → List ℕ → ℕ → List Need → List Need
-with_child_row versions table row needs = united needs (child_need versions table row ∷ [])
+with_child_row versions table row needs = union_of_needs needs (child_need versions table row ∷ [])

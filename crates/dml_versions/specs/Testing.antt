@@ -1,8 +1,8 @@
 -- Tests of single columns that WHERE makes.
 use Rattle.std.specs.Prelude.{◌≡◌, ℕ, List, true, Option}
-use Rattle.core_parts.specs.declared.masking.Mask.{Mask}
-use Rattle.core_parts.specs.declared.masking.MaskTest.{MaskTest}
-use Rattle.core_parts.specs.declared.masking.MaskTest.TheVariants as mask_test
+use Rattle.core_parts.specs.declared.mask.Mask.{Mask}
+use Rattle.core_parts.specs.declared.mask.MaskTest.{MaskTest}
+use Rattle.core_parts.specs.declared.mask.MaskTest.TheVariants as mask_test
 use Rattle.dml_versions.specs.Finding.{IsPickPlaced}
 use Rattle.dml_versions.specs.Types.{Column, Expr, TableRow}
 use Rattle.sql_model.specs.Changes.{is_matched}

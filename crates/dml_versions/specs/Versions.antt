@@ -1,13 +1,13 @@
 -- The versions of a store's rows, as statements speak of them: how many accepted UPDATEs matched a row.
 use Rattle.std.specs.Prelude.{ℕ, ◌-◌, List, Option, Some, None, if◌then◌else◌, is_some}
-use Rattle.row_version.specs.History.{Change, current, version}
+use Rattle.row_version.specs.History.{Change, current_values, version}
 use Rattle.sql_model.specs.Needs.{Versions}
 use Rattle.table_store.specs.Histories.{history_of_row, history_at}
 use Rattle.dml_versions.specs.Types.{RowHistory, StoreHistory, TableHistory}
 
 -- how often a row has changed, its deletion left out
 abbrev pub updates : List Change → ℕ
-updates changes = if is_some (current changes) then version changes else version changes - 1
+updates changes = if is_some (current_values changes) then version changes else version changes - 1
 
 abbrev pub updates_of : Option RowHistory → ℕ
 updates_of None = 0

@@ -4,14 +4,14 @@ ghost use Rattle.std.specs.Prelude.{◌≡◌, ◌+◌, ◌<◌, ◌^◌, Some, 
 ghost use Rattle.std.specs.List.{AllByRecursion};
 ghost use Rattle.ldv_value.specs.Limits.{max_next};
 ghost use Rattle.dml_versions.specs.Changing.{matched_change, inserted_change, refused_change};
-ghost use Rattle.dml_versions.specs.Changing.{refused_by, reply_alone, told, IsChildThere};
-ghost use Rattle.dml_versions.specs.Needing.{made_new};
+ghost use Rattle.dml_versions.specs.Changing.{refused_by, reply_alone, change_with_lists, IsChildThere};
+ghost use Rattle.dml_versions.specs.Needing.{inserted_member};
 ghost use Rattle.dml_versions.specs.Versions.{versions_now};
 ghost use Rattle.table_store.specs.Histories.{tables_now};
-ghost use Rattle.sql_model.specs.Changes.{numbered};
+ghost use Rattle.sql_model.specs.Changes.{numbered_rows};
 
 use crate::found::FoundRows;
-use crate::needs::{made_new, made_of, with_child_row, with_key_rows};
+use crate::needs::{inserted_members, made_of, with_child_row, with_key_rows};
 use ldv_value::{List, MAX_NEXT, RowList, Utf8};
 use sql_model::{Members, Needs, Reply, SqlRefusal};
 use std::alloc::{AllocError, Global};
@@ -64,7 +64,8 @@ pub(crate) fn matched_change(
     keep: bool,
 ) -> Result<Change, AllocError>
     requires { AllByRecursion (λ row. row.version + 1 < 2 ^ 32) found.now }
-    ensures { IfOk result (λ change. change ≡ told keep (matched_change name.now found.now needs)) }
+    ensures { IfOk result (λ change. change
+        ≡ change_with_lists keep (matched_change name.now found.now needs)) }
 {
     if keep {
         matched_lists(alloc, name, found, needs)
@@ -102,7 +103,7 @@ pub(crate) fn inserted_change(
     keep: bool,
 ) -> Result<Change, AllocError>
     ensures { IfOk result (λ change. nat_lt max_next (next + length rows.now) ≡ false
-        → change ≡ told keep (inserted_change name.now next rows.now needs)) }
+        → change ≡ change_with_lists keep (inserted_change name.now next rows.now needs)) }
 {
     if keep {
         inserted_lists(alloc, name, next, rows, needs)
@@ -114,12 +115,12 @@ pub(crate) fn inserted_change(
 // The versions that an INSERT makes, where the numbers of its rows are within the limit.
 fn made_within(alloc: Global, name: &Utf8, next: u32, rows: &RowList) -> Result<Members, AllocError>
     ensures { IfOk result (λ made. nat_lt max_next (next + length rows.now) ≡ false
-        → made ≡ map (made_new name.now) (numbered next rows.now)) }
+        → made ≡ map (inserted_member name.now) (numbered_rows next rows.now)) }
 {
     if rows.len() > (MAX_NEXT - next) as usize {
         return Ok(List::new(alloc));
     }
-    made_new(alloc, name, next, rows)
+    inserted_members(alloc, name, next, rows)
 }
 
 /// What a change of a table returns that the store refuses. `needs` are the rows that it matches, and `all`

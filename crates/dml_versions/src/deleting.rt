@@ -13,7 +13,7 @@ use crate::needs::{needs_of, numbers_of};
 use crate::places::pick_places;
 use crate::statements::delete_of;
 use crate::tables::table_of;
-use core_parts::places_or;
+use core_parts::column_indexes;
 use ldv_value::List;
 use sql_model::{Checked, Delete};
 use std::alloc::AllocError;
@@ -68,7 +68,7 @@ fn deleted_rows(checked: &Checked, delete: &Delete, store: &Store) -> Result<Fou
 {
     let alloc = checked.places.allocator();
     let none = List::new(alloc);
-    let places = pick_places(alloc, &delete.pick, places_or(checked, 0, &none), 0)?;
+    let places = pick_places(alloc, &delete.pick, column_indexes(checked, 0, &none), 0)?;
     store.tell_formed();
     let table = table_of(store, &delete.table);
     let found = found_rows(alloc, table, &delete.pick, &places)?;

@@ -78,7 +78,7 @@ fn found_by_tests(
     requires exact { exact ≡ true → AreExactTests pick.now places.now tests.now }
     ensures { IfOk result (λ found. found ≡ found_from (test_in table.now pick.now) table.now.slots 0) }
 {
-    let words = table.chosen(alloc, tests)?;
+    let words = table.choose_slots(alloc, tests)?;
     let found = found_among(alloc, table, words.as_slice(), exact, pick, places)?;
     Ok(found)
 }

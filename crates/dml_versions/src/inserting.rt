@@ -7,7 +7,7 @@ ghost use Rattle.dml_versions.specs.Changing.{IsInsert, IsCheckedOver, IsChange,
 ghost use Rattle.dml_versions.specs.Changing.{AreNewRows};
 ghost use Rattle.dml_versions.specs.Needing.{HaveParents};
 ghost use Rattle.dml_versions.specs.Types.{TheInsert};
-ghost use Rattle.sql_model.specs.Changes.{numbered};
+ghost use Rattle.sql_model.specs.Changes.{numbered_rows};
 ghost use Rattle.sql_model.specs.Scope.{table_at};
 ghost use Rattle.table_store.specs.Histories.{tables_now};
 
@@ -74,7 +74,7 @@ fn inserted_needs(
     requires next { option_map (λ table. table.next) (table_at insert.now.table (tables_now store.now))
         ≡ Some next }
     ensures { IfOk result (λ needs. IsTrue keep → nat_lt max_next (next + length rows.now) ≡ false
-        → HaveParents store.now insert.now.table (numbered next rows.now) [] needs) }
+        → HaveParents store.now insert.now.table (numbered_rows next rows.now) [] needs) }
 {
     if keep {
         within_needs(alloc, insert, store, next, rows)
@@ -94,7 +94,7 @@ fn within_needs(
     requires next { option_map (λ table. table.next) (table_at insert.now.table (tables_now store.now))
         ≡ Some next }
     ensures { IfOk result (λ needs. nat_lt max_next (next + length rows.now) ≡ false
-        → HaveParents store.now insert.now.table (numbered next rows.now) [] needs) }
+        → HaveParents store.now insert.now.table (numbered_rows next rows.now) [] needs) }
 {
     if rows.len() > (MAX_NEXT - next) as usize {
         return Ok(List::new(alloc));

@@ -5,9 +5,9 @@ ghost use Rattle.std.specs.Prelude.{IfOk, IfSome, IsSome, IsTrue};
 ghost use Rattle.std.specs.Prelude.{nat_le};
 ghost use Rattle.std.specs.List.{AllByRecursion, position_or_len};
 ghost use Rattle.std.specs.Option.{option_map, option_map_or};
-ghost use Rattle.sql_model.specs.Changes.{numbered};
+ghost use Rattle.sql_model.specs.Changes.{numbered_rows};
 ghost use Rattle.dml_versions.specs.Finding.{version_of};
-ghost use Rattle.dml_versions.specs.Needing.{need_found, made_found, made_new, number_found, key_need};
+ghost use Rattle.dml_versions.specs.Needing.{need_found, updated_member, inserted_member, number_found, key_need};
 ghost use Rattle.dml_versions.specs.Needing.{put_need, put_some, with_key_rows, with_parent_rows};
 ghost use Rattle.dml_versions.specs.Needing.{child_need, with_child_row, HaveParents, IsRowThere};
 ghost use Rattle.dml_versions.specs.Versions.{versions_now};
@@ -16,7 +16,7 @@ ghost use Rattle.table_store.specs.Histories.{tables_now};
 ghost use Rattle.table_store.specs.Referring.{CanBePut};
 
 use crate::found::FoundRows;
-use core_parts::{needed_by, sorted_once, united};
+use core_parts::{needed_by, needs_in_order, union_of_needs};
 use ldv_value::{List, Numbers, RowList, Utf8};
 use sql_model::{Member, Members, Need, Needs, Rule, TableRow, TableRows};
 use std::alloc::{AllocError, Global};
@@ -58,7 +58,7 @@ fn all_needs_of(alloc: Global, name: &Utf8, found: &FoundRows) -> Result<Needs, 
 /// The versions that a change of matched rows makes.
 pub(crate) fn made_of(alloc: Global, name: &Utf8, found: &FoundRows) -> Result<Members, AllocError>
     requires { AllByRecursion (λ row. row.version + 1 < 2 ^ 32) found.now }
-    ensures { IfOk result (λ made. made ≡ map (made_found name.now) found.now) }
+    ensures { IfOk result (λ made. made ≡ map (updated_member name.now) found.now) }
 {
     let mut made = List::with_capacity(alloc, found.len())?;
     let mut left = found.items();
@@ -89,14 +89,14 @@ pub(crate) fn numbers_of(alloc: Global, found: &FoundRows) -> Result<Numbers, Al
 }
 
 /// The versions that an INSERT makes: its rows are numbered from `next` on, each at version 0.
-pub(crate) fn made_new(
+pub(crate) fn inserted_members(
     alloc: Global,
     name: &Utf8,
     next: u32,
     rows: &RowList,
 ) -> Result<Members, AllocError>
     requires { next + length rows.now < 2 ^ 32 }
-    ensures { IfOk result (λ made. made ≡ map (made_new name.now) (numbered next rows.now)) }
+    ensures { IfOk result (λ made. made ≡ map (inserted_member name.now) (numbered_rows next rows.now)) }
 {
     let mut made = List::with_capacity(alloc, rows.len())?;
     let mut row = next;
@@ -237,8 +237,8 @@ fn with_parent_rows(needs: &Needs, parents: Members) -> Result<Needs, AllocError
 {
     let alloc = needs.allocator();
     let wanted = needed_by(Rule::P, parents)?;
-    let others = sorted_once(alloc, wanted)?;
-    let all = united(alloc, needs.items(), others.items())?;
+    let others = needs_in_order(alloc, wanted)?;
+    let all = union_of_needs(alloc, needs.items(), others.items())?;
     Ok(all)
 }
 
@@ -256,7 +256,7 @@ pub(crate) fn with_child_row(
     let child = child_need(store, table, row)?;
     let mut others = List::with_capacity(alloc, 1)?;
     others.push(child)?;
-    let all = united(alloc, needs.items(), others.items())?;
+    let all = union_of_needs(alloc, needs.items(), others.items())?;
     Ok(all)
 }
 
@@ -296,7 +296,7 @@ pub(crate) fn numbered_rows(
     next: u32,
 ) -> Result<TableRows, AllocError>
     requires { next + length rows.now < 2 ^ 32 }
-    ensures { IfOk result (λ made. made ≡ numbered next rows.now) }
+    ensures { IfOk result (λ made. made ≡ numbered_rows next rows.now) }
 {
     let mut made = List::with_capacity(alloc, rows.len())?;
     let mut number = next;

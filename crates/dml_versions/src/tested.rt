@@ -2,10 +2,10 @@
 
 ghost use Rattle.std.specs.Prelude.{◌≡◌, List as Items, Some, IfOk, map, true, false};
 ghost use Rattle.core_parts.specs.Masking.{AreMasks};
-ghost use Rattle.core_parts.specs.declared.masking.Mask.{Mask as Given};
+ghost use Rattle.core_parts.specs.declared.mask.Mask.{Mask as Given};
 ghost use Rattle.dml_versions.specs.Testing.{AreTests, AreExactTests, cell_test, column_test};
 
-use core_parts::{Mask, MaskTest, Placed, conjuncts_of, exact_masks, masks_of};
+use core_parts::{Mask, MaskTest, BoundExpr, conjuncts_of, exact_masks, masks_of};
 use ldv_value::{List, Places};
 use sql_model::{Columns, Expr};
 use std::alloc::{AllocError, Global};
@@ -63,7 +63,7 @@ fn tests_by(
 fn some_tests(
     alloc: Global,
     columns: &Columns,
-    conds: &List<Placed>,
+    conds: &List<BoundExpr>,
 ) -> Result<WhereTests, AllocError>
     ensures tests { IfOk result (λ made. (masks : Items Given) × AreMasks conds.now 0 columns.now masks
         × (made.tests.items ≡ map column_test masks)) }

@@ -14,7 +14,7 @@ use crate::places::update_places;
 use crate::statements::update_of;
 use crate::tables::table_of;
 use crate::updates::updated_rows;
-use core_parts::places_or;
+use core_parts::column_indexes;
 use ldv_value::List;
 use sql_model::{Checked, TableRows, Update};
 use std::alloc::AllocError;
@@ -75,7 +75,7 @@ fn prepare(checked: &Checked, update: &Update, store: &Store) -> Result<Prepared
 {
     let alloc = checked.places.allocator();
     let none = List::new(alloc);
-    let places = update_places(alloc, update, places_or(checked, 0, &none))?;
+    let places = update_places(alloc, update, column_indexes(checked, 0, &none))?;
     store.tell_formed();
     let table = table_of(store, &update.table);
     let found = found_rows(alloc, table, &update.pick, &places.pick)?;

@@ -7,8 +7,8 @@ use Rattle.std.specs.FinMap.{FinMap, from_entries, entries, keys}
 use Rattle.ldv_value.specs.declared.file.File.{File}
 use Rattle.ldv_value.specs.FileState.{path_cmp, file_of, put_file, FileState}
 use Rattle.ldv_value.specs.FileState.{FileRefusal, NotFound, AlreadyExists}
-use Rattle.file_tree.specs.declared.stop.TreeStop.{TreeStop}
-use Rattle.file_tree.specs.declared.stop.TreeStop.TheVariants.{Absent, Taken}
+use Rattle.file_tree.specs.declared.error.TreeStop.{TreeStop}
+use Rattle.file_tree.specs.declared.error.TreeStop.TheVariants.{Absent, Taken}
 
 -- ---- as finite maps by the bytes of the texts
 

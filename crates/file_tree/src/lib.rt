@@ -12,9 +12,9 @@
 mod contents;
 mod line;
 mod marks;
-mod stop;
+mod error;
 mod tree;
 
 pub use ldv_value::LineRead;
-pub use stop::{AppendStop, TreeStop};
+pub use error::{AppendStop, TreeStop};
 pub use tree::Tree;

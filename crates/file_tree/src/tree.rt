@@ -8,15 +8,15 @@ ghost use Rattle.ldv_value.specs.Limits.{file_limit};
 ghost use Rattle.ldv_value.specs.Names.{path_test};
 ghost use Rattle.ldv_value.specs.Sorted.{is_strictly_sorted, text_precedes};
 ghost use Rattle.ldv_value.specs.FileState.{IsFile, file_precedes, put_file, add_path};
-ghost use Rattle.ldv_value.specs.FileState.{content_at, is_there, bytes_at, rest_at, untouched, put, touch};
-ghost use Rattle.ldv_value.specs.FileState.{NotFound, AlreadyExists, open_refusal, opened, removed};
-ghost use Rattle.ldv_value.specs.FileState.{appended, copied, copy_end, read_line};
+ghost use Rattle.ldv_value.specs.FileState.{content_at, is_there, bytes_at, rest_at, initial_files, put, touch};
+ghost use Rattle.ldv_value.specs.FileState.{NotFound, AlreadyExists, open_refusal, after_open, after_remove};
+ghost use Rattle.ldv_value.specs.FileState.{after_append, after_copy, copy_end, read_line};
 ghost use Rattle.file_tree.specs.Views.{files_from, stop_of};
 
 use crate::contents::Contents;
 use crate::line::read_at;
 use crate::marks::Marks;
-use crate::stop::{AppendStop, TreeStop};
+use crate::error::{AppendStop, TreeStop};
 use ldv_value::{Bytes, FILE_LIMIT, File, Files, LineRead, OpenMode, Paths};
 use std::alloc::{AllocError, Global};
 use std::marker::Model;
@@ -48,9 +48,9 @@ impl Tree {
     #[tactic(auto, using(crate::proofs::Seen::files_as_given))]
     pub fn of_files(alloc: Global, files: Files) -> Result<Tree, AllocError>
         requires { All (λ f. IsFile f.path f.content) files }
-        ensures tree { IfOk result (λ tree. tree ≡ untouched (files_from files)) }
+        ensures tree { IfOk result (λ tree. tree ≡ initial_files (files_from files)) }
         ensures sorted { is_strictly_sorted file_precedes files ≡ true
-            → IfOk result (λ tree. tree ≡ untouched files) }
+            → IfOk result (λ tree. tree ≡ initial_files files) }
     {
         Ok(Tree {
             alloc,
@@ -64,7 +64,7 @@ impl Tree {
     /// file, `Taken` exactly where `New` finds one. After an `Err` the tree is as it was.
     pub fn open_path(&mut self, mode: OpenMode, path: &str) -> Result<(), TreeStop>
         requires { IsTrue (path_test path.now) }
-        ensures ok { OnOk result (self.new ≡ opened mode self.old path.now) }
+        ensures ok { OnOk result (self.new ≡ after_open mode self.old path.now) }
         ensures allowed { OnOk result (open_refusal mode (is_there self.old path.now) ≡ None) }
         ensures absent { (result ≡ Err TreeStop.Absent)
             ↔ (open_refusal mode (is_there self.old path.now) ≡ Some NotFound) }
@@ -96,7 +96,7 @@ impl Tree {
     /// exactly where the file would be longer than `FILE_LIMIT`. After an `Err` the tree is as it was.
     pub fn append(&mut self, path: &str, bytes: &[u8]) -> Result<(), AppendStop>
         requires { IsTrue (path_test path.now) }
-        ensures ok { OnOk result (self.new ≡ appended self.old path.now bytes.now) }
+        ensures ok { OnOk result (self.new ≡ after_append self.old path.now bytes.now) }
         ensures within { OnOk result
             (length (bytes_at self.old path.now) + length bytes.now ≤ file_limit) }
         ensures too_long { (result ≡ Err AppendStop.TooLong)
@@ -115,7 +115,7 @@ impl Tree {
     /// target is made. It touches no path. Errors are as for `append`.
     pub fn copy_rest(&mut self, from: &str, at: u32, to: &str) -> Result<u32, AppendStop>
         requires { IsTrue (path_test to.now) }
-        ensures ok { OnOk result (self.new ≡ copied self.old from.now at to.now) }
+        ensures ok { OnOk result (self.new ≡ after_copy self.old from.now at to.now) }
         ensures place { IfOk result (λ next. next ≡ copy_end self.old from.now at) }
         ensures within { OnOk result
             (length (bytes_at self.old to.now) + length (rest_at self.old from.now at) ≤ file_limit) }
@@ -135,7 +135,7 @@ impl Tree {
     /// Removes a file and touches its path. `Absent` comes exactly where there is no file; `NoMemory` may
     /// come, since the touched path is kept. After an `Err` the tree is as it was. It never returns `Taken`.
     pub fn remove(&mut self, path: &str) -> Result<(), TreeStop>
-        ensures ok { OnOk result (self.new ≡ removed self.old path.now) }
+        ensures ok { OnOk result (self.new ≡ after_remove self.old path.now) }
         ensures there { OnOk result (IsTrue (is_there self.old path.now)) }
         ensures absent { (result ≡ Err TreeStop.Absent) ↔ (is_there self.old path.now ≡ false) }
         ensures not_taken { result ≢ Err TreeStop.Taken }
@@ -167,7 +167,7 @@ impl Tree {
     }
 
     /// The touched paths, sorted by their bytes.
-    pub fn touched(&self) -> Result<Paths, AllocError>
+    pub fn touched_paths(&self) -> Result<Paths, AllocError>
         ensures paths { IfOk result (λ paths. paths ≡ self.now.touched) }
         ensures sorted { IfOk result (λ paths. IsTrue (is_strictly_sorted text_precedes paths)) }
         ensures valid { IfOk result (λ paths. IsTrue (list_all path_test paths)) }
@@ -178,7 +178,7 @@ impl Tree {
     // Opens a path where that isn't refused.
     fn open(&mut self, mode: OpenMode, path: &str) -> Result<(), AllocError>
         requires { IsTrue (path_test path.now) }
-        ensures ok { OnOk result (self.new ≡ opened mode self.old path.now) }
+        ensures ok { OnOk result (self.new ≡ after_open mode self.old path.now) }
         ensures err { OnErr result (self.new ≡ self.old) }
     {
         match mode {
@@ -248,7 +248,7 @@ impl Tree {
     fn extend(&mut self, path: &str, bytes: &[u8]) -> Result<(), AllocError>
         requires valid { IsTrue (path_test path.now) }
         requires fits { length (bytes_at self.old path.now) + length bytes.now ≤ file_limit }
-        ensures ok { OnOk result (self.new ≡ appended self.old path.now bytes.now) }
+        ensures ok { OnOk result (self.new ≡ after_append self.old path.now bytes.now) }
         ensures err { OnErr result (self.new ≡ self.old) }
     {
         self.files.append(path, bytes)?;

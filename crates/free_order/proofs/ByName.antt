@@ -7,7 +7,7 @@ use Rattle.std.proofs.lemmas.List.{length-map, map-append}
 use Rattle.ldv_value.specs.FileState.{FileState, content_at, put_file, remove_file}
 use Rattle.ldv_value.proofs.FileLists.{content-put, content-remove}
 use Rattle.ldv_value.proofs.SameBytes.{bytes_eq-true, bytes_eq-itself, bytes_eq-other}
-use Rattle.run_model.specs.Core.{Binding, is_bound, lookup, bind, unbind, Process, Core}
+use Rattle.run_model.specs.Core.{NameBinding, is_bound, lookup, bind, unbind, Process, Core}
 use Rattle.run_model.specs.LogDatabase.{LogDatabase, entries_left}
 use Rattle.run_model.specs.State.{State}
 use Rattle.run_laws.proofs.ProcessNames.{name_of, names, names_set, at_name, Distinct}
@@ -22,14 +22,14 @@ named name ps = find (λ p. bytes_eq name p.name) ps
 abbrev pub at_number : List (List ℕ) → ℕ → List ℕ
 at_number ns k = unwrap_or (slice_get ns k) []
 
-abbrev pub kid_of : List (List ℕ) → Binding ℕ → Binding (List ℕ)
+abbrev pub kid_of : List (List ℕ) → NameBinding ℕ → NameBinding (List ℕ)
 kid_of ns b = record { name = b.name; bound = at_number ns b.bound }
 
-abbrev pub kids_of : List (List ℕ) → List (Binding ℕ) → List (Binding (List ℕ))
+abbrev pub kids_of : List (List ℕ) → List (NameBinding ℕ) → List (NameBinding (List ℕ))
 kids_of ns bs = map (kid_of ns) bs
 
 -- with other children
-abbrev pub dress : List (Binding ℕ) → Process → Process
+abbrev pub dress : List (NameBinding ℕ) → Process → Process
 dress children p = record p { children = children }
 
 abbrev pub bare : Process → Process
@@ -135,7 +135,7 @@ named_found P (r ∷ ps) name p all is = elim (cases_Bool (bytes_eq name r.name)
 
 -- ---- the children of a process, by name
 
-abbrev pub IsBelow : ℕ → Binding ℕ → Type 0
+abbrev pub IsBelow : ℕ → NameBinding ℕ → Type 0
 IsBelow n b = b.bound < n
 
 abbrev pub KidsBelow : ℕ → Process → Type 0
@@ -150,7 +150,7 @@ get_last : (ns : List (List ℕ)) (m : List ℕ) → at_number (ns ++ m ∷ []) 
 get_last [] m = refl
 get_last (n ∷ ns) m = get_last ns m
 
-kids_more : (ns : List (List ℕ)) (m : List ℕ) (bs : List (Binding ℕ)) → AllByRecursion (IsBelow (length ns)) bs
+kids_more : (ns : List (List ℕ)) (m : List ℕ) (bs : List (NameBinding ℕ)) → AllByRecursion (IsBelow (length ns)) bs
     → kids_of (ns ++ m ∷ []) bs ≡ kids_of ns bs
 kids_more ns m [] below = refl
 kids_more ns m (b ∷ bs) below =
@@ -160,15 +160,15 @@ kids_more ns m (b ∷ bs) below =
 pub solo_more : (ns : List (List ℕ)) (m : List ℕ) (p : Process) → KidsBelow (length ns) p → solo_of (ns ++ m ∷ []) p ≡ solo_of ns p
 solo_more ns m p below = λ j. record { own = bare p; kids = kids_more ns m p.children below j }
 
-kids_unbound : (ns : List (List ℕ)) (name : List ℕ) (bs : List (Binding ℕ)) → kids_of ns (unbind name bs) ≡ unbind name (kids_of ns bs)
+kids_unbound : (ns : List (List ℕ)) (name : List ℕ) (bs : List (NameBinding ℕ)) → kids_of ns (unbind name bs) ≡ unbind name (kids_of ns bs)
 kids_unbound ns name [] = refl
 kids_unbound ns name (b ∷ bs) = elim (cases_Bool (bytes_eq b.name name)) [
   | inl hit ↦ rw hit (kids_unbound ns name bs)
-  | inr miss ↦ rw miss (ap (λ (l : List (Binding (List ℕ))). kid_of ns b ∷ l) (kids_unbound ns name bs))
+  | inr miss ↦ rw miss (ap (λ (l : List (NameBinding (List ℕ))). kid_of ns b ∷ l) (kids_unbound ns name bs))
 ]
 
 -- the last process that was made is a child
-pub kids_bound : (ns : List (List ℕ)) (m name : List ℕ) (bs : List (Binding ℕ)) (n : ℕ) → n ≡ length ns → AllByRecursion (IsBelow n) bs
+pub kids_bound : (ns : List (List ℕ)) (m name : List ℕ) (bs : List (NameBinding ℕ)) (n : ℕ) → n ≡ length ns → AllByRecursion (IsBelow n) bs
     → kids_of (ns ++ m ∷ []) (bind name n bs) ≡ bind name m (kids_of ns bs)
 kids_bound ns m name bs n count below =
     let last : at_number (ns ++ m ∷ []) n ≡ m = ap (at_number (ns ++ m ∷ [])) count ∙ get_last ns m in
@@ -177,7 +177,7 @@ kids_bound ns m name bs n count below =
     ∙ ap (unbind name) (kids_more ns m bs (subst (λ (i : ℕ). AllByRecursion (IsBelow i) bs) count below)) in
     λ j. record { name = name; bound = last j } ∷ rest j
 
-pub lookup_kids : (ns : List (List ℕ)) (name : List ℕ) (bs : List (Binding ℕ))
+pub lookup_kids : (ns : List (List ℕ)) (name : List ℕ) (bs : List (NameBinding ℕ))
     → lookup name (kids_of ns bs) ≡ option_map (at_number ns) (lookup name bs)
 lookup_kids ns name [] = refl
 lookup_kids ns name (b ∷ bs) = elim (cases_Bool (bytes_eq b.name name)) [
@@ -185,14 +185,14 @@ lookup_kids ns name (b ∷ bs) = elim (cases_Bool (bytes_eq b.name name)) [
   | inr miss ↦ rw miss (lookup_kids ns name bs)
 ]
 
-pub unbound_below : (n : ℕ) (name : List ℕ) (bs : List (Binding ℕ)) → AllByRecursion (IsBelow n) bs → AllByRecursion (IsBelow n) (unbind name bs)
+pub unbound_below : (n : ℕ) (name : List ℕ) (bs : List (NameBinding ℕ)) → AllByRecursion (IsBelow n) bs → AllByRecursion (IsBelow n) (unbind name bs)
 unbound_below n name [] all = tt
 unbound_below n name (b ∷ bs) all = elim (cases_Bool (bytes_eq b.name name)) [
   | inl hit ↦ rw hit (unbound_below n name bs all.1)
   | inr miss ↦ rw miss (all.0, unbound_below n name bs all.1)
 ]
 
-pub found_below : (n : ℕ) (name : List ℕ) (bs : List (Binding ℕ)) (k : ℕ) → AllByRecursion (IsBelow n) bs → lookup name bs ≡ Some k → k < n
+pub found_below : (n : ℕ) (name : List ℕ) (bs : List (NameBinding ℕ)) (k : ℕ) → AllByRecursion (IsBelow n) bs → lookup name bs ≡ Some k → k < n
 found_below n name [] k all is = absurd cc
 found_below n name (b ∷ bs) k all is = elim (cases_Bool (bytes_eq b.name name)) [
   | inl hit ↦ let found : Some b.bound ≡ Some k = rw hit at is in let same : b.bound ≡ k = cc in subst (λ (i : ℕ). i < n) same all.0

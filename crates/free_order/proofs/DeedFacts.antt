@@ -10,13 +10,13 @@ use Rattle.ldv_value.specs.declared.line.LineRead.TheVariants as lines
 use Rattle.ldv_value.specs.declared.file.OpenMode.TheVariants as modes
 use Rattle.script_parse.specs.declared.script.Instr.TheVariants as instr
 use Rattle.free_order.specs.Types.{OpenMode, Value, Variable, Instr, Entry}
-use Rattle.run_model.specs.Core.{Binding, lookup, OpenFile, Process}
+use Rattle.run_model.specs.Core.{NameBinding, lookup, OpenFile, Process}
 use Rattle.run_model.specs.LogDatabase.{is_recorded}
-use Rattle.run_model.specs.StepBase.{operand_value, operand_values, ended}
+use Rattle.run_model.specs.StepBase.{operand_value, operand_values, with_exit_status}
 use Rattle.run_model.specs.StepFiles.{path_at, allows_read, allows_write, open_for, take_line}
-use Rattle.run_model.specs.StepProcesses.{Spawning, spawning_of}
-use Rattle.run_model.specs.StepReplies.{Ask, ask, counted, status_value}
-use Rattle.run_model.specs.StepVariables.{calculated, glued, to_number, printed_line, exit_status}
+use Rattle.run_model.specs.StepProcesses.{SpawnRequest, spawning_of}
+use Rattle.run_model.specs.StepReplies.{Ask, ask, row_count, status_value}
+use Rattle.run_model.specs.StepVariables.{calculation, concatenation, to_number, printed_line, exit_status}
 use Rattle.run_model.proofs.StepKeeps.{AllFiles, unbound_files, Keeps, keeps_place, keeps_variable, keeps_end, keeps_assign, keeps_glue, keeps_cut, keeps_jump, keeps_line, keeps_fetch, keeps_close, calculated_byte, to_number_byte, counted_byte, status_value_byte, exit_byte}
 use Rattle.run_laws.proofs.StepTrails.{Trail, trail, trail_assign, trail_cut, trail_jump, trail_line, trail_fetch, trail_close}
 use Rattle.free_order.proofs.Boards.{Solo, Board, Use, Change, Still, Sets, Deed, Move, Bytes, Owner, Fits, Fit, opens_unless, opens, rest_of, reads, writes_where, room_for, writes, copies_where, copies, removes_where, removes, tests_where, tests, noting, plain, moved, child_name, spawns_script, script_in, spawns_file, has_room, spawns, status_of, waits_until, waits, asks_next, asks, deed_of, deed_by, next_of, deed}
@@ -124,17 +124,17 @@ module _ (P : List ℕ → Type 0) where
 
   -- ---- spawn, wait, sql
 
-  script_fine : (o : Option (List Instr)) (spawning : Spawning) (path : List ℕ) (x : Solo) → Fine P x (spawns_script o spawning path x)
+  script_fine : (o : Option (List Instr)) (spawning : SpawnRequest) (path : List ℕ) (x : Solo) → Fine P x (spawns_script o spawning path x)
   script_fine None spawning path x = noting_fine _ x _ refl (λ all. all)
   script_fine (Some script) spawning path x =
       record { named = refl; opened = λ all named. all; born = (refl, omega arith, refl) }
 
-  file_fine : (o : Option (List ℕ)) (room : Bool) (spawning : Spawning) (path : List ℕ) (x : Solo)
+  file_fine : (o : Option (List ℕ)) (room : Bool) (spawning : SpawnRequest) (path : List ℕ) (x : Solo)
       → Fine P x (spawns_file o room spawning path x)
   file_fine None room spawning path x = noting_fine _ x _ refl (λ all. all)
   file_fine (Some bytes) room spawning path x = script_fine (script_in room bytes) spawning path x
 
-  spawn_fine : (o : Option (List ℕ)) (spawning : Spawning) (b : Board) (x : Solo) → Fine P x (spawns o spawning b x)
+  spawn_fine : (o : Option (List ℕ)) (spawning : SpawnRequest) (b : Board) (x : Solo) → Fine P x (spawns o spawning b x)
   spawn_fine None spawning b x = noting_fine _ x [] refl (λ all. all)
   spawn_fine (Some path) spawning b x = file_fine (b.bytes path) (has_room b) spawning path x
 
@@ -164,11 +164,11 @@ module _ (P : List ℕ → Type 0) where
   fine_at (instr.Calc to op left right) b x =
       let v : Value = operand_value x.own left in
       let w : Value = operand_value x.own right in
-      plain_fine _ x (trail_assign to (calculated op v w) x.own) (keeps_assign P to (calculated op v w) x.own (calculated_byte op v w))
+      plain_fine _ x (trail_assign to (calculation op v w) x.own) (keeps_assign P to (calculation op v w) x.own (calculated_byte op v w))
   fine_at (instr.Glue to left right) b x =
       let v : Value = operand_value x.own left in
       let w : Value = operand_value x.own right in
-      plain_fine _ x (trail_assign to (glued v w) x.own) (keeps_glue P to v w x.own)
+      plain_fine _ x (trail_assign to (concatenation v w) x.own) (keeps_glue P to v w x.own)
   fine_at (instr.ToInt to value) b x =
       let v : Value = operand_value x.own value in
       plain_fine _ x (trail_assign to (to_number v) x.own) (keeps_assign P to (to_number v) x.own (to_number_byte v))
@@ -215,13 +215,13 @@ module _ (P : List ℕ → Type 0) where
       (keeps_fetch P (lookup cursor x.own.cursors) cursor to place x.own)
   fine_at (instr.Count to cursor) b x =
       let o = lookup cursor x.own.cursors in
-      plain_fine _ x (trail_assign to (counted o) x.own) (keeps_assign P to (counted o) x.own (counted_byte o))
+      plain_fine _ x (trail_assign to (row_count o) x.own) (keeps_assign P to (row_count o) x.own (counted_byte o))
   fine_at (instr.Status to cursor) b x =
       let o = lookup cursor x.own.cursors in
       plain_fine _ x (trail_assign to (status_value o) x.own) (keeps_assign P to (status_value o) x.own (status_value_byte o))
 
   fine_by : (o : Option Instr) (b : Board) (x : Solo) → Fine P x (deed_by o b x)
-  fine_by None b x = noting_fine (ended 0 x.own) x [] refl (λ all. all)
+  fine_by None b x = noting_fine (with_exit_status 0 x.own) x [] refl (λ all. all)
   fine_by (Some i) b x = fine_at i b x
 
   pub deed_fine : (b : Board) (x : Solo) → Fine P x (deed b x)
@@ -289,16 +289,16 @@ module _ (owner : Owner) (who : List ℕ) where
   tests_owns to None p b = tt
   tests_owns to (Some path) p b = tt
 
-  script_owns : (o : Option (List Instr)) (spawning : Spawning) (path : List ℕ) (x : Solo) → OwnChange (spawns_script o spawning path x).change
+  script_owns : (o : Option (List Instr)) (spawning : SpawnRequest) (path : List ℕ) (x : Solo) → OwnChange (spawns_script o spawning path x).change
   script_owns None spawning path x = tt
   script_owns (Some script) spawning path x = tt
 
-  file_owns : (o : Option (List ℕ)) (room : Bool) (spawning : Spawning) (path : List ℕ) (x : Solo)
+  file_owns : (o : Option (List ℕ)) (room : Bool) (spawning : SpawnRequest) (path : List ℕ) (x : Solo)
       → OwnChange (spawns_file o room spawning path x).change
   file_owns None room spawning path x = tt
   file_owns (Some bytes) room spawning path x = script_owns (script_in room bytes) spawning path x
 
-  spawns_owns : (o : Option (List ℕ)) (spawning : Spawning) (b : Board) (x : Solo) → OwnChange (spawns o spawning b x).change
+  spawns_owns : (o : Option (List ℕ)) (spawning : SpawnRequest) (b : Board) (x : Solo) → OwnChange (spawns o spawning b x).change
   spawns_owns None spawning b x = tt
   spawns_owns (Some path) spawning b x = file_owns (b.bytes path) (has_room b) spawning path x
 

@@ -15,17 +15,17 @@ use Rattle.ldv_value.proofs.Options.{same-some, is_none-true}
 use Rattle.ldv_value.proofs.SameBytes.{bytes_eq-true, bytes_eq-itself, bytes_eq-other}
 use Rattle.script_parse.specs.declared.script.Instr.TheVariants as instr
 use Rattle.free_order.specs.Types.{OpenMode, Value, Null, Int, Text, Variable, Instr, Act, Started, Spawned, Unspawned, OpenedRead, OpenedWrite, OpenedAppend, OpenedNew, Unopened, Read, Wrote, Removed, Tested, Waited, Ended, Asked, Reply, Entry}
-use Rattle.run_model.specs.Core.{Binding, lookup, bind, OpenFile, Process, Core, with_process}
+use Rattle.run_model.specs.Core.{NameBinding, lookup, bind, OpenFile, Process, Core, with_process}
 use Rattle.run_model.specs.Database.{Question, Answer, Gives, Diverges}
 use Rattle.run_model.specs.LogDatabase.{LogDatabase, entries_left, logs_after, no_lists, is_recorded, answer_from, log_base}
 use Rattle.run_model.specs.Schedule.{still_runs, waits_for, is_waiting, is_runnable}
-use Rattle.run_model.specs.State.{State, Stepped}
-use Rattle.run_model.specs.Step.{Ask, replied, Effect, own, execute, execute_next, quiet, ask_by, ask_in, ask_at, quiet_of, took_of, took, stopped, end_acts, status_acts, ends_at, kept_by, kept, told, asking, step}
-use Rattle.run_model.specs.StepBase.{operand_value, operand_values, ended, went_on, went_to, with_variable, noted, FileEffect, on_files}
+use Rattle.run_model.specs.State.{State, StepResult}
+use Rattle.run_model.specs.Step.{Ask, process_with_reply, Effect, own, execute, execute_next, local_step, ask_of_instr, ask_of_process, next_ask, local_step_of, took_of, took, core_at_divergence, end_acts, status_acts, ends_at, kept_by, kept, told, asking, step}
+use Rattle.run_model.specs.StepBase.{operand_value, operand_values, with_exit_status, went_on, went_to, with_variable, process_effect, FileEffect, on_files}
 use Rattle.run_model.specs.StepFiles.{path_at, allows_read, allows_write, open_for, open_unless, open_path, read_next, write_where, write_text, copy_where, copy_between, remove_found, remove_path, test_path}
-use Rattle.run_model.specs.StepProcesses.{Spawning, child_of, parent_of, with_child, spawn_script, script_within, spawn_file, spawn_path, spawning_of, status_in, wait_until, wait_for}
-use Rattle.run_model.specs.StepReplies.{ask, counted, status_value}
-use Rattle.run_model.specs.StepVariables.{calculated, glued, to_number, printed_line, exit_status}
+use Rattle.run_model.specs.StepProcesses.{SpawnRequest, child_of, parent_of, with_child, spawn_script, script_within, spawn_file, spawn_path, spawning_of, status_in, wait_until, wait_for}
+use Rattle.run_model.specs.StepReplies.{ask, row_count, status_value}
+use Rattle.run_model.specs.StepVariables.{calculation, concatenation, to_number, printed_line, exit_status}
 use Rattle.run_laws.proofs.ProcessNames.{name_of, names, names_set, Distinct, Named, child_named}
 use Rattle.run_laws.proofs.ProcessPlaces.{set_there, set_other, set_length, found_all, set_all}
 use Rattle.sql_laws.proofs.ItemLists.{all_append}
@@ -109,7 +109,7 @@ births_kept acts k c =
 abbrev pub AllBelow : List Process → Type 0
 AllBelow ps = AllByRecursion (KidsBelow (length ps)) ps
 
-pub record Mirrors (b : Board) (who : List ℕ) (d : Deed) (m : Stepped LogDatabase) : Type 0 where
+pub record Mirrors (b : Board) (who : List ℕ) (d : Deed) (m : StepResult LogDatabase) : Type 0 where
   pub board : board_of m.state ≡ applied who d b
   pub uses : uses_of m.acts ≡ d.uses
   pub births : births_of m.acts ≡ born_count d.born
@@ -247,7 +247,7 @@ module _ (k : ℕ) (s : State LogDatabase) (p : Process) (is : slice_get s.core.
   set_below : (q y : Process) → Worn p q y → AllBelow (slice_set ps k q)
   set_below q y worn =
       let here : KidsBelow (length ps) q =
-      subst (λ (bs : List (Binding ℕ)). AllByRecursion (IsBelow (length ps)) bs)
+      subst (λ (bs : List (NameBinding ℕ)). AllByRecursion (IsBelow (length ps)) bs)
       (sym (ap (λ (r : Process). r.children) worn.whole)) own_below in
       subst (λ (n : ℕ). AllByRecursion (KidsBelow n) (slice_set ps k q)) (sym (set_length ps k q))
       (set_all (KidsBelow (length ps)) ps k q here below)
@@ -280,11 +280,11 @@ module _ (k : ℕ) (s : State LogDatabase) (p : Process) (is : slice_get s.core.
   }
 
   noted_mirror : (q y : Process) (acts : List Act) → births_of acts ≡ 0 → Worn p q y → y.name ≡ p.name
-      → Mirrors b p.name (noting y x (uses_of acts)) (kept_by k s.db (noted k q acts c))
+      → Mirrors b p.name (noting y x (uses_of acts)) (kept_by k s.db (process_effect k q acts c))
   noted_mirror q y acts unborn worn same = record {
     board = set_board q y Still (uses_of acts) worn same;
-    uses = uses_kept acts k (noted k q acts c).core;
-    births = births_kept acts k (noted k q acts c).core ∙ unborn;
+    uses = uses_kept acts k (process_effect k q acts c).core;
+    births = births_kept acts k (process_effect k q acts c).core ∙ unborn;
     below = set_below q y worn;
   }
 
@@ -293,7 +293,7 @@ module _ (k : ℕ) (s : State LogDatabase) (p : Process) (is : slice_get s.core.
 
   -- ---- spawn
 
-  module _ (script : List Instr) (spawning : Spawning) (path : List ℕ) where
+  module _ (script : List Instr) (spawning : SpawnRequest) (path : List ℕ) where
     abbrev parent : Process
     parent = parent_of (length ps) spawning.child p
 
@@ -400,7 +400,7 @@ module _ (k : ℕ) (s : State LogDatabase) (p : Process) (is : slice_get s.core.
         let second : length front ≡ length ps = set_length ps k parent in
         omega (arith, first, second) in
         let wider : (r : Process) → KidsBelow (length ps) r → KidsBelow (length ps + 1) r =
-        λ r all. all-weaker (IsBelow (length ps)) (IsBelow (length ps + 1)) (λ (i : Binding ℕ) (less : i.bound < length ps). omega (arith, less)) r.children all in
+        λ r all. all-weaker (IsBelow (length ps)) (IsBelow (length ps + 1)) (λ (i : NameBinding ℕ) (less : i.bound < length ps). omega (arith, less)) r.children all in
         let mine : KidsBelow (length ps + 1) parent =
         (omega arith, unbound_below (length ps + 1) spawning.child p.children (wider p own_below)) in
         let all : AllByRecursion (KidsBelow (length ps + 1)) front =
@@ -417,23 +417,23 @@ module _ (k : ℕ) (s : State LogDatabase) (p : Process) (is : slice_get s.core.
       below = child_below;
     }
 
-  script_mirror : (o : Option (List Instr)) (spawning : Spawning) (path : List ℕ)
+  script_mirror : (o : Option (List Instr)) (spawning : SpawnRequest) (path : List ℕ)
       → Mirrors b p.name (spawns_script o spawning path x) (kept_by k s.db (spawn_script o spawning path k p c))
   script_mirror None spawning path =
       noted_mirror (went_to spawning.place p) (went_to spawning.place x.own) (Unspawned path true ∷ []) refl
       (record { whole = refl; bared = refl }) refl
   script_mirror (Some script) spawning path = child_mirror script spawning path
 
-  file_mirror : (o : Option (List ℕ)) (spawning : Spawning) (path : List ℕ)
+  file_mirror : (o : Option (List ℕ)) (spawning : SpawnRequest) (path : List ℕ)
       → Mirrors b p.name (spawns_file o (nat_lt (length ps) max_processes) spawning path x) (kept_by k s.db (spawn_file o spawning path k p c))
   file_mirror None spawning path =
       noted_mirror (went_to spawning.place p) (went_to spawning.place x.own) (Unspawned path false ∷ []) refl
       (record { whole = refl; bared = refl }) refl
   file_mirror (Some bytes) spawning path = script_mirror (script_within c bytes) spawning path
 
-  spawn_mirror : (o : Option (List ℕ)) (spawning : Spawning)
+  spawn_mirror : (o : Option (List ℕ)) (spawning : SpawnRequest)
       → Mirrors b p.name (spawns o spawning b x) (kept_by k s.db (spawn_path o spawning k p c))
-  spawn_mirror None spawning = own_mirror (ended 243 p) (ended 243 x.own) (record { whole = refl; bared = refl }) refl
+  spawn_mirror None spawning = own_mirror (with_exit_status 243 p) (with_exit_status 243 x.own) (record { whole = refl; bared = refl }) refl
   spawn_mirror (Some path) spawning = file_mirror (content_at c.files path) spawning path
 
   -- ---- wait
@@ -458,7 +458,7 @@ module _ (k : ℕ) (s : State LogDatabase) (p : Process) (is : slice_get s.core.
   wait_mirror : (o : Option ℕ) (to : List ℕ) → ((n : ℕ) → o ≡ Some n → n < length ps)
       → free_for (option_map (at_number (names ps)) o) b ≡ true
       → Mirrors b p.name (waits (option_map (at_number (names ps)) o) to b x) (kept_by k s.db (wait_for o to k p c))
-  wait_mirror None to less free = own_mirror (ended 240 p) (ended 240 x.own) (record { whole = refl; bared = refl }) refl
+  wait_mirror None to less free = own_mirror (with_exit_status 240 p) (with_exit_status 240 x.own) (record { whole = refl; bared = refl }) refl
   wait_mirror (Some n) to less free =
       let same : status_in ps n ≡ status_of b (at_number (names ps) n) = status_same n (less n refl) in
       subst (λ (o : Option ℕ). Mirrors b p.name (waits_until o to x) (kept_by k s.db (wait_until (status_in ps n) n to k p c))) same
@@ -472,8 +472,8 @@ module _ (k : ℕ) (s : State LogDatabase) (p : Process) (is : slice_get s.core.
   ask_bare cursor (Int n) params = refl
   ask_bare cursor (Text t) params = refl
 
-  quiet_asks : (o : Option Ask) (es : List Entry) → o ≡ None → Mirrors b p.name (asks o es x) (kept_by k s.db (own k (ended 240 p) c))
-  quiet_asks None es none = own_mirror (ended 240 p) (ended 240 x.own) (record { whole = refl; bared = refl }) refl
+  quiet_asks : (o : Option Ask) (es : List Entry) → o ≡ None → Mirrors b p.name (asks o es x) (kept_by k s.db (own k (with_exit_status 240 p) c))
+  quiet_asks None es none = own_mirror (with_exit_status 240 p) (with_exit_status 240 x.own) (record { whole = refl; bared = refl }) refl
   quiet_asks (Some a) es none = absurd cc
 
   -- ---- every instruction
@@ -482,10 +482,10 @@ module _ (k : ℕ) (s : State LogDatabase) (p : Process) (is : slice_get s.core.
   Any path = Unit {0}
 
   -- by an equation for other children
-  worn_by : (f : Process → Process) → ((cs : List (Binding ℕ)) (q : Process) → f (dress cs q) ≡ dress cs (f q)) → Worn p (f p) (f (bare p))
+  worn_by : (f : Process → Process) → ((cs : List (NameBinding ℕ)) (q : Process) → f (dress cs q) ≡ dress cs (f q)) → Worn p (f p) (f (bare p))
   worn_by f dressed = record { whole = dressed p.children (bare p); bared = sym (dressed [] (bare p)) }
 
-  executes_mirror : (i : Instr) → is_free (Some i) b x ≡ true → ask_by (Some i) p ≡ None
+  executes_mirror : (i : Instr) → is_free (Some i) b x ≡ true → ask_of_instr (Some i) p ≡ None
       → Mirrors b p.name (deed_of i b x) (kept_by k s.db (execute i k p c))
   executes_mirror (instr.Let to value) free none =
       own_mirror _ _ (record { whole = refl; bared = refl }) refl
@@ -493,13 +493,13 @@ module _ (k : ℕ) (s : State LogDatabase) (p : Process) (is : slice_get s.core.
       let v : Value = operand_value p left in
       let w : Value = operand_value p right in
       own_mirror _ _
-      (record { whole = assign_dressed p.children to (calculated op v w) (bare p); bared = sym (assign_dressed [] to (calculated op v w) (bare p)) })
+      (record { whole = assign_dressed p.children to (calculation op v w) (bare p); bared = sym (assign_dressed [] to (calculation op v w) (bare p)) })
       (fine_at Any (instr.Calc to op left right) b x).named
   executes_mirror (instr.Glue to left right) free none =
       let v : Value = operand_value p left in
       let w : Value = operand_value p right in
       own_mirror _ _
-      (record { whole = assign_dressed p.children to (glued v w) (bare p); bared = sym (assign_dressed [] to (glued v w) (bare p)) })
+      (record { whole = assign_dressed p.children to (concatenation v w) (bare p); bared = sym (assign_dressed [] to (concatenation v w) (bare p)) })
       (fine_at Any (instr.Glue to left right) b x).named
   executes_mirror (instr.ToInt to value) free none =
       let v : Value = operand_value p value in
@@ -561,7 +561,7 @@ module _ (k : ℕ) (s : State LogDatabase) (p : Process) (is : slice_get s.core.
   executes_mirror (instr.Count to cursor) free none =
       let o = lookup cursor p.cursors in
       own_mirror _ _
-      (record { whole = assign_dressed p.children to (counted o) (bare p); bared = sym (assign_dressed [] to (counted o) (bare p)) })
+      (record { whole = assign_dressed p.children to (row_count o) (bare p); bared = sym (assign_dressed [] to (row_count o) (bare p)) })
       (fine_at Any (instr.Count to cursor) b x).named
   executes_mirror (instr.Status to cursor) free none =
       let o = lookup cursor p.cursors in
@@ -569,9 +569,9 @@ module _ (k : ℕ) (s : State LogDatabase) (p : Process) (is : slice_get s.core.
       (record { whole = assign_dressed p.children to (status_value o) (bare p); bared = sym (assign_dressed [] to (status_value o) (bare p)) })
       (fine_at Any (instr.Status to cursor) b x).named
 
-  next_mirror : (i : Option Instr) → is_free i b x ≡ true → ask_by i p ≡ None
+  next_mirror : (i : Option Instr) → is_free i b x ≡ true → ask_of_instr i p ≡ None
       → Mirrors b p.name (deed_by i b x) (kept_by k s.db (execute_next i k p c))
-  next_mirror None free none = own_mirror (ended 0 p) (ended 0 x.own) (record { whole = refl; bared = refl }) refl
+  next_mirror None free none = own_mirror (with_exit_status 0 p) (with_exit_status 0 x.own) (record { whole = refl; bared = refl }) refl
   next_mirror (Some i) free none = executes_mirror i free none
 
   -- ---- a question
@@ -579,14 +579,14 @@ module _ (k : ℕ) (s : State LogDatabase) (p : Process) (is : slice_get s.core.
   -- the reply is the recorded one
   took_board : (a : Ask) (reply : Reply) → a.question.process ≡ p.name
       → board_of (record { core = took_of (Some p) k a reply c; db = logs_after a.question.process s.db })
-      ≡ applied p.name (taking (replied a reply x.own) x) b
+      ≡ applied p.name (taking (process_with_reply a reply x.own) x) b
   took_board a reply who =
-      let q : Process = replied a reply p in
-      let worn : Worn p q (replied a reply x.own) = record { whole = refl; bared = refl } in
+      let q : Process = process_with_reply a reply p in
+      let worn : Worn p q (process_with_reply a reply x.own) = record { whole = refl; bared = refl } in
       let number : length (slice_set ps k q) ≡ length ps + 0 = let count : length (slice_set ps k q) ≡ length ps = set_length ps k q in omega (arith, count) in
-      let solo : (name : List ℕ) → solos (slice_set ps k q) name ≡ boards.solo_after p.name (taking (replied a reply x.own) x) b name =
+      let solo : (name : List ℕ) → solos (slice_set ps k q) name ≡ boards.solo_after p.name (taking (process_with_reply a reply x.own) x) b name =
       λ name. solos_set ps distinct.distinct k p is q refl name
-      ∙ ap (λ (z : Solo). if bytes_eq name p.name then Some z else solos ps name) (worn_solo q (replied a reply x.own) worn) in
+      ∙ ap (λ (z : Solo). if bytes_eq name p.name then Some z else solos ps name) (worn_solo q (process_with_reply a reply x.own) worn) in
       λ j. record {
         solo = λ name. solo name j;
         bytes = b.bytes;
@@ -637,7 +637,7 @@ module _ (k : ℕ) (s : State LogDatabase) (p : Process) (is : slice_get s.core.
       ]
 
   given_mirror : (a : Ask) (reply : Reply) → a.question.process ≡ p.name
-      → Mirrors b p.name (taking (replied a reply x.own) x) (told k a s (Gives reply (logs_after a.question.process s.db) no_lists))
+      → Mirrors b p.name (taking (process_with_reply a reply x.own) x) (told k a s (Gives reply (logs_after a.question.process s.db) no_lists))
   given_mirror a reply who = record {
     board =
         ap (λ (o : Option Process). board_of (record { core = took_of o k a reply c; db = logs_after a.question.process s.db })) is
@@ -646,7 +646,7 @@ module _ (k : ℕ) (s : State LogDatabase) (p : Process) (is : slice_get s.core.
     births = let none : births_of (ends_at k (took k a reply c)) ≡ 0 = end_unborn (slice_get (took k a reply c).processes k) in omega (arith, none);
     below =
         subst (λ (o : Option Process). AllBelow (took_of o k a reply c).processes) (sym is)
-        (set_below (replied a reply p) (replied a reply x.own) (record { whole = refl; bared = refl }));
+        (set_below (process_with_reply a reply p) (process_with_reply a reply x.own) (record { whole = refl; bared = refl }));
   }
 
   told_mirror : (a : Ask) → a.question.process ≡ p.name → (es : List Entry)
@@ -659,7 +659,7 @@ module _ (k : ℕ) (s : State LogDatabase) (p : Process) (is : slice_get s.core.
 
   -- ---- the step
 
-  asks_deed : (i : Option Instr) (a : Ask) → ask_by i p ≡ Some a
+  asks_deed : (i : Option Instr) (a : Ask) → ask_of_instr i p ≡ Some a
       → (deed_by i b x ≡ asks_next a (entries_left p.name s.db) x) × (a.question.process ≡ p.name)
   asks_deed None a asked = absurd cc
   asks_deed (Some (instr.Sql cursor text params)) a asked = (
@@ -671,13 +671,13 @@ module _ (k : ℕ) (s : State LogDatabase) (p : Process) (is : slice_get s.core.
 
   kept_is : (i : Option Instr) → slice_get p.script p.place ≡ i → kept k s ≡ kept_by k s.db (execute_next i k p c)
   kept_is i next =
-      ap (λ (o : Option Process). kept_by k s.db (quiet_of o k c)) is
+      ap (λ (o : Option Process). kept_by k s.db (local_step_of o k c)) is
       ∙ ap (λ (o : Option Instr). kept_by k s.db (execute_next o k p c)) next
 
-  asking_mirror : (i : Option Instr) (o : Option Ask) → slice_get p.script p.place ≡ i → ask_by i p ≡ o → is_free i b x ≡ true
+  asking_mirror : (i : Option Instr) (o : Option Ask) → slice_get p.script p.place ≡ i → ask_of_instr i p ≡ o → is_free i b x ≡ true
       → Mirrors b p.name (deed_by i b x) (asking log_base k s o)
   asking_mirror i None next none free =
-      subst (λ (m : Stepped LogDatabase). Mirrors b p.name (deed_by i b x) m) (sym (kept_is i next)) (next_mirror i free none)
+      subst (λ (m : StepResult LogDatabase). Mirrors b p.name (deed_by i b x) m) (sym (kept_is i next)) (next_mirror i free none)
   asking_mirror i (Some a) next asked free =
       let both = asks_deed i a asked in
       subst (λ (d : Deed). Mirrors b p.name d (told k a s (log_base s.db a.question))) (sym both.0)
@@ -686,8 +686,8 @@ module _ (k : ℕ) (s : State LogDatabase) (p : Process) (is : slice_get s.core.
 
   pub step_mirror : is_free (next_of x) b x ≡ true → Mirrors b p.name (deed b x) (step log_base k s)
   step_mirror free =
-      let asks : ask_by (slice_get p.script p.place) p ≡ ask_at k c = ap ask_in (sym is) in
-      asking_mirror (slice_get p.script p.place) (ask_at k c) refl asks free
+      let asks : ask_of_instr (slice_get p.script p.place) p ≡ next_ask k c = ap ask_of_process (sym is) in
+      asking_mirror (slice_get p.script p.place) (next_ask k c) refl asks free
 
   -- ---- who may make a step
 

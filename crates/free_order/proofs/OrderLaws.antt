@@ -11,7 +11,7 @@ use Rattle.ldv_value.proofs.Options.{same-some, is_some-false}
 use Rattle.ldv_value.proofs.SameBytes.{bytes_eq-true}
 use Rattle.sql_model.specs.Tables.{tables_test}
 use Rattle.free_order.specs.Types.{Event, Instr, Outcome, Package, World, Excluded}
-use Rattle.run_model.specs.Core.{Process, Core, Diverged, has_ended, all_ended, is_over, first_process}
+use Rattle.run_model.specs.Core.{Process, Core, Divergence, has_ended, have_all_ended, is_over, first_process}
 use Rattle.run_model.proofs.StepKeeps.{AllFiles}
 use Rattle.run_model.specs.Events.{events, start_events}
 use Rattle.run_model.specs.LogDatabase.{LogDatabase, log_base}
@@ -73,7 +73,7 @@ module _ (p : Package) (script : List Instr) where
 
 -- ---- an ended run
 
-ended_solos : (s : State LogDatabase) → all_ended s.core ≡ true → (name : List ℕ) (x : Solo) → (board_of s).solo name ≡ Some x → x.own.status ≢ None
+ended_solos : (s : State LogDatabase) → have_all_ended s.core ≡ true → (name : List ℕ) (x : Solo) → (board_of s).solo name ≡ Some x → x.own.status ≢ None
 ended_solos s ended name x is none =
     let ps : List Process = s.core.processes in
     let found = solo_found ps name x is in
@@ -114,7 +114,7 @@ module _ (owner : Owner) (steps_made : ℕ) (begin end : State LogDatabase) (rea
       let none : leading.rest ≡ 0 = rest.0 in
       let most : count ≤ budget = steps_most log_base budget picks begin in
       let goes : is_some final.core.diverged ≡ false = ap (λ (b : Board). b.stopped) rest.1 ∙ ended.runs in
-      let all : all_ended final.core ≡ true = ap (λ (d : Bool). d || all_ended final.core) (sym goes) ∙ over in
+      let all : have_all_ended final.core ≡ true = ap (λ (d : Bool). d || have_all_ended final.core) (sym goes) ∙ over in
       let late : nat_lt budget steps_made ≡ false = not_less budget steps_made (omega (arith, count_is, none, most)) in
       record {
         diverged = is_some-false final.core.diverged goes;
@@ -126,12 +126,12 @@ module _ (owner : Owner) (steps_made : ℕ) (begin end : State LogDatabase) (rea
     where
       stays : (who : List ℕ) (x : Solo) → May who (board_of final) x → ⊥
       stays who x may =
-          let all : all_ended final.core ≡ true = ap (λ (d : Bool). d || all_ended final.core) (sym may.runs) ∙ over in
+          let all : have_all_ended final.core ≡ true = ap (λ (d : Bool). d || have_all_ended final.core) (sym may.runs) ∙ over in
           ended_solos final all who x may.there may.going
 
   going_on : is_over final.core ≡ false → Ended
   going_on going =
-      let parts = or_parts (is_some final.core.diverged) (all_ended final.core) going in
+      let parts = or_parts (is_some final.core.diverged) (have_all_ended final.core) going in
       let made : count ≡ budget = all_steps budget picks begin going in
       let early : nat_lt budget steps_made ≡ true = before leading.rest refl made in
       record {
@@ -225,9 +225,9 @@ module _ (n : ℕ) (w : World) (script : List Instr) (is : start_script w ≡ So
   outcome : outcome_at last.core ≡ outcome_within n w
   outcome = sym (ap (log_outcome_in n [] recorded) (script_is n [] w script is valid)) ∙ (log_law n n w script is valid ended (le_refl n)).1
 
-  all_over : all_ended last.core ≡ true
+  all_over : have_all_ended last.core ≡ true
   all_over =
-      ap all_ended (core_is n [] w script is valid n (le_refl n))
+      ap have_all_ended (core_is n [] w script is valid n (le_refl n))
       ∙ sym (ap (ends_in n [] cut) cut_script)
       ∙ (same n [] w script is valid).ends
       ∙ ended

@@ -4,15 +4,15 @@ use Rattle.std.specs.Prelude.{Option, Some, None, is_some, map, ◌||◌, slice_
 use Rattle.std.specs.List.{AllByRecursion}
 use Rattle.std.proofs.lemmas.Bool.{cases_Bool}
 use Rattle.free_order.specs.Types.{Act, Event, Reply, Entry}
-use Rattle.run_model.specs.Core.{Process, Core, all_ended, is_over}
+use Rattle.run_model.specs.Core.{Process, Core, have_all_ended, is_over}
 use Rattle.run_model.specs.Database.{Answer, Gives, Diverges}
 use Rattle.run_model.specs.Events.{event_at, events_of_step, events_after, events}
 use Rattle.run_model.specs.LogDatabase.{LogDatabase, log_base}
 use Rattle.run_model.specs.Run.{first_pick, later_picks, chosen, move_of, move, run, steps}
 use Rattle.run_model.specs.RunLaw.{MayRun}
 use Rattle.run_model.specs.Schedule.{choose}
-use Rattle.run_model.specs.State.{State, Stepped}
-use Rattle.run_model.specs.Step.{Ask, entry_of, replied, quiet, ask_at, took_of, told, asking}
+use Rattle.run_model.specs.State.{State, StepResult}
+use Rattle.run_model.specs.Step.{Ask, entry_of, process_with_reply, local_step, next_ask, took_of, told, asking}
 use Rattle.run_model.proofs.Equations.{run-zero, run-over, run-suc, steps-zero, steps-over, steps-suc, events-zero, events-over, events-suc}
 use Rattle.run_model.proofs.NeverStuck.{Ordered, move_ordered, chosen_runs}
 use Rattle.run_laws.proofs.ProcessNames.{Later, Grows, grows_itself, grows_trans, found_later, set_grows, names, names_set, Distinct, Named, named_later}
@@ -35,7 +35,7 @@ record Grown (c d : Core) : Type 0 where
   grows : Grows c.processes d.processes
   named : Named c.processes → Named d.processes
 
-replied_later : (a : Ask) (reply : Reply) (p : Process) → Later p (replied a reply p)
+replied_later : (a : Ask) (reply : Reply) (p : Process) → Later p (process_with_reply a reply p)
 replied_later a reply p = record {
   name = refl;
   spawned = omega arith;
@@ -47,7 +47,7 @@ took_grown : (o : Option Process) (k : ℕ) (a : Ask) (reply : Reply) (c : Core)
     → Grown c (took_of o k a reply c)
 took_grown None k a reply c is = record { grows = grows_itself c.processes; named = λ named. named }
 took_grown (Some p) k a reply c is =
-    let q : Process = replied a reply p in
+    let q : Process = process_with_reply a reply p in
     let grows : Grows c.processes (slice_set c.processes k q) = set_grows c.processes k p q is (replied_later a reply p) in
     record {
       grows = grows;
@@ -59,12 +59,12 @@ told_grown k a s (Gives reply db lists) = took_grown (slice_get s.core.processes
 told_grown k a s Diverges = record { grows = grows_itself s.core.processes; named = λ named. named }
 
 asking_grown : (k : ℕ) (s : State LogDatabase) (o : Option Ask) → Grown s.core (asking log_base k s o).state.core
-asking_grown k s None = let quiets : Quiets s.core (quiet k s.core) = quiet_quiets k s.core in record { grows = quiets.grows; named = quiets.named }
+asking_grown k s None = let quiets : Quiets s.core (local_step k s.core) = quiet_quiets k s.core in record { grows = quiets.grows; named = quiets.named }
 asking_grown k s (Some a) = told_grown k a s (log_base s.db a.question)
 
 move_grown : (k : ℕ) (s : State LogDatabase) → Grown s.core (move_of log_base k s).state.core
 move_grown k s =
-    let here : Grown (chosen k s).core (move_of log_base k s).state.core = asking_grown k (chosen k s) (ask_at k (chosen k s).core) in
+    let here : Grown (chosen k s).core (move_of log_base k s).state.core = asking_grown k (chosen k s) (next_ask k (chosen k s).core) in
     record { grows = here.grows; named = here.named }
 
 pub run_grows : (n : ℕ) (picks : List ℕ) (s : State LogDatabase) → Grows s.core.processes (run log_base n picks s).core.processes
@@ -75,7 +75,7 @@ run_grows (suc n) picks s = elim (cases_Bool (is_over s.core)) [
       subst (λ (t : State LogDatabase). Grows s.core.processes t.core.processes) (sym (run-over log_base (suc n) picks s over))
       (grows_itself s.core.processes)
   | inr going ↦
-      let one : Stepped LogDatabase = move log_base (first_pick picks) s in
+      let one : StepResult LogDatabase = move log_base (first_pick picks) s in
       subst (λ (t : State LogDatabase). Grows s.core.processes t.core.processes) (sym (run-suc log_base n picks s going))
       (grows_trans s.core.processes one.state.core.processes (run log_base n (later_picks picks) one.state).core.processes
       (move_grown (choose (first_pick picks) s.core) s).grows (run_grows n (later_picks picks) one.state))
@@ -88,7 +88,7 @@ neither false false none = (refl, refl)
 neither false true none = absurd cc
 neither true b none = absurd cc
 
-pub record Stride (s : State LogDatabase) (m : Stepped LogDatabase) : Type 0 where
+pub record Stride (s : State LogDatabase) (m : StepResult LogDatabase) : Type 0 where
   pub process : Process
   pub there : slice_get s.core.processes m.process ≡ Some process
   pub may : May process.name (board_of s) (solo_of (names s.core.processes) process)
@@ -105,7 +105,7 @@ asking_process k s (Some a) = told_process k a s (log_base s.db a.question)
 
 pub stride : (pick : Option ℕ) (s : State LogDatabase) → Real s.core → is_over s.core ≡ false → Stride s (move log_base pick s)
 stride pick s real going =
-    let parts = neither (is_some s.core.diverged) (all_ended s.core) going in
+    let parts = neither (is_some s.core.diverged) (have_all_ended s.core) going in
     let k : ℕ = choose pick s.core in
     let runs : MayRun k s.core = chosen_runs pick s.core real.ordered parts.1 in
     let t : State LogDatabase = chosen k s in
@@ -115,7 +115,7 @@ stride pick s real going =
     step_mirror k t runs.0 runs.1 real.named real.below may.free in
     record {
       process = runs.0;
-      there = ap (slice_get s.core.processes) (asking_process k t (ask_at k t.core)) ∙ runs.1;
+      there = ap (slice_get s.core.processes) (asking_process k t (next_ask k t.core)) ∙ runs.1;
       may = may;
       mirror = mirror;
       real = record {
@@ -144,7 +144,7 @@ went zero picks s real = still_went 0 picks s (steps-zero log_base picks s) (run
 went (suc n) picks s real = elim (cases_Bool (is_over s.core)) [
   | inl over ↦ still_went (suc n) picks s (steps-over log_base (suc n) picks s over) (run-over log_base (suc n) picks s over) real
   | inr going ↦
-      let one : Stepped LogDatabase = move log_base (first_pick picks) s in
+      let one : StepResult LogDatabase = move log_base (first_pick picks) s in
       let rest : List ℕ = later_picks picks in
       let here : Stride s one = stride (first_pick picks) s real going in
       let more : Went n rest one.state = went n rest one.state here.real in
@@ -193,7 +193,7 @@ ran owner end (suc n) number picks s real grows fit = elim (cases_Bool (is_over 
       subst (λ (m : ℕ). Runs owner m (board_of s) (board_of (run log_base (suc n) picks s))) (sym (steps-over log_base (suc n) picks s over))
       (ap board_of (sym (run-over log_base (suc n) picks s over)))
   | inr going ↦
-      let one : Stepped LogDatabase = move log_base (first_pick picks) s in
+      let one : StepResult LogDatabase = move log_base (first_pick picks) s in
       let rest : List ℕ = later_picks picks in
       let here : Stride s one = stride (first_pick picks) s real going in
       let later : Grows (run log_base n rest one.state).core.processes end =
@@ -240,7 +240,7 @@ made_counts (suc n) number picks s real = elim (cases_Bool (is_over s.core)) [
       let none : spawned_in (events log_base (suc n) number picks s) ≡ 0 = ap spawned_in (events-over log_base (suc n) number picks s over) in
       omega (arith, same, none)
   | inr going ↦
-      let one : Stepped LogDatabase = move log_base (first_pick picks) s in
+      let one : StepResult LogDatabase = move log_base (first_pick picks) s in
       let rest : List ℕ = later_picks picks in
       let here : Stride s one = stride (first_pick picks) s real going in
       let d : Deed = deed (board_of s) (solo_of (names s.core.processes) here.process) in

@@ -19,9 +19,9 @@ mod law;
 mod other_seed;
 mod private;
 mod seen;
-mod stop;
+mod error;
 
 pub use law::order_law;
 pub use other_seed::replay_other_seed;
 pub use private::is_private;
-pub use stop::OrderStop;
+pub use error::OrderStop;

@@ -8,7 +8,7 @@ use Rattle.lineage.specs.declared.answer.Pick.{Pick}
 use Rattle.lineage.proofs.Unions.{union_assoc, none_union, union_none}
 use Rattle.group_eval.specs.Evaluating.{is_group_kept, group_answer, answers_of, rejected_of, IsGroupedBy, AddsGroup}
 use Rattle.lineage.specs.Lineage.{union_of}
-use Rattle.group_eval.specs.Uniting.{united, all_united}
+use Rattle.group_eval.specs.Uniting.{lineage_of_picks, lineage_of_groups}
 use Rattle.group_eval.specs.declared.grouping.Grouped.{Grouped}
 use Rattle.group_eval.specs.declared.plan.Plan.{Plan}
 use Rattle.sql_model.specs.Scope.{InScope}
@@ -21,7 +21,7 @@ module _ (scope : List InScope) (plan : Plan) (group : List Pick) where
   rows-if b rest = map (group_answer scope plan) (cond b (group ∷ filter is-kept rest) (filter is-kept rest))
 
   abbrev lineage-if : Bool → List (List Pick) → Lineage
-  lineage-if b rest = all_united (cond (not b) (group ∷ filter (λ g. not (is-kept g)) rest) (filter (λ g. not (is-kept g)) rest))
+  lineage-if b rest = lineage_of_groups (cond (not b) (group ∷ filter (λ g. not (is-kept g)) rest) (filter (λ g. not (is-kept g)) rest))
 
   -- a group that HAVING keeps
   pub kept_on : (old new : Grouped) → is_group_kept scope plan.having group ≡ true → new.answers ≡ old.answers ++ group_answer scope plan group ∷ [] → new.rejected ≡ old.rejected
@@ -37,7 +37,7 @@ module _ (scope : List InScope) (plan : Plan) (group : List Pick) where
   }
 
   -- a group that HAVING rejects
-  pub rejected_on : (old new : Grouped) → is_group_kept scope plan.having group ≡ false → new.answers ≡ old.answers → new.rejected ≡ union_of old.rejected (united group)
+  pub rejected_on : (old new : Grouped) → is_group_kept scope plan.having group ≡ false → new.answers ≡ old.answers → new.rejected ≡ union_of old.rejected (lineage_of_picks group)
       → AddsGroup scope plan group old new
   rejected_on old new rejects same made = record {
     answers = λ rest.
@@ -45,7 +45,7 @@ module _ (scope : List InScope) (plan : Plan) (group : List Pick) where
         ∙ ap (λ b. old.answers ++ rows-if b rest) (sym rejects);
     rejected = λ rest.
         ap (λ (s : Lineage). union_of s (rejected_of scope plan rest)) made
-        ∙ union_assoc old.rejected (united group) (rejected_of scope plan rest)
+        ∙ union_assoc old.rejected (lineage_of_picks group) (rejected_of scope plan rest)
         ∙ ap (λ b. union_of old.rejected (lineage-if b rest)) (sym rejects);
   }
 

@@ -5,7 +5,7 @@ use Rattle.std.proofs.lemmas.List.{length-map}
 use Rattle.std.proofs.lemmas.Simd.{map-map}
 use Rattle.core_parts.specs.Equality.{IsColumn}
 use Rattle.core_parts.specs.Placing.{IsPlaced}
-use Rattle.core_parts.specs.declared.placed.Placed.{Placed}
+use Rattle.core_parts.specs.declared.placed.BoundExpr.{BoundExpr}
 use Rattle.lineage.specs.declared.answer.Pick.{Pick}
 use Rattle.group_eval.proofs.SettleLaws.{column_first}
 use Rattle.group_eval.specs.Columns.{value_in, IsValueAt}
@@ -14,7 +14,7 @@ use Rattle.group_eval.specs.Settling.{first_meaning, IsSettled}
 use Rattle.group_eval.specs.Types.{Expr, Fold, Value}
 use Rattle.sql_model.proofs.Folds.{fold-Column, fold-Count, fold-Aggregate}
 use Rattle.sql_model.specs.Kinds.{names_in, names_step}
-use Rattle.sql_model.specs.Meaning.{Environment, eval, eval_step, folded, known_values, number_value}
+use Rattle.sql_model.specs.Meaning.{Environment, eval, eval_step, aggregate_of, known_values, number_value}
 use Rattle.sql_model.specs.Scope.{InScope, place_of, places_in, value_at}
 use Rattle.sql_model.specs.declared.expr.Expr.TheVariants.{Aggregate}
 
@@ -39,7 +39,7 @@ values_at_place scope expr place same (pick ∷ picks) = λ j. same pick j ∷ v
 
 module _ (picks : List Pick) where
   -- a column means over the first row what it means over the group
-  pub column_read : (placed : Placed) → IsColumn placed.expr → (scope : List InScope) → IsPlaced scope placed → IsSettled scope picks placed.expr placed
+  pub column_read : (placed : BoundExpr) → IsColumn placed.expr → (scope : List InScope) → IsPlaced scope placed → IsSettled scope picks placed.expr placed
   column_read placed (name, is) scope at = record {
     placed = at;
     same = subst (λ (e : Expr). first_meaning scope picks e ≡ group_meaning scope picks e) (sym is) (column_first picks scope name);
@@ -53,9 +53,9 @@ module _ (picks : List Pick) where
       ∙ sym (λ j. (fold-Count eval_step f j (pick_environments scope picks)).value)
 
   -- an aggregate of an expression
-  pub fold_read : (f : Fold) (e : Expr) (v : Value) (scope : List InScope) → v ≡ folded f (known_values (map (value_over scope e) picks))
+  pub fold_read : (f : Fold) (e : Expr) (v : Value) (scope : List InScope) → v ≡ aggregate_of f (known_values (map (value_over scope e) picks))
       → v ≡ (group_meaning scope picks (Aggregate f (Some e))).value
   fold_read f e v scope is =
       is
-      ∙ ap (λ (vs : List Value). folded f (known_values vs)) (sym (map-map (λ (env : Environment). (eval e (env ∷ [])).value) (pick_environment scope) picks))
+      ∙ ap (λ (vs : List Value). aggregate_of f (known_values vs)) (sym (map-map (λ (env : Environment). (eval e (env ∷ [])).value) (pick_environment scope) picks))
       ∙ sym (λ j. (fold-Aggregate eval_step f e j (pick_environments scope picks)).value)

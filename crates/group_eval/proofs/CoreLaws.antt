@@ -7,12 +7,12 @@ use Rattle.std.proofs.lemmas.Bool.{cases_Bool}
 use Rattle.std.proofs.lemmas.Bool.Decides.{nat_tests}
 use Rattle.std.proofs.lemmas.Simd.{map-map}
 use Rattle.lineage.specs.Lineage.{Lineage}
-use Rattle.lineage.specs.Rows.{kept, IsRow, AnswersStandFor, PicksStandFor, joined_row}
+use Rattle.lineage.specs.Rows.{kept_origins, IsRow, AnswersStandFor, PicksStandFor, joined_row}
 use Rattle.lineage.specs.StandsFor.{StandsFor}
 use Rattle.lineage.specs.declared.answer.Answer.{Answer}
 use Rattle.lineage.specs.declared.answer.Pick.{Pick}
 use Rattle.lineage.proofs.Origins.{stands-empty}
-use Rattle.lineage.proofs.RowLaws.{kept-union}
+use Rattle.lineage.proofs.RowLaws.{kept_origins-union}
 use Rattle.lineage.proofs.Unions.{version_union}
 use Rattle.core_parts.specs.Checking.{core_at, places_at, IsChecked}
 use Rattle.group_eval.specs.Evaluating.{group_values, is_group_kept, ArePlaced, IsHavingPlaced, IsPlacedPlan, group_answer, answers_of, rejected_of, IsGroupedBy, IsGrouped}
@@ -21,16 +21,16 @@ use Rattle.group_eval.specs.Grouping.{key_of, is_under, picks_under, keyed_group
 use Rattle.group_eval.specs.Planning.{AreItems, IsHaving, IsPlan}
 use Rattle.group_eval.specs.Types.{Catalog, Checked, ColumnName, Core, Expr, FromItem, Item, Query, Statement, TheQuery, Value}
 use Rattle.lineage.specs.Lineage.{union_of}
-use Rattle.group_eval.specs.Uniting.{united}
+use Rattle.group_eval.specs.Uniting.{lineage_of_picks}
 use Rattle.group_eval.specs.declared.grouping.Grouped.{Grouped}
-use Rattle.core_parts.specs.declared.placed.Placed.{Placed}
+use Rattle.core_parts.specs.declared.placed.BoundExpr.{BoundExpr}
 use Rattle.group_eval.specs.declared.plan.Plan.{Plan}
 use Rattle.sql_model.specs.Keys.{same_values}
 use Rattle.sql_model.specs.Meaning.{Environment, Meaning, eval, is_true}
 use Rattle.sql_model.specs.Needs.{Versions}
 use Rattle.core_parts.proofs.Lists.{got-mapped}
 use Rattle.sql_model.specs.Places.{core_places, order_places}
-use Rattle.sql_model.specs.QueryAnswer.{Combination, combination_rows, joined_values, environments, item_values, first_values, group_key, has_key, groups_of, group_row, is_kept, distinct, single}
+use Rattle.sql_model.specs.QueryAnswer.{Combination, combination_rows, joined_values, environments, item_values, first_values, group_key, has_key, groups_of, group_row, is_kept, distinct_values, one_combination}
 use Rattle.sql_model.specs.Refusals.{answer_titles, core_names, cores_of, groups}
 use Rattle.sql_model.specs.Scope.{InScope, environment, places_in, place_of, scope_of, value_at}
 
@@ -64,18 +64,18 @@ module _ (names : List (List ℕ)) (versions : Versions) (keep : Bool) (from : L
   first-are (pick ∷ picks) [] stand = absurd stand
   first-are (pick ∷ picks) (rows ∷ all) stand = stand.0.same
 
-  kept-none : (k : Bool) → [] ≡ kept k []
-  kept-none true = refl
-  kept-none false = refl
+  kept_origins-none : (k : Bool) → [] ≡ kept_origins k []
+  kept_origins-none true = refl
+  kept_origins-none false = refl
 
   -- the union stands for the lineage of the whole group
-  united-stands : (picks : List Pick) (all : List Combination) → Stand picks all → StandsFor names versions (united picks) (kept keep (flat_map (combination_rows from) all))
-  united-stands [] [] stand = subst (StandsFor names versions empty) (kept-none keep) (stands-empty names versions)
-  united-stands [] (rows ∷ all) stand = absurd stand
-  united-stands (pick ∷ picks) [] stand = absurd stand
-  united-stands (pick ∷ picks) (rows ∷ all) stand =
-      kept-union names versions keep pick.lineage (united picks) (united (pick ∷ picks)) (combination_rows from rows) (flat_map (combination_rows from) all)
-      (version_union pick.lineage (united picks)) stand.0.stands (united-stands picks all stand.1)
+  lineage_of_picks-stands : (picks : List Pick) (all : List Combination) → Stand picks all → StandsFor names versions (lineage_of_picks picks) (kept_origins keep (flat_map (combination_rows from) all))
+  lineage_of_picks-stands [] [] stand = subst (StandsFor names versions empty) (kept_origins-none keep) (stands-empty names versions)
+  lineage_of_picks-stands [] (rows ∷ all) stand = absurd stand
+  lineage_of_picks-stands (pick ∷ picks) [] stand = absurd stand
+  lineage_of_picks-stands (pick ∷ picks) (rows ∷ all) stand =
+      kept_origins-union names versions keep pick.lineage (lineage_of_picks picks) (lineage_of_picks (pick ∷ picks)) (combination_rows from rows) (flat_map (combination_rows from) all)
+      (version_union pick.lineage (lineage_of_picks picks)) stand.0.stands (lineage_of_picks-stands picks all stand.1)
 
   -- ---- groups
 
@@ -117,11 +117,11 @@ module _ (names : List (List ℕ)) (versions : Versions) (keep : Bool) (from : L
       each-stand picks all stand (key ∷ keys) = (under-stand key picks all stand, each-stand picks all stand keys)
 
       keyed-stand : (picks : List Pick) (all : List Combination) → Stand picks all
-          → GroupsStand (keyed_groups places picks) (map (λ key. filter (has_key scope columns key) all) (distinct (map (group_key scope columns) all)))
+          → GroupsStand (keyed_groups places picks) (map (λ key. filter (has_key scope columns key) all) (distinct_values (map (group_key scope columns) all)))
       keyed-stand picks all stand =
-          subst (λ (keys : List (List Value)). GroupsStand (map (picks_under places picks) (distinct keys)) (map (λ key. filter (has_key scope columns key) all) (distinct (map (group_key scope columns) all))))
+          subst (λ (keys : List (List Value)). GroupsStand (map (picks_under places picks) (distinct_values keys)) (map (λ key. filter (has_key scope columns key) all) (distinct_values (map (group_key scope columns) all))))
           (sym (keys-are picks all stand))
-          (each-stand picks all stand (distinct (map (group_key scope columns) all)))
+          (each-stand picks all stand (distinct_values (map (group_key scope columns) all)))
 
     groups-stand : (columns : List ColumnName) (places : List ℕ) → places ≡ places_in scope columns → (picks : List Pick) (all : List Combination) → Stand picks all
         → GroupsStand (pick_groups places picks) (groups_of scope columns all)
@@ -138,23 +138,23 @@ module _ (names : List (List ℕ)) (versions : Versions) (keep : Bool) (from : L
     meaning-is : (expr : Expr) (group : List Pick) (one : List Combination) → Stand group one → group_meaning scope group expr ≡ eval expr (environments scope one)
     meaning-is expr group one stand = ap (eval expr) (environments-are scope group one stand)
 
-    items-are : (placed : List Placed) (items : List Item) → map (λ p. p.expr) placed ≡ map (λ item. item.expr) items → (envs : List Environment)
+    items-are : (placed : List BoundExpr) (items : List Item) → map (λ p. p.expr) placed ≡ map (λ item. item.expr) items → (envs : List Environment)
         → map (λ p. (eval p.expr envs).value) placed ≡ map (λ item. (eval item.expr envs).value) items
     items-are placed items exprs envs =
-        sym (map-map (λ e. (eval e envs).value) (λ (p : Placed). p.expr) placed)
+        sym (map-map (λ e. (eval e envs).value) (λ (p : BoundExpr). p.expr) placed)
         ∙ ap (map (λ e. (eval e envs).value)) exprs
         ∙ map-map (λ e. (eval e envs).value) (λ (item : Item). item.expr) items
 
-    values-are : (items : Option (List Item)) (placed : Option (List Placed)) → AreItems scope items placed → (group : List Pick) (one : List Combination) → Stand group one
+    values-are : (items : Option (List Item)) (placed : Option (List BoundExpr)) → AreItems scope items placed → (group : List Pick) (one : List Combination) → Stand group one
         → group_values scope placed group ≡ item_values scope items one
     values-are None None are group one stand = first-are group one stand
     values-are None (Some placed) are group one stand = absurd are
     values-are (Some items) None are group one stand = absurd are
     values-are (Some items) (Some placed) are group one stand =
-        ap (λ (envs : List Environment). map (λ (p : Placed). (eval p.expr envs).value) placed) (environments-are scope group one stand)
+        ap (λ (envs : List Environment). map (λ (p : BoundExpr). (eval p.expr envs).value) placed) (environments-are scope group one stand)
         ∙ items-are placed items are.0 (environments scope one)
 
-    kept-is : (having : Option Expr) (placed : Option Placed) → IsHaving scope having placed → (group : List Pick) (one : List Combination) → Stand group one
+    kept-is : (having : Option Expr) (placed : Option BoundExpr) → IsHaving scope having placed → (group : List Pick) (one : List Combination) → Stand group one
         → is_kept scope having one ≡ is_group_kept scope placed group
     kept-is None None is group one stand = refl
     kept-is None (Some placed) is group one stand = absurd is
@@ -169,7 +169,7 @@ module _ (names : List (List ℕ)) (versions : Versions) (keep : Bool) (scope : 
       → IsRow names versions keep (group_answer scope plan group).values (group_answer scope plan group).lineage (group_row scope core one)
   answer-is group one stand = record {
     same = values-are names versions keep core.from scope core.items plan.items is.items group one stand;
-    stands = united-stands names versions keep core.from group one stand;
+    stands = lineage_of_picks-stands names versions keep core.from group one stand;
   }
 
   same-kept : (group : List Pick) (one : List Combination) → Stand names versions keep core.from group one → is_kept scope core.having one ≡ is_group_kept scope plan.having group
@@ -189,8 +189,8 @@ module _ (names : List (List ℕ)) (versions : Versions) (keep : Bool) (scope : 
       ]
 
   rejected-stands : (groups : List (List Pick)) (all : List (List Combination)) → GroupsStand names versions keep core.from groups all
-      → StandsFor names versions (rejected_of scope plan groups) (kept keep (flat_map (flat_map (combination_rows core.from)) (filter (λ group. not (is_kept scope core.having group)) all)))
-  rejected-stands [] [] stand = subst (StandsFor names versions empty) (kept-none names versions keep core.from keep) (stands-empty names versions)
+      → StandsFor names versions (rejected_of scope plan groups) (kept_origins keep (flat_map (flat_map (combination_rows core.from)) (filter (λ group. not (is_kept scope core.having group)) all)))
+  rejected-stands [] [] stand = subst (StandsFor names versions empty) (kept_origins-none names versions keep core.from keep) (stands-empty names versions)
   rejected-stands [] (one ∷ all) stand = absurd stand
   rejected-stands (group ∷ groups) [] stand = absurd stand
   rejected-stands (group ∷ groups) (one ∷ all) stand =
@@ -201,18 +201,18 @@ module _ (names : List (List ℕ)) (versions : Versions) (keep : Bool) (scope : 
         | inr miss ↦
             let gone : is_kept scope core.having one ≡ false = same ∙ miss in
             rw (miss, gone)
-            (kept-union names versions keep (united group) (rejected_of scope plan groups) (union_of (united group) (rejected_of scope plan groups))
+            (kept_origins-union names versions keep (lineage_of_picks group) (rejected_of scope plan groups) (union_of (lineage_of_picks group) (rejected_of scope plan groups))
             (flat_map (combination_rows core.from) one) (flat_map (flat_map (combination_rows core.from)) (filter (λ g. not (is_kept scope core.having g)) all))
-            (version_union (united group) (rejected_of scope plan groups)) (united-stands names versions keep core.from group one stand.0) rest)
+            (version_union (lineage_of_picks group) (rejected_of scope plan groups)) (lineage_of_picks-stands names versions keep core.from group one stand.0) rest)
       ]
 
-  placed-items : (items : Option (List Item)) (placed : Option (List Placed)) → AreItems scope items placed → ArePlaced scope placed
+  placed-items : (items : Option (List Item)) (placed : Option (List BoundExpr)) → AreItems scope items placed → ArePlaced scope placed
   placed-items None None are = tt
   placed-items None (Some placed) are = absurd are
   placed-items (Some items) None are = absurd are
   placed-items (Some items) (Some placed) are = are.1
 
-  placed-having : (having : Option Expr) (placed : Option Placed) → IsHaving scope having placed → IsHavingPlaced scope placed
+  placed-having : (having : Option Expr) (placed : Option BoundExpr) → IsHaving scope having placed → IsHavingPlaced scope placed
   placed-having None None are = tt
   placed-having None (Some placed) are = absurd are
   placed-having (Some having) None are = absurd are
@@ -238,10 +238,10 @@ grouped_is checked place of picks plan grouped at planned made query catalog cor
     let result : IsGroupedBy scope plan (pick_groups plan.group picks) grouped = made scope (placed-plan names versions keep scope core plan here) in
     let standing : GroupsStand names versions keep core.from (pick_groups plan.group picks) (groups_of scope core.group all) =
     groups-stand names versions keep core.from scope core.group plan.group here.group picks all stand in (
-      subst (λ b. AnswersStandFor names versions keep grouped.answers (if b then map (group_row scope core) (filter (is_kept scope core.having) (groups_of scope core.group all)) else map (λ rows. group_row scope core (single rows)) all)) (sym grouping)
+      subst (λ b. AnswersStandFor names versions keep grouped.answers (if b then map (group_row scope core) (filter (is_kept scope core.having) (groups_of scope core.group all)) else map (λ rows. group_row scope core (one_combination rows)) all)) (sym grouping)
           (subst (λ (answers : List Answer). AnswersStandFor names versions keep answers (map (group_row scope core) (filter (is_kept scope core.having) (groups_of scope core.group all)))) (sym result.answers)
           (answers-stand names versions keep scope core plan here (pick_groups plan.group picks) (groups_of scope core.group all) standing)),
-      subst (λ b. StandsFor names versions grouped.rejected (kept keep (if b then flat_map (flat_map (combination_rows core.from)) (filter (λ group. not (is_kept scope core.having group)) (groups_of scope core.group all)) else []))) (sym grouping)
-          (subst (λ (set : Lineage). StandsFor names versions set (kept keep (flat_map (flat_map (combination_rows core.from)) (filter (λ group. not (is_kept scope core.having group)) (groups_of scope core.group all))))) (sym result.rejected)
+      subst (λ b. StandsFor names versions grouped.rejected (kept_origins keep (if b then flat_map (flat_map (combination_rows core.from)) (filter (λ group. not (is_kept scope core.having group)) (groups_of scope core.group all)) else []))) (sym grouping)
+          (subst (λ (set : Lineage). StandsFor names versions set (kept_origins keep (flat_map (flat_map (combination_rows core.from)) (filter (λ group. not (is_kept scope core.having group)) (groups_of scope core.group all))))) (sym result.rejected)
           (rejected-stands names versions keep scope core plan here (pick_groups plan.group picks) (groups_of scope core.group all) standing)),
     )

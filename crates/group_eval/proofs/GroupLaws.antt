@@ -15,7 +15,7 @@ use Rattle.core_parts.proofs.Lists.{both_filters, kept_twice, all_kept}
 use Rattle.core_parts.proofs.SameValues.{tied, all_exact}
 use Rattle.sql_model.specs.KeyOrder.{values_order, values_total}
 use Rattle.sql_model.specs.Keys.{same_values}
-use Rattle.sql_model.specs.QueryAnswer.{distinct}
+use Rattle.sql_model.specs.QueryAnswer.{distinct_values}
 use Rattle.group_eval.specs.Grouping.{key_of, is_under, picks_under, keyed_groups, own_picks, group_of, number_of, with_pick, groups_with_pick, grouped_onto, IsIndex}
 use Rattle.group_eval.specs.Types.{Value}
 use Rattle.group_eval.specs.declared.groups.KeyedGroup.{KeyedGroup}
@@ -219,11 +219,11 @@ module _ (places : List ℕ) where
   swapped false false = refl
 
   groups_kept : (picks : List Pick) (q : List Value → Bool)
-      → grouped_onto places [] (filter (λ p. q (key_of places p)) picks) ≡ map (whole picks) (filter q (distinct (map (key_of places) picks)))
+      → grouped_onto places [] (filter (λ p. q (key_of places p)) picks) ≡ map (whole picks) (filter q (distinct_values (map (key_of places) picks)))
   groups_kept [] q = refl
   groups_kept (p ∷ rest) q =
       let own : List Value = key_of places p in
-      let values : List (List Value) = distinct (map (key_of places) rest) in
+      let values : List (List Value) = distinct_values (map (key_of places) rest) in
       let other : List Value → Bool = λ o. not (same_values o own) in
       let kept : List Pick = filter (λ b. q (key_of places b)) rest in
       elim (cases_Bool (q own)) [
@@ -250,7 +250,7 @@ module _ (places : List ℕ) where
 
   pub keyed_are : (picks : List Pick) → map own_picks (grouped_onto places [] picks) ≡ keyed_groups places picks
   keyed_are picks =
-      let values : List (List Value) = distinct (map (key_of places) picks) in
+      let values : List (List Value) = distinct_values (map (key_of places) picks) in
       ap (map own_picks)
       (ap (grouped_onto places []) (sym (all_kept (λ (p : Pick). true) (λ p. refl) picks))
       ∙ groups_kept picks (λ v. true)

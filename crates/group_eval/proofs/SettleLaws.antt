@@ -10,10 +10,10 @@ use Rattle.group_eval.specs.Folding.{first_row, pick_environment, pick_environme
 use Rattle.core_parts.specs.Placing.{own_places, other_places, IsPlaced}
 use Rattle.group_eval.specs.Settling.{SettlesTo, first_meaning, IsSettled}
 use Rattle.group_eval.specs.Types.{ColumnName, Expr, Fold, Operator, Value}
-use Rattle.core_parts.specs.declared.placed.Placed.{Placed}
+use Rattle.core_parts.specs.declared.placed.BoundExpr.{BoundExpr}
 use Rattle.sql_model.proofs.Folds.{fold-Constant, fold-Column, fold-Negate, fold-Not, fold-Both, fold-IsNull, fold-Count, fold-Aggregate}
 use Rattle.sql_model.specs.Kinds.{names_in, names_step}
-use Rattle.sql_model.specs.Meaning.{Environment, Meaning, of_value, of_truth, eval, eval_step, both, negated, truth_not, null_test, folded, known_values, number_value, in_first}
+use Rattle.sql_model.specs.Meaning.{Environment, Meaning, of_value, of_truth, eval, eval_step, both, negation_of, truth_not, null_test, aggregate_of, known_values, number_value, in_first}
 use Rattle.sql_model.specs.Scope.{InScope, place_of, places_in, environment}
 use Rattle.sql_model.specs.declared.expr.Expr.TheVariants.{Constant, Column, Negate, Not, Both, IsNull, Aggregate}
 
@@ -56,7 +56,7 @@ module _ (picks : List Pick) where
       let inner = h scope more (is ∙ ap (λ ns. places_in scope ns ++ more) (fold-Negate names_step e)) in (
         inner.0,
         inner.1 ∙ sym (ap (λ ns. own ++ places_in scope ns) (fold-Negate names_step s)),
-        (λ j. fold-Negate eval_step s j (first scope)) ∙ ap (λ (m : Meaning). of_value (negated m.value)) inner.2 ∙ sym (λ j. fold-Negate eval_step e j (all scope)),
+        (λ j. fold-Negate eval_step s j (first scope)) ∙ ap (λ (m : Meaning). of_value (negation_of m.value)) inner.2 ∙ sym (λ j. fold-Negate eval_step e j (all scope)),
       )
 
   pub settle-Not : (e s : Expr) (l own new left : List ℕ) → SettlesTo picks e l own s new left → SettlesTo picks (Not e) l own (Not s) new left
@@ -103,7 +103,7 @@ module _ (picks : List Pick) where
   )
 
   pub settle-Aggregate : (f : Fold) (e : Expr) (v : Value) (l own taken left : List ℕ) → taken ≡ own_places e l → left ≡ other_places e l
-      → ((scope : List InScope) → places_in scope (names_in e) ≡ taken → v ≡ folded f (known_values (map (value_over scope e) picks)))
+      → ((scope : List InScope) → places_in scope (names_in e) ≡ taken → v ≡ aggregate_of f (known_values (map (value_over scope e) picks)))
       → SettlesTo picks (Aggregate f (Some e)) l own (Constant v) own left
   settle-Aggregate f e v l own taken left at rest value scope more is =
       let here : l ≡ places_in scope (names_in e) ++ more = is ∙ ap (λ ns. places_in scope ns ++ more) (fold-Aggregate names_step f e) in
@@ -111,19 +111,19 @@ module _ (picks : List Pick) where
         rest ∙ ap (other_places e) here ∙ drop-mapped (place_of scope) (names_in e) more,
         sym (ap (λ ns. own ++ places_in scope ns) (fold-Constant names_step v) ∙ append-nil own),
         (λ j. fold-Constant eval_step v j (first scope))
-            ∙ ap of_value (value scope placed ∙ ap (λ (vs : List Value). folded f (known_values vs)) (sym (map-map (λ (env : Environment). (eval e (env ∷ [])).value) (pick_environment scope) picks)))
+            ∙ ap of_value (value scope placed ∙ ap (λ (vs : List Value). aggregate_of f (known_values vs)) (sym (map-map (λ (env : Environment). (eval e (env ∷ [])).value) (pick_environment scope) picks)))
             ∙ sym (λ j. fold-Aggregate eval_step f e j (all scope)),
       )
 
   -- a placed expression and what it is settled to
-  pub settled_is : (e : Expr) (settled : Placed) (places left : List ℕ) → SettlesTo picks e places [] settled.expr settled.places left
+  pub settled_is : (e : Expr) (settled : BoundExpr) (places left : List ℕ) → SettlesTo picks e places [] settled.expr settled.places left
       → (scope : List InScope) → places_in scope (names_in e) ≡ places → IsSettled scope picks e settled
   settled_is e settled places left h scope placed =
       let made = h scope [] (sym placed ∙ sym (append-nil (places_in scope (names_in e)))) in
       record { placed = sym made.1; same = made.2 }
 
 -- what is read of a settled expression over the first row is read of the expression over the group
-pub settled_read : {V E : Type 0} (reads : Meaning → V) (picks : List Pick) (placed settled : Placed) (row : List Value) (read : Result V E) → row ≡ first_row picks
+pub settled_read : {V E : Type 0} (reads : Meaning → V) (picks : List Pick) (placed settled : BoundExpr) (row : List Value) (read : Result V E) → row ≡ first_row picks
     → ((scope : List InScope) → IsPlaced scope placed → IsSettled scope picks placed.expr settled)
     → IfOk read (λ v. (scope : List InScope) → IsPlaced scope settled → v ≡ reads (eval settled.expr (environment scope row ∷ [])))
     → IfOk read (λ v. (scope : List InScope) → IsPlaced scope placed → v ≡ reads (group_meaning scope picks placed.expr))

@@ -5,10 +5,10 @@ use Rattle.lineage.specs.Lineage.{Lineage, IsUnion, union_of}
 use Rattle.lineage.specs.declared.answer.Pick.{Pick}
 use Rattle.lineage.proofs.Unions.{none_union, union_step}
 use Rattle.core_parts.proofs.Lists.{drop-step}
-use Rattle.group_eval.specs.Uniting.{united}
+use Rattle.group_eval.specs.Uniting.{lineage_of_picks}
 
 abbrev united_in : List (Bor Pick) → Lineage
-united_in group = united (map (λ r. r.now) group)
+united_in group = lineage_of_picks (map (λ r. r.now) group)
 
 module _ (group : List (Bor Pick)) (i : ℕ) (old all : Lineage) (left : union_of old (united_in (drop i group)) ≡ all) where
   -- one pick more

@@ -1,18 +1,18 @@
 -- The answer rows of groups of picks.
 use Rattle.std.specs.Prelude.{◌≡◌, ℕ, List, ◌∷◌, ◌++◌, map, filter, not, Bool, true, Option, Some, None}
 use Rattle.lineage.specs.Lineage.{Lineage}
-use Rattle.lineage.specs.Rows.{kept, joined_row, AnswersStandFor, PicksStandFor}
+use Rattle.lineage.specs.Rows.{kept_origins, joined_row, AnswersStandFor, PicksStandFor}
 use Rattle.lineage.specs.StandsFor.{StandsFor}
 use Rattle.lineage.specs.declared.answer.Answer.{Answer}
 use Rattle.lineage.specs.declared.answer.Pick.{Pick}
 use Rattle.core_parts.specs.Checking.{core_at, IsChecked}
 use Rattle.group_eval.specs.Folding.{first_row, group_meaning}
-use Rattle.core_parts.specs.Placing.{IsPlaced, AllPlaced}
+use Rattle.core_parts.specs.Placing.{IsPlaced, AreAllPlaced}
 use Rattle.group_eval.specs.Types.{Catalog, Checked, Core, Query, Value}
 use Rattle.lineage.specs.Lineage.{union_of}
-use Rattle.group_eval.specs.Uniting.{united, all_united}
+use Rattle.group_eval.specs.Uniting.{lineage_of_picks, lineage_of_groups}
 use Rattle.group_eval.specs.declared.grouping.Grouped.{Grouped}
-use Rattle.core_parts.specs.declared.placed.Placed.{Placed}
+use Rattle.core_parts.specs.declared.placed.BoundExpr.{BoundExpr}
 use Rattle.group_eval.specs.declared.plan.Plan.{Plan}
 use Rattle.sql_model.specs.Meaning.{is_true}
 use Rattle.sql_model.specs.Needs.{Versions}
@@ -22,28 +22,28 @@ use Rattle.sql_model.specs.Scope.{InScope, scope_of}
 
 -- ---- one group
 
-abbrev pub item_values : List InScope → List Pick → List Placed → List Value
+abbrev pub item_values : List InScope → List Pick → List BoundExpr → List Value
 item_values scope picks items = map (λ p. (group_meaning scope picks p.expr).value) items
 
-abbrev pub group_values : List InScope → Option (List Placed) → List Pick → List Value
+abbrev pub group_values : List InScope → Option (List BoundExpr) → List Pick → List Value
 group_values scope None picks = first_row picks
 group_values scope (Some items) picks = item_values scope picks items
 
-abbrev pub is_group_kept : List InScope → Option Placed → List Pick → Bool
+abbrev pub is_group_kept : List InScope → Option BoundExpr → List Pick → Bool
 is_group_kept scope None picks = true
 is_group_kept scope (Some having) picks = is_true (group_meaning scope picks having.expr).truth
 
 abbrev pub group_answer : List InScope → Plan → List Pick → Answer
 group_answer scope plan picks =
-    record { values = group_values scope plan.items picks; lineage = united picks }
+    record { values = group_values scope plan.items picks; lineage = lineage_of_picks picks }
 
 -- ---- a plan in a scope
 
-abbrev pub ArePlaced : List InScope → Option (List Placed) → Type 0
+abbrev pub ArePlaced : List InScope → Option (List BoundExpr) → Type 0
 ArePlaced scope None = Unit {0}
-ArePlaced scope (Some items) = AllPlaced scope items
+ArePlaced scope (Some items) = AreAllPlaced scope items
 
-abbrev pub IsHavingPlaced : List InScope → Option Placed → Type 0
+abbrev pub IsHavingPlaced : List InScope → Option BoundExpr → Type 0
 IsHavingPlaced scope None = Unit {0}
 IsHavingPlaced scope (Some having) = IsPlaced scope having
 
@@ -58,7 +58,7 @@ answers_of scope plan groups = map (group_answer scope plan) (filter (is_group_k
 
 abbrev pub rejected_of : List InScope → Plan → List (List Pick) → Lineage
 rejected_of scope plan groups =
-    all_united (filter (λ group. not (is_group_kept scope plan.having group)) groups)
+    lineage_of_groups (filter (λ group. not (is_group_kept scope plan.having group)) groups)
 
 pub record IsGroupedBy (scope : List InScope) (plan : Plan) (groups : List (List Pick)) (grouped : Grouped)
     : Type 0 where
@@ -88,4 +88,4 @@ IsGrouped checked place picks grouped =
     → AnswersStandFor names versions keep grouped.answers
     (rows_in_scope (scope_of core.from catalog) core all)
     × StandsFor names versions grouped.rejected
-    (kept keep (rejected_in_scope (scope_of core.from catalog) core all))
+    (kept_origins keep (rejected_in_scope (scope_of core.from catalog) core all))

@@ -9,7 +9,7 @@ use Rattle.sql_model.specs.KeyOrder.{values_order}
 use Rattle.group_eval.specs.Types.{Value}
 use Rattle.group_eval.specs.declared.groups.KeyedGroup.{KeyedGroup}
 use Rattle.sql_model.specs.Keys.{same_values, values_at}
-use Rattle.sql_model.specs.QueryAnswer.{distinct}
+use Rattle.sql_model.specs.QueryAnswer.{distinct_values}
 
 -- the values of a pick at some places
 abbrev pub key_of : List ℕ → Pick → List Value
@@ -23,7 +23,7 @@ picks_under places picks key = filter (is_under places key) picks
 
 -- those of the same values, in order of first appearance
 abbrev pub keyed_groups : List ℕ → List Pick → List (List Pick)
-keyed_groups places picks = map (picks_under places picks) (distinct (map (key_of places) picks))
+keyed_groups places picks = map (picks_under places picks) (distinct_values (map (key_of places) picks))
 
 -- without a place there is one group, also of no pick
 abbrev pub pick_groups : List ℕ → List Pick → List (List Pick)

@@ -1,20 +1,20 @@
 -- What is evaluated over the groups of a core.
 use Rattle.std.specs.Prelude.{◌≡◌, List, map, Option, Some, None}
-use Rattle.core_parts.specs.Placing.{IsPlaced, AllPlaced}
+use Rattle.core_parts.specs.Placing.{IsPlaced, AreAllPlaced}
 use Rattle.group_eval.specs.Types.{Core, Expr, Item}
-use Rattle.core_parts.specs.declared.placed.Placed.{Placed}
+use Rattle.core_parts.specs.declared.placed.BoundExpr.{BoundExpr}
 use Rattle.group_eval.specs.declared.plan.Plan.{Plan}
 use Rattle.sql_model.specs.Scope.{InScope, places_in}
 
 -- the items, or all columns
-abbrev pub AreItems : List InScope → Option (List Item) → Option (List Placed) → Type 0
+abbrev pub AreItems : List InScope → Option (List Item) → Option (List BoundExpr) → Type 0
 AreItems scope None None = Unit {0}
 AreItems scope None (Some placed) = ⊥
 AreItems scope (Some items) None = ⊥
 AreItems scope (Some items) (Some placed) =
-    (map (λ p. p.expr) placed ≡ map (λ item. item.expr) items) × AllPlaced scope placed
+    (map (λ p. p.expr) placed ≡ map (λ item. item.expr) items) × AreAllPlaced scope placed
 
-abbrev pub IsHaving : List InScope → Option Expr → Option Placed → Type 0
+abbrev pub IsHaving : List InScope → Option Expr → Option BoundExpr → Type 0
 IsHaving scope None None = Unit {0}
 IsHaving scope None (Some placed) = ⊥
 IsHaving scope (Some having) None = ⊥

@@ -4,7 +4,7 @@ use Rattle.lineage.specs.declared.answer.Pick.{Pick}
 use Rattle.group_eval.specs.Folding.{first_row, group_meaning}
 use Rattle.core_parts.specs.Placing.{IsPlaced}
 use Rattle.group_eval.specs.Types.{Expr}
-use Rattle.core_parts.specs.declared.placed.Placed.{Placed}
+use Rattle.core_parts.specs.declared.placed.BoundExpr.{BoundExpr}
 use Rattle.sql_model.specs.Kinds.{names_in}
 use Rattle.sql_model.specs.Meaning.{Meaning, eval}
 use Rattle.sql_model.specs.Scope.{InScope, places_in, environment}
@@ -22,7 +22,7 @@ SettlesTo picks expr places own settled new left =
     × (new ≡ own ++ places_in scope (names_in settled))
     × (first_meaning scope picks settled ≡ group_meaning scope picks expr)
 
-pub record IsSettled (scope : List InScope) (picks : List Pick) (expr : Expr) (settled : Placed)
+pub record IsSettled (scope : List InScope) (picks : List Pick) (expr : Expr) (settled : BoundExpr)
     : Type 0 where
   pub placed : IsPlaced scope settled
   pub same : first_meaning scope picks settled.expr ≡ group_meaning scope picks expr

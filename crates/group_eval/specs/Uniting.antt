@@ -5,11 +5,11 @@ use Rattle.lineage.specs.Lineage.{Lineage, union_of}
 use Rattle.lineage.specs.declared.answer.Pick.{Pick}
 
 -- the union of the lineages of picks
-abbrev pub united : List Pick → Lineage
-united [] = empty
-united (pick ∷ picks) = union_of pick.lineage (united picks)
+abbrev pub lineage_of_picks : List Pick → Lineage
+lineage_of_picks [] = empty
+lineage_of_picks (pick ∷ picks) = union_of pick.lineage (lineage_of_picks picks)
 
 -- those of the picks of some groups
-abbrev pub all_united : List (List Pick) → Lineage
-all_united [] = empty
-all_united (group ∷ groups) = union_of (united group) (all_united groups)
+abbrev pub lineage_of_groups : List (List Pick) → Lineage
+lineage_of_groups [] = empty
+lineage_of_groups (group ∷ groups) = union_of (lineage_of_picks group) (lineage_of_groups groups)

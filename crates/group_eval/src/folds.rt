@@ -5,7 +5,7 @@ ghost use Rattle.std.specs.List.{fold};
 ghost use Rattle.group_eval.specs.Types.{Value as Seen};
 ghost use Rattle.group_eval.specs.Folding.{value_over};
 ghost use Rattle.sql_model.specs.Kinds.{names_in};
-ghost use Rattle.sql_model.specs.Meaning.{folded, known_values, lesser, greater, number_in, number_value};
+ghost use Rattle.sql_model.specs.Meaning.{aggregate_of, known_values, lesser_of, greater_of, number_in, number_value};
 ghost use Rattle.sql_model.specs.Meaning.{total, or_null};
 ghost use Rattle.sql_model.specs.declared.expr.Fold.TheVariants.{Sum, Min, Max};
 ghost use Rattle.sql_model.specs.Scope.{InScope, places_in};
@@ -62,7 +62,7 @@ fn total(values: &[Value]) -> i128
 }
 
 fn sum_of(values: &[Value]) -> Value
-    ensures { result ≡ folded Sum values.now }
+    ensures { result ≡ aggregate_of Sum values.now }
 {
     match values {
         [] => Value::Null,
@@ -70,59 +70,59 @@ fn sum_of(values: &[Value]) -> Value
     }
 }
 
-fn lesser<'a>(a: &'a Value, b: &'a Value) -> &'a Value
-    ensures { result.now ≡ lesser a.now b.now }
+fn lesser_of<'a>(a: &'a Value, b: &'a Value) -> &'a Value
+    ensures { result.now ≡ lesser_of a.now b.now }
 {
     if compare(b, a).is_lt() { b } else { a }
 }
 
-fn greater<'a>(a: &'a Value, b: &'a Value) -> &'a Value
-    ensures { result.now ≡ greater a.now b.now }
+fn greater_of<'a>(a: &'a Value, b: &'a Value) -> &'a Value
+    ensures { result.now ≡ greater_of a.now b.now }
 {
     if compare(b, a).is_gt() { b } else { a }
 }
 
-fn least<'a>(first: &'a Value, others: &'a [Value]) -> &'a Value
-    ensures { result.now ≡ fold lesser first.now others.now }
+fn minimum_of<'a>(first: &'a Value, others: &'a [Value]) -> &'a Value
+    ensures { result.now ≡ fold lesser_of first.now others.now }
 {
     let mut best = first;
     for value in others {
-        best = lesser(best, value);
+        best = lesser_of(best, value);
     }
     best
 }
 
-fn greatest<'a>(first: &'a Value, others: &'a [Value]) -> &'a Value
-    ensures { result.now ≡ fold greater first.now others.now }
+fn maximum_of<'a>(first: &'a Value, others: &'a [Value]) -> &'a Value
+    ensures { result.now ≡ fold greater_of first.now others.now }
 {
     let mut best = first;
     for value in others {
-        best = greater(best, value);
+        best = greater_of(best, value);
     }
     best
 }
 
 fn least_of(alloc: Global, values: &[Value]) -> Result<Value, AllocError>
-    ensures { IfOk result (λ value. value ≡ folded Min values.now) }
+    ensures { IfOk result (λ value. value ≡ aggregate_of Min values.now) }
 {
     match values {
         [] => Ok(Value::Null),
-        [first, others @ ..] => least(first, others).copy_item(alloc),
+        [first, others @ ..] => minimum_of(first, others).copy_item(alloc),
     }
 }
 
 fn greatest_of(alloc: Global, values: &[Value]) -> Result<Value, AllocError>
-    ensures { IfOk result (λ value. value ≡ folded Max values.now) }
+    ensures { IfOk result (λ value. value ≡ aggregate_of Max values.now) }
 {
     match values {
         [] => Ok(Value::Null),
-        [first, others @ ..] => greatest(first, others).copy_item(alloc),
+        [first, others @ ..] => maximum_of(first, others).copy_item(alloc),
     }
 }
 
 /// An aggregate of values that aren't NULL.
 pub(crate) fn fold_known(alloc: Global, fold: Fold, values: &[Value]) -> Result<Value, AllocError>
-    ensures { IfOk result (λ value. value ≡ folded fold values.now) }
+    ensures { IfOk result (λ value. value ≡ aggregate_of fold values.now) }
 {
     match fold {
         Fold::Count => Ok(count_value(values.len())),
@@ -171,7 +171,8 @@ pub(crate) fn aggregate(
     group: &[&Pick],
 ) -> Result<Value, AllocError>
     ensures { IfOk result (λ value. (scope : Items InScope) → places_in scope (names_in expr.now) ≡ places.now
-        → value ≡ folded fold (known_values (map (value_over scope expr.now) (map (λ r. r.now) group.now)))) }
+        → value ≡ aggregate_of fold
+        (known_values (map (value_over scope expr.now) (map (λ r. r.now) group.now)))) }
 {
     let values = values_over(alloc, expr, places, group)?;
     fold_known(alloc, fold, values.items())

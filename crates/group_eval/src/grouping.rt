@@ -8,15 +8,15 @@ ghost use Rattle.group_eval.specs.Evaluating.{ArePlaced, IsHavingPlaced};
 ghost use Rattle.group_eval.specs.Evaluating.{IsPlacedPlan, AddsGroup, IsGroupedBy, IsGrouped};
 ghost use Rattle.group_eval.specs.Folding.{first_row};
 ghost use Rattle.group_eval.specs.Grouping.{own_picks, pick_groups, keyed_groups};
-ghost use Rattle.core_parts.specs.Placing.{AllPlaced};
+ghost use Rattle.core_parts.specs.Placing.{AreAllPlaced};
 ghost use Rattle.sql_model.specs.Scope.{InScope};
 
 use crate::columns::KnownColumn;
 use crate::groups::{KeyedGroup, groups_of};
-use crate::lineages::{add_lineages, united};
+use crate::lineages::{add_lineages, lineage_of_picks};
 use crate::plan::{Plan, plan_of};
-use crate::settled::{group_truth, group_value};
-use core_parts::{Placed, Refs, core_of, is_certain, places_or};
+use crate::bind_aggregates::{group_truth, group_value};
+use core_parts::{BoundExpr, Refs, core_of, is_certain, column_indexes};
 use ldv_value::{List, Values};
 use lineage::{Answer, Answers, LineageSet, Pick, Picks};
 use sql_model::Checked;
@@ -43,12 +43,12 @@ fn no_group(alloc: Global) -> Grouped
 // The values of items over a group.
 fn values_of_items(
     alloc: Global,
-    items: &[Placed],
+    items: &[BoundExpr],
     group: &[&Pick],
     first: &Values,
 ) -> Result<Values, AllocError>
     requires { first.now ≡ first_row (map (λ r. r.now) group.now) }
-    ensures { IfOk result (λ values. (scope : Items InScope) → AllPlaced scope items.now
+    ensures { IfOk result (λ values. (scope : Items InScope) → AreAllPlaced scope items.now
         → values ≡ item_values scope (map (λ r. r.now) group.now) items.now) }
 {
     let mut known = KnownColumn::none(alloc);
@@ -62,7 +62,7 @@ fn values_of_items(
 // The values of the answer row of a group.
 fn group_values(
     alloc: Global,
-    items: &Option<List<Placed>>,
+    items: &Option<List<BoundExpr>>,
     group: &[&Pick],
     first: &Values,
 ) -> Result<Values, AllocError>
@@ -79,7 +79,7 @@ fn group_values(
 // Whether HAVING is True for a group, or missing.
 fn is_kept(
     alloc: Global,
-    having: &Option<Placed>,
+    having: &Option<BoundExpr>,
     group: &[&Pick],
     first: &Values,
 ) -> Result<bool, AllocError>
@@ -106,7 +106,7 @@ fn group_answer(
 {
     Ok(Answer {
         values: group_values(alloc, &plan.items, group, first)?,
-        lineage: united(alloc, group)?,
+        lineage: lineage_of_picks(alloc, group)?,
     })
 }
 
@@ -176,7 +176,7 @@ fn refs_of<'a>(alloc: Global, picks: &'a [Pick]) -> Result<Refs<'a, Pick>, Alloc
 }
 
 // All picks as one group.
-fn grouped_whole(alloc: Global, plan: &Plan, picks: &[Pick]) -> Result<Grouped, AllocError>
+fn evaluate_one_group(alloc: Global, plan: &Plan, picks: &[Pick]) -> Result<Grouped, AllocError>
     ensures { IfOk result (λ grouped. (scope : Items InScope) → IsPlacedPlan scope plan.now
         → IsGroupedBy scope plan.now (picks.now ∷ []) grouped) }
 {
@@ -200,7 +200,7 @@ fn add_keyed(
 }
 
 // Groups one by one.
-fn grouped_each(alloc: Global, plan: &Plan, groups: &[KeyedGroup]) -> Result<Grouped, AllocError>
+fn evaluate_groups(alloc: Global, plan: &Plan, groups: &[KeyedGroup]) -> Result<Grouped, AllocError>
     ensures { IfOk result (λ grouped. (scope : Items InScope) → IsPlacedPlan scope plan.now
         → IsGroupedBy scope plan.now (map own_picks groups.now) grouped) }
 {
@@ -217,7 +217,7 @@ fn grouped_by_keys(alloc: Global, plan: &Plan, picks: &[Pick]) -> Result<Grouped
         → IsGroupedBy scope plan.now (keyed_groups plan.now.group picks.now) grouped) }
 {
     let groups = groups_of(alloc, &plan.group, picks)?;
-    grouped_each(alloc, plan, groups.as_slice())
+    evaluate_groups(alloc, plan, groups.as_slice())
 }
 
 fn grouped_picks(alloc: Global, plan: &Plan, picks: &[Pick]) -> Result<Grouped, AllocError>
@@ -225,7 +225,7 @@ fn grouped_picks(alloc: Global, plan: &Plan, picks: &[Pick]) -> Result<Grouped, 
         → IsGroupedBy scope plan.now (pick_groups plan.now.group picks.now) grouped) }
 {
     if plan.group.is_empty() {
-        grouped_whole(alloc, plan, picks)
+        evaluate_one_group(alloc, plan, picks)
     } else {
         grouped_by_keys(alloc, plan, picks)
     }
@@ -240,7 +240,7 @@ pub fn group(checked: &Checked, core: usize, picks: Picks) -> Result<Grouped, Al
 {
     let alloc = picks.allocator();
     let none = List::new(alloc);
-    let places = places_or(checked, core, &none);
+    let places = column_indexes(checked, core, &none);
     let plan = plan_of(alloc, core_of(checked, core), places)?;
     grouped_picks(alloc, &plan, picks.items())
 }

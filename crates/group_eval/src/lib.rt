@@ -23,6 +23,6 @@ mod grouping;
 mod groups;
 mod lineages;
 mod plan;
-mod settled;
+mod bind_aggregates;
 
 pub use grouping::{Grouped, group};

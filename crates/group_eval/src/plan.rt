@@ -8,7 +8,7 @@ ghost use Rattle.sql_model.specs.Kinds.{names_in};
 ghost use Rattle.sql_model.specs.Refusals.{core_names, items_of, names_of_items};
 ghost use Rattle.sql_model.specs.Scope.{InScope, places_in};
 
-use core_parts::{Placed, placed_at, placed_items, take_place, take_places};
+use core_parts::{BoundExpr, placed_at, placed_items, take_place, take_places};
 use ldv_value::{List, Places};
 use sql_model::{ColumnName, Core, Expr, Items as CoreItems};
 use std::alloc::{AllocError, Global};
@@ -17,10 +17,10 @@ use std::alloc::{AllocError, Global};
 #[derive(Drop)]
 pub(crate) struct Plan {
     /// The items; `None` is `*`.
-    pub items: Option<List<Placed>>,
+    pub items: Option<List<BoundExpr>>,
     /// The places of the GROUP BY columns in the joined row.
     pub group: Places,
-    pub having: Option<Placed>,
+    pub having: Option<BoundExpr>,
 }
 
 // The items with the places that they take.
@@ -29,7 +29,7 @@ fn planned_items(
     items: &Option<CoreItems>,
     places: &Places,
     at: &mut usize,
-) -> Result<Option<List<Placed>>, AllocError>
+) -> Result<Option<List<BoundExpr>>, AllocError>
     ensures { IfOk result (λ planned. (scope : Items InScope) (more : Items ℕ)
         → drop at.old places.now ≡ places_in scope (names_of_items (unwrap_or items.now [])) ++ more
         → (drop at.new places.now ≡ more) × AreItems scope items.now planned) }
@@ -77,12 +77,12 @@ fn column_places(
 }
 
 // HAVING with the places that it takes.
-fn planned_having(
+fn plan_having(
     alloc: Global,
     having: &Option<Expr>,
     places: &Places,
     at: &mut usize,
-) -> Result<Option<Placed>, AllocError>
+) -> Result<Option<BoundExpr>, AllocError>
     ensures { IfOk result (λ planned. (scope : Items InScope)
         → drop at.old places.now ≡ places_in scope (flat_map names_in (option_to_list having.now))
         → IsHaving scope having.now planned) }
@@ -102,7 +102,7 @@ pub(crate) fn plan_of(alloc: Global, core: &Core, places: &Places) -> Result<Pla
     let items = planned_items(alloc, &core.items, places, &mut at)?;
     skip_conditions(alloc, core.picks.items(), places, &mut at)?;
     let group = column_places(alloc, core.group.items(), places, &mut at)?;
-    let having = planned_having(alloc, &core.having, places, &mut at)?;
+    let having = plan_having(alloc, &core.having, places, &mut at)?;
     Ok(Plan {
         items,
         group,

@@ -12,20 +12,20 @@ use Rattle.run_model.specs.declared.event.Act.TheVariants as acts
 use Rattle.trace_graph.specs.Building.{made_fits}
 use Rattle.trace_graph.proofs.TraceLaws.{trace_fits}
 use Rattle.inspect.specs.ProcessNames.{parent_of, child_of, with_child, named_after, is_spawn}
-use Rattle.inspect.specs.Types.{Act, Event, Named}
+use Rattle.inspect.specs.Types.{Act, Event, NamedProcess}
 
 -- who has room for one child more than others need has room for them
-room_later : (more : ℕ) (ps : List Named) → HaveRoom (1 + more) ps → HaveRoom more ps
+room_later : (more : ℕ) (ps : List NamedProcess) → HaveRoom (1 + more) ps → HaveRoom more ps
 room_later more ps room k d below = let here : HasRoom (1 + more) (slice_index_or ps k d) = room k d below in omega (arith, here)
 
 -- the room of a process that is there
-pub room_at : (more : ℕ) (ps : List Named) (number : ℕ) (p : Named) → slice_get ps number ≡ Some p → HaveRoom more ps → HasRoom more p
+pub room_at : (more : ℕ) (ps : List NamedProcess) (number : ℕ) (p : NamedProcess) → slice_get ps number ≡ Some p → HaveRoom more ps → HasRoom more p
 room_at more ps number p is room = elim ((slice_get_cases ps number).1) [
   | inl there ↦ subst (HasRoom more) (get_or_from_slice_get ps number p p is) (room number p there.1)
   | inr past ↦ let none : slice_get ps number ≡ None = past.1 in cc
 ]
 
-room_with : (more : ℕ) (ps : List Named) (number : ℕ) (found : Option Named) → slice_get ps number ≡ found
+room_with : (more : ℕ) (ps : List NamedProcess) (number : ℕ) (found : Option NamedProcess) → slice_get ps number ≡ found
     → HaveRoom (1 + more) ps → HaveRoom more (with_child number found ps)
 room_with more ps number None is room = room_later more ps room
 room_with more ps number (Some p) is room =
@@ -35,13 +35,13 @@ room_with more ps number (Some p) is room =
     All-append (HasRoom more) (slice_set ps number (parent_of p)) (child_of p ∷ [])
     (All-set (HasRoom more) ps number (parent_of p) parent (room_later more ps room)) (All-cons (HasRoom more) (child_of p) [] child (All-nil (HasRoom more)))
 
-room_if : (spawned : Bool) (more : ℕ) (ps : List Named) (number : ℕ) → HaveRoom ((if spawned then 1 else 0) + more) ps
+room_if : (spawned : Bool) (more : ℕ) (ps : List NamedProcess) (number : ℕ) → HaveRoom ((if spawned then 1 else 0) + more) ps
     → HaveRoom more (if spawned then with_child number (slice_get ps number) ps else ps)
 room_if true more ps number room = room_with more ps number (slice_get ps number) refl room
 room_if false more ps number room = λ k d below.
     let here : HasRoom (0 + more) (slice_index_or ps k d) = room k d below in omega (arith, here)
 
-pub room_after : (e : Event) (more : ℕ) (ps : List Named) → HaveRoom (births e + more) ps → HaveRoom more (named_after ps e)
+pub room_after : (e : Event) (more : ℕ) (ps : List NamedProcess) → HaveRoom (births e + more) ps → HaveRoom more (named_after ps e)
 room_after e more ps room = room_if (is_spawn e.act) more ps e.process room
 
 -- ---- how many children the events of a trace make

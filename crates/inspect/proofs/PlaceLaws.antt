@@ -5,12 +5,12 @@ use Rattle.std.specs.Prelude.{slice_get}
 use Rattle.std.proofs.lemmas.List.{length-set, length_push, get_or_push, get_or_append_left, reverse-append}
 use Rattle.std.proofs.lemmas.Option.{none-some, same_Some, slice_get_cases, slice_get_read, slice_get_within, slice_get-get_or, slice_get_past}
 use Rattle.run_model.specs.OutcomeText.{name_text}
-use Rattle.inspect.specs.declared.names.Made.{Made}
-use Rattle.inspect.specs.Named.{Named}
+use Rattle.inspect.specs.declared.process_names.Made.{Made}
+use Rattle.inspect.specs.Named.{NamedProcess}
 use Rattle.inspect.specs.ChildRoom.{HaveRoom}
 use Rattle.inspect.specs.ProcessNames.{first_process, parent_of, child_of, with_child, text_of, name_in}
 use Rattle.inspect.specs.ProcessPlaces.{name_after, names_after, names_of, name_at, named_by, named_by_all, named_of}
-use Rattle.inspect.specs.ProcessPlaces.{ComeAfter, MayAllGrow, first_made, next_child, grown, made_with}
+use Rattle.inspect.specs.ProcessPlaces.{ComeAfter, MayAllGrow, made_of_first, next_child, made_with_child, made_with}
 use Rattle.inspect.proofs.ChildLaws.{room_at}
 
 -- ---- names
@@ -119,7 +119,7 @@ names_push names [] m = refl
 names_push names (x ∷ ms) m = names_push (names ++ name_after names x ∷ []) ms m
 
 names_grown : (names : List (List ℕ)) (ms : List Made) (k : ℕ) (m : Made) → slice_get ms k ≡ Some m
-    → names_after names (set ms k (grown m)) ≡ names_after names ms
+    → names_after names (set ms k (made_with_child m)) ≡ names_after names ms
 names_grown names [] k m is = absurd (none-some m is)
 names_grown names (x ∷ ms) zero m is = ap (λ (y : Made). names_after (names ++ name_after names y ∷ []) ms) (sym (same_Some x m is))
 names_grown names (x ∷ ms) (suc k) m is = names_grown (names ++ name_after names x ∷ []) ms k m is
@@ -129,43 +129,43 @@ named_push : (names : List (List ℕ)) (ms : List Made) (name : List ℕ) (m : M
 named_push [] [] name m long = refl
 named_push [] (x ∷ ms) name m long = absurd (omega (arith, long))
 named_push (n ∷ names) [] name m long = absurd (omega (arith, long))
-named_push (n ∷ names) (x ∷ ms) name m long = ap (λ (l : List Named). named_by n x ∷ l) (named_push names ms name m (omega (arith, long)))
+named_push (n ∷ names) (x ∷ ms) name m long = ap (λ (l : List NamedProcess). named_by n x ∷ l) (named_push names ms name m (omega (arith, long)))
 
 named_grown : (names : List (List ℕ)) (ms : List Made) (k : ℕ) (m : Made) → slice_get ms k ≡ Some m → length names ≡ length ms
-    → named_by_all names (set ms k (grown m)) ≡ set (named_by_all names ms) k (parent_of (named_by (get_or names k []) m))
+    → named_by_all names (set ms k (made_with_child m)) ≡ set (named_by_all names ms) k (parent_of (named_by (get_or names k []) m))
 named_grown names [] k m is long = absurd (none-some m is)
 named_grown [] (x ∷ ms) k m is long = absurd (omega (arith, long))
 named_grown (n ∷ names) (x ∷ ms) zero m is long = refl
-named_grown (n ∷ names) (x ∷ ms) (suc k) m is long = ap (λ (l : List Named). named_by n x ∷ l) (named_grown names ms k m is (omega (arith, long)))
+named_grown (n ∷ names) (x ∷ ms) (suc k) m is long = ap (λ (l : List NamedProcess). named_by n x ∷ l) (named_grown names ms k m is (omega (arith, long)))
 
 pub named_with : (ms : List Made) (place : ℕ) (found : Option Made) → slice_get ms place ≡ found
     → named_of (made_with place found ms) ≡ with_child place (slice_get (named_of ms) place) (named_of ms)
 named_with ms place None is =
-    ap (λ (o : Option Named). with_child place o (named_of ms)) (sym (named_none (names_of ms) ms place is))
+    ap (λ (o : Option NamedProcess). with_child place o (named_of ms)) (sym (named_none (names_of ms) ms place is))
 named_with ms place (Some m) is =
     let names : List (List ℕ) = names_of ms in
-    let after : List Made = set ms place (grown m) in
+    let after : List Made = set ms place (made_with_child m) in
     let child : Made = next_child place m in
     let parent : Named = named_by (get_or names place []) m in
     let same : names_of after ≡ names = names_grown [] ms place m is in
-    let long : length names ≡ length after = as_long ms ∙ sym (length-set ms place (grown m)) in
+    let long : length names ≡ length after = as_long ms ∙ sym (length-set ms place (made_with_child m)) in
     ap (λ (ns : List (List ℕ)). named_by_all ns (after ++ child ∷ []))
     (names_push [] after child ∙ ap (λ (ns : List (List ℕ)). ns ++ name_after ns child ∷ []) same)
     ∙ named_push names after (name_after names child) child long
-    ∙ ap (λ (l : List Named). l ++ child_of parent ∷ []) (named_grown names ms place m is (as_long ms))
-    ∙ ap (λ (o : Option Named). with_child place o (named_of ms)) (sym (named_at names ms place m is (as_long ms)))
+    ∙ ap (λ (l : List NamedProcess). l ++ child_of parent ∷ []) (named_grown names ms place m is (as_long ms))
+    ∙ ap (λ (o : Option NamedProcess). with_child place o (named_of ms)) (sym (named_at names ms place m is (as_long ms)))
 
-pub first_named : (ms : List Made) → ms ≡ first_made ∷ [] → named_of ms ≡ first_process ∷ []
+pub first_named : (ms : List Made) → ms ≡ made_of_first ∷ [] → named_of ms ≡ first_process ∷ []
 first_named ms is = ap named_of is
 
 -- ---- parents come first
 
-pub first_after : (ms : List Made) → ms ≡ first_made ∷ [] → ComeAfter ms
+pub first_after : (ms : List Made) → ms ≡ made_of_first ∷ [] → ComeAfter ms
 first_after ms is place d within positive =
     let one : length ms ≡ 1 = ap (λ (l : List Made). length l) is in absurd (omega (arith, one, within, positive))
 
 parent_stays : (ms : List Made) (k j : ℕ) (m d : Made) → slice_get ms k ≡ Some m
-    → (get_or (set ms k (grown m)) j d).parent ≡ (get_or ms j d).parent
+    → (get_or (set ms k (made_with_child m)) j d).parent ≡ (get_or ms j d).parent
 parent_stays [] k j m d is = absurd (none-some m is)
 parent_stays (x ∷ ms) zero zero m d is = ap (λ (y : Made). y.parent) (sym (same_Some x m is))
 parent_stays (x ∷ ms) zero (suc j) m d is = refl
@@ -173,26 +173,26 @@ parent_stays (x ∷ ms) (suc k) zero m d is = refl
 parent_stays (x ∷ ms) (suc k) (suc j) m d is = parent_stays ms k j m d is
 
 child_after : (ms : List Made) (k : ℕ) (m : Made) → slice_get ms k ≡ Some m → ComeAfter ms
-    → ComeAfter (set ms k (grown m) ++ next_child k m ∷ [])
+    → ComeAfter (set ms k (made_with_child m) ++ next_child k m ∷ [])
 child_after ms k m is after place d within positive = by ((slice_get_cases ms place).1)
   where
     by : ((x : Made) × (place < length ms) × (slice_get ms place ≡ Some x) × (get_or ms place x ≡ x)) ⊎ ((length ms ≤ place) × (slice_get ms place ≡ None))
-        → (get_or (set ms k (grown m) ++ next_child k m ∷ []) place d).parent < place
+        → (get_or (set ms k (made_with_child m) ++ next_child k m ∷ []) place d).parent < place
     by (inl there) =
-        let long : length (set ms k (grown m)) ≡ length ms = length-set ms k (grown m) in
-        let below : place < length (set ms k (grown m)) = omega (arith, there.1, long) in
-        let same : (get_or (set ms k (grown m) ++ next_child k m ∷ []) place d).parent ≡ (get_or ms place d).parent =
-        ap (λ (y : Made). y.parent) (get_or_append_left (set ms k (grown m)) (next_child k m ∷ []) d place below)
+        let long : length (set ms k (made_with_child m)) ≡ length ms = length-set ms k (made_with_child m) in
+        let below : place < length (set ms k (made_with_child m)) = omega (arith, there.1, long) in
+        let same : (get_or (set ms k (made_with_child m) ++ next_child k m ∷ []) place d).parent ≡ (get_or ms place d).parent =
+        ap (λ (y : Made). y.parent) (get_or_append_left (set ms k (made_with_child m)) (next_child k m ∷ []) d place below)
         ∙ parent_stays ms k place m d is in
         subst (λ (p : ℕ). p < place) (sym same) (after place d there.1 positive)
     by (inr past) =
-        let long : length (set ms k (grown m)) ≡ length ms = length-set ms k (grown m) in
-        let all : length (set ms k (grown m) ++ next_child k m ∷ []) ≡ length (set ms k (grown m)) + 1 =
-        length_push (set ms k (grown m)) (next_child k m) in
-        let last : length (set ms k (grown m)) ≡ place = omega (arith, past.0, within, long, all) in
+        let long : length (set ms k (made_with_child m)) ≡ length ms = length-set ms k (made_with_child m) in
+        let all : length (set ms k (made_with_child m) ++ next_child k m ∷ []) ≡ length (set ms k (made_with_child m)) + 1 =
+        length_push (set ms k (made_with_child m)) (next_child k m) in
+        let last : length (set ms k (made_with_child m)) ≡ place = omega (arith, past.0, within, long, all) in
         let here : k < length ms = slice_get_within ms k m is in
         let less : k < place = omega (arith, here, last, long) in
-        subst (λ (y : Made). y.parent < place) (sym (get_or_push (set ms k (grown m)) (next_child k m) d place last)) less
+        subst (λ (y : Made). y.parent < place) (sym (get_or_push (set ms k (made_with_child m)) (next_child k m) d place last)) less
 
 pub with_after : (ms : List Made) (place : ℕ) (found : Option Made) → slice_get ms place ≡ found → ComeAfter ms
     → ComeAfter (made_with place found ms)

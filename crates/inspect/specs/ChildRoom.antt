@@ -1,7 +1,7 @@
 -- The number of children of each process stays within its type while the processes of a trace are made.
 use Rattle.std.specs.Prelude.{ℕ, ◌+◌, ◌<◌, ◌^◌, List, [], ◌∷◌, if◌then◌else◌}
 use Rattle.std.specs.List.{All}
-use Rattle.inspect.specs.Types.{Event, Named}
+use Rattle.inspect.specs.Types.{Event, NamedProcess}
 use Rattle.inspect.specs.ProcessNames.{is_spawn}
 
 -- how many children an event makes, and events
@@ -13,8 +13,8 @@ all_births [] = 0
 all_births (e ∷ es) = births e + all_births es
 
 -- a process may get so many children more
-abbrev pub HasRoom : ℕ → Named → Type 0
+abbrev pub HasRoom : ℕ → NamedProcess → Type 0
 HasRoom more process = process.children + more < 2 ^ 32
 
-abbrev pub HaveRoom : ℕ → List Named → Type 0
+abbrev pub HaveRoom : ℕ → List NamedProcess → Type 0
 HaveRoom more processes = All (HasRoom more) processes

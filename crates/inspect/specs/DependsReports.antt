@@ -2,7 +2,7 @@
 use Rattle.std.specs.Prelude.{ℕ, List, ◌++◌, codes, position, Option, option_map}
 use Rattle.std.specs.List.{flat_map}
 use Rattle.std.specs.Fmt.{decimal}
-use Rattle.inspect.specs.Types.{Event, Named, Member, Node, Path, Process, Row, Ask, Reply}
+use Rattle.inspect.specs.Types.{Event, NamedProcess, Member, Node, Path, Process, Row, Ask, Reply}
 use Rattle.run_model.specs.OutcomeText.{line}
 use Rattle.trace_graph.specs.Graph.{Parts, same_node, graph_of}
 use Rattle.reach.specs.Depends.{depends_of}
@@ -13,7 +13,7 @@ abbrev pub version_text : Member → List ℕ
 version_text member =
     member.table ++ codes " " ++ decimal member.row ++ codes " " ++ decimal member.version
 
-abbrev pub node_line : List Named → Node → List ℕ
+abbrev pub node_line : List NamedProcess → Node → List ℕ
 node_line processes (Path path) = line (codes "path " ++ path)
 node_line processes (Process process) = line (codes "process " ++ name_in processes process)
 node_line processes (Row member) = line (codes "row " ++ version_text member)

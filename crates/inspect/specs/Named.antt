@@ -1,7 +1,7 @@
 -- A process of a trace, as reports name it.
 use Rattle.std.specs.Prelude.{ℕ, List}
 
-pub record Named : Type 0 where
+pub record NamedProcess : Type 0 where
   -- its spawn path
   pub parts : List ℕ
   -- how many children it made

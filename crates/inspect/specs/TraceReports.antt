@@ -2,7 +2,7 @@
 use Rattle.std.specs.Prelude.{ℕ, List, ◌++◌, length, codes, Bool, true, false}
 use Rattle.std.specs.List.{flat_map}
 use Rattle.std.specs.Fmt.{decimal}
-use Rattle.inspect.specs.Types.{Act, Event, Named}
+use Rattle.inspect.specs.Types.{Act, Event, NamedProcess}
 use Rattle.run_model.specs.declared.event.Act.TheVariants as acts
 use Rattle.run_model.specs.OutcomeText.{line}
 use Rattle.inspect.specs.ProcessNames.{processes_of, name_in}
@@ -18,7 +18,7 @@ path_act name path = name ++ path
 abbrev pub found_act : List ℕ → Bool → List ℕ → List ℕ
 found_act name found path = name ++ found_text found ++ path
 
-abbrev pub waited_text : List Named → ℕ → List ℕ
+abbrev pub waited_text : List NamedProcess → ℕ → List ℕ
 waited_text processes child = codes "waited " ++ name_in processes child
 
 -- `asked S tables N reads N made N`, with the numbers of tables, of versions read and of versions made
@@ -28,7 +28,7 @@ asked_text statement tables reads made =
     ++ decimal reads ++ codes " made " ++ decimal made
 
 -- an act and its fields
-abbrev pub act_text : List Named → Act → List ℕ
+abbrev pub act_text : List NamedProcess → Act → List ℕ
 act_text processes (acts.Started path) = path_act (codes "started ") path
 act_text processes (acts.Spawned path) = path_act (codes "spawned ") path
 act_text processes (acts.Unspawned path found) = found_act (codes "unspawned ") found path
@@ -47,7 +47,7 @@ act_text processes (acts.Asked statement tables reads made) =
     asked_text statement (length tables) (length reads) (length made)
 
 -- `STEP NAME ACT` and the fields
-abbrev pub event_line : List Named → Event → List ℕ
+abbrev pub event_line : List NamedProcess → Event → List ℕ
 event_line processes e =
     line (decimal e.step ++ codes " " ++ name_in processes e.process ++ codes " " ++ act_text processes e.act)
 

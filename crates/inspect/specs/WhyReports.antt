@@ -2,7 +2,7 @@
 use Rattle.std.specs.Prelude.{ℕ, ◌==◌, List, [], ◌++◌, codes, find, Bool, false, bytes_eq}
 use Rattle.std.specs.Prelude.{Option, Some, None, option_map, option_and_then}
 use Rattle.std.specs.Fmt.{decimal}
-use Rattle.inspect.specs.Types.{Act, Event, PackedRow, PackedTable, Named}
+use Rattle.inspect.specs.Types.{Act, Event, PackedRow, PackedTable, NamedProcess}
 use Rattle.run_model.specs.declared.event.Act.TheVariants as acts
 use Rattle.run_model.specs.OutcomeText.{line}
 use Rattle.inspect.specs.ProcessNames.{processes_of, name_in}
@@ -45,7 +45,7 @@ asked_in events statement = find (λ e. asks statement e.act) events
 -- ---- the report
 
 -- `statement S process NAME step T rule R`
-abbrev pub reason_line : List Named → PackedRow → Event → List ℕ
+abbrev pub reason_line : List NamedProcess → PackedRow → Event → List ℕ
 reason_line processes row e =
     line (codes "statement " ++ decimal row.statement ++ codes " process " ++ name_in processes e.process
     ++ codes " step " ++ decimal e.step ++ codes " rule " ++ rule_text row.rule)

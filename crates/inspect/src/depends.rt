@@ -12,8 +12,8 @@ ghost use Rattle.run_model.specs.OutcomeText.{line};
 ghost use Rattle.inspect.specs.Stopping.{Stops};
 
 use crate::append::append_numbered;
-use crate::names::{Processes, append_process, processes_of};
-use crate::stop::InspectStop;
+use crate::process_names::{Processes, append_process, processes_of};
+use crate::error::InspectStop;
 use ldv_value::{Bytes, Utf8};
 use reach::depends;
 use run_model::{Events, Package};

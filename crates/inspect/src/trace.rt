@@ -7,7 +7,7 @@ ghost use Rattle.inspect.specs.TraceReports.{act_text, asked_text, event_line, f
 ghost use Rattle.inspect.specs.TraceReports.{path_act, trace_report, waited_text};
 
 use crate::append::append_numbered;
-use crate::names::{Processes, append_process, processes_of};
+use crate::process_names::{Processes, append_process, processes_of};
 use ldv_value::{Bytes, Utf8, append_number};
 use run_model::{Act, Event, Package};
 use std::alloc::{AllocError, Global};

@@ -8,8 +8,8 @@ ghost use Rattle.inspect.specs.WhyReports.{asked_in, asks, reason_line, reason_o
 ghost use Rattle.inspect.specs.WhyReports.{row_numbered, table_named, why_report};
 
 use crate::append::{append_numbered, append_rule};
-use crate::names::{Processes, append_process, processes_of};
-use crate::stop::InspectStop;
+use crate::process_names::{Processes, append_process, processes_of};
+use crate::error::InspectStop;
 use ldv_value::Bytes;
 use run_model::{Act, Event, Package, PackedRow, PackedTable};
 use std::alloc::{AllocError, Global};

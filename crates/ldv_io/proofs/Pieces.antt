@@ -19,5 +19,5 @@ pub front_copied : (xs ys tail part : List ℕ) (at n : ℕ) → ys ≡ xs → p
 front_copied xs ys tail part at n whole is fits = subst (λ (l : List ℕ). drop at l ≡ take n (part ++ tail) ++ drop (at + n) l) whole (front_at ys tail part at n is fits)
 
 -- nothing is left from a place on that is the list's length
-pub none_left : (xs : List ℕ) (at : ℕ) → length xs ≤ at → drop at xs ≡ []
-none_left xs at past = drop_all at xs past
+pub drop_past : (xs : List ℕ) (at : ℕ) → length xs ≤ at → drop at xs ≡ []
+drop_past xs at past = drop_all at xs past

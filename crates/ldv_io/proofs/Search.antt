@@ -9,10 +9,10 @@ use Rattle.std.proofs.lemmas.Grind.{get_or_default_zero}
 missed : (xs : List ℕ) (x i k : ℕ) → k < length xs → get_or xs k x ≡ x → ((k : ℕ) → k < i → get_or xs k 0 < x) → ((k : ℕ) → i ≤ k → k < length xs → x < get_or xs k 0) → ⊥
 missed xs x i k lt is below above = grind (arith, get_or_default_zero xs k x lt, below k, above k)
 
-pub found : (xs : List ℕ) (x : ℕ) (r : Result ℕ ℕ) → IsBinarySearchResult (λ y. nat_cmp y x) xs r → IsNonDecreasing xs → IsTrue (is_ok r) ↔ Contains xs x
-found xs x (Ok i) is up =
+pub is_ok-iff-Contains : (xs : List ℕ) (x : ℕ) (r : Result ℕ ℕ) → IsBinarySearchResult (λ y. nat_cmp y x) xs r → IsNonDecreasing xs → IsTrue (is_ok r) ↔ Contains xs x
+is_ok-iff-Contains xs x (Ok i) is up =
     let at = searched xs x (Ok i) is (λ i j le lt. up i j 0 le lt) in
     (λ _. (i, at.0, get_or_default_zero xs i x at.0 ∙ at.1), λ _. refl)
-found xs x (Err i) is up =
+is_ok-iff-Contains xs x (Err i) is up =
     let none = searched xs x (Err i) is (λ i j le lt. up i j 0 le lt) in
     (λ h. cc, λ has. absurd (missed xs x i has.0 has.1 has.2 none.1 none.2))

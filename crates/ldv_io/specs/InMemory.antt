@@ -1,6 +1,6 @@
 -- Sources and sinks in memory, whose calls are numbered and fail where their number is listed.
 use Rattle.std.specs.Prelude.{◌≡◌, ℕ, ◌+◌, ◌-◌, ◌^◌, ◌<◌, ◌⊎◌, List, length, drop, ◌++◌, Contains}
-use Rattle.ldv_io.specs.Causes.{raised}
+use Rattle.ldv_io.specs.Causes.{next_count}
 
 -- What a source in memory is: the bytes left, the most that a read returns, the numbers of the calls
 -- that fail, the calls made and the faults, both up to the last number of 64 bits.
@@ -21,7 +21,7 @@ pub record Writer : Type 0 where
   pub faults : ℕ
 
 -- What a source that never fails is: the bytes left, and the most that a read returns.
-pub record Steady : Type 0 where
+pub record SteadyView : Type 0 where
   pub left : List ℕ
   pub piece : ℕ
 
@@ -31,20 +31,20 @@ IsListed failing calls = (calls + 1 < 2 ^ 64) × Contains failing (calls + 1)
 
 -- the source after a read that failed, and after one that returned n bytes
 abbrev pub read_failed : Reader → Reader
-read_failed r = record r { calls = raised r.calls; faults = raised r.faults }
+read_failed r = record r { calls = next_count r.calls; faults = next_count r.faults }
 
 abbrev pub read_gave : ℕ → Reader → Reader
-read_gave n r = record r { left = drop n r.left; calls = raised r.calls }
+read_gave n r = record r { left = drop n r.left; calls = next_count r.calls }
 
 -- the sink after a write that failed, and after one that took these bytes
 abbrev pub write_failed : Writer → Writer
-write_failed w = record w { calls = raised w.calls; faults = raised w.faults }
+write_failed w = record w { calls = next_count w.calls; faults = next_count w.faults }
 
 abbrev pub write_took : List ℕ → Writer → Writer
 write_took bytes w = record w {
   taken = w.taken ++ bytes;
   room = w.room - length bytes;
-  calls = raised w.calls;
+  calls = next_count w.calls;
 }
 
 -- a write of these bytes fails

@@ -6,7 +6,7 @@ ghost use Rattle.std.specs.Prelude.{vec_capacity};
 ghost use Rattle.std.specs.List.Sorted.{IsNonDecreasing};
 ghost use Rattle.std.specs.Io.{ReadsAtMost, WritesAtMost};
 ghost use Rattle.std.specs.Io.KnownBytes.{ReadConsumes, WriteAppends};
-ghost use Rattle.ldv_io.specs.Causes.{HasCause, raised};
+ghost use Rattle.ldv_io.specs.Causes.{HasCause, next_count};
 ghost use Rattle.ldv_io.specs.InMemory.{IsListed, IsRefused};
 ghost use Rattle.ldv_io.specs.InMemory.{read_failed, read_gave, write_failed, write_took};
 
@@ -61,7 +61,7 @@ impl MemorySource {
             bytes,
             at: 0,
             piece,
-            failing: sorted(failing),
+            failing: sort_calls(failing),
             calls: 0,
             faults: 0,
         }
@@ -99,7 +99,7 @@ impl Source for MemorySource {
 }
 
 // Copies the next bytes to the front of the buffer, at most a piece, and returns how many they are.
-#[tactic(auto, using(crate::proofs::Pieces::none_left))]
+#[tactic(auto, using(crate::proofs::Pieces::drop_past))]
 pub(crate) fn copy_piece(bytes: &Bytes, at: usize, piece: usize, buf: &mut [u8]) -> usize
     requires piece { 0 < piece }
     requires within { at ≤ length bytes.now }
@@ -117,7 +117,7 @@ pub(crate) fn copy_piece(bytes: &Bytes, at: usize, piece: usize, buf: &mut [u8])
 }
 
 // The numbers, sorted. It takes no memory.
-fn sorted(failing: Calls) -> Vec<u64>
+fn sort_calls(failing: Calls) -> Vec<u64>
     ensures same { IsPermutation failing result.items }
     ensures sorted { IsNonDecreasing result.items }
 {
@@ -196,14 +196,14 @@ impl MemorySink {
             held,
             room,
             piece,
-            failing: sorted(failing),
+            failing: sort_calls(failing),
             calls: 0,
             faults: 0,
         })
     }
 
     /// The bytes taken so far.
-    pub fn taken(&self) -> &[u8]
+    pub fn bytes(&self) -> &[u8]
         ensures { result.now ≡ self.now.taken }
     {
         self.held.as_slice()

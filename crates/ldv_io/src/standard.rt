@@ -3,7 +3,7 @@
 ghost use Rattle.std.specs.Prelude.{◌≡◌, ◌<◌, ◌≤◌, length, take, None, IfOk, MatchResult};
 ghost use Rattle.std.specs.Io.{ReadsAtMost, WritesAtMost};
 ghost use Rattle.std.specs.Io.KnownBytes.{ReadConsumes, WriteAppends, Appends, Keeps};
-ghost use Rattle.ldv_io.specs.Causes.{HasCause, raised};
+ghost use Rattle.ldv_io.specs.Causes.{HasCause, next_count};
 
 use crate::sink::Sink;
 use crate::source::{Failed, Source};
@@ -42,7 +42,7 @@ impl<R: Read + Drop> Source for StdSource<R> {
         ensures reader { ReadConsumes (R.remaining self.old.reader) (R.remaining self.new.reader)
             result buf.new }
         ensures counted { MatchResult result (λ _. self.new.faults ≡ self.old.faults)
-            (λ _. self.new.faults ≡ raised self.old.faults) }
+            (λ _. self.new.faults ≡ next_count self.old.faults) }
     {
         match self.reader.read(buf) {
             Ok(count) => Ok(count),
@@ -89,7 +89,7 @@ impl<W: Write + Drop> Sink for StdSink<W> {
         ensures writer { IfOk result (λ n.
             Appends (W.contents self.old.writer) (W.contents self.new.writer) (take n bytes.now)) }
         ensures counted { MatchResult result (λ _. self.new.faults ≡ self.old.faults)
-            (λ _. self.new.faults ≡ raised self.old.faults) }
+            (λ _. self.new.faults ≡ next_count self.old.faults) }
     {
         if bytes.is_empty() {
             return Ok(0);

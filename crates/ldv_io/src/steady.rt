@@ -21,9 +21,9 @@ pub struct SteadySource {
 
 impl Model for SteadySource {
     ghost use Rattle.std.specs.Prelude.{◌<◌, ◌≤◌, length, drop};
-    ghost use Rattle.ldv_io.specs.InMemory.{Steady};
+    ghost use Rattle.ldv_io.specs.InMemory.{SteadyView};
 
-    ghost Value = { Steady };
+    ghost Value = { SteadyView };
 
     ghost view = { λ a. record { left = drop a.at a.bytes; piece = a.piece } };
 

@@ -15,7 +15,7 @@ use Rattle.package_layout.specs.Version.{version_of}
 use Rattle.package_layout.specs.declared.version.Version.{Version}
 use Rattle.ldv_top.specs.declared.exit.Exit.TheVariants.{NotEnded, PackageTooLong}
 use Rattle.ldv_top.specs.DueOfAudits.{verdict_text, verdict_due, audit_as, audit_by_version, included_audit}
-use Rattle.ldv_top.specs.DueParts.{Due, refused, done, due_outcome}
+use Rattle.ldv_top.specs.DueParts.{DueOutput, due_refusal, due_bytes, due_outcome}
 use Rattle.ldv_top.proofs.RecordLaws.{not_too_long, too_long}
 
 -- the version is one of the input's
@@ -27,21 +27,21 @@ module _ (budget : ℕ) (input : List ℕ) (p : Package) (version : Version) (ve
   audit_is = sym (ap (λ (o : Option Version). audit_by_version o budget input p) versioned)
 
   -- of a run that ends, it is said of the package
-  ended_due : (written : Due) → ends_within budget (own_world p) ≡ true → ((outcome : _) → verdict_due input due outcome ≡ written)
+  ended_due : (written : DueOutput) → ends_within budget (own_world p) ≡ true → ((outcome : _) → verdict_due input due outcome ≡ written)
       → written ≡ included_audit budget input p
   ended_due written ended is =
       let outcome = ended_outcome budget (own_world p) ended in
       sym (ap (due_outcome budget (verdict_due input due)) outcome.1 ∙ is outcome.0) ∙ audit_is
 
-  done_due : (verdict : Verdict) → Audits budget version p input (Ok verdict) → done (verdict_text verdict) ≡ included_audit budget input p
+  done_due : (verdict : Verdict) → Audits budget version p input (Ok verdict) → due_bytes (verdict_text verdict) ≡ included_audit budget input p
   done_due verdict audits =
-      ended_due (done (verdict_text verdict)) audits.0
-      (λ outcome. rw (not_too_long due audits.1.0) (ap (λ (v : Verdict). done (verdict_text v)) (sym audits.1.1)))
+      ended_due (due_bytes (verdict_text verdict)) audits.0
+      (λ outcome. rw (not_too_long due audits.1.0) (ap (λ (v : Verdict). due_bytes (verdict_text v)) (sym audits.1.1)))
 
-  long_due : ends_within budget (own_world p) ≡ true → input_limit < length due → refused PackageTooLong ≡ included_audit budget input p
-  long_due ended long = ended_due (refused PackageTooLong) ended (λ outcome. rw (too_long due long) refl)
+  long_due : ends_within budget (own_world p) ≡ true → input_limit < length due → due_refusal PackageTooLong ≡ included_audit budget input p
+  long_due ended long = ended_due (due_refusal PackageTooLong) ended (λ outcome. rw (too_long due long) refl)
 
-  late_due : ends_within budget (own_world p) ≡ false → refused (NotEnded budget) ≡ included_audit budget input p
+  late_due : ends_within budget (own_world p) ≡ false → due_refusal (NotEnded budget) ≡ included_audit budget input p
   late_due going = sym (ap (due_outcome budget (verdict_due input due)) (going_outcome budget (own_world p) going)) ∙ audit_is
 
 -- an audit that comes to something in the version of the input, which has one
@@ -53,18 +53,18 @@ some_version None is = let never : false ≡ true = is in absurd cc
 some_version (Some version) is = (version, refl)
 
 module _ (budget : ℕ) (input : List ℕ) (p : Package) (some : IsSome (version_of input)) where
-  pub audit_done : (verdict : Verdict) → AuditedAs budget input p (Ok verdict) → done (verdict_text verdict) ≡ included_audit budget input p
+  pub audit_done : (verdict : Verdict) → AuditedAs budget input p (Ok verdict) → due_bytes (verdict_text verdict) ≡ included_audit budget input p
   audit_done verdict audits =
       let found = some_version (version_of input) some in
       done_due budget input p found.0 found.1 verdict (audits found.0 found.1)
 
-  pub audit_long : AuditedAs budget input p (Err stops.TooLong) → refused PackageTooLong ≡ included_audit budget input p
+  pub audit_long : AuditedAs budget input p (Err stops.TooLong) → due_refusal PackageTooLong ≡ included_audit budget input p
   audit_long audits =
       let found = some_version (version_of input) some in
       let long = audits found.0 found.1 in
       long_due budget input p found.0 found.1 long.0 long.1
 
-  pub audit_late : AuditedAs budget input p (Err stops.NotEnded) → refused (NotEnded budget) ≡ included_audit budget input p
+  pub audit_late : AuditedAs budget input p (Err stops.NotEnded) → due_refusal (NotEnded budget) ≡ included_audit budget input p
   audit_late audits =
       let found = some_version (version_of input) some in
       late_due budget input p found.0 found.1 (audits found.0 found.1)

@@ -9,7 +9,7 @@ use Rattle.run_model.specs.Types.{Instr}
 use Rattle.run_model.specs.declared.package.Mode.{Mode}
 use Rattle.run_model.specs.declared.package.Mode.TheVariants.{Included, Excluded}
 use Rattle.run_model.specs.declared.package.Package.{Package}
-use Rattle.package_layout.specs.RunPackages.{whole}
+use Rattle.package_layout.specs.RunPackages.{expanded_package}
 use Rattle.package_layout.specs.Valid.{reading}
 use Rattle.package_layout.specs.Version.{version_of}
 use Rattle.package_layout.specs.Whole.{spelling}
@@ -29,7 +29,7 @@ module _ (r : RunPackage) where
   bare = r.bare
 
   abbrev all : Package
-  all = whole r
+  all = expanded_package r
 
   -- ---- over recorded replies
 

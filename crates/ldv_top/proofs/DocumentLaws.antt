@@ -17,8 +17,8 @@ use Rattle.ldv_top.specs.declared.command.Report.TheVariants.{Depends}
 use Rattle.ldv_top.specs.declared.exit.Exit.TheVariants.{TooLong}
 use Rattle.ldv_top.specs.DueOfProv.{prov_due, due_prov, prov_depends_due, due_prov_depends}
 use Rattle.ldv_top.specs.DueOfReports.{item_due, report_due}
-use Rattle.ldv_top.specs.DueParts.{due_of_reading, refused}
-use Rattle.ldv_top.specs.ProvReported.{DocumentLaw, named_due}
+use Rattle.ldv_top.specs.DueParts.{due_of_reading, due_refusal}
+use Rattle.ldv_top.specs.ProvReported.{DocumentLaw, due_by_names}
 use Rattle.ldv_top.proofs.RecordLaws.{not_too_long}
 use Rattle.ldv_top.proofs.Traces.{valid_run, valid_steps}
 
@@ -31,7 +31,7 @@ prov_read p input short read = rw (not_too_long input short) (sym (ap (due_of_re
 pub document_read : (path input : List ℕ) (read : Option Parts) → length input ≤ input_limit → prov_reading input ≡ read
     → prov_depends_due path read ≡ due_prov_depends path input
 document_read path input read short is =
-    sym (ap (λ (b : Bool). if b then refused TooLong else prov_depends_due path (prov_reading input)) (not_too_long input short)
+    sym (ap (λ (b : Bool). if b then due_refusal TooLong else prov_depends_due path (prov_reading input)) (not_too_long input short)
     ∙ ap (prov_depends_due path) is)
 
 -- a report on what nodes give is one on them
@@ -41,7 +41,7 @@ report_same f g (Some x) = refl
 
 module _ (p : Package) (path : List ℕ) where
   -- the report on a package
-  pub named_same : report_due (Depends path) p ≡ named_due p path
+  pub named_same : report_due (Depends path) p ≡ due_by_names p path
   named_same =
       ap item_due (report_same (λ (place : ℕ). depends_of (graph_of p.events) place p.steps) (named_report p.events) (place_of (graph_of p.events) path))
 
@@ -51,7 +51,7 @@ document_law law p path input is =
     let low : p.steps ≤ max_steps = leb-true p.steps max_steps (and-second (nat_le 1 p.steps) (nat_le p.steps max_steps) (valid_steps p is.valid)) in
     let short : length (prov_text (graph_of p.events)) ≤ input_limit = subst (λ (bytes : List ℕ). length bytes ≤ input_limit) is.same is.short in
     let laws = law run.0 p.steps p.events run.1 run.2 low is.typed.1.1.1.1.1.1 short in
-    ap (λ (b : Bool). if b then refused TooLong else prov_depends_due path (prov_reading input)) (not_too_long input is.short)
+    ap (λ (b : Bool). if b then due_refusal TooLong else prov_depends_due path (prov_reading input)) (not_too_long input is.short)
     ∙ ap (λ (bytes : List ℕ). prov_depends_due path (prov_reading bytes)) is.same
     ∙ ap (prov_depends_due path) laws.0
     ∙ ap item_due (laws.1 path)

@@ -10,7 +10,7 @@ use Rattle.run_model.specs.declared.world.World.{World}
 use Rattle.run_model.specs.OutcomeText.{outcome_text_of}
 use Rattle.run_model.specs.Package.{own_world, package_of}
 use Rattle.run_model.specs.WorldRun.{ends_within, outcome_within}
-use Rattle.package_layout.specs.Valid.{Valid}
+use Rattle.package_layout.specs.Valid.{IsValidPackage}
 use Rattle.package_layout.specs.Whole.{spelling}
 use Rattle.run_laws.proofs.BudgetLaw.{ended_outcome, going_outcome}
 use Rattle.replay_db.proofs.RecordedRuns.{package_is, package_none}
@@ -18,7 +18,7 @@ use Rattle.replay_db.specs.Runs.{package_within}
 use Rattle.replay_db.specs.Worlds.{ValidPackageLaw, ValidWorld, WorldTablesLaw}
 use Rattle.ldv_top.specs.declared.exit.Exit.TheVariants.{NotEnded, PackageTooLong}
 use Rattle.ldv_top.specs.DueOfGenerate.{replay_line, row_count, summary_due, summary_head, summed_outcome, summed_package, summed_replay, summed_spelling, summed_world}
-use Rattle.ldv_top.specs.DueParts.{done, refused, due_outcome}
+use Rattle.ldv_top.specs.DueParts.{due_bytes, due_refusal, due_outcome}
 use Rattle.ldv_top.proofs.RecordLaws.{not_too_long, too_long}
 
 -- ---- the record
@@ -34,9 +34,9 @@ module _ (w : World) (p : Package) (is : package_within Included default_steps w
   recorded : p ≡ package_of Included default_steps w
   recorded = let both : Some p ≡ Some (package_of Included default_steps w) = sym is ∙ package_is Included default_steps w ended in cc
 
-  pub recorded_valid : WorldTablesLaw → ValidPackageLaw → ValidWorld w → Valid p
+  pub recorded_valid : WorldTablesLaw → ValidPackageLaw → ValidWorld w → IsValidPackage p
   recorded_valid tables law valid =
-      subst Valid (sym recorded) (law Included default_steps w valid.ruled (tables w valid) tt (omega arith) ended)
+      subst IsValidPackage (sym recorded) (law Included default_steps w valid.ruled (tables w valid) tt (omega arith) ended)
 
   pub summed_in_time : (orders rows : ℕ) → rows ≡ row_count w.tables → summed_package orders rows p ≡ summed_world orders w
   summed_in_time orders rows counted =
@@ -45,7 +45,7 @@ module _ (w : World) (p : Package) (is : package_within Included default_steps w
       ∙ sym (ap (due_outcome default_steps (summed_outcome orders w)) (ended_outcome default_steps w ended).1)
 
 pub summed_late : (orders : ℕ) (w : World) → package_within Included default_steps w ≡ None
-    → refused (NotEnded default_steps) ≡ summed_world orders w
+    → due_refusal (NotEnded default_steps) ≡ summed_world orders w
 summed_late orders w is = elim (cases_Bool (ends_within default_steps w)) [
   | inl over ↦ let never : None ≡ Some (package_of Included default_steps w) = sym is ∙ package_is Included default_steps w over in absurd cc
   | inr going ↦ sym (ap (due_outcome default_steps (summed_outcome orders w)) (going_outcome default_steps w going))
@@ -54,11 +54,11 @@ summed_late orders w is = elim (cases_Bool (ends_within default_steps w)) [
 -- ---- the replay
 
 pub replay_in_time : (head : List ℕ) (p : Package) (outcome : Outcome) → outcome_within default_steps (own_world p) ≡ Some outcome
-    → done (head ++ replay_line (outcome_text_of outcome)) ≡ summed_replay head p
+    → due_bytes (head ++ replay_line (outcome_text_of outcome)) ≡ summed_replay head p
 replay_in_time head p outcome is = sym (ap (due_outcome default_steps (summary_due head)) is)
 
 pub replay_late : (head : List ℕ) (p : Package) → outcome_within default_steps (own_world p) ≡ None
-    → refused (NotEnded default_steps) ≡ summed_replay head p
+    → due_refusal (NotEnded default_steps) ≡ summed_replay head p
 replay_late head p is = sym (ap (due_outcome default_steps (summary_due head)) is)
 
 pub ruleset replay_sums = (replay_in_time, replay_late)
@@ -68,9 +68,9 @@ pub ruleset replay_sums = (replay_in_time, replay_late)
 pub summed_whole : (orders rows : ℕ) (p : Package) (bytes : List ℕ) → bytes ≡ spelling p → length bytes ≤ input_limit
     → summed_replay (summary_head orders rows p bytes) p ≡ summed_package orders rows p
 summed_whole orders rows p bytes same short =
-    sym (ap (λ (b : Bool). if b then refused PackageTooLong else summed_replay (summary_head orders rows p bytes) p) (not_too_long bytes short))
+    sym (ap (λ (b : Bool). if b then due_refusal PackageTooLong else summed_replay (summary_head orders rows p bytes) p) (not_too_long bytes short))
     ∙ ap (λ (l : List ℕ). summed_spelling orders rows p l) same
 
 pub summed_long : (orders rows : ℕ) (p : Package) → input_limit < length (spelling p)
-    → refused PackageTooLong ≡ summed_package orders rows p
+    → due_refusal PackageTooLong ≡ summed_package orders rows p
 summed_long orders rows p long = rw (too_long (spelling p) long) refl

@@ -24,10 +24,10 @@ use Rattle.run_laws.specs.LogLaws.{PickedLogLaw}
 use Rattle.replay_db.specs.Worlds.{ValidWorld, WorldTablesLaw, ValidPackageLaw, TypedPackageLaw}
 use Rattle.world_json.specs.Reading.{world_reading}
 use Rattle.ldv_top.specs.declared.exit.Exit.TheVariants.{Done}
-use Rattle.ldv_top.specs.Due.{Due, due_outcome, outcome_due, due_world, due_reading, due_run, due_spelling, package_due, recorded_world, recorded_reading, due_record, due_divergence, due_log, replayed_as, replayed_reading, due_replay}
+use Rattle.ldv_top.specs.Due.{DueOutput, due_outcome, outcome_due, due_world, due_reading, due_run, due_spelling, package_due, recorded_world, recorded_reading, due_record, due_divergence, due_log, replayed_as, replayed_reading, due_replay}
 use Rattle.ldv_top.specs.DueOfAudits.{due_audit}
-use Rattle.ldv_top.specs.DueParts.{done}
-use Rattle.ldv_top.specs.Headline.{IsPackageOf, Recorded}
+use Rattle.ldv_top.specs.DueParts.{due_bytes}
+use Rattle.ldv_top.specs.Headline.{IsPackageOf, IsRecording}
 use Rattle.ldv_top.proofs.ReadBack.{ReadAgain, ShortCounted, read_back as packed_read}
 use Rattle.ldv_top.proofs.RecordLaws.{not_too_long, Spelled, spelling_done}
 use Rattle.ldv_top.proofs.SoundLaws.{Written, run_written, version_spelled, sound_from}
@@ -95,7 +95,7 @@ module _ (again : ReadAgain) (counted : ShortCounted) (valid : ValidPackageLaw) 
       → length (spelling (package_of Included n w)) ≤ input_limit
       → steps_by n [] w ≤ budget
       → bytes ≡ spelling (package_of Included n w)
-      → due_audit budget bytes ≡ done (codes "sound\n")
+      → due_audit budget bytes ≡ due_bytes (codes "sound\n")
   sound_due n budget w bytes valid_world bounded ended short enough is =
       let p : Package = package_of Included n w in
       let script = ended_starts n [] w ended in
@@ -109,7 +109,7 @@ module _ (again : ReadAgain) (counted : ShortCounted) (valid : ValidPackageLaw) 
       → length (spelling (package_of mode n w)) ≤ input_limit
       → steps_by n [] w ≤ budget
       → bytes ≡ spelling (package_of mode n w)
-      → due_audit budget bytes ≡ done (codes "sound\n")
+      → due_audit budget bytes ≡ due_bytes (codes "sound\n")
   mode_sound Included n budget w bytes included = sound_due n budget w bytes
   mode_sound Excluded n budget w bytes included = absurd cc
 
@@ -122,14 +122,14 @@ module _ (again : ReadAgain) (counted : ShortCounted) (valid : ValidPackageLaw) 
 
   -- the package that is recorded of a document
   pub recorded_due : (mode : Mode) (n : ℕ) (document : List ℕ) (w : World) → length document ≤ input_limit → n ≤ max_steps → world_reading document ≡ Ok w → ValidWorld w
-      → (due_record mode n document).exit ≡ Done → Recorded mode n document (due_record mode n document).bytes
+      → (due_record mode n document).exit ≡ Done → IsRecording mode n document (due_record mode n document).bytes
   recorded_due mode n document w short bounded is valid_world done =
       let recorded : due_record mode n document ≡ recorded_world mode n w = rw (not_too_long document short) (ap (recorded_reading mode n) is) in
-      let ran : Written n w (package_due mode n w) = run_written n w (package_due mode n w) (ap (λ (d : Due). d.exit) (sym recorded) ∙ done) in
+      let ran : Written n w (package_due mode n w) = run_written n w (package_due mode n w) (ap (λ (d : DueOutput). d.exit) (sym recorded) ∙ done) in
       let runs : due_run n document ≡ due_world n w = rw (not_too_long document short) (ap (due_reading n) is) in
       let p : Package = package_of mode n w in
       let spelled : Spelled (due_spelling (spelling p)) (spelling p) = spelling_done (spelling p) ran.finished in
-      let bytes : (due_record mode n document).bytes ≡ spelling p = ap (λ (d : Due). d.bytes) (recorded ∙ ran.due) ∙ spelled.1 in
+      let bytes : (due_record mode n document).bytes ≡ spelling p = ap (λ (d : DueOutput). d.bytes) (recorded ∙ ran.due) ∙ spelled.1 in
       let ended : ends_within n w ≡ true = outcome_ends n w ran.outcome ran.comes in
       let done_world : due_world n w ≡ outcome_due ran.outcome = ap (due_outcome n outcome_due) ran.comes in
       record {
@@ -139,6 +139,6 @@ module _ (again : ReadAgain) (counted : ShortCounted) (valid : ValidPackageLaw) 
         read_back = ap reading bytes ∙ read_back mode n w valid_world bounded ended spelled.0;
         within = steps_at_most n [] w;
         replayed = λ steps enough. ap (due_replay steps) bytes ∙ spelling_due mode n steps w valid_world bounded spelled.0 enough ran.outcome ran.comes ∙ sym runs;
-        ends = ap (λ (d : Due). d.exit) (runs ∙ done_world);
+        ends = ap (λ (d : DueOutput). d.exit) (runs ∙ done_world);
         sound = λ included steps enough. mode_sound mode n steps w _ included valid_world bounded ended spelled.0 enough bytes;
       }

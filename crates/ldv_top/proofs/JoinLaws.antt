@@ -14,7 +14,7 @@ use Rattle.run_laws.proofs.EndedLaw.{ended_starts}
 use Rattle.run_laws.specs.Laws.{BetweenLaw, SameRun}
 use Rattle.package_layout.proofs.Numbers.{sized_law}
 use Rattle.package_layout.specs.Fields.{sized_at, text_spelling}
-use Rattle.package_layout.specs.Valid.{Valid, reading}
+use Rattle.package_layout.specs.Valid.{IsValidPackage, reading}
 use Rattle.package_layout.specs.Whole.{IsTyped, spelling}
 use Rattle.package_join.proofs.TypedJoins.{together_typed}
 use Rattle.package_join.specs.declared.joined.Joined.{Joined}
@@ -22,11 +22,11 @@ use Rattle.package_join.specs.declared.joined.Which.{Which}
 use Rattle.package_join.specs.declared.joined.Which.TheVariants.{First, Second}
 use Rattle.package_join.specs.Laws.{IsJoined, JoinLaw, RoundTripLaw, ValidLaw}
 use Rattle.package_join.specs.Layout.{joined_spelling}
-use Rattle.package_join.specs.Valid.{ValidJoined, joined_reading}
+use Rattle.package_join.specs.Valid.{IsValidJoined, joined_reading}
 use Rattle.package_join.specs.Worlds.{joined_world}
 use Rattle.replay_db.specs.Worlds.{WorldTablesLaw, ValidPackageLaw, TypedPackageLaw}
 use Rattle.ldv_top.specs.Due.{due_world}
-use Rattle.ldv_top.specs.DueOfJoins.{due_joined, pair_in}
+use Rattle.ldv_top.specs.DueOfJoins.{due_join_bytes, pair_in}
 use Rattle.ldv_top.specs.TwoRuns.{AnyJoinedLaw, AreTwo, PairLaw, TwoRunsLaw, included_of, its_due, its_steps, two_joined}
 use Rattle.ldv_top.proofs.HeadlineLaw.{same_due}
 use Rattle.ldv_top.proofs.JoinResponses.{both_found, first_due, pair_due, run_due, second_due}
@@ -48,7 +48,7 @@ module _ (again : ReadAgain) (counted : ShortCounted) (valid : ValidPackageLaw) 
   -- ---- one of the two worlds
 
   module _ (n : ℕ) (w : World) (valid_world : ValidWorld w) (bounded : n ≤ max_steps) (ended : ends_within n w ≡ true) where
-    pub package_valid : Valid (included_of n w)
+    pub package_valid : IsValidPackage (included_of n w)
     package_valid = valid Included n w valid_world.ruled (valid_tables w valid_world) tt bounded ended
 
     pub package_typed : IsTyped (included_of n w)
@@ -74,7 +74,7 @@ module _ (again : ReadAgain) (counted : ShortCounted) (valid : ValidPackageLaw) 
     joined_two =
         join n m v w two.files two.tables (valid_runs v two.first_valid).files (valid_tables v two.first_valid)
 
-    pub two_valid : ValidJoined (two_joined n m v w)
+    pub two_valid : IsValidJoined (two_joined n m v w)
     two_valid =
         valid_joined (included_of n v) (included_of m w) (two_joined n m v w)
         (package_valid n v two.first_valid two.first_bounded two.first_ends) (package_valid m w two.second_valid two.second_bounded two.second_ends)
@@ -102,7 +102,7 @@ module _ (again : ReadAgain) (counted : ShortCounted) (valid : ValidPackageLaw) 
       sym (pair_due input (spelling a) (spelling b) pair.short (sym found))
       ∙ sym (first_due a (spelling a) (spelling b) first)
       ∙ sym (second_due a b (spelling b) second)
-      ∙ ap due_joined (joined_two n m v w two).joined
+      ∙ ap due_join_bytes (joined_two n m v w two).joined
 
   pub two_runs_law : TwoRunsLaw
   two_runs_law which n m budget v w input is enough =

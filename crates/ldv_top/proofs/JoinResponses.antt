@@ -6,7 +6,7 @@ use Rattle.ldv_value.specs.Limits.{input_limit}
 use Rattle.run_model.specs.declared.package.Package.{Package}
 use Rattle.package_layout.specs.declared.damage.DamageKind.{DamageKind}
 use Rattle.package_layout.specs.declared.damage.DamageKind.TheVariants.{Form}
-use Rattle.package_layout.specs.Fields.{Found, ◌>>=◌, bytes_at, number_at, sized_at}
+use Rattle.package_layout.specs.Fields.{DecodeResult, ◌>>=◌, bytes_at, number_at, sized_at}
 use Rattle.package_layout.specs.Valid.{reading}
 use Rattle.package_join.specs.declared.joined.Joined.{Joined}
 use Rattle.package_join.specs.declared.joined.Which.{Which}
@@ -15,28 +15,28 @@ use Rattle.package_join.specs.Worlds.{joined_world}
 use Rattle.ldv_top.specs.declared.exit.Exit.TheVariants.{Damaged}
 use Rattle.ldv_top.specs.Due.{due_replay_run, due_world, replayed_run}
 use Rattle.ldv_top.specs.DueOfJoins.{due_join, joined_inputs, joined_packages, joined_pair, pair_in}
-use Rattle.ldv_top.specs.DueParts.{due_of_reading, refused}
+use Rattle.ldv_top.specs.DueParts.{due_of_reading, due_refusal}
 use Rattle.ldv_top.proofs.RecordLaws.{not_too_long}
 
 -- ---- the two of the input
 
-abbrev sized_by : ℕ × List ℕ → Found (List ℕ)
+abbrev sized_by : ℕ × List ℕ → DecodeResult (List ℕ)
 sized_by count = bytes_at count.0 count.1
 
 -- after the number
 pub sized_is : (bytes : List ℕ) (count : ℕ) (rest : List ℕ) → number_at w32 bytes ≡ Some (count, rest) → sized_at bytes ≡ bytes_at count rest
-sized_is bytes count rest is = ap (λ (found : Found ℕ). found >>= sized_by) is
+sized_is bytes count rest is = ap (λ (found : DecodeResult ℕ). found >>= sized_by) is
 
 pub not_sized : (bytes : List ℕ) → number_at w32 bytes ≡ None → sized_at bytes ≡ None
-not_sized bytes is = ap (λ (found : Found ℕ). found >>= sized_by) is
+not_sized bytes is = ap (λ (found : DecodeResult ℕ). found >>= sized_by) is
 
 abbrev Pair : Type 0
 Pair = List ℕ × List ℕ
 
-abbrev paired : List ℕ → List ℕ × List ℕ → Found Pair
+abbrev paired : List ℕ → List ℕ × List ℕ → DecodeResult Pair
 paired first second = Some ((first, second.0), second.1)
 
-abbrev next : List ℕ × List ℕ → Found Pair
+abbrev next : List ℕ × List ℕ → DecodeResult Pair
 next first = sized_at first.1 >>= paired first.0
 
 abbrev kept_if : Bool → Pair → Option Pair
@@ -46,10 +46,10 @@ abbrev ended : Pair × List ℕ → Option Pair
 ended pair = kept_if (length pair.1 == 0) pair.0
 
 -- by the first of them, and by the second
-abbrev by_first : Found (List ℕ) → Option Pair
+abbrev by_first : DecodeResult (List ℕ) → Option Pair
 by_first found = (found >>= next) >>= ended
 
-abbrev by_second : List ℕ → Found (List ℕ) → Option Pair
+abbrev by_second : List ℕ → DecodeResult (List ℕ) → Option Pair
 by_second first found = (found >>= paired first) >>= ended
 
 pub no_first : (bytes : List ℕ) → sized_at bytes ≡ None → None ≡ pair_in bytes
@@ -75,20 +75,20 @@ pub ruleset pairs = (no_first, no_second, both_found, bytes_left)
 pub pair_due : (input first second : List ℕ) → length input ≤ input_limit → Some (first, second) ≡ pair_in input → joined_inputs first second ≡ due_join input
 pair_due input first second short is = rw (not_too_long input short) (ap joined_pair is)
 
-pub no_pair_due : (input : List ℕ) → length input ≤ input_limit → None ≡ pair_in input → refused (Damaged Form) ≡ due_join input
+pub no_pair_due : (input : List ℕ) → length input ≤ input_limit → None ≡ pair_in input → due_refusal (Damaged Form) ≡ due_join input
 no_pair_due input short is = rw (not_too_long input short) (ap joined_pair is)
 
 pub first_due : (a : Package) (first second : List ℕ) → reading first ≡ Ok a → due_of_reading (joined_packages a) (reading second) ≡ joined_inputs first second
 first_due a first second is = sym (ap (due_of_reading (λ (p : Package). due_of_reading (joined_packages p) (reading second))) is)
 
-pub first_damaged : (kind : DamageKind) (first second : List ℕ) → reading first ≡ Err kind → refused (Damaged kind) ≡ joined_inputs first second
+pub first_damaged : (kind : DamageKind) (first second : List ℕ) → reading first ≡ Err kind → due_refusal (Damaged kind) ≡ joined_inputs first second
 first_damaged kind first second is = sym (ap (due_of_reading (λ (p : Package). due_of_reading (joined_packages p) (reading second))) is)
 
 pub second_due : (a b : Package) (second : List ℕ) → reading second ≡ Ok b → joined_packages a b ≡ due_of_reading (joined_packages a) (reading second)
 second_due a b second is = sym (ap (due_of_reading (joined_packages a)) is)
 
 pub second_damaged : (a : Package) (kind : DamageKind) (second : List ℕ) → reading second ≡ Err kind
-    → refused (Damaged kind) ≡ due_of_reading (joined_packages a) (reading second)
+    → due_refusal (Damaged kind) ≡ due_of_reading (joined_packages a) (reading second)
 second_damaged a kind second is = sym (ap (due_of_reading (joined_packages a)) is)
 
 pub run_due : (which : Which) (budget : ℕ) (j : Joined) (input : List ℕ) → length input ≤ input_limit → joined_reading input ≡ Ok j
@@ -96,5 +96,5 @@ pub run_due : (which : Which) (budget : ℕ) (j : Joined) (input : List ℕ) →
 run_due which budget j input short is = rw (not_too_long input short) (sym (ap (replayed_run which budget) is))
 
 pub run_damaged : (which : Which) (budget : ℕ) (kind : DamageKind) (input : List ℕ) → length input ≤ input_limit → joined_reading input ≡ Err kind
-    → refused (Damaged kind) ≡ due_replay_run which budget input
+    → due_refusal (Damaged kind) ≡ due_replay_run which budget input
 run_damaged which budget kind input short is = rw (not_too_long input short) (sym (ap (replayed_run which budget) is))

@@ -9,7 +9,7 @@ use Rattle.run_model.specs.declared.world.World.{World}
 use Rattle.run_model.specs.Package.{package_of}
 use Rattle.run_model.specs.WorldRun.{ends_within}
 use Rattle.package_layout.specs.Plain.{fits_version}
-use Rattle.package_layout.specs.Valid.{Valid, reading}
+use Rattle.package_layout.specs.Valid.{IsValidPackage, reading}
 use Rattle.package_layout.specs.Counted.{IsCounted}
 use Rattle.package_layout.specs.declared.version.Version.{Version}
 use Rattle.package_layout.specs.declared.version.Version.TheVariants.{Two}
@@ -23,7 +23,7 @@ typed_for Excluded w typed = typed
 
 -- a package that is spelled is read as itself, and one with a short spelling is counted
 abbrev pub ReadAgain : Type 0
-ReadAgain = (version : Version) (p : Package) → IsTyped p → Valid p → IsTrue (fits_version version p) → IsCounted version p → reading (spelling_as version p) ≡ Ok p
+ReadAgain = (version : Version) (p : Package) → IsTyped p → IsValidPackage p → IsTrue (fits_version version p) → IsCounted version p → reading (spelling_as version p) ≡ Ok p
 
 abbrev pub ShortCounted : Type 0
 ShortCounted = (version : Version) (p : Package) → length (spelling_as version p) ≤ input_limit → IsCounted version p

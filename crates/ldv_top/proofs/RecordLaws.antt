@@ -14,7 +14,7 @@ use Rattle.replay_db.specs.Runs.{package_within}
 use Rattle.run_laws.proofs.BudgetLaw.{ended_outcome, going_outcome}
 use Rattle.replay_db.proofs.RecordedRuns.{package_is, package_none}
 use Rattle.ldv_top.specs.declared.exit.Exit.TheVariants.{Done, NotEnded, PackageTooLong}
-use Rattle.ldv_top.specs.Due.{Due, refused, done, due_outcome, is_too_long, due_spelling, package_due, recorded_world}
+use Rattle.ldv_top.specs.Due.{DueOutput, due_refusal, due_bytes, due_outcome, is_too_long, due_spelling, package_due, recorded_world}
 
 -- ---- the limit of a spelling
 
@@ -24,10 +24,10 @@ not_too_long bytes short = grind (arith, nat_tests)
 pub too_long : (bytes : List ℕ) → input_limit < length bytes → is_too_long bytes ≡ true
 too_long bytes long = grind (arith, nat_tests)
 
-pub spelled_whole : (bytes : List ℕ) → length bytes ≤ input_limit → due_spelling bytes ≡ done bytes
+pub spelled_whole : (bytes : List ℕ) → length bytes ≤ input_limit → due_spelling bytes ≡ due_bytes bytes
 spelled_whole bytes short = rw (not_too_long bytes short) refl
 
-pub spelled_long : (bytes : List ℕ) → input_limit < length bytes → due_spelling bytes ≡ refused PackageTooLong
+pub spelled_long : (bytes : List ℕ) → input_limit < length bytes → due_spelling bytes ≡ due_refusal PackageTooLong
 spelled_long bytes long = rw (too_long bytes long) refl
 
 pub ruleset spelling_ends = (spelled_whole, spelled_long)
@@ -36,7 +36,7 @@ pub not_long : (bytes : List ℕ) → is_too_long bytes ≡ false → length byt
 not_long bytes is = grind (arith, nat_tests)
 
 -- bytes that are due are the spelling, within the limit
-abbrev pub Spelled : Due → List ℕ → Type 0
+abbrev pub Spelled : DueOutput → List ℕ → Type 0
 Spelled due bytes = (length bytes ≤ input_limit) × (due.bytes ≡ bytes)
 
 pub spelling_done : (bytes : List ℕ) → (due_spelling bytes).exit ≡ Done → Spelled (due_spelling bytes) bytes
@@ -60,7 +60,7 @@ recorded_in_time mode n w p is = elim (cases_Bool (ends_within n w)) [
 ]
 
 pub recorded_late : (mode : Mode) (n : ℕ) (w : World) → package_within mode n w ≡ None
-    → refused (NotEnded n) ≡ recorded_world mode n w
+    → due_refusal (NotEnded n) ≡ recorded_world mode n w
 recorded_late mode n w is = elim (cases_Bool (ends_within n w)) [
   | inl ended ↦ let never : None ≡ Some (package_of mode n w) = sym is ∙ package_is mode n w ended in absurd cc
   | inr going ↦ sym (ap (due_outcome n (package_due mode n w)) (going_outcome n w going))

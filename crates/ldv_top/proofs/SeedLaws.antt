@@ -18,7 +18,7 @@ use Rattle.free_order.specs.Orders.{OrderLaw}
 use Rattle.free_order.specs.Private.{private_test}
 use Rattle.free_order.proofs.NotLess.{not_less}
 use Rattle.ldv_top.specs.declared.exit.Exit.TheVariants.{NotPrivate}
-use Rattle.ldv_top.specs.Due.{refused, due_outcome, outcome_due, due_world, due_divergence, due_log, reseeded_package, due_replay_seed}
+use Rattle.ldv_top.specs.Due.{due_refusal, due_outcome, outcome_due, due_world, due_divergence, due_log, reseeded_package, due_replay_seed}
 use Rattle.ldv_top.specs.DueParts.{due_of_reading}
 use Rattle.ldv_top.specs.Headline.{IsPackageOf}
 use Rattle.ldv_top.proofs.ReadBack.{ReadAgain, ShortCounted, read_back}
@@ -48,7 +48,7 @@ module _ (order : OrderLaw) (n seed budget : ℕ) (w : World) (ended : ends_with
       ∙ sym (ap (due_outcome n outcome_due) outcome.1)
 
   pub free_same : reseeded_package seed budget (package_of Excluded n w) ≡ due_world n w
-  free_same = ap (λ (b : Bool). if b then due_log budget reseeded else refused NotPrivate) private ∙ log_same
+  free_same = ap (λ (b : Bool). if b then due_log budget reseeded else due_refusal NotPrivate) private ∙ log_same
 
 module _ (again : ReadAgain) (counted : ShortCounted) (valid : ValidPackageLaw) (typed : TypedPackageLaw) (valid_tables : WorldTablesLaw)
     (order : OrderLaw) where

@@ -22,23 +22,23 @@ use Rattle.replay_db.specs.declared.soundness.Verdict.{Verdict}
 use Rattle.replay_db.specs.declared.soundness.Verdict.TheVariants.{Sound, Unsound}
 use Rattle.ldv_top.specs.declared.exit.Exit.TheVariants.{Done, NotEnded, PackageTooLong}
 use Rattle.ldv_top.specs.DueOfAudits.{verdict_text, verdict_due, audit_as, audit_by_version, audit_by_mode, audited_package, due_audit}
-use Rattle.ldv_top.specs.DueParts.{Due, refused, done, due_outcome, due_of_run, due_of_reading, is_too_long}
+use Rattle.ldv_top.specs.DueParts.{DueOutput, due_refusal, due_bytes, due_outcome, due_of_run, due_of_reading, is_too_long}
 use Rattle.ldv_top.specs.Migrated.{FindsSound}
 use Rattle.ldv_top.proofs.RecordLaws.{not_too_long}
 
 -- ---- runs that are written
 
 -- what is written of a run is that of its outcome
-pub record Written (n : ℕ) (w : World) (written : Outcome → Due) : Type 0 where
+pub record Written (n : ℕ) (w : World) (written : Outcome → DueOutput) : Type 0 where
   pub outcome : Outcome
   pub comes : outcome_within n w ≡ Some outcome
   pub due : due_of_run n w written ≡ written outcome
   pub finished : (written outcome).exit ≡ Done
 
-pub run_written : (n : ℕ) (w : World) (written : Outcome → Due) → (due_of_run n w written).exit ≡ Done → Written n w written
+pub run_written : (n : ℕ) (w : World) (written : Outcome → DueOutput) → (due_of_run n w written).exit ≡ Done → Written n w written
 run_written n w written finished = elim (cases-option (outcome_within n w)) [
   | inl none ↦
-      let never : NotEnded n ≡ Done = ap (λ (d : Due). d.exit) (sym (ap (due_outcome n written) none)) ∙ finished in
+      let never : NotEnded n ≡ Done = ap (λ (d : DueOutput). d.exit) (sym (ap (due_outcome n written) none)) ∙ finished in
       cc
   | inr some ↦
       let due : due_of_run n w written ≡ written some.0 = ap (due_outcome n written) some.1 in
@@ -46,7 +46,7 @@ run_written n w written finished = elim (cases-option (outcome_within n w)) [
         outcome = some.0;
         comes = some.1;
         due = due;
-        finished = ap (λ (d : Due). d.exit) (sym due) ∙ finished;
+        finished = ap (λ (d : DueOutput). d.exit) (sym due) ∙ finished;
       }
 ]
 
@@ -77,27 +77,27 @@ module _ (budget : ℕ) (version : Version) (bytes : List ℕ) (p : Package) (sh
       let within : length due ≤ input_limit = subst (λ (l : List ℕ). length l ≤ input_limit) same short in
       audit_is
       ∙ ap (due_outcome budget (verdict_due bytes due)) outcome.1
-      ∙ rw (not_too_long due within) (ap (λ (v : Verdict). done (verdict_text v)) verdict)
+      ∙ rw (not_too_long due within) (ap (λ (v : Verdict). due_bytes (verdict_text v)) verdict)
 
   -- `sound` and `unsound` begin with different letters
   text_sound : (v : Verdict) → verdict_text v ≡ codes "sound\n" → v ≡ Sound
   text_sound Sound is = refl
   text_sound (Unsound at) is = let first : Some 117 ≡ Some 115 = ap (λ (text : List ℕ). slice_get text 0) is in cc
 
-  verdict_sound : SoundLaw → (outcome : Outcome) → verdict_due bytes due outcome ≡ done (codes "sound\n") → bytes ≡ due
+  verdict_sound : SoundLaw → (outcome : Outcome) → verdict_due bytes due outcome ≡ due_bytes (codes "sound\n") → bytes ≡ due
   verdict_sound sound outcome is = elim (cases_Bool (is_too_long due)) [
     | inl long ↦
-        let refusal : refused PackageTooLong ≡ done (codes "sound\n") = rw long at is in
-        let never : PackageTooLong ≡ Done = ap (λ (d : Due). d.exit) refusal in
+        let refusal : due_refusal PackageTooLong ≡ due_bytes (codes "sound\n") = rw long at is in
+        let never : PackageTooLong ≡ Done = ap (λ (d : DueOutput). d.exit) refusal in
         cc
     | inr within ↦
-        let judged : done (verdict_text (verdict_on bytes due)) ≡ done (codes "sound\n") = rw within at is in
-        let text : verdict_text (verdict_on bytes due) ≡ codes "sound\n" = ap (λ (d : Due). d.bytes) judged in
+        let judged : due_bytes (verdict_text (verdict_on bytes due)) ≡ due_bytes (codes "sound\n") = rw within at is in
+        let text : verdict_text (verdict_on bytes due) ≡ codes "sound\n" = ap (λ (d : DueOutput). d.bytes) judged in
         (sound bytes due).0 (text_sound (verdict_on bytes due) text)
   ]
 
   pub sound_is : SoundLaw → FindsSound budget bytes → (ends_within budget (own_world p) ≡ true) × (bytes ≡ due)
   sound_is sound finds =
-      let run : due_of_run budget (own_world p) (verdict_due bytes due) ≡ done (codes "sound\n") = sym audit_is ∙ finds in
-      let ran : Written budget (own_world p) (verdict_due bytes due) = run_written budget (own_world p) (verdict_due bytes due) (ap (λ (d : Due). d.exit) run) in
+      let run : due_of_run budget (own_world p) (verdict_due bytes due) ≡ due_bytes (codes "sound\n") = sym audit_is ∙ finds in
+      let ran : Written budget (own_world p) (verdict_due bytes due) = run_written budget (own_world p) (verdict_due bytes due) (ap (λ (d : DueOutput). d.exit) run) in
       (outcome_ends budget (own_world p) ran.outcome ran.comes, verdict_sound sound ran.outcome (sym ran.due ∙ run))

@@ -9,13 +9,13 @@ use Rattle.run_model.specs.declared.world.World.{World}
 use Rattle.run_model.specs.WorldRun.{events_within, steps_by}
 use Rattle.free_order.specs.Private.{private_test}
 use Rattle.ldv_top.specs.Comes.{Comes, IsQuiet}
-use Rattle.ldv_top.specs.Due.{Due, due_of, due_record, due_replay, due_replay_seed, due_world, is_too_long}
+use Rattle.ldv_top.specs.Due.{DueOutput, due_of, due_record, due_replay, due_replay_seed, due_world, is_too_long}
 use Rattle.ldv_top.specs.DueOfMigrations.{due_migrate}
 use Rattle.ldv_top.specs.DueOfReports.{due_inspect}
 use Rattle.ldv_top.specs.Ends.{Ends, Responds}
-use Rattle.ldv_top.specs.Headline.{IsPackageOf, Recorded}
-use Rattle.ldv_top.specs.Migrated.{Migrated}
-use Rattle.ldv_top.specs.ProvReported.{DocumentLaw, numbered_due}
+use Rattle.ldv_top.specs.Headline.{IsPackageOf, IsRecording}
+use Rattle.ldv_top.specs.Migrated.{IsMigration}
+use Rattle.ldv_top.specs.ProvReported.{DocumentLaw, due_by_numbers}
 use Rattle.ldv_top.specs.Reported.{Depends}
 use Rattle.ldv_top.specs.TwoRuns.{AnyJoinedLaw, PairLaw, TwoRunsLaw}
 use Rattle.ldv_top.specs.Words.{command_of, reads}
@@ -39,7 +39,7 @@ got_all (Some xs) (Some ys) got input told whole end =
     sym (append-nil got) ∙ sym (ap (λ (l : List ℕ). got ++ l) end) ∙ sym whole ∙ same
 
 -- what is due to be done is done, where nothing fails
-pub complete : (d : Due) (e : Exit) (old new : Option (List ℕ)) (R W : Type 0) → Comes d e old new → d.exit ≡ Done → (e ≡ ReadFault → R) → (e ≡ WriteFault → W) → (R → ⊥) → (W → ⊥) → (e ≡ Done) ⊎ (e ≡ NoMemory)
+pub complete : (d : DueOutput) (e : Exit) (old new : Option (List ℕ)) (R W : Type 0) → Comes d e old new → d.exit ≡ Done → (e ≡ ReadFault → R) → (e ≡ WriteFault → W) → (R → ⊥) → (W → ⊥) → (e ≡ Done) ⊎ (e ≡ NoMemory)
 complete d Done old new R W out is read write no_read no_write = inl refl
 complete d NoMemory old new R W out is read write no_read no_write = inr refl
 complete d ReadFault old new R W out is read write no_read no_write = absurd (no_read (read refl))
@@ -204,9 +204,9 @@ module _ {Reader Writer : Type 0} (left : Reader → Option (List ℕ)) (read_fa
       → Comes (due_of (Some command) input) exit (taken sink) (taken sink_after))
       (recorded : (mode : Mode) (budget : ℕ) (document : List ℕ) → command ≡ Record mode budget
       → left source ≡ Some document → exit ≡ Done
-      → Recorded mode budget document (due_record mode budget document).bytes)
+      → IsRecording mode budget document (due_record mode budget document).bytes)
       (migrated : (input : List ℕ) → command ≡ Migrate → left source ≡ Some input → exit ≡ Done
-      → Migrated input (due_migrate input).bytes)
+      → IsMigration input (due_migrate input).bytes)
       (unwritten : IsQuiet exit → sink_after ≡ sink)
       (at_end : exit ≡ Done → IsAtEnd (left source_after))
       (not_usage : exit ≢ Usage)
@@ -241,12 +241,12 @@ module _ {Reader Writer : Type 0} (left : Reader → Option (List ℕ)) (read_fa
           recorded mode budget document (some_same same) told done;
       headline = λ mode n budget w input named told packed enough.
           let same : Some command ≡ Some (Replay budget) = sym is ∙ named in
-          subst (λ (d : Due). Comes d exit (taken sink) (taken sink_after))
+          subst (λ (d : DueOutput). Comes d exit (taken sink) (taken sink_after))
           (ap (λ (k : Command). due_of (Some k) input) (some_same same) ∙ replayed mode n budget w input packed enough)
           (due input told);
       reseeded = λ n seed budget w input named told packed private enough.
           let same : Some command ≡ Some (ReplaySeed seed budget) = sym is ∙ named in
-          subst (λ (d : Due). Comes d exit (taken sink) (taken sink_after))
+          subst (λ (d : DueOutput). Comes d exit (taken sink) (taken sink_after))
           (ap (λ (k : Command). due_of (Some k) input) (some_same same)
           ∙ any_seed n seed budget w input packed private enough)
           (due input told);
@@ -260,24 +260,24 @@ module _ {Reader Writer : Type 0} (left : Reader → Option (List ℕ)) (read_fa
           reported path input (sym (ap (λ (k : Command). (due_of (Some k) input).exit) (some_same same)) ∙ comes.0);
       documented = λ p path input named told written.
           let same : Some command ≡ Some (ProvDepends path) = sym is ∙ named in
-          let comes : Comes (numbered_due p path) exit (taken sink) (taken sink_after) =
-          subst (λ (d : Due). Comes d exit (taken sink) (taken sink_after))
+          let comes : Comes (due_by_numbers p path) exit (taken sink) (taken sink_after) =
+          subst (λ (d : DueOutput). Comes d exit (taken sink) (taken sink_after))
           (ap (λ (k : Command). due_of (Some k) input) (some_same same) ∙ document p path input written)
           (due input told) in
           (named_same p path, comes);
       joins = λ n m v w input named told both.
           let same : Some command ≡ Some Join = sym is ∙ named in
-          subst (λ (d : Due). Comes d exit (taken sink) (taken sink_after))
+          subst (λ (d : DueOutput). Comes d exit (taken sink) (taken sink_after))
           (ap (λ (k : Command). due_of (Some k) input) (some_same same) ∙ pair n m v w input both)
           (due input told);
       joined = λ which n m budget v w input named told two enough.
           let same : Some command ≡ Some (ReplayRun which budget) = sym is ∙ named in
-          subst (λ (d : Due). Comes d exit (taken sink) (taken sink_after))
+          subst (λ (d : DueOutput). Comes d exit (taken sink) (taken sink_after))
           (ap (λ (k : Command). due_of (Some k) input) (some_same same) ∙ two_runs which n m budget v w input two enough)
           (due input told);
       chosen = λ which budget j input named told any.
           let same : Some command ≡ Some (ReplayRun which budget) = sym is ∙ named in
-          subst (λ (d : Due). Comes d exit (taken sink) (taken sink_after))
+          subst (λ (d : DueOutput). Comes d exit (taken sink) (taken sink_after))
           (ap (λ (k : Command). due_of (Some k) input) (some_same same) ∙ any_joined which budget j input any)
           (due input told);
     }

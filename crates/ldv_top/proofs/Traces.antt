@@ -13,18 +13,18 @@ use Rattle.run_model.specs.ValidTrace.{trace_test, named_rule, are_named, ValidT
 use Rattle.run_model.specs.ValidPackage.{is_short_text, start_rule, files_rule, tables_rule, logs_rule, mode_rule, steps_rule, script_rule, trace_rule, reasons_rule, parts_rule, whole_rule, rules}
 use Rattle.package_layout.specs.Events.{need_groups, needs_room, member_groups, members_room, act_room, event_room}
 use Rattle.package_layout.specs.Parts.{need_table, member_table}
-use Rattle.package_layout.specs.Room.{some_thousands, log_room}
+use Rattle.package_layout.specs.Room.{fits_u16_count, log_room}
 use Rattle.package_layout.specs.Runs.{max_events, trace_room}
 use Rattle.package_layout.specs.Whole.{tables_room, has_room}
-use Rattle.package_layout.specs.Valid.{Valid}
+use Rattle.package_layout.specs.Valid.{IsValidPackage}
 
 -- the format has room for an act only where its tables have names
 act_named : (act : Act) → act_room act ≡ true → named_rule act ≡ true
 act_named (acts.Asked statement tables reads made) room =
-    let groups = and-parts (needs_room reads) (members_room made) (and-second (some_thousands tables) (needs_room reads && members_room made) room) in
+    let groups = and-parts (needs_room reads) (members_room made) (and-second (fits_u16_count tables) (needs_room reads && members_room made) room) in
     and-from (list_all (λ n. sql_name_test (need_table n)) reads) (list_all (λ m. sql_name_test (member_table m)) made)
-    (and-second (some_thousands (need_groups reads)) (list_all (λ n. sql_name_test (need_table n)) reads) groups.0)
-    (and-second (some_thousands (member_groups made)) (list_all (λ m. sql_name_test (member_table m)) made) groups.1)
+    (and-second (fits_u16_count (need_groups reads)) (list_all (λ n. sql_name_test (need_table n)) reads) groups.0)
+    (and-second (fits_u16_count (member_groups made)) (list_all (λ m. sql_name_test (member_table m)) made) groups.1)
 act_named other room = refl
 
 events_named : (events : List Event) → list_all event_room events ≡ true → are_named events ≡ true
@@ -44,7 +44,7 @@ begins (word ∷ words) steps events start trace named =
     let path = and-first (path_test word) (nat_le (length words) 255) (and-first (path_test word && nat_le (length words) 255) (list_all is_short_text (word ∷ words)) start) in
     (word, path, and-from (trace_test word steps events) (are_named events) trace named)
 
-module _ (p : Package) (valid : Valid p) where
+module _ (p : Package) (valid : IsValidPackage p) where
   kept : rules p ≡ true
   kept = and-second (has_room p) (rules p) valid
 
@@ -53,7 +53,7 @@ module _ (p : Package) (valid : Valid p) where
       and-second (nat_le (length p.events) max_events) (list_all event_room p.events)
       (and-second (list_all log_room p.logs) (trace_room p.events)
       (and-second (tables_room p) (list_all log_room p.logs && trace_room p.events)
-      (and-second (some_thousands p.start) (tables_room p && (list_all log_room p.logs && trace_room p.events)) (and-first (has_room p) (rules p) valid))))
+      (and-second (fits_u16_count p.start) (tables_room p && (list_all log_room p.logs && trace_room p.events)) (and-first (has_room p) (rules p) valid))))
 
   traced : (mode_rule p.mode p.tables p.logs && steps_rule p.steps && trace_rule p.start p.steps p.events) ≡ true
   traced =
@@ -77,5 +77,5 @@ module _ (p : Package) (valid : Valid p) where
       and-second (mode_rule p.mode p.tables p.logs) (steps_rule p.steps)
       (and-first (mode_rule p.mode p.tables p.logs && steps_rule p.steps) (trace_rule p.start p.steps p.events) traced)
 
-pub valid_trace : (p : Package) → Valid p → IsTrace p.events
+pub valid_trace : (p : Package) → IsValidPackage p → IsTrace p.events
 valid_trace p valid = let run = valid_run p valid in (run.0, p.steps, run.1, run.2)

@@ -2,7 +2,7 @@
 use Rattle.std.specs.Prelude.{◌≡◌, ◌≢◌, ◌⊎◌, ℕ, List, Bool, IsTrue, Option, Some}
 use Rattle.std.specs.Io.KnownBytes.{Appends}
 use Rattle.ldv_io.specs.Causes.{Rose}
-use Rattle.ldv_top.specs.Due.{Due}
+use Rattle.ldv_top.specs.Due.{DueOutput}
 use Rattle.ldv_top.specs.Written.{AppendsPart}
 use Rattle.ldv_top.specs.declared.exit.Exit.{Exit}
 use Rattle.ldv_top.specs.declared.exit.Exit.TheVariants.{Done, Usage, ReadFault, WriteFault, TooLong}
@@ -14,7 +14,7 @@ abbrev pub IsInput : Bool → Option (List ℕ) → List ℕ → Type 0
 IsInput reading left input = IsTrue reading → left ≡ Some input
 
 -- The exit is the one that is due. A fault or out of memory may come in its place.
-abbrev pub Comes : Due → Exit → Option (List ℕ) → Option (List ℕ) → Type 0
+abbrev pub Comes : DueOutput → Exit → Option (List ℕ) → Option (List ℕ) → Type 0
 Comes d Done old new = (d.exit ≡ Done) × Appends old new d.bytes
 Comes d WriteFault old new = (d.exit ≡ Done) × AppendsPart old new d.bytes
 Comes d ReadFault old new = Unit {0}

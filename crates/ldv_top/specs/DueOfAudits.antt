@@ -15,7 +15,7 @@ use Rattle.replay_db.specs.Auditing.{verdict_on, own_spelling}
 use Rattle.replay_db.specs.declared.soundness.Verdict.{Verdict}
 use Rattle.replay_db.specs.declared.soundness.Verdict.TheVariants.{Sound, Unsound}
 use Rattle.ldv_top.specs.declared.exit.Exit.TheVariants.{Damaged, NoSuch, PackageTooLong}
-use Rattle.ldv_top.specs.DueParts.{Due, refused, done, due_of_run, due_of_package, is_too_long}
+use Rattle.ldv_top.specs.DueParts.{DueOutput, due_refusal, due_bytes, due_of_run, due_of_package, is_too_long}
 
 -- `sound`, or `unsound` and the first place at which the bytes differ
 abbrev pub verdict_text : Verdict → List ℕ
@@ -23,28 +23,28 @@ verdict_text Sound = line (codes "sound")
 verdict_text (Unsound at) = line (codes "unsound " ++ decimal at)
 
 -- the run of the own world has to end, and then its package has to be short enough
-abbrev pub verdict_due : List ℕ → List ℕ → Outcome → Due
+abbrev pub verdict_due : List ℕ → List ℕ → Outcome → DueOutput
 verdict_due input due outcome =
-    if is_too_long due then refused PackageTooLong else done (verdict_text (verdict_on input due))
+    if is_too_long due then due_refusal PackageTooLong else due_bytes (verdict_text (verdict_on input due))
 
-abbrev pub audit_as : Version → ℕ → List ℕ → Package → Due
+abbrev pub audit_as : Version → ℕ → List ℕ → Package → DueOutput
 audit_as version budget input p =
     due_of_run budget (own_world p) (verdict_due input (own_spelling budget version p))
 
 -- what has no version isn't a package
-abbrev pub audit_by_version : Option Version → ℕ → List ℕ → Package → Due
+abbrev pub audit_by_version : Option Version → ℕ → List ℕ → Package → DueOutput
 audit_by_version (Some version) budget input p = audit_as version budget input p
-audit_by_version None budget input p = refused (Damaged Magic)
+audit_by_version None budget input p = due_refusal (Damaged Magic)
 
-abbrev pub included_audit : ℕ → List ℕ → Package → Due
+abbrev pub included_audit : ℕ → List ℕ → Package → DueOutput
 included_audit budget input p = audit_by_version (version_of input) budget input p
 
-abbrev pub audit_by_mode : Mode → ℕ → List ℕ → Package → Due
+abbrev pub audit_by_mode : Mode → ℕ → List ℕ → Package → DueOutput
 audit_by_mode Included budget input p = included_audit budget input p
-audit_by_mode Excluded budget input p = refused NoSuch
+audit_by_mode Excluded budget input p = due_refusal NoSuch
 
-abbrev pub audited_package : ℕ → List ℕ → Package → Due
+abbrev pub audited_package : ℕ → List ℕ → Package → DueOutput
 audited_package budget input p = audit_by_mode p.mode budget input p
 
-abbrev pub due_audit : ℕ → List ℕ → Due
+abbrev pub due_audit : ℕ → List ℕ → DueOutput
 due_audit budget input = due_of_package (audited_package budget input) input

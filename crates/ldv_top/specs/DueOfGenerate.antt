@@ -13,9 +13,9 @@ use Rattle.run_model.specs.OutcomeText.{line, outcome_text_of}
 use Rattle.run_model.specs.Package.{package_of, own_world}
 use Rattle.run_model.specs.WorldRun.{outcome_within}
 use Rattle.package_layout.specs.Whole.{spelling}
-use Rattle.world_json.specs.Generated.{generated}
+use Rattle.world_json.specs.Generated.{generated_world}
 use Rattle.ldv_top.specs.declared.exit.Exit.TheVariants.{PackageTooLong}
-use Rattle.ldv_top.specs.DueParts.{Due, done, refused, is_too_long, due_outcome}
+use Rattle.ldv_top.specs.DueParts.{DueOutput, due_bytes, due_refusal, is_too_long, due_outcome}
 
 -- ---- the summary
 
@@ -51,30 +51,30 @@ summary_head orders rows p bytes = counts_line orders rows (kept_count p.tables)
 
 -- ---- from the number of orders
 
-abbrev pub summary_due : List ℕ → Outcome → Due
-summary_due head outcome = done (head ++ replay_line (outcome_text_of outcome))
+abbrev pub summary_due : List ℕ → Outcome → DueOutput
+summary_due head outcome = due_bytes (head ++ replay_line (outcome_text_of outcome))
 
 -- the package is replayed
-abbrev pub summed_replay : List ℕ → Package → Due
+abbrev pub summed_replay : List ℕ → Package → DueOutput
 summed_replay head p =
     due_outcome default_steps (summary_due head) (outcome_within default_steps (own_world p))
 
-abbrev pub summed_spelling : ℕ → ℕ → Package → List ℕ → Due
+abbrev pub summed_spelling : ℕ → ℕ → Package → List ℕ → DueOutput
 summed_spelling orders rows p bytes =
-    if is_too_long bytes then refused PackageTooLong
+    if is_too_long bytes then due_refusal PackageTooLong
     else summed_replay (summary_head orders rows p bytes) p
 
-abbrev pub summed_package : ℕ → ℕ → Package → Due
+abbrev pub summed_package : ℕ → ℕ → Package → DueOutput
 summed_package orders rows p = summed_spelling orders rows p (spelling p)
 
-abbrev pub summed_outcome : ℕ → World → Outcome → Due
+abbrev pub summed_outcome : ℕ → World → Outcome → DueOutput
 summed_outcome orders w outcome =
     summed_package orders (row_count w.tables) (package_of Included default_steps w)
 
 -- the world is recorded
-abbrev pub summed_world : ℕ → World → Due
+abbrev pub summed_world : ℕ → World → DueOutput
 summed_world orders w =
     due_outcome default_steps (summed_outcome orders w) (outcome_within default_steps w)
 
-abbrev pub due_generate : ℕ → Due
-due_generate orders = summed_world orders (generated orders)
+abbrev pub due_generate : ℕ → DueOutput
+due_generate orders = summed_world orders (generated_world orders)

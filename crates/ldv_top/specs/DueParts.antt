@@ -11,24 +11,24 @@ use Rattle.package_layout.specs.Valid.{reading}
 use Rattle.ldv_top.specs.declared.exit.Exit.{Exit}
 use Rattle.ldv_top.specs.declared.exit.Exit.TheVariants.{Done, TooLong, NotEnded, Damaged, PackageTooLong}
 
-pub record Due : Type 0 where
+pub record DueOutput : Type 0 where
   pub exit : Exit
   pub bytes : List ℕ
 
-abbrev pub refused : Exit → Due
-refused exit = record { exit = exit; bytes = [] }
+abbrev pub due_refusal : Exit → DueOutput
+due_refusal exit = record { exit = exit; bytes = [] }
 
-abbrev pub done : List ℕ → Due
-done bytes = record { exit = Done; bytes = bytes }
+abbrev pub due_bytes : List ℕ → DueOutput
+due_bytes bytes = record { exit = Done; bytes = bytes }
 
 -- ---- the run of a world
 
-abbrev pub due_outcome : ℕ → (Outcome → Due) → Option Outcome → Due
-due_outcome budget written None = refused (NotEnded budget)
+abbrev pub due_outcome : ℕ → (Outcome → DueOutput) → Option Outcome → DueOutput
+due_outcome budget written None = due_refusal (NotEnded budget)
 due_outcome budget written (Some outcome) = written outcome
 
 -- what is written of the run within a budget, which has to end
-abbrev pub due_of_run : ℕ → World → (Outcome → Due) → Due
+abbrev pub due_of_run : ℕ → World → (Outcome → DueOutput) → DueOutput
 due_of_run budget w written = due_outcome budget written (outcome_within budget w)
 
 -- ---- a package to be spelled
@@ -36,16 +36,16 @@ due_of_run budget w written = due_outcome budget written (outcome_within budget 
 abbrev pub is_too_long : List ℕ → Bool
 is_too_long bytes = nat_lt input_limit (length bytes)
 
-abbrev pub due_spelling : List ℕ → Due
-due_spelling bytes = if is_too_long bytes then refused PackageTooLong else done bytes
+abbrev pub due_spelling : List ℕ → DueOutput
+due_spelling bytes = if is_too_long bytes then due_refusal PackageTooLong else due_bytes bytes
 
 -- ---- an input
 
-abbrev pub due_of_reading : (Package → Due) → Result Package DamageKind → Due
+abbrev pub due_of_reading : (Package → DueOutput) → Result Package DamageKind → DueOutput
 due_of_reading due_of_package (Ok p) = due_of_package p
-due_of_reading due_of_package (Err kind) = refused (Damaged kind)
+due_of_reading due_of_package (Err kind) = due_refusal (Damaged kind)
 
 -- what is due for an input that has to be a package
-abbrev pub due_of_package : (Package → Due) → List ℕ → Due
+abbrev pub due_of_package : (Package → DueOutput) → List ℕ → DueOutput
 due_of_package due_of input =
-    if is_too_long input then refused TooLong else due_of_reading due_of (reading input)
+    if is_too_long input then due_refusal TooLong else due_of_reading due_of (reading input)

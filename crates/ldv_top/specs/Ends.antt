@@ -21,12 +21,12 @@ use Rattle.ldv_top.specs.declared.command.Command.TheVariants.{Join, ProvDepends
 use Rattle.ldv_top.specs.declared.command.Report.TheVariants.{Depends as DependsOn}
 use Rattle.ldv_top.specs.declared.exit.Exit.{Exit}
 use Rattle.ldv_top.specs.declared.exit.Exit.TheVariants.{Done, Usage, ReadFault, WriteFault, NoMemory}
-use Rattle.ldv_top.specs.Due.{Due, due_of, due_record, due_spelling, due_world}
+use Rattle.ldv_top.specs.Due.{DueOutput, due_of, due_record, due_spelling, due_world}
 use Rattle.ldv_top.specs.DueOfMigrations.{due_migrate}
 use Rattle.ldv_top.specs.DueOfReports.{due_inspect, report_due}
-use Rattle.ldv_top.specs.Headline.{IsPackageOf, Recorded}
-use Rattle.ldv_top.specs.Migrated.{Migrated}
-use Rattle.ldv_top.specs.ProvReported.{IsDocumentOf, named_due, numbered_due}
+use Rattle.ldv_top.specs.Headline.{IsPackageOf, IsRecording}
+use Rattle.ldv_top.specs.Migrated.{IsMigration}
+use Rattle.ldv_top.specs.ProvReported.{IsDocumentOf, due_by_names, due_by_numbers}
 use Rattle.ldv_top.specs.Reported.{Depends}
 use Rattle.ldv_top.specs.TwoRuns.{IsJoinOf, IsJoinedInput, IsPair, its_due, its_steps, two_joined}
 use Rattle.ldv_top.specs.Words.{command_of, reads}
@@ -34,7 +34,7 @@ use Rattle.ldv_top.specs.Words.{command_of, reads}
 -- What comes of a response that is due, in a sink before and after it is written.
 pub record Responds {Writer : Type 0}
     (taken : Writer → Option (List ℕ)) (faults : Writer → ℕ)
-    (response : Due) (sink after : Writer) (exit : Exit)
+    (response : DueOutput) (sink after : Writer) (exit : Exit)
     : Type 0 where
   -- the exit is the one that is due, and Done has written its bytes
   pub due : Comes response exit (taken sink) (taken after)
@@ -72,7 +72,7 @@ pub record Ends {Reader Writer : Type 0}
   -- what was recorded of a document is the package of its world, with what the run needed and no more
   pub recorded : (mode : Mode) (budget : ℕ) (document : List ℕ) → command_of words ≡ Some (Record mode budget)
       → left source ≡ Some document → exit ≡ Done
-      → Recorded mode budget document (due_record mode budget document).bytes
+      → IsRecording mode budget document (due_record mode budget document).bytes
   -- the package of a valid world is replayed as the world is run, within at least the steps of that run
   pub headline : (mode : Mode) (n budget : ℕ) (w : World) (input : List ℕ)
       → command_of words ≡ Some (Replay budget) → left source ≡ Some input → IsPackageOf mode n w input
@@ -85,7 +85,7 @@ pub record Ends {Reader Writer : Type 0}
       → steps_by n [] w ≤ budget → Comes (due_world n w) exit (taken sink) (taken sink_after)
   -- what was migrated is the same package in the version that is written
   pub migrated : (input : List ℕ) → command_of words ≡ Some Migrate → left source ≡ Some input → exit ≡ Done
-      → Migrated input (due_migrate input).bytes
+      → IsMigration input (due_migrate input).bytes
   -- what a path depends on are the nodes from which a path of the graph leads to it, and no others
   pub depends : (path input : List ℕ) → command_of words ≡ Some (Inspect (DependsOn path))
       → left source ≡ Some input → exit ≡ Done → Depends path input (due_inspect (DependsOn path) input).bytes
@@ -93,8 +93,8 @@ pub record Ends {Reader Writer : Type 0}
   -- order, with processes by their creation numbers
   pub documented : (p : Package) (path input : List ℕ) → command_of words ≡ Some (ProvDepends path)
       → left source ≡ Some input → IsDocumentOf p input
-      → (report_due (DependsOn path) p ≡ named_due p path)
-      × Comes (numbered_due p path) exit (taken sink) (taken sink_after)
+      → (report_due (DependsOn path) p ≡ due_by_names p path)
+      × Comes (due_by_numbers p path) exit (taken sink) (taken sink_after)
   -- the packages of two valid worlds with the same files and tables are joined without a clash
   pub joins : (n m : ℕ) (v w : World) (input : List ℕ) → command_of words ≡ Some Join
       → left source ≡ Some input → IsPair n m v w input

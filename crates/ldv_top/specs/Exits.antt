@@ -71,26 +71,26 @@ fixed_line NotPrivate = Some (codes "ldv: package is not private\n")
 fixed_line NotProv = Some (codes "ldv: not a provenance document\n")
 fixed_line (Clash clash) = None
 
-abbrev pub numbered : List ℕ → ℕ → List ℕ → List ℕ
-numbered head n tail = head ++ decimal n ++ tail
+abbrev pub line_with_number : List ℕ → ℕ → List ℕ → List ℕ
+line_with_number head n tail = head ++ decimal n ++ tail
 
-abbrev pub located : List ℕ → List ℕ → List ℕ → ℕ → List ℕ → List ℕ
-located head parts middle n tail = (head ++ name_text parts) ++ numbered middle n tail
+abbrev pub line_at_place : List ℕ → List ℕ → List ℕ → ℕ → List ℕ → List ℕ
+line_at_place head parts middle n tail = (head ++ name_text parts) ++ line_with_number middle n tail
 
 abbrev pub bad_script_line : WorldFault → List ℕ
-bad_script_line (BadScript n) = numbered (codes "ldv: not a world: bad script line ") n (codes "\n")
+bad_script_line (BadScript n) = line_with_number (codes "ldv: not a world: bad script line ") n (codes "\n")
 bad_script_line other = []
 
 -- a name may have any bytes but a LF
-abbrev pub named : List ℕ → List ℕ → List ℕ
-named head name = head ++ name ++ codes "\n"
+abbrev pub line_with_name : List ℕ → List ℕ → List ℕ
+line_with_name head name = head ++ name ++ codes "\n"
 
 abbrev pub named_row : List ℕ → List ℕ → ℕ → List ℕ
-named_row head name row = head ++ name ++ numbered (codes " ") row (codes "\n")
+named_row head name row = head ++ name ++ line_with_number (codes " ") row (codes "\n")
 
 abbrev pub clash_line_of : ClashKind → List ℕ → ℕ → List ℕ
-clash_line_of kinds.File name row = named (codes "ldv: clash: file ") name
-clash_line_of kinds.Table name row = named (codes "ldv: clash: table ") name
+clash_line_of kinds.File name row = line_with_name (codes "ldv: clash: file ") name
+clash_line_of kinds.Table name row = line_with_name (codes "ldv: clash: table ") name
 clash_line_of kinds.Row name row = named_row (codes "ldv: clash: row ") name row
 clash_line_of kinds.Key name row = named_row (codes "ldv: clash: key ") name row
 
@@ -99,9 +99,9 @@ clash_line clash = clash_line_of clash.kind clash.name clash.row
 
 abbrev pub numbered_line : Exit → List ℕ
 numbered_line (NotWorld fault) = bad_script_line fault
-numbered_line (NotEnded steps) = numbered (codes "ldv: not ended after ") steps (codes " steps\n")
+numbered_line (NotEnded steps) = line_with_number (codes "ldv: not ended after ") steps (codes " steps\n")
 numbered_line (Diverged process index) =
-    located (codes "ldv: diverged: process ") process.parts (codes " statement ") index (codes "\n")
+    line_at_place (codes "ldv: diverged: process ") process.parts (codes " statement ") index (codes "\n")
 numbered_line (Clash clash) = clash_line clash
 numbered_line other = []
 

@@ -12,7 +12,7 @@ use Rattle.replay_db.specs.Worlds.{ValidWorld}
 use Rattle.world_json.specs.Reading.{world_reading}
 use Rattle.ldv_top.specs.Due.{due_run, due_replay}
 use Rattle.ldv_top.specs.DueOfAudits.{due_audit}
-use Rattle.ldv_top.specs.DueParts.{done}
+use Rattle.ldv_top.specs.DueParts.{due_bytes}
 use Rattle.ldv_top.specs.declared.exit.Exit.TheVariants.{Done}
 
 -- The input is the package of a valid world whose run ends within a budget.
@@ -28,7 +28,7 @@ pub record IsPackageOf (mode : Mode) (budget : ℕ) (w : World) (input : List �
 -- first statement that needed it and its rule; an excluded one has no table, and exactly what each process
 -- asked, with the replies. Its replay within at least the steps of that run, which are within its budget,
 -- gives what run gives, and its audit within as many finds one with the needed rows sound.
-pub record Recorded (mode : Mode) (budget : ℕ) (document bytes : List ℕ) : Type 0 where
+pub record IsRecording (mode : Mode) (budget : ℕ) (document bytes : List ℕ) : Type 0 where
   pub world : World
   pub is_world : world_reading document ≡ Ok world
   pub spelled : bytes ≡ spelling (package_of mode budget world)
@@ -39,4 +39,4 @@ pub record Recorded (mode : Mode) (budget : ℕ) (document bytes : List ℕ) : T
   pub ends : (due_run budget document).exit ≡ Done
   -- one with the needed rows is found sound
   pub sound : mode ≡ Included → (steps : ℕ) → steps_by budget [] world ≤ steps
-      → due_audit steps bytes ≡ done (codes "sound\n")
+      → due_audit steps bytes ≡ due_bytes (codes "sound\n")

@@ -11,20 +11,20 @@ use Rattle.ldv_top.specs.DueOfAudits.{due_audit}
 use Rattle.ldv_top.specs.DueOfMigrations.{due_migrate}
 use Rattle.ldv_top.specs.DueOfReports.{due_inspect}
 use Rattle.ldv_top.specs.DueOfTables.{due_table}
-use Rattle.ldv_top.specs.DueParts.{done}
+use Rattle.ldv_top.specs.DueParts.{due_bytes}
 
 -- the audit within so many steps finds the package sound
 abbrev pub FindsSound : ℕ → List ℕ → Type 0
-FindsSound budget input = due_audit budget input ≡ done (codes "sound\n")
+FindsSound budget input = due_audit budget input ≡ due_bytes (codes "sound\n")
 
 -- The bytes are of the second version, and are read as the same package. So each report, replay and table of
 -- the two is the same, and both are found sound or neither. What is migrated once more stays as it is.
-pub record Migrated (input bytes : List ℕ) : Type 0 where
+pub record IsMigration (input bytes : List ℕ) : Type 0 where
   pub «package» : Package
   pub is_package : reading input ≡ Ok «package»
   pub read_back : reading bytes ≡ Ok «package»
   pub version : version_of bytes ≡ Some Two
-  pub again : due_migrate bytes ≡ done bytes
+  pub again : due_migrate bytes ≡ due_bytes bytes
   pub replayed : (budget : ℕ) → due_replay budget bytes ≡ due_replay budget input
   pub tabled : (name : List ℕ) (step budget : ℕ)
       → due_table name step budget bytes ≡ due_table name step budget input

@@ -12,14 +12,14 @@ use Rattle.package_join.specs.declared.joined.Which.{Which}
 use Rattle.package_join.specs.declared.joined.Which.TheVariants.{First, Second}
 use Rattle.package_join.specs.Joined.{put_together}
 use Rattle.package_join.specs.Layout.{joined_spelling}
-use Rattle.package_join.specs.Rooms.{TypedJoined}
-use Rattle.package_join.specs.Valid.{ValidJoined}
+use Rattle.package_join.specs.Rooms.{IsTypedJoined}
+use Rattle.package_join.specs.Valid.{IsValidJoined}
 use Rattle.package_join.specs.Worlds.{joined_world}
 use Rattle.package_layout.specs.Fields.{text_spelling}
 use Rattle.package_layout.specs.Whole.{spelling}
 use Rattle.ldv_top.specs.Due.{due_replay_run, due_world}
 use Rattle.ldv_top.specs.DueOfJoins.{due_join}
-use Rattle.ldv_top.specs.DueParts.{Due, due_spelling}
+use Rattle.ldv_top.specs.DueParts.{DueOutput, due_spelling}
 
 -- Two valid worlds with the same files and tables, whatever their starts and seeds, whose runs end within
 -- their budgets.
@@ -56,8 +56,8 @@ pub record IsJoinOf (n m : ℕ) (v w : World) (input : List ℕ) : Type 0 where
 
 -- the input is a valid joined package
 pub record IsJoinedInput (j : Joined) (input : List ℕ) : Type 0 where
-  pub typed : TypedJoined j
-  pub valid : ValidJoined j
+  pub typed : IsTypedJoined j
+  pub valid : IsValidJoined j
   pub same : input ≡ joined_spelling j
   pub short : length input ≤ input_limit
 
@@ -70,7 +70,7 @@ abbrev pub its_steps : Which → ℕ → ℕ → World → World → ℕ
 its_steps which n m v w = chosen_of which (steps_by n [] v) (steps_by m [] w)
 
 -- what is due for `run` of the world of a run
-abbrev pub its_due : Which → ℕ → ℕ → World → World → Due
+abbrev pub its_due : Which → ℕ → ℕ → World → World → DueOutput
 its_due which n m v w = chosen_of which (due_world n v) (due_world m w)
 
 -- ---- for all such worlds

@@ -36,19 +36,20 @@ command_seeded word budget seed =
     if bytes_eq word (codes "replay") then Some (ReplaySeed seed budget) else None
 
 -- S of `--seed S`, with the steps that the run may take
-abbrev pub seeded : List ℕ → List ℕ → ℕ → Option Command
-seeded word seed budget = option_and_then (command_seeded word budget) (number_within max_seed seed)
+abbrev pub command_with_seed : List ℕ → List ℕ → ℕ → Option Command
+command_with_seed word seed budget = option_and_then
+    (command_seeded word budget) (number_within max_seed seed)
 
 -- `--seed S` or `--run K` before `--steps N`
 abbrev pub chosen_within : List ℕ → List ℕ → List ℕ → ℕ → Option Command
 chosen_within word option choice budget =
-    if bytes_eq option (codes "--seed") then seeded word choice budget
+    if bytes_eq option (codes "--seed") then command_with_seed word choice budget
     else (if bytes_eq option (codes "--run") then replay_of_run word choice budget else None)
 
 -- `--seed S`, `--run K` or `--steps N`
 abbrev pub command_with : List ℕ → List ℕ → List ℕ → Option Command
 command_with word option number =
-    if bytes_eq option (codes "--seed") then seeded word number default_steps
+    if bytes_eq option (codes "--seed") then command_with_seed word number default_steps
     else (if bytes_eq option (codes "--run") then replay_of_run word number default_steps
     else option_and_then (command_named word) (budget_in option number))
 

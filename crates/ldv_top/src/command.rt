@@ -6,7 +6,7 @@ ghost use Rattle.ldv_value.specs.Limits.{max_steps};
 ghost use Rattle.ldv_top.specs.WordStops.{Stops};
 ghost use Rattle.ldv_top.specs.Words.{IsBounded, command_of, inspect_of};
 ghost use Rattle.ldv_top.specs.WordsOfRuns.{budget_in, chosen_within, command_flagged, command_named};
-ghost use Rattle.ldv_top.specs.WordsOfRuns.{command_seeded, command_with, run_of, seeded};
+ghost use Rattle.ldv_top.specs.WordsOfRuns.{command_seeded, command_with, run_of, command_with_seed};
 
 use crate::generate::generate_of;
 use crate::inspection::report_of;
@@ -96,15 +96,15 @@ fn command_of(alloc: Global, word: &str, others: &[String]) -> Result<Command, W
     } else if word == "inspect" {
         inspect_of(alloc, others)
     } else if word == "gen" {
-        known(generate_of(others))
+        known_command(generate_of(others))
     } else if word == "migrate" {
-        known(migrate_of(others))
+        known_command(migrate_of(others))
     } else if word == "prov" {
         prov_of(alloc, others)
     } else if word == "join" {
-        known(join_of(others))
+        known_command(join_of(others))
     } else {
-        known(run_of(word, others))
+        known_command(run_of(word, others))
     }
 }
 
@@ -119,7 +119,7 @@ fn inspect_of(alloc: Global, words: &[String]) -> Result<Command, WordStop>
 }
 
 // A command for which no memory is wanted.
-fn known(command: Option<Command>) -> Result<Command, WordStop>
+fn known_command(command: Option<Command>) -> Result<Command, WordStop>
     requires { IfSome command (λ command. IsBounded command) }
     ensures command { Gives Stops result command }
     ensures bounded { IfOk result (λ command. IsBounded command) }
@@ -191,7 +191,7 @@ fn command_with(word: &str, option: &str, number: &str) -> Option<Command>
     ensures bounded { IfSome result (λ command. IsBounded command) }
 {
     if option == "--seed" {
-        seeded(word, number, DEFAULT_STEPS)
+        command_with_seed(word, number, DEFAULT_STEPS)
     } else if option == "--run" {
         replay_of_run(word, number, DEFAULT_STEPS)
     } else {
@@ -206,7 +206,7 @@ fn chosen_within(word: &str, option: &str, choice: &str, budget: u32) -> Option<
     ensures bounded { IfSome result (λ command. IsBounded command) }
 {
     if option == "--seed" {
-        seeded(word, choice, budget)
+        command_with_seed(word, choice, budget)
     } else if option == "--run" {
         replay_of_run(word, choice, budget)
     } else {
@@ -214,9 +214,9 @@ fn chosen_within(word: &str, option: &str, choice: &str, budget: u32) -> Option<
     }
 }
 
-fn seeded(word: &str, seed: &str, budget: u32) -> Option<Command>
+fn command_with_seed(word: &str, seed: &str, budget: u32) -> Option<Command>
     requires { budget ≤ max_steps }
-    ensures command { result ≡ seeded word.now seed.now budget }
+    ensures command { result ≡ command_with_seed word.now seed.now budget }
     ensures bounded { IfSome result (λ command. IsBounded command) }
 {
     command_seeded(word, budget, long_within(MAX_SEED, seed.as_bytes())?)

@@ -8,7 +8,7 @@ ghost use Rattle.ldv_value.specs.Limits.{default_steps};
 ghost use Rattle.run_model.specs.declared.package.Mode.TheVariants.{Included};
 ghost use Rattle.run_model.specs.OutcomeText.{line, outcome_text_of};
 ghost use Rattle.run_model.specs.Package.{own_world};
-ghost use Rattle.package_layout.specs.Valid.{Valid};
+ghost use Rattle.package_layout.specs.Valid.{IsValidPackage};
 ghost use Rattle.replay_db.specs.Runs.{CanRun, Stops, package_within};
 ghost use Rattle.replay_db.specs.Worlds.{ValidWorld};
 ghost use Rattle.ldv_top.specs.Due.{response_due};
@@ -95,7 +95,7 @@ fn package_response(
     rows: u128,
     package: &Package,
 ) -> Result<Response, AllocError>
-    requires { Valid «package».now }
+    requires { IsValidPackage «package».now }
     ensures { IfOk result (λ response. response_due response ≡ summed_package orders rows «package».now) }
 {
     package_law();

@@ -8,7 +8,7 @@ ghost use Rattle.run_model.specs.WorldRun.{steps_by};
 ghost use Rattle.replay_db.specs.Worlds.{ValidWorld};
 ghost use Rattle.world_json.specs.Reading.{world_reading};
 ghost use Rattle.ldv_top.specs.Due.{due_record, due_replay, due_world};
-ghost use Rattle.ldv_top.specs.Headline.{IsPackageOf, Recorded};
+ghost use Rattle.ldv_top.specs.Headline.{IsPackageOf, IsRecording};
 ghost use Rattle.ldv_top.specs.declared.exit.Exit.{Exit};
 
 use package_layout::round_trip_law;
@@ -26,7 +26,7 @@ pub fn headline_law()
         → length document ≤ input_limit → budget ≤ max_steps
         → world_reading document ≡ Ok w → ValidWorld w
         → (due_record mode budget document).exit ≡ Exit.Done
-        → Recorded mode budget document (due_record mode budget document).bytes }
+        → IsRecording mode budget document (due_record mode budget document).bytes }
 {
     audit_law();
     between_law();

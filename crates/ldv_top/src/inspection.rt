@@ -34,14 +34,14 @@ pub(crate) fn report_of(alloc: Global, words: &[String]) -> Result<Report, WordS
 {
     match words {
         [] => Err(WordStop::Usage),
-        [word] => known(report_named(word.as_str())),
+        [word] => known_report(report_named(word.as_str())),
         [word, path] => depends_named(alloc, word.as_str(), path.as_str()),
         [word, table, row] => why_named(alloc, word.as_str(), table.as_str(), row.as_str()),
         _ => Err(WordStop::Usage),
     }
 }
 
-fn known(report: Option<Report>) -> Result<Report, WordStop>
+fn known_report(report: Option<Report>) -> Result<Report, WordStop>
     ensures { Gives Stops result report }
 {
     match report {

@@ -10,7 +10,7 @@ ghost use Rattle.package_layout.specs.Fields.{number_at, sized_at};
 ghost use Rattle.package_layout.specs.Valid.{reading};
 ghost use Rattle.run_model.specs.declared.package.Mode.TheVariants.{Included};
 ghost use Rattle.ldv_top.specs.Due.{response_due, due_spelling};
-ghost use Rattle.ldv_top.specs.DueOfJoins.{due_join, due_joined, joined_inputs, joined_packages, pair_in};
+ghost use Rattle.ldv_top.specs.DueOfJoins.{due_join, due_join_bytes, joined_inputs, joined_packages, pair_in};
 ghost use Rattle.ldv_top.specs.DueParts.{due_of_reading};
 ghost use Rattle.ldv_top.specs.Words.{IsBounded};
 ghost use Rattle.ldv_top.specs.WordsOfJoins.{join_of};
@@ -46,7 +46,7 @@ fn length_in(cursor: &mut Cursor) -> Option<u32>
 }
 
 // Bytes with their number before them. They aren't copied.
-fn sized<'a>(cursor: &mut Cursor<'a>) -> Option<&'a [u8]>
+fn length_prefixed_bytes<'a>(cursor: &mut Cursor<'a>) -> Option<&'a [u8]>
     ensures { MatchOption result (sized_at cursor.old ≡ None)
         (λ front. sized_at cursor.old ≡ Some (front.now, cursor.new)) }
 {
@@ -62,8 +62,8 @@ fn pair_in<'a>(input: &'a [u8]) -> Option<(&'a [u8], &'a [u8])>
     ensures { option_map (λ pair. (pair.0.now, pair.1.now)) result ≡ pair_in input.now }
 {
     let mut cursor = Cursor::of(input);
-    let first = sized(&mut cursor)?;
-    let second = sized(&mut cursor)?;
+    let first = length_prefixed_bytes(&mut cursor)?;
+    let second = length_prefixed_bytes(&mut cursor)?;
     if cursor.is_empty() {
         Some((first, second))
     } else {
@@ -117,7 +117,7 @@ fn packages_response(alloc: Global, a: Package, b: Package) -> Result<Response, 
 }
 
 fn joined_response(alloc: Global, a: Package, b: Package) -> Result<Response, AllocError>
-    ensures { IfOk result (λ response. response_due response ≡ due_joined (joined_of a b)) }
+    ensures { IfOk result (λ response. response_due response ≡ due_join_bytes (joined_of a b)) }
 {
     match join_owned(alloc, a, b) {
         Ok(joined) => spelled_response(alloc, &joined),

@@ -14,7 +14,7 @@
 //!   fault of a stream, where its count of faults increased, or out of memory comes in their place;
 //! - where all is written, what `record` wrote is the package of the document's world. It is read back as
 //!   that package, whole, and its replay within at least the steps of that run gives what `run` gives, and
-//!   its audit finds one with the needed rows sound (`specs/Headline.antt`, `Recorded`);
+//!   its audit finds one with the needed rows sound (`specs/Headline.antt`, `IsRecording`);
 //! - the package of any valid world whose run ends within a budget, of either kind, is replayed, within at
 //!   least the steps of that run, as the world is run (`IsPackageOf`): the package's own world, or its
 //!   script over the recorded replies, is run again, and its trace isn't asked;

@@ -3,8 +3,8 @@
 ghost use Rattle.std.specs.Prelude.{◌≡◌, ◌++◌, ◌∷◌, [], option_map};
 ghost use Rattle.std.specs.Fmt.{decimal};
 ghost use Rattle.run_model.specs.OutcomeText.{parts_text, name_text};
-ghost use Rattle.ldv_top.specs.Exits.{fixed_fault, damage_line, fixed_line, numbered, located};
-ghost use Rattle.ldv_top.specs.Exits.{bad_script_line, clash_line, clash_line_of, line_of, named, named_row};
+ghost use Rattle.ldv_top.specs.Exits.{fixed_fault, damage_line, fixed_line, line_with_number, line_at_place};
+ghost use Rattle.ldv_top.specs.Exits.{bad_script_line, clash_line, clash_line_of, line_of, line_with_name, named_row};
 ghost use Rattle.ldv_top.specs.Exits.{numbered_line};
 ghost use Rattle.ldv_top.specs.Written.{Writes};
 
@@ -44,7 +44,7 @@ fn write_numbered<K: Sink>(
     number: u32,
     tail: &[u8],
 ) -> Result<(), WriteStop>
-    ensures { Writes K.taken K.faults sink.old sink.new (numbered head.now number tail.now) result }
+    ensures { Writes K.taken K.faults sink.old sink.new (line_with_number head.now number tail.now) result }
 {
     write_headed(sink, head, number)?;
     write_bytes(sink, tail)
@@ -97,7 +97,7 @@ fn write_located<K: Sink>(
     number: u32,
 ) -> Result<(), WriteStop>
     ensures { Writes K.taken K.faults sink.old sink.new
-        (located head.now parts.now middle.now number (10 ∷ [])) result }
+        (line_at_place head.now parts.now middle.now number (10 ∷ [])) result }
 {
     write_named(sink, head, parts)?;
     write_numbered(sink, middle, number, b"\n")
@@ -181,7 +181,7 @@ fn write_head_and_name<K: Sink>(sink: &mut K, head: &[u8], name: &[u8]) -> Resul
 // A name, which may have any bytes but a LF.
 #[tactic(auto, using(crate::proofs::WriteLemmas::write_steps))]
 fn write_line_of<K: Sink>(sink: &mut K, head: &[u8], name: &[u8]) -> Result<(), WriteStop>
-    ensures { Writes K.taken K.faults sink.old sink.new (named head.now name.now) result }
+    ensures { Writes K.taken K.faults sink.old sink.new (line_with_name head.now name.now) result }
 {
     write_head_and_name(sink, head, name)?;
     write_bytes(sink, b"\n")

@@ -2,12 +2,12 @@
 
 ghost use Rattle.std.specs.Prelude.{◌≡◌, ◌≤◌, length, map, string_bytes, IfOk, IfSome, OnOk};
 ghost use Rattle.ldv_value.specs.Limits.{input_limit};
-ghost use Rattle.package_layout.specs.RunPackages.{whole};
+ghost use Rattle.package_layout.specs.RunPackages.{expanded_package};
 ghost use Rattle.package_layout.specs.Runs.{IsCut};
 ghost use Rattle.package_layout.specs.Whole.{spelling};
 ghost use Rattle.ldv_top.specs.Due.{response_due, due_spelling};
 ghost use Rattle.ldv_top.specs.DueOfMigrations.{due_migrate};
-ghost use Rattle.ldv_top.specs.Migrated.{Migrated};
+ghost use Rattle.ldv_top.specs.Migrated.{IsMigration};
 ghost use Rattle.ldv_top.specs.Words.{IsBounded};
 ghost use Rattle.ldv_top.specs.WordsOfMigrations.{migrate_of};
 ghost use Rattle.ldv_top.specs.declared.exit.Exit.{Exit};
@@ -37,7 +37,7 @@ pub(crate) fn migrate_response(alloc: Global, input: Bytes) -> Result<Response, 
     ensures due { IfOk result (λ response. response_due response ≡ due_migrate input) }
     // Bytes to write are the same package.
     ensures migrated { OnOk result ((due_migrate input).exit ≡ Exit.Done
-        → Migrated input (due_migrate input).bytes) }
+        → IsMigration input (due_migrate input).bytes) }
 {
     migration_law();
     match read_runs_of(alloc, input) {
@@ -51,7 +51,7 @@ pub(crate) fn migrate_response(alloc: Global, input: Bytes) -> Result<Response, 
 fn spelled_response(alloc: Global, package: &RunPackage) -> Result<Response, AllocError>
     requires { IsCut «package».now.runs }
     ensures { IfOk result (λ response. response_due response
-        ≡ due_spelling (spelling (whole «package».now))) }
+        ≡ due_spelling (spelling (expanded_package «package».now))) }
 {
     match spell_runs(alloc, package) {
         Ok(bytes) => Ok(Response::Written(bytes)),

@@ -7,7 +7,7 @@ ghost use Rattle.ldv_top.specs.WordNumbers.{number_within, positive_within, with
 pub(crate) fn number_within(limit: u32, bytes: &[u8]) -> Option<u32>
     ensures { result ≡ number_within limit bytes.now }
 {
-    short(limit, long_within(limit as u64, bytes))
+    within_u32(limit, long_within(limit as u64, bytes))
 }
 
 /// A number from 1 to the limit, decimal without sign and leading zeros.
@@ -15,11 +15,11 @@ pub(crate) fn positive_within(limit: u32, bytes: &[u8]) -> Option<u32>
     ensures number { result ≡ positive_within limit bytes.now }
     ensures bounded { IfSome result (λ number. number ≤ limit) }
 {
-    short(limit, long_positive(limit as u64, bytes))
+    within_u32(limit, positive_u64(limit as u64, bytes))
 }
 
 // A number that is within the limit.
-fn short(limit: u32, number: Option<u64>) -> Option<u32>
+fn within_u32(limit: u32, number: Option<u64>) -> Option<u32>
     requires { IfSome number (λ number. number ≤ limit) }
     ensures number { result ≡ number }
     ensures bounded { IfSome result (λ number. number ≤ limit) }
@@ -38,11 +38,11 @@ pub(crate) fn long_within(limit: u64, bytes: &[u8]) -> Option<u64>
     if bytes == b"0".as_slice() {
         Some(0)
     } else {
-        long_positive(limit, bytes)
+        positive_u64(limit, bytes)
     }
 }
 
-fn long_positive(limit: u64, bytes: &[u8]) -> Option<u64>
+fn positive_u64(limit: u64, bytes: &[u8]) -> Option<u64>
     ensures number { result ≡ positive_within limit bytes.now }
     ensures bounded { IfSome result (λ number. number ≤ limit) }
 {

@@ -3,9 +3,9 @@
 ghost use Rattle.std.specs.Prelude.{◌≡◌, Ok, IfOk, IfErr};
 ghost use Rattle.ldv_value.specs.Gives.{Gives};
 ghost use Rattle.package_layout.specs.ReadResult.{ReadsAs, RunsReadAs};
-ghost use Rattle.package_layout.specs.RunPackages.{whole};
+ghost use Rattle.package_layout.specs.RunPackages.{expanded_package};
 ghost use Rattle.package_layout.specs.Runs.{IsCut};
-ghost use Rattle.package_layout.specs.Valid.{IsSpelled, Valid, reading};
+ghost use Rattle.package_layout.specs.Valid.{IsSpelled, IsValidPackage, reading};
 ghost use Rattle.package_layout.specs.Whole.{IsTyped};
 ghost use Rattle.prov_export.specs.Reading.{prov_reading};
 ghost use Rattle.prov_export.specs.Stopping.{Stops};
@@ -32,7 +32,7 @@ pub(crate) fn read_world(alloc: Global, input: Bytes) -> Result<World, WorldStop
 
 /// The package that the input is. The input isn't kept.
 pub(crate) fn read_input(alloc: Global, input: Bytes) -> Result<Package, PackageStop>
-    ensures found { IfOk result (λ p. IsTyped p × Valid p × IsSpelled input p) }
+    ensures found { IfOk result (λ p. IsTyped p × IsValidPackage p × IsSpelled input p) }
     ensures reading { ReadsAs result (reading input) }
 {
     read_package(alloc, input.as_slice())
@@ -49,7 +49,8 @@ pub(crate) fn bare_of(package: RunPackage) -> Package
 /// The package that the input is, with its trace kept as runs: no list of its events is made, which may be
 /// far larger than the input. The input isn't kept.
 pub(crate) fn read_runs_of(alloc: Global, input: Bytes) -> Result<RunPackage, PackageStop>
-    ensures found { IfOk result (λ r. IsTyped (whole r) × Valid (whole r) × IsSpelled input (whole r)) }
+    ensures found { IfOk result (λ r. IsTyped (expanded_package r) × IsValidPackage (expanded_package r)
+        × IsSpelled input (expanded_package r)) }
     ensures cut { IfOk result (λ r. IsCut r.runs) }
     ensures reading { RunsReadAs result (reading input) }
 {

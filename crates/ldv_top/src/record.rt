@@ -5,7 +5,7 @@ ghost use Rattle.ldv_value.specs.Limits.{input_limit, max_steps};
 ghost use Rattle.package_layout.specs.Whole.{spelling};
 ghost use Rattle.replay_db.specs.Runs.{CanRun};
 ghost use Rattle.ldv_top.specs.Due.{response_due, due_spelling, recorded_world, due_record};
-ghost use Rattle.ldv_top.specs.Headline.{Recorded};
+ghost use Rattle.ldv_top.specs.Headline.{IsRecording};
 ghost use Rattle.ldv_top.specs.declared.exit.Exit.{Exit};
 
 use crate::headline::headline_law;
@@ -58,7 +58,7 @@ pub(crate) fn record_response(
     ensures due { IfOk result (λ response. response_due response ≡ due_record mode budget input) }
     // Bytes to write are the package of the document's world.
     ensures recorded { OnOk result ((due_record mode budget input).exit ≡ Exit.Done
-        → Recorded mode budget input (due_record mode budget input).bytes) }
+        → IsRecording mode budget input (due_record mode budget input).bytes) }
 {
     headline_law();
     match read_world(alloc, input) {

@@ -4,7 +4,7 @@ ghost use Rattle.std.specs.Prelude.{◌≡◌, ◌≤◌, length, IfOk, IfSome};
 ghost use Rattle.std.specs.List.{AllByRecursion};
 ghost use Rattle.ldv_value.specs.Limits.{input_limit, max_steps};
 ghost use Rattle.package_join.specs.Rooms.{TypedCommonTable};
-ghost use Rattle.package_join.specs.RunJoins.{CutsReadAs, whole_joined};
+ghost use Rattle.package_join.specs.RunJoins.{CutsReadAs, whole_join};
 ghost use Rattle.package_join.specs.Valid.{IsJoinedRead, joined_reading};
 ghost use Rattle.package_join.specs.Worlds.{joined_world};
 ghost use Rattle.run_model.specs.ValidWorld.{CanRun};
@@ -47,7 +47,7 @@ pub(crate) fn replay_of_run(word: &str, number: &str, budget: u32) -> Option<Com
 
 // The joined package that the input is, with its traces kept as runs. The input isn't kept.
 fn read_joined_of(alloc: Global, input: Bytes) -> Result<RunJoined, PackageStop>
-    ensures found { IfOk result (λ r. IsJoinedRead input (whole_joined r)) }
+    ensures found { IfOk result (λ r. IsJoinedRead input (whole_join r)) }
     ensures typed { IfOk result (λ r. AllByRecursion TypedCommonTable r.tables) }
     ensures reading { CutsReadAs result (joined_reading input) }
 {
@@ -79,10 +79,10 @@ fn run_response(
     budget: u32,
     joined: RunJoined,
 ) -> Result<Response, AllocError>
-    requires can_run { CanRun (joined_world which (whole_joined joined)) }
+    requires can_run { CanRun (joined_world which (whole_join joined)) }
     requires bounded { budget ≤ max_steps }
     ensures { IfOk result (λ response. response_due response
-        ≡ due_world budget (joined_world which (whole_joined joined))) }
+        ≡ due_world budget (joined_world which (whole_join joined))) }
 {
     let world = world_owned(alloc, joined, which)?;
     world_response(alloc, budget, world)

@@ -7,12 +7,12 @@ ghost use Rattle.ldv_io.specs.Causes.{Rose};
 ghost use Rattle.ldv_top.specs.Comes.{Comes, IsQuiet, Tells};
 ghost use Rattle.ldv_top.specs.Exits.{status_of, line_of};
 ghost use Rattle.ldv_top.specs.declared.exit.Exit.{Exit};
-ghost use Rattle.ldv_top.specs.Due.{due_of, due_record, done, response_due};
+ghost use Rattle.ldv_top.specs.Due.{due_of, due_record, due_bytes, response_due};
 ghost use Rattle.ldv_top.specs.Ends.{Ends, Responds};
 ghost use Rattle.ldv_top.specs.DueOfMigrations.{due_migrate};
-ghost use Rattle.ldv_top.specs.Migrated.{Migrated};
+ghost use Rattle.ldv_top.specs.Migrated.{IsMigration};
 ghost use Rattle.ldv_top.specs.Words.{IsBounded, reads};
-ghost use Rattle.ldv_top.specs.Headline.{Recorded};
+ghost use Rattle.ldv_top.specs.Headline.{IsRecording};
 ghost use Rattle.ldv_value.specs.Limits.{input_limit};
 ghost use Rattle.run_model.specs.declared.package.Mode.{Mode};
 
@@ -44,7 +44,7 @@ use std::alloc::{AllocError, Global};
 
 // Writes bytes, and ends with Done where the sink took them all.
 fn write_output<K: Sink>(sink: &mut K, bytes: &[u8]) -> Exit
-    ensures written { Comes (done bytes.now) result (K.taken sink.old) (K.taken sink.new) }
+    ensures written { Comes (due_bytes bytes.now) result (K.taken sink.old) (K.taken sink.new) }
     ensures write_fault { result ≡ Exit.WriteFault → Rose (K.faults sink.old) (K.faults sink.new) }
     ensures loud { (result ≡ Exit.Done) ⊎ (result ≡ Exit.WriteFault) }
 {
@@ -77,10 +77,10 @@ fn respond(alloc: Global, command: Command, input: Bytes) -> Result<Response, Al
     ensures due { IfOk result (λ response. response_due response ≡ due_of (Some command) input) }
     ensures recorded { (mode : Mode) (budget : ℕ) → command ≡ Command.Record mode budget
         → OnOk result ((due_record mode budget input).exit ≡ Exit.Done
-        → Recorded mode budget input (due_record mode budget input).bytes) }
+        → IsRecording mode budget input (due_record mode budget input).bytes) }
     ensures migrated { command ≡ Command.Migrate
         → OnOk result ((due_migrate input).exit ≡ Exit.Done
-        → Migrated input (due_migrate input).bytes) }
+        → IsMigration input (due_migrate input).bytes) }
 {
     match command {
         Command::Run { budget } => run_response(alloc, budget, input),
@@ -107,9 +107,9 @@ fn respond_and_write<K: Sink>(alloc: Global, command: Command, input: Bytes, sin
     requires bounded { IsBounded command }
     ensures responds { Responds K.taken K.faults (due_of (Some command) input) sink.old sink.new result }
     ensures recorded { (mode : Mode) (budget : ℕ) → command ≡ Command.Record mode budget → result ≡ Exit.Done
-        → Recorded mode budget input (due_record mode budget input).bytes }
+        → IsRecording mode budget input (due_record mode budget input).bytes }
     ensures migrated { command ≡ Command.Migrate → result ≡ Exit.Done
-        → Migrated input (due_migrate input).bytes }
+        → IsMigration input (due_migrate input).bytes }
 {
     match respond(alloc, command, input) {
         Ok(response) => write_response(sink, response),
@@ -171,9 +171,9 @@ fn run_command<S: Source, K: Sink>(
         → Comes (due_of (Some command) input) result (K.taken sink.old) (K.taken sink.new) }
     ensures recorded { (mode : Mode) (budget : ℕ) (document : List ℕ) → command ≡ Command.Record mode budget
         → S.left source.old ≡ Some document → result ≡ Exit.Done
-        → Recorded mode budget document (due_record mode budget document).bytes }
+        → IsRecording mode budget document (due_record mode budget document).bytes }
     ensures migrated { (input : List ℕ) → command ≡ Command.Migrate → S.left source.old ≡ Some input
-        → result ≡ Exit.Done → Migrated input (due_migrate input).bytes }
+        → result ≡ Exit.Done → IsMigration input (due_migrate input).bytes }
     ensures unwritten { IsQuiet result → sink.new ≡ sink.old }
     ensures all_read { result ≡ Exit.Done → IsAtEnd (S.left source.new) }
     ensures not_usage { result ≢ Exit.Usage }

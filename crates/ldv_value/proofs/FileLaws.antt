@@ -13,7 +13,7 @@ use Rattle.ldv_value.specs.declared.file.OpenMode.TheVariants.{Read, Write, Appe
 use Rattle.ldv_value.specs.Limits.{file_limit}
 use Rattle.ldv_value.specs.Names.{path_test}
 use Rattle.ldv_value.specs.Sorted.{is_strictly_sorted}
-use Rattle.ldv_value.specs.FileState.{path_cmp, IsFile, file_test, files_test, file_precedes, file_of, file_at, put_file, remove_file, add_path, FileState, content_at, is_there, bytes_at, is_touched, IsFileState, untouched, put, touch, open_refusal, opened, removed, appended}
+use Rattle.ldv_value.specs.FileState.{path_cmp, IsFile, file_test, files_test, file_precedes, file_of, file_at, put_file, remove_file, add_path, FileState, content_at, is_there, bytes_at, is_touched, IsFileState, initial_files, put, touch, open_refusal, after_open, after_remove, after_append}
 use Rattle.ldv_value.proofs.Booleans.{and-first, and-second, and-from, or-true}
 use Rattle.ldv_value.proofs.Lists.{found-all, list_all-filter}
 use Rattle.ldv_value.proofs.SameBytes.{bytes_eq-true, bytes_eq-itself, bytes_eq-other}
@@ -27,34 +27,34 @@ content-put_same s p bytes = content-put p bytes s.files p ∙ ap (λ b. cond b 
 pub content-put_other : (s : FileState) (p bytes q : List ℕ) → q ≢ p → content_at (put s p bytes) q ≡ content_at s q
 content-put_other s p bytes q apart = content-put p bytes s.files q ∙ ap (λ b. cond b (Some bytes) (content_at s q)) (bytes_eq-other q p apart)
 
-pub content-removed_same : (s : FileState) (p : List ℕ) → content_at (removed s p) p ≡ None
+pub content-removed_same : (s : FileState) (p : List ℕ) → content_at (after_remove s p) p ≡ None
 content-removed_same s p = content-remove p s.files p ∙ ap (λ b. cond b None (content_at s p)) (bytes_eq-itself p)
 
-pub content-removed_other : (s : FileState) (p q : List ℕ) → q ≢ p → content_at (removed s p) q ≡ content_at s q
+pub content-removed_other : (s : FileState) (p q : List ℕ) → q ≢ p → content_at (after_remove s p) q ≡ content_at s q
 content-removed_other s p q apart = content-remove p s.files q ∙ ap (λ b. cond b None (content_at s q)) (bytes_eq-other q p apart)
 
-pub content-appended_same : (s : FileState) (p more : List ℕ) → content_at (appended s p more) p ≡ Some (bytes_at s p ++ more)
+pub content-appended_same : (s : FileState) (p more : List ℕ) → content_at (after_append s p more) p ≡ Some (bytes_at s p ++ more)
 content-appended_same s p more = content-put_same s p (bytes_at s p ++ more)
 
-pub content-appended_other : (s : FileState) (p more q : List ℕ) → q ≢ p → content_at (appended s p more) q ≡ content_at s q
+pub content-appended_other : (s : FileState) (p more q : List ℕ) → q ≢ p → content_at (after_append s p more) q ≡ content_at s q
 content-appended_other s p more q apart = content-put_other s p (bytes_at s p ++ more) q apart
 
-pub bytes-appended_same : (s : FileState) (p more : List ℕ) → bytes_at (appended s p more) p ≡ bytes_at s p ++ more
+pub bytes-appended_same : (s : FileState) (p more : List ℕ) → bytes_at (after_append s p more) p ≡ bytes_at s p ++ more
 bytes-appended_same s p more = ap (λ o. unwrap_or o []) (content-appended_same s p more)
 
-pub content-opened_other : (mode : OpenMode) (s : FileState) (p q : List ℕ) → q ≢ p → content_at (opened mode s p) q ≡ content_at s q
+pub content-opened_other : (mode : OpenMode) (s : FileState) (p q : List ℕ) → q ≢ p → content_at (after_open mode s p) q ≡ content_at s q
 content-opened_other Read s p q apart = refl
 content-opened_other Write s p q apart = content-put_other s p [] q apart
 content-opened_other Append s p q apart = content-put_other s p (bytes_at s p) q apart
 content-opened_other New s p q apart = content-put_other s p [] q apart
 
-pub content-opened_empty : (s : FileState) (p : List ℕ) → content_at (opened Write s p) p ≡ Some []
+pub content-opened_empty : (s : FileState) (p : List ℕ) → content_at (after_open Write s p) p ≡ Some []
 content-opened_empty s p = content-put_same s p []
 
-pub content-opened_new : (s : FileState) (p : List ℕ) → content_at (opened New s p) p ≡ Some []
+pub content-opened_new : (s : FileState) (p : List ℕ) → content_at (after_open New s p) p ≡ Some []
 content-opened_new s p = content-put_same s p []
 
-pub content-opened_kept : (s : FileState) (p : List ℕ) → content_at (opened Append s p) p ≡ Some (bytes_at s p)
+pub content-opened_kept : (s : FileState) (p : List ℕ) → content_at (after_open Append s p) p ≡ Some (bytes_at s p)
 content-opened_kept s p = content-put_same s p (bytes_at s p)
 
 found_to_read : (found : Bool) → open_refusal Read found ≡ None → found ≡ true
@@ -62,11 +62,11 @@ found_to_read true allowed = refl
 found_to_read false allowed = cc
 
 -- after an open there is a file
-pub there-opened : (mode : OpenMode) (s : FileState) (p : List ℕ) → open_refusal mode (is_there s p) ≡ None → is_there (opened mode s p) p ≡ true
-there-opened Read s p allowed = found_to_read (is_there s p) allowed
-there-opened Write s p allowed = ap is_some (content-opened_empty s p)
-there-opened Append s p allowed = ap is_some (content-opened_kept s p)
-there-opened New s p allowed = ap is_some (content-opened_new s p)
+pub there-after_open : (mode : OpenMode) (s : FileState) (p : List ℕ) → open_refusal mode (is_there s p) ≡ None → is_there (after_open mode s p) p ≡ true
+there-after_open Read s p allowed = found_to_read (is_there s p) allowed
+there-after_open Write s p allowed = ap is_some (content-opened_empty s p)
+there-after_open Append s p allowed = ap is_some (content-opened_kept s p)
+there-after_open New s p allowed = ap is_some (content-opened_new s p)
 
 -- ---- the touched paths after each call. A put and an append leave them by definition
 
@@ -80,22 +80,22 @@ touched-touch_other s p q apart = touched-add p s.touched q ∙ ap (λ b. b || i
 pub touched-touch_kept : (s : FileState) (p q : List ℕ) → is_touched s q ≡ true → is_touched (touch s p) q ≡ true
 touched-touch_kept s p q was = touched-add p s.touched q ∙ ap (λ b. bytes_eq q p || b) was ∙ or-true (bytes_eq q p)
 
-pub touched-opened_same : (mode : OpenMode) (s : FileState) (p : List ℕ) → mode ≢ Read → is_touched (opened mode s p) p ≡ true
+pub touched-opened_same : (mode : OpenMode) (s : FileState) (p : List ℕ) → mode ≢ Read → is_touched (after_open mode s p) p ≡ true
 touched-opened_same Read s p writes = absurd (writes refl)
 touched-opened_same Write s p writes = touched-touch_same (put s p []) p
 touched-opened_same Append s p writes = touched-touch_same (put s p (bytes_at s p)) p
 touched-opened_same New s p writes = touched-touch_same (put s p []) p
 
-pub touched-opened_other : (mode : OpenMode) (s : FileState) (p q : List ℕ) → q ≢ p → is_touched (opened mode s p) q ≡ is_touched s q
+pub touched-opened_other : (mode : OpenMode) (s : FileState) (p q : List ℕ) → q ≢ p → is_touched (after_open mode s p) q ≡ is_touched s q
 touched-opened_other Read s p q apart = refl
 touched-opened_other Write s p q apart = touched-touch_other (put s p []) p q apart
 touched-opened_other Append s p q apart = touched-touch_other (put s p (bytes_at s p)) p q apart
 touched-opened_other New s p q apart = touched-touch_other (put s p []) p q apart
 
-pub touched-removed_same : (s : FileState) (p : List ℕ) → is_touched (removed s p) p ≡ true
+pub touched-removed_same : (s : FileState) (p : List ℕ) → is_touched (after_remove s p) p ≡ true
 touched-removed_same s p = touched-touch_same s p
 
-pub touched-removed_other : (s : FileState) (p q : List ℕ) → q ≢ p → is_touched (removed s p) q ≡ is_touched s q
+pub touched-removed_other : (s : FileState) (p q : List ℕ) → q ≢ p → is_touched (after_remove s p) q ≡ is_touched s q
 touched-removed_other s p q apart = touched-touch_other s p q apart
 
 -- ---- a state stays one
@@ -146,8 +146,8 @@ files-put p bytes files file is =
 pub files-remove : (p : List ℕ) (files : List File) → files_test files ≡ true → files_test (remove_file p files) ≡ true
 files-remove p files is = and-from _ _ (list_all-filter file_test _ files (all-valid files is)) (sorted-remove p files (all-sorted files is))
 
-pub state-untouched : (files : List File) → files_test files ≡ true → IsFileState (untouched files)
-state-untouched files is = record { files = is; paths = refl; sorted = refl }
+pub state-initial_files : (files : List File) → files_test files ≡ true → IsFileState (initial_files files)
+state-initial_files files is = record { files = is; paths = refl; sorted = refl }
 
 pub state-put : (s : FileState) (p bytes : List ℕ) → IsFileState s → IsFile p bytes → IsFileState (put s p bytes)
 state-put s p bytes h file = record { files = files-put p bytes s.files file h.files; paths = h.paths; sorted = h.sorted }
@@ -155,8 +155,8 @@ state-put s p bytes h file = record { files = files-put p bytes s.files file h.f
 pub state-touch : (s : FileState) (p : List ℕ) → IsFileState s → path_test p ≡ true → IsFileState (touch s p)
 state-touch s p h is = record { files = h.files; paths = valid-add p s.touched is h.paths; sorted = sorted-add p s.touched h.sorted }
 
-pub state-removed : (s : FileState) (p : List ℕ) → IsFileState s → path_test p ≡ true → IsFileState (removed s p)
-state-removed s p h is = record { files = files-remove p s.files h.files; paths = valid-add p s.touched is h.paths; sorted = sorted-add p s.touched h.sorted }
+pub state-after_remove : (s : FileState) (p : List ℕ) → IsFileState s → path_test p ≡ true → IsFileState (after_remove s p)
+state-after_remove s p h is = record { files = files-remove p s.files h.files; paths = valid-add p s.touched is h.paths; sorted = sorted-add p s.touched h.sorted }
 
 -- the file at a path is valid
 pub file-there : (s : FileState) (p : List ℕ) (f : File) → IsFileState s → file_at p s.files ≡ Some f → IsFile f.path f.content
@@ -169,14 +169,14 @@ bytes-within (Some f) h = h f refl
 pub bytes-short : (s : FileState) (p : List ℕ) → IsFileState s → length (bytes_at s p) ≤ file_limit
 bytes-short s p h = bytes-within (file_at p s.files) (λ f found. (file-there s p f h found).1)
 
-pub state-opened : (mode : OpenMode) (s : FileState) (p : List ℕ) → IsFileState s → path_test p ≡ true → IsFileState (opened mode s p)
-state-opened Read s p h is = h
-state-opened Write s p h is = state-touch (put s p []) p (state-put s p [] h (is, omega arith)) is
-state-opened Append s p h is = state-touch (put s p (bytes_at s p)) p (state-put s p (bytes_at s p) h (is, bytes-short s p h)) is
-state-opened New s p h is = state-touch (put s p []) p (state-put s p [] h (is, omega arith)) is
+pub state-after_open : (mode : OpenMode) (s : FileState) (p : List ℕ) → IsFileState s → path_test p ≡ true → IsFileState (after_open mode s p)
+state-after_open Read s p h is = h
+state-after_open Write s p h is = state-touch (put s p []) p (state-put s p [] h (is, omega arith)) is
+state-after_open Append s p h is = state-touch (put s p (bytes_at s p)) p (state-put s p (bytes_at s p) h (is, bytes-short s p h)) is
+state-after_open New s p h is = state-touch (put s p []) p (state-put s p [] h (is, omega arith)) is
 
-pub state-appended : (s : FileState) (p more : List ℕ) → IsFileState s → path_test p ≡ true → length (bytes_at s p ++ more) ≤ file_limit → IsFileState (appended s p more)
-state-appended s p more h is fits = state-put s p (bytes_at s p ++ more) h (is, fits)
+pub state-after_append : (s : FileState) (p more : List ℕ) → IsFileState s → path_test p ≡ true → length (bytes_at s p ++ more) ≤ file_limit → IsFileState (after_append s p more)
+state-after_append s p more h is fits = state-put s p (bytes_at s p ++ more) h (is, fits)
 
 -- ---- states as wholes
 
@@ -211,7 +211,7 @@ put-put s p v w h = λ i. record { files = same i; touched = s.touched }
         (λ q. content-put p w (put_file p v s.files) q ∙ ap (cond (bytes_eq q p) (Some w)) (content-put p v s.files q) ∙ twice (bytes_eq q p) (content_at s q) ∙ sym (content-put p w s.files q))
 
 -- to append twice is to append both
-pub appended-appended : (s : FileState) (p more next : List ℕ) → IsFileState s → appended (appended s p more) p next ≡ appended s p (more ++ next)
-appended-appended s p more next h =
-    ap (λ l. put (appended s p more) p (l ++ next)) (bytes-appended_same s p more) ∙ put-put s p (bytes_at s p ++ more) ((bytes_at s p ++ more) ++ next) h
+pub after_append-after_append : (s : FileState) (p more next : List ℕ) → IsFileState s → after_append (after_append s p more) p next ≡ after_append s p (more ++ next)
+after_append-after_append s p more next h =
+    ap (λ l. put (after_append s p more) p (l ++ next)) (bytes-appended_same s p more) ∙ put-put s p (bytes_at s p ++ more) ((bytes_at s p ++ more) ++ next) h
     ∙ ap (put s p) (append_assoc (bytes_at s p) more next)

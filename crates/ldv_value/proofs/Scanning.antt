@@ -3,7 +3,7 @@ use Rattle.std.proofs.Common.{◌≡◌, ℕ, ◌+◌, ◌<◌, List, [], ◌∷
 use Rattle.std.specs.Prelude.{Option, option_to_list}
 use Rattle.std.specs.List.{AllByRecursion}
 use Rattle.ldv_value.specs.Options.{◌>>=◌}
-use Rattle.ldv_value.specs.Scan.{Stepping, Finishing, before, tokens_from}
+use Rattle.ldv_value.specs.Scan.{Transition, FinalOutput, before, tokens_from}
 
 pub before-none : {Token : Type 0} (o : Option (List Token)) → before [] o ≡ o
 before-none None = refl
@@ -13,7 +13,7 @@ pub before-before : {Token : Type 0} (a b : List Token) (o : Option (List Token)
 before-before a b None = refl
 before-before a b (Some ts) = ap Some (sym (append_assoc a b ts))
 
-module _ {State Token : Type 0} (step : Stepping State Token) (finish : Finishing State Token) where
+module _ {State Token : Type 0} (step : Transition State Token) (finish : FinalOutput State Token) where
   pub tokens_from-drop : (state : State) (bs : List ℕ) (i : ℕ) → i < length bs
       → tokens_from step finish (drop i bs) state
       ≡ (step state (get_or bs i 0) >>= λ s. before (option_to_list s.1) (tokens_from step finish (drop (i + 1) bs) s.0))

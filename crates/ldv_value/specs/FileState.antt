@@ -99,8 +99,8 @@ pub record IsFileState (s : FileState) : Type 0 where
   pub sorted : IsTrue (is_strictly_sorted text_precedes s.touched)
 
 -- these files, and no path touched
-abbrev pub untouched : List File → FileState
-untouched files = record { files = files; touched = [] }
+abbrev pub initial_files : List File → FileState
+initial_files files = record { files = files; touched = [] }
 
 -- the state with a file of these bytes at a path
 abbrev pub put : FileState → List ℕ → List ℕ → FileState
@@ -127,15 +127,15 @@ open_refusal New true = Some AlreadyExists
 open_refusal New false = None
 
 -- after an open that isn't refused
-abbrev pub opened : OpenMode → FileState → List ℕ → FileState
-opened Read s path = s
-opened Write s path = touch (put s path []) path
-opened Append s path = touch (put s path (bytes_at s path)) path
-opened New s path = touch (put s path []) path
+abbrev pub after_open : OpenMode → FileState → List ℕ → FileState
+after_open Read s path = s
+after_open Write s path = touch (put s path []) path
+after_open Append s path = touch (put s path (bytes_at s path)) path
+after_open New s path = touch (put s path []) path
 
 -- after the removal of a file that is there
-abbrev pub removed : FileState → List ℕ → FileState
-removed s path = touch (record s { files = remove_file path s.files }) path
+abbrev pub after_remove : FileState → List ℕ → FileState
+after_remove s path = touch (record s { files = remove_file path s.files }) path
 
 -- ---- appending and copying
 
@@ -144,12 +144,12 @@ abbrev pub has_room : FileState → List ℕ → ℕ → Bool
 has_room s path count = nat_le (length (bytes_at s path) + count) file_limit
 
 -- with bytes appended to a file; an absent file counts as empty and is made
-abbrev pub appended : FileState → List ℕ → List ℕ → FileState
-appended s path more = put s path (bytes_at s path ++ more)
+abbrev pub after_append : FileState → List ℕ → List ℕ → FileState
+after_append s path more = put s path (bytes_at s path ++ more)
 
 -- the rest of one file from a place on, appended to another; the bytes are those before the copy
-abbrev pub copied : FileState → List ℕ → ℕ → List ℕ → FileState
-copied s source at target = appended s target (rest_at s source at)
+abbrev pub after_copy : FileState → List ℕ → ℕ → List ℕ → FileState
+after_copy s source at target = after_append s target (rest_at s source at)
 
 -- the place after what was copied
 abbrev pub copy_end : FileState → List ℕ → ℕ → ℕ

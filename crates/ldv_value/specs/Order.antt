@@ -44,16 +44,16 @@ IsTestable (Text s) Null = Unit {0}
 IsTestable (Text s) (Int n) = ⊥
 IsTestable (Text s) (Text t) = Unit {0}
 
-abbrev pub known : Bool → Truth
-known true = True
-known false = False
+abbrev pub truth_of_bool : Bool → Truth
+truth_of_bool true = True
+truth_of_bool false = False
 
 -- unknown where a side is NULL
 abbrev pub test_of : Cmp → Value → Value → Truth
 test_of op Null b = Unknown
 test_of op (Int m) Null = Unknown
-test_of op (Int m) (Int n) = known (meets op (order (Int m) (Int n)))
-test_of op (Int m) (Text t) = known (meets op (order (Int m) (Text t)))
+test_of op (Int m) (Int n) = truth_of_bool (meets op (order (Int m) (Int n)))
+test_of op (Int m) (Text t) = truth_of_bool (meets op (order (Int m) (Text t)))
 test_of op (Text s) Null = Unknown
-test_of op (Text s) (Int n) = known (meets op (order (Text s) (Int n)))
-test_of op (Text s) (Text t) = known (meets op (order (Text s) (Text t)))
+test_of op (Text s) (Int n) = truth_of_bool (meets op (order (Text s) (Int n)))
+test_of op (Text s) (Text t) = truth_of_bool (meets op (order (Text s) (Text t)))

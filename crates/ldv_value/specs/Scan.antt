@@ -8,14 +8,14 @@ abbrev pub before : {Token : Type 0} → List Token → Option (List Token) → 
 before front rest = rest >>= λ ts. Some (front ++ ts)
 
 -- the state after a byte, with the token that ended before it
-abbrev pub Stepping : Type 0 → Type 0 → Type 0
-Stepping State Token = State → ℕ → Option (State × Option Token)
+abbrev pub Transition : Type 0 → Type 0 → Type 0
+Transition State Token = State → ℕ → Option (State × Option Token)
 
 -- the token that the end of the bytes ends
-abbrev pub Finishing : Type 0 → Type 0 → Type 0
-Finishing State Token = State → Option (Option Token)
+abbrev pub FinalOutput : Type 0 → Type 0 → Type 0
+FinalOutput State Token = State → Option (Option Token)
 
-module _ {State Token : Type 0} (step : Stepping State Token) (finish : Finishing State Token) where
+module _ {State Token : Type 0} (step : Transition State Token) (finish : FinalOutput State Token) where
   -- the tokens of bytes from a state on
   abbrev pub tokens_from : List ℕ → State → Option (List Token)
   tokens_from [] state = finish state >>= λ t. Some (option_to_list t)

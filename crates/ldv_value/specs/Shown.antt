@@ -5,7 +5,7 @@ use Rattle.ldv_value.specs.declared.value.Value.{Value}
 use Rattle.ldv_value.specs.declared.value.Value.TheVariants.{Null, Int, Text}
 
 -- the decimal number, the text itself, or NULL
-abbrev pub shown : Value → List ℕ
-shown Null = codes "NULL"
-shown (Int z) = signed_decimal z
-shown (Text text) = text
+abbrev pub value_text : Value → List ℕ
+value_text Null = codes "NULL"
+value_text (Int z) = signed_decimal z
+value_text (Text text) = text

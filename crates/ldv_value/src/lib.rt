@@ -20,7 +20,7 @@ mod file;
 mod limits;
 mod line;
 mod list;
-mod names;
+mod path_rules;
 mod order;
 mod show;
 mod sorted;
@@ -35,7 +35,7 @@ pub use limits::{
 };
 pub use line::LineRead;
 pub use list::{CopyItem, List};
-pub use names::{is_path, is_word};
+pub use path_rules::{is_path, is_word};
 pub use order::{compare, holds, same, test};
 pub use show::{append_number, append_signed, append_text};
 pub use sorted::{Precedes, is_strictly_sorted};

@@ -3,7 +3,7 @@
 ghost use Rattle.std.specs.Prelude.{◌≡◌, ◌↔◌, IsTrue};
 ghost use Rattle.std.specs.declared.cmp.Ordering.{Ordering};
 ghost use Rattle.std.specs.Ordering.{is_eq};
-ghost use Rattle.ldv_value.specs.Order.{order, meets, IsTestable, test_of, known};
+ghost use Rattle.ldv_value.specs.Order.{order, meets, IsTestable, test_of, truth_of_bool};
 
 use crate::value::{Cmp, Truth, Value};
 use std::cmp::Ordering;
@@ -61,7 +61,7 @@ pub fn test(op: Cmp, a: &Value, b: &Value) -> Truth
 }
 
 fn truth_of(holds: bool) -> Truth
-    ensures { result ≡ known holds }
+    ensures { result ≡ truth_of_bool holds }
 {
     if holds { Truth::True } else { Truth::False }
 }

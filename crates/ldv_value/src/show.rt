@@ -2,7 +2,7 @@
 
 ghost use Rattle.std.specs.Prelude.{◌≡◌, ◌++◌, OnOk, OnErr};
 ghost use Rattle.std.specs.Fmt.{decimal, signed_decimal};
-ghost use Rattle.ldv_value.specs.Shown.{shown};
+ghost use Rattle.ldv_value.specs.Shown.{value_text};
 
 use crate::Bytes;
 use crate::value::Value;
@@ -30,7 +30,7 @@ pub fn append_signed(number: i64, to: &mut Bytes) -> Result<(), AllocError>
 /// Appends a value as text: the decimal number, the text itself, or `NULL`. On `AllocError` nothing is
 /// appended.
 pub fn append_text(value: &Value, to: &mut Bytes) -> Result<(), AllocError>
-    ensures ok { OnOk result (to.new ≡ to.old ++ shown value.now) }
+    ensures ok { OnOk result (to.new ≡ to.old ++ value_text value.now) }
     ensures err { OnErr result (to.new ≡ to.old) }
 {
     match value {

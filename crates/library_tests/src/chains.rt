@@ -19,7 +19,7 @@ fn number(values: Option<&Values>) -> Option<i64> {
 }
 
 // A row with the value 10 from time 3 on and 20 from 5 on, which ends at 9.
-fn ended(alloc: Global) -> Result<Chain, AllocError> {
+fn ended_chain(alloc: Global) -> Result<Chain, AllocError> {
     let mut chain = Chain::new(alloc, 3, one(alloc, 10)?)?;
     chain.reserve()?;
     chain.add(5, one(alloc, 20)?)?;
@@ -29,7 +29,7 @@ fn ended(alloc: Global) -> Result<Chain, AllocError> {
 
 #[test]
 fn keeps_every_version(rt: HostRuntime) -> Result<(), Fail> {
-    let chain = ended(rt.alloc())?;
+    let chain = ended_chain(rt.alloc())?;
     assert_eq!(rt; chain.version(), 2);
     assert_eq!(rt; number(chain.current()), None);
     for (time, want) in [

@@ -20,7 +20,7 @@ fn places(alloc: Global, places: &[usize]) -> Result<Places, AllocError> {
     Ok(Places::of_vec(Vec::from_slice(alloc, places)?))
 }
 
-fn parsed(alloc: Global, text: &str) -> Result<Statement, ParseStop> {
+fn parse_text(alloc: Global, text: &str) -> Result<Statement, ParseStop> {
     let params = Values::new(alloc);
     parse(alloc, text, &params)
 }
@@ -72,7 +72,7 @@ fn expect_value_of_text(
     want: &Value,
 ) -> Result<(), AllocError> {
     let text = format!(in alloc; "UPDATE t SET v = {text}")?;
-    match parsed(alloc, text.as_str()) {
+    match parse_text(alloc, text.as_str()) {
         Ok(statement) => match expr_of(&statement) {
             Some(expr) => expect_value(rt, alloc, expr, at, want),
             None => panic!(rt; "no value in {text}"),
@@ -89,7 +89,7 @@ fn expect_truth_of_text(
     want: Truth,
 ) -> Result<(), AllocError> {
     let text = format!(in alloc; "DELETE FROM t WHERE {text}")?;
-    match parsed(alloc, text.as_str()) {
+    match parse_text(alloc, text.as_str()) {
         Ok(statement) => match expr_of(&statement) {
             Some(expr) => expect_truth(rt, alloc, expr, at, want),
             None => panic!(rt; "no condition in {text}"),

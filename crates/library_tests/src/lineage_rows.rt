@@ -42,7 +42,7 @@ fn list_of(
 }
 
 // The list of the rows of the first table from one number to before another, each at its number's version.
-fn listed(alloc: Global, names: &Names, first: u32, after: u32) -> Result<LineageRows, AllocError>
+fn rows_between(alloc: Global, names: &Names, first: u32, after: u32) -> Result<LineageRows, AllocError>
     requires { 0 < length names.now }
     ensures { IfOk result (IsNamed names.now) }
 {
@@ -146,8 +146,8 @@ fn takes_a_list_in(rt: HostRuntime) -> Result<(), Fail> {
 fn keeps_its_rows(rt: HostRuntime) -> Result<(), Fail> {
     let alloc = rt.alloc();
     let names = three_names(alloc)?;
-    let mut list = listed(alloc, &names, 0, 60)?;
-    let other = listed(alloc, &names, 40, 100)?;
+    let mut list = rows_between(alloc, &names, 0, 60)?;
+    let other = rows_between(alloc, &names, 40, 100)?;
     let mut after = 100;
     if unite_lists(&names, &mut list, &other).is_err() {
         after = 60;
@@ -164,7 +164,7 @@ fn keeps_the_set(rt: HostRuntime) -> Result<(), Fail> {
     let alloc = rt.alloc();
     let names = three_names(alloc)?;
     let mut set = rows_of(alloc, &names, 0, 60)?;
-    let list = listed(alloc, &names, 40, 100)?;
+    let list = rows_between(alloc, &names, 40, 100)?;
     if take_in(&names, &mut set, &list).is_err() {
         expect_rows(&rt, &names, &set, 60)?;
         take_in(&names, &mut set, &list)?;

@@ -8,7 +8,7 @@ use std::test::Fail;
 
 // Makes the next number, in the set or not.
 fn make(rt: &impl Abort, set: &mut ReadySet, is_in: bool) -> Result<(), AllocError> {
-    assert!(rt; set.made() < 100_000);
+    assert!(rt; set.made_count() < 100_000);
     set.reserve()?;
     set.push(is_in);
     Ok(())
@@ -16,9 +16,9 @@ fn make(rt: &impl Abort, set: &mut ReadySet, is_in: bool) -> Result<(), AllocErr
 
 // The same. Where memory runs out, the set is as it was, and a second try goes on from there.
 fn make_next(rt: &impl Abort, set: &mut ReadySet, is_in: bool) -> Result<(), AllocError> {
-    let before = (set.made(), set.len());
+    let before = (set.made_count(), set.len());
     if make(rt, set, is_in).is_err() {
-        assert_eq!(rt; (set.made(), set.len()), before);
+        assert_eq!(rt; (set.made_count(), set.len()), before);
         make(rt, set, is_in)?;
     }
     Ok(())
@@ -62,7 +62,7 @@ fn expect_after(rt: &impl Abort, set: &ReadySet, last: u32, want: Option<u32>) {
 
 // Puts a number that was made into the set, or takes it out.
 fn change(rt: &impl Abort, set: &mut ReadySet, number: u32, is_in: bool) {
-    assert!(rt; number < set.made());
+    assert!(rt; number < set.made_count());
     if is_in {
         set.add(number);
     } else {

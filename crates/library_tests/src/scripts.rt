@@ -68,7 +68,7 @@ fn comparison_word(op: Cmp) -> &'static str {
     }
 }
 
-fn parsed(alloc: Global, text: &str) -> Result<Script, ScriptStop> {
+fn parse_text(alloc: Global, text: &str) -> Result<Script, ScriptStop> {
     if text.len() > 1_000_000 {
         return Err(ScriptStop::NoMemory);
     }
@@ -76,7 +76,7 @@ fn parsed(alloc: Global, text: &str) -> Result<Script, ScriptStop> {
 }
 
 fn expect(rt: &impl Abort, alloc: Global, text: &str, wants: &[(&'static str, u32)]) {
-    match parsed(alloc, text) {
+    match parse_text(alloc, text) {
         Ok(script) => {
             assert_eq!(rt; script.instructions.len(), wants.len());
             for (instr, want) in script.instructions.items().iter().zip(wants) {

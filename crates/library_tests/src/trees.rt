@@ -115,14 +115,14 @@ fn expect_line(
     Ok(())
 }
 
-fn filled(alloc: Global, length: usize) -> Result<Vec<u8>, AllocError> {
+fn bytes_of_length(alloc: Global, length: usize) -> Result<Vec<u8>, AllocError> {
     vec![in alloc; b'x'; length]
 }
 
 #[test]
 fn reads_lines(rt: HostRuntime) -> Result<(), Fail> {
     let alloc = rt.alloc();
-    let long = filled(alloc, 65_537)?;
+    let long = bytes_of_length(alloc, 65_537)?;
     let tree = tree_of(
         &rt,
         alloc,
@@ -156,7 +156,7 @@ fn reads_lines(rt: HostRuntime) -> Result<(), Fail> {
 #[test]
 fn keeps_the_limit(rt: HostRuntime) -> Result<(), Fail> {
     let alloc = rt.alloc();
-    let almost = filled(alloc, 16_777_215)?;
+    let almost = bytes_of_length(alloc, 16_777_215)?;
     let mut tree = tree_of(&rt, alloc, &[("big", almost.as_slice())])?;
     expect_append(&rt, &mut tree, "big", b"a\n", Err(AppendStop::TooLong));
     expect_copy(
@@ -239,7 +239,7 @@ fn expect_contents(rt: &impl Abort, tree: &Tree) {
 }
 
 fn expect_touched(rt: &impl Abort, tree: &Tree) -> Result<(), AllocError> {
-    let touched = tree.touched()?;
+    let touched = tree.touched_paths()?;
     let paths = ["a.txt", "b.txt", "c.txt", "m", "n", "z"];
     assert!(rt; touched.len() == paths.len());
     for (path, want) in touched.items().iter().zip(paths.iter()) {

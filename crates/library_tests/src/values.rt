@@ -9,7 +9,7 @@ use std::process::Abort;
 use std::test::Fail;
 
 // Values that are strictly increasing in the total order.
-fn increasing(alloc: Global) -> Result<Values, AllocError> {
+fn increasing_values(alloc: Global) -> Result<Values, AllocError> {
     let mut values = Values::new(alloc);
     values.push(Value::Null)?;
     for number in [i64::MIN, -1, 0, 9, 10, i64::MAX] {
@@ -41,7 +41,7 @@ fn expect_holds(rt: &impl Abort, a: &Value, b: &Value, between: Ordering) {
 
 #[test]
 fn orders_values(rt: HostRuntime) -> Result<(), Fail> {
-    let values = increasing(rt.alloc())?;
+    let values = increasing_values(rt.alloc())?;
     for (i, a) in values.items().iter().enumerate() {
         for (j, b) in values.items().iter().enumerate() {
             expect_order(&rt, a, b, i.cmp(&j));

@@ -11,7 +11,7 @@ use Rattle.std.proofs.lemmas.Bool.{cases_Bool, false≢true}
 pub use Rattle.ldv_value.proofs.Options.{option_or-none as or_none, option_or-assoc as or_assoc}
 use Rattle.ldv_value.proofs.Booleans.{or-cases}
 use Rattle.ldv_value.proofs.Orderings.{is_eq-true}
-use Rattle.lineage.specs.Lineage.{Row, row_cmp, Lineage, version_at, has_row, added, IsUnion, IsNamed}
+use Rattle.lineage.specs.Lineage.{Row, row_cmp, Lineage, version_at, has_row, with_version, IsUnion, IsNamed}
 
 pub row_total : IsTotalOrder row_cmp
 row_total = then_total (on_total (λ (r : Row). r.0) nat_cmp_total) (on_total (λ (r : Row). r.1) nat_cmp_total)
@@ -51,8 +51,8 @@ none_filled true (Some v) there version is same = cc
 none_filled false here there version is same = sym (or_none there)
 
 -- where a row is added, the others stay, and it stays where it is in the set
-pub version_at-added : (set : Lineage) (row : Row) (version : ℕ) (other : Row) → version_at (added set row version) other ≡ option_or (version_at set other) (alone row version other)
-version_at-added set row version other =
+pub version_at-with_version : (set : Lineage) (row : Row) (version : ℕ) (other : Row) → version_at (with_version set row version) other ≡ option_or (version_at set other) (alone row version other)
+version_at-with_version set row version other =
     let same = at_tied set row other (row_cmp other row) refl (version_at set row) refl in
     elim (cases_Bool (has_row set row)) [
       | inl there ↦ rw there (some_kept (eq_by_cmp row_cmp other row) (version_at set row) (version_at set other) version there same)
@@ -68,9 +68,9 @@ has_alone true version = refl
 has_alone false version = refl
 
 -- a row is in the set after an addition where it was before, or is the one added
-pub has_row-added : (set : Lineage) (row : Row) (version : ℕ) (other : Row) → has_row (added set row version) other ≡ (has_row set other || eq_by_cmp row_cmp other row)
-has_row-added set row version other =
-    ap is_some (version_at-added set row version other) ∙ has_either (version_at set other) (alone row version other)
+pub has_row-with_version : (set : Lineage) (row : Row) (version : ℕ) (other : Row) → has_row (with_version set row version) other ≡ (has_row set other || eq_by_cmp row_cmp other row)
+has_row-with_version set row version other =
+    ap is_some (version_at-with_version set row version other) ∙ has_either (version_at set other) (alone row version other)
     ∙ ap (λ b. has_row set other || b) (has_alone (eq_by_cmp row_cmp other row) version)
 
 -- a row is in a union where it is in one of the sets
@@ -82,8 +82,8 @@ has_row-union one other both is row = ap is_some (is row) ∙ has_either (versio
 pub IsNamed-empty : (names : List (List ℕ)) → IsNamed names empty
 IsNamed-empty names row there = absurd (false≢true (sym (ap is_some (version_at-empty row)) ∙ there))
 
-pub IsNamed-added : (names : List (List ℕ)) (set : Lineage) (row : Row) (version : ℕ) → IsNamed names set → row.0 < length names → IsNamed names (added set row version)
-IsNamed-added names set row version named within other there = elim (or-cases (has_row set other) (eq_by_cmp row_cmp other row) (sym (has_row-added set row version other) ∙ there)) [
+pub IsNamed-with_version : (names : List (List ℕ)) (set : Lineage) (row : Row) (version : ℕ) → IsNamed names set → row.0 < length names → IsNamed names (with_version set row version)
+IsNamed-with_version names set row version named within other there = elim (or-cases (has_row set other) (eq_by_cmp row_cmp other row) (sym (has_row-with_version set row version other) ∙ there)) [
   | inl old ↦ named other old
   | inr same ↦ rw (same_row other row same) within
 ]

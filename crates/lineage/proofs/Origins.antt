@@ -15,9 +15,9 @@ use Rattle.std.proofs.lemmas.Map.Text.{is_eq-slice_cmp}
 use Rattle.std.proofs.lemmas.Bool.Decides.{Decides-eqb, Decides-ltb}
 use Rattle.ldv_value.proofs.Booleans.{or-false, true≢false}
 use Rattle.ldv_value.proofs.SameBytes.{bytes_eq-true, bytes_eq-itself}
-use Rattle.lineage.specs.Lineage.{Row, row_cmp, Lineage, added, IsUnion, IsNamed, name_at}
+use Rattle.lineage.specs.Lineage.{Row, row_cmp, Lineage, with_version, IsUnion, IsNamed, name_at}
 use Rattle.lineage.specs.StandsFor.{origin_at, StandsFor}
-use Rattle.lineage.proofs.Laws.{same_row, same_set, version_at-empty, version_at-added}
+use Rattle.lineage.proofs.Laws.{same_row, same_set, version_at-empty, version_at-with_version}
 use Rattle.lineage.proofs.Listed.{names-increase}
 use Rattle.sql_model.proofs.OriginSets.{has_origin-append}
 use Rattle.sql_model.specs.QueryAnswer.{Origin}
@@ -131,15 +131,15 @@ module _ (names : List (List ℕ)) where
     alike true h x y v same = ap (λ b. if h || b then Some v else None) (same refl)
     alike false h x y v same = refl
 
-    pub stands-added : AreDistinct names → (set : Lineage) (a : List Origin) (row : Row) → row.0 < length names
+    pub stands-with_version : AreDistinct names → (set : Lineage) (a : List Origin) (row : Row) → row.0 < length names
         → StandsFor names versions set a
-        → StandsFor names versions (added set row (version_of row)) (a ++ origin_at names row ∷ [])
-    stands-added distinct set a row within stands other =
+        → StandsFor names versions (with_version set row (version_of row)) (a ++ origin_at names row ∷ [])
+    stands-with_version distinct set a row within stands other =
         let w : Bool = nat_lt other.0 (length names) in
         let h : Bool = has_origin (origin_at names other) a in
         let e : Bool = eq_by_cmp row_cmp other row in
         let same : e ≡ true → other ≡ row = λ is. same_row other row is in
-        version_at-added set row (version_of row) other
+        version_at-with_version set row (version_of row) other
         ∙ ap (λ (o : Option ℕ). option_or o (cond e (Some (version_of row)) None)) (stands other)
         ∙ added_in w h e (version_of other) (version_of row)
         (λ is. (Decides-ltb other.0 (length names)).1 (subst (λ (r : Row). r.0 < length names) (sym (same is)) within))

@@ -1,7 +1,7 @@
 -- Rows that stand for answer rows.
 use Rattle.std.proofs.Common.{◌≡◌, sym, subst, refl, ℕ, List, [], ◌∷◌, ◌++◌, map, Bool, true, false}
 use Rattle.lineage.specs.Lineage.{Lineage, IsUnion}
-use Rattle.lineage.specs.Rows.{kept, AnswersStandFor}
+use Rattle.lineage.specs.Rows.{kept_origins, AnswersStandFor}
 use Rattle.lineage.specs.StandsFor.{StandsFor}
 use Rattle.lineage.specs.declared.answer.Answer.{Answer}
 use Rattle.lineage.proofs.Origins.{stands-union}
@@ -9,18 +9,18 @@ use Rattle.sql_model.specs.Needs.{Versions}
 use Rattle.sql_model.specs.QueryAnswer.{Origin, AnswerRow, answer_values}
 
 -- what is kept of two lineages
-pub kept-append : (keep : Bool) (a b : List Origin) → kept keep (a ++ b) ≡ kept keep a ++ kept keep b
-kept-append true a b = refl
-kept-append false a b = refl
+pub kept_origins-append : (keep : Bool) (a b : List Origin) → kept_origins keep (a ++ b) ≡ kept_origins keep a ++ kept_origins keep b
+kept_origins-append true a b = refl
+kept_origins-append false a b = refl
 
 module _ (names : List (List ℕ)) (versions : Versions) (keep : Bool) where
   -- a union stands for what is kept of both lineages
-  pub kept-union : (one other both : Lineage) (a b : List Origin) → IsUnion one other both
-      → StandsFor names versions one (kept keep a) → StandsFor names versions other (kept keep b)
-      → StandsFor names versions both (kept keep (a ++ b))
-  kept-union one other both a b is first second =
-      subst (StandsFor names versions both) (sym (kept-append keep a b))
-      (stands-union names versions one other both (kept keep a) (kept keep b) is first second)
+  pub kept_origins-union : (one other both : Lineage) (a b : List Origin) → IsUnion one other both
+      → StandsFor names versions one (kept_origins keep a) → StandsFor names versions other (kept_origins keep b)
+      → StandsFor names versions both (kept_origins keep (a ++ b))
+  kept_origins-union one other both a b is first second =
+      subst (StandsFor names versions both) (sym (kept_origins-append keep a b))
+      (stands-union names versions one other both (kept_origins keep a) (kept_origins keep b) is first second)
 
   -- the values are those of the rows
   pub answers-values : (answers : List Answer) (rows : List AnswerRow) → AnswersStandFor names versions keep answers rows

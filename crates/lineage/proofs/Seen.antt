@@ -9,9 +9,9 @@ use Rattle.std.specs.Ordering.{eq_by_cmp, is_eq}
 use Rattle.std.proofs.lemmas.Bool.{cases_Bool, cases_eq}
 use Rattle.std.proofs.lemmas.Cmp.{tied_itself}
 use Rattle.lineage.specs.Blocks.{with_row, rows_from, rows_of_block, rows_under, all_rows, row_at, found_at, block_of, AreRoomier}
-use Rattle.lineage.specs.Lineage.{Row, row_cmp, Lineage, version_at, added, IsUnion}
+use Rattle.lineage.specs.Lineage.{Row, row_cmp, Lineage, version_at, with_version, IsUnion}
 use Rattle.lineage.specs.declared.blocks.Block.{Block}
-use Rattle.lineage.proofs.Laws.{row_total, same_row, same_set, alone, version_at-added}
+use Rattle.lineage.proofs.Laws.{row_total, same_row, same_set, alone, version_at-with_version}
 use Rattle.lineage.proofs.Unions.{find_append}
 use Rattle.ldv_value.proofs.Booleans.{true≢false}
 
@@ -112,10 +112,10 @@ roomier_seen m n set is roomier = same_set (from_entries (all_rows n)) set (λ q
     seen n q ∙ roomier.same (block_of q) (q.1 % 65536) ∙ seen_in m set is q)
 
 pub added_seen : (m n : BTreeMap Row Block) (set : Lineage) (row : Row) (v : ℕ) → from_entries (all_rows m) ≡ set
-    → ((q : Row) → found_at n q ≡ option_or (found_at m q) (cond (eq_by_cmp row_cmp q row) (Some v) None)) → ◌≡◌ {A = Lineage} (from_entries (all_rows n)) (added set row v)
-added_seen m n set row v is step = same_set (from_entries (all_rows n)) (added set row v) (λ q.
+    → ((q : Row) → found_at n q ≡ option_or (found_at m q) (cond (eq_by_cmp row_cmp q row) (Some v) None)) → ◌≡◌ {A = Lineage} (from_entries (all_rows n)) (with_version set row v)
+added_seen m n set row v is step = same_set (from_entries (all_rows n)) (with_version set row v) (λ q.
     seen n q ∙ step q ∙ ap (λ (o : Option ℕ). option_or o (alone row v q)) (seen_in m set is q)
-    ∙ sym (version_at-added set row v q))
+    ∙ sym (version_at-with_version set row v q))
 
 pub united_seen : (m n : BTreeMap Row Block) (set other : Lineage) → from_entries (all_rows m) ≡ set
     → ((q : Row) → found_at n q ≡ option_or (found_at m q) (version_at other q)) → IsUnion set other (from_entries (all_rows n))

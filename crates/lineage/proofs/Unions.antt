@@ -3,8 +3,8 @@ use Rattle.std.proofs.Common.{◌≡◌, ◌∙◌, sym, ap, refl, ℕ, Bool, tr
 use Rattle.std.specs.FinMap.{find, empty, entries, from_entries, get-entries, get-from_entries}
 use Rattle.std.specs.Option.{option_or}
 use Rattle.std.specs.Ordering.{eq_by_cmp}
-use Rattle.lineage.specs.Lineage.{Row, row_cmp, Lineage, version_at, IsUnion, added, union_of}
-use Rattle.lineage.proofs.Laws.{row_total, same_set, version_at-empty, version_at-added, or_assoc, or_none}
+use Rattle.lineage.specs.Lineage.{Row, row_cmp, Lineage, version_at, IsUnion, with_version, union_of}
+use Rattle.lineage.proofs.Laws.{row_total, same_set, version_at-empty, version_at-with_version, or_assoc, or_none}
 
 cond_or : (b : Bool) (v : ℕ) (x y : Option ℕ) → cond b (Some v) (option_or x y) ≡ option_or (cond b (Some v) x) y
 cond_or true v x y = refl
@@ -51,12 +51,12 @@ pub ruleset union_steps = (union_step, union_none, none_union)
 
 -- a row at the end of a list: the first of a row gives its version
 pub row_pushed : (rows : List (Row × ℕ)) (row : Row) (version : ℕ)
-    → ◌≡◌ {A = Lineage} (from_entries (rows ++ (row, version) ∷ [])) (added (from_entries rows) row version)
+    → ◌≡◌ {A = Lineage} (from_entries (rows ++ (row, version) ∷ [])) (with_version (from_entries rows) row version)
 row_pushed rows row version = same_set _ _ (λ q.
     get-from_entries row_total (rows ++ (row, version) ∷ []) q
     ∙ find_append rows ((row, version) ∷ []) q
     ∙ ap (λ (o : Option ℕ). option_or o (find row_cmp q ((row, version) ∷ []))) (sym (get-from_entries row_total rows q))
-    ∙ sym (version_at-added (from_entries rows) row version q))
+    ∙ sym (version_at-with_version (from_entries rows) row version q))
 
 -- a list after another
 pub rows_joined : (rows more : List (Row × ℕ)) → IsUnion (from_entries rows) (from_entries more) (from_entries (rows ++ more))
@@ -65,7 +65,7 @@ rows_joined rows more q =
     ∙ find_append rows more q
     ∙ (λ j. option_or (sym (get-from_entries row_total rows q) j) (sym (get-from_entries row_total more q) j))
 
-pub row_pushed_to : (rows new : List (Row × ℕ)) (row : Row) (version : ℕ) → new ≡ rows ++ (row, version) ∷ [] → ◌≡◌ {A = Lineage} (from_entries new) (added (from_entries rows) row version)
+pub row_pushed_to : (rows new : List (Row × ℕ)) (row : Row) (version : ℕ) → new ≡ rows ++ (row, version) ∷ [] → ◌≡◌ {A = Lineage} (from_entries new) (with_version (from_entries rows) row version)
 row_pushed_to rows new row version is = ap (λ (es : List (Row × ℕ)). from_entries es) is ∙ row_pushed rows row version
 
 pub rows_joined_to : (rows more new : List (Row × ℕ)) → new ≡ rows ++ more → IsUnion (from_entries rows) (from_entries more) (from_entries new)

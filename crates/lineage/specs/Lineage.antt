@@ -32,8 +32,8 @@ abbrev pub has_row : Lineage → Row → Bool
 has_row set row = is_some (version_at set row)
 
 -- the set with a row at a version. A row that is in it stays as it is
-abbrev pub added : Lineage → Row → ℕ → Lineage
-added set row version = if has_row set row then set else finmap.insert set row version
+abbrev pub with_version : Lineage → Row → ℕ → Lineage
+with_version set row version = if has_row set row then set else finmap.insert set row version
 
 -- each row of the two sets and no other: at each, the version of the one or else of the other
 abbrev pub IsUnion : Lineage → Lineage → Lineage → Type 0

@@ -13,16 +13,16 @@ use Rattle.sql_model.specs.QueryAnswer.{Origin, AnswerRow, Combination, joined_v
 use Rattle.sql_model.specs.declared.statement.FromItem.{FromItem}
 
 -- the lineage that is kept
-abbrev pub kept : Bool → List Origin → List Origin
-kept true origins = origins
-kept false origins = []
+abbrev pub kept_origins : Bool → List Origin → List Origin
+kept_origins true origins = origins
+kept_origins false origins = []
 
 -- the values and the lineage of a row
 pub record IsRow (names : List (List ℕ)) (versions : Versions) (keep : Bool) (values : List Value)
     (lineage : Lineage)
     (row : AnswerRow) : Type 0 where
   pub same : values ≡ row.values
-  pub stands : StandsFor names versions lineage (kept keep row.lineage)
+  pub stands : StandsFor names versions lineage (kept_origins keep row.lineage)
 
 -- one by one
 abbrev pub AnswersStandFor : List (List ℕ) → Versions → Bool → List Answer → List AnswerRow → Type 0

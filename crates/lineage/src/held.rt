@@ -3,7 +3,7 @@
 ghost use Rattle.std.specs.Prelude.{◌≡◌, ◌++◌, ◌∷◌, [], IfOk, OnOk, OnErr};
 ghost use Rattle.std.specs.FinMap as finmap;
 ghost use Rattle.lineage.specs.Held.{rows_held, IsMany};
-ghost use Rattle.lineage.specs.Lineage.{added, IsUnion};
+ghost use Rattle.lineage.specs.Lineage.{with_version, IsUnion};
 
 use crate::blocks::Row;
 use crate::set::LineageSet;
@@ -31,7 +31,7 @@ fn push_row(rows: &mut Vec<(Row, u32)>, row: Row, version: u32) -> Result<(), Al
 /// Adds a row at a version. On `AllocError` the rows are as they were.
 #[tactic(auto, using(crate::proofs::Unions::row_pushed_to))]
 pub(crate) fn add_to(held: &mut Held, row: Row, version: u32) -> Result<(), AllocError>
-    ensures ok { OnOk result (rows_held held.new ≡ added (rows_held held.old) row version) }
+    ensures ok { OnOk result (rows_held held.new ≡ with_version (rows_held held.old) row version) }
     ensures err { OnErr result (rows_held held.new ≡ rows_held held.old) }
 {
     match held {

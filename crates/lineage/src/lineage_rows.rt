@@ -3,7 +3,7 @@
 ghost use Rattle.std.specs.Prelude.{◌≡◌, OnOk, OnErr};
 ghost use Rattle.std.specs.FinMap as finmap;
 ghost use Rattle.lineage.specs.Held.{rows_held};
-ghost use Rattle.lineage.specs.Lineage.{added, IsUnion};
+ghost use Rattle.lineage.specs.Lineage.{with_version, IsUnion};
 
 use crate::held::{Held, add_to, unite_with};
 use std::alloc::{AllocError, Global};
@@ -43,7 +43,7 @@ impl LineageRows {
     /// Adds a row of a table at a version. A row that is there keeps its version. On `AllocError` the rows
     /// are as they were.
     pub fn add(&mut self, table: u32, row: u32, version: u32) -> Result<(), AllocError>
-        ensures ok { OnOk result (self.new ≡ added self.old (table, row) version) }
+        ensures ok { OnOk result (self.new ≡ with_version self.old (table, row) version) }
         ensures err { OnErr result (self.new ≡ self.old) }
     {
         add_to(&mut self.held, (table, row), version)
@@ -59,7 +59,7 @@ impl LineageRows {
     }
 
     /// The rows, as they are held.
-    pub(crate) fn held(&self) -> &Held
+    pub(crate) fn held_rows(&self) -> &Held
         ensures { self.now ≡ rows_held result.now }
     {
         &self.held

@@ -5,7 +5,7 @@ ghost use Rattle.std.specs.List.Sorted.{IsStrictlySortedBy};
 ghost use Rattle.std.specs.Ordering.{nat_cmp};
 ghost use Rattle.std.specs.Cmp.Lexicographic.{slice_cmp};
 ghost use Rattle.std.specs.FinMap as finmap;
-ghost use Rattle.lineage.specs.Lineage.{added, IsUnion, IsNamed, members_of, member_cmp};
+ghost use Rattle.lineage.specs.Lineage.{with_version, IsUnion, IsNamed, members_of, member_cmp};
 ghost use Rattle.lineage.specs.Blocks.{HasNone, IsBlock};
 
 use crate::blocks::{Blocks, Row, with_member};
@@ -61,7 +61,7 @@ impl LineageSet {
     /// `AllocError` the set is as it was.
     #[tactic(auto, using(crate::proofs::Seen::roomier_seen))]
     pub fn add(&mut self, table: u32, row: u32, version: u32) -> Result<(), AllocError>
-        ensures ok { OnOk result (self.new ≡ added self.old (table, row) version) }
+        ensures ok { OnOk result (self.new ≡ with_version self.old (table, row) version) }
         ensures err { OnErr result (self.new ≡ self.old) }
     {
         make_row_room(self.alloc, &mut self.blocks, (table, row), version)?;
@@ -87,7 +87,7 @@ impl LineageSet {
         ensures ok { OnOk result (IsUnion self.old other.now self.new) }
         ensures err { OnErr result (self.new ≡ self.old) }
     {
-        match other.held() {
+        match other.held_rows() {
             Held::Few(rows) => self.add_list(rows.as_slice()),
             Held::Many(set) => self.union(set),
         }

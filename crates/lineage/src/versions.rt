@@ -56,7 +56,7 @@ fn after_zeros(alloc: Global, count: usize, numbers: &List<u32>) -> Result<List<
 
 // Makes room from 0 on.
 #[tactic(auto, using(crate::proofs::VersionLaws::lowered))]
-fn lower(alloc: Global, versions: &mut Versions) -> Result<(), AllocError>
+fn make_room_below(alloc: Global, versions: &mut Versions) -> Result<(), AllocError>
     ensures same { (m : ℕ) → version_of versions.new m ≡ version_of versions.old m }
     ensures stays { (m : ℕ) → HasPlace versions.old m → HasPlace versions.new m }
     ensures low { OnOk result (versions.new.first ≡ 0) }
@@ -94,7 +94,7 @@ fn reach_down(alloc: Global, versions: &mut Versions, n: usize) -> Result<(), Al
     if versions.first as usize <= n {
         return Ok(());
     }
-    lower(alloc, versions)
+    make_room_below(alloc, versions)
 }
 
 // Makes room down to a row, and begins at it where no version is noted.

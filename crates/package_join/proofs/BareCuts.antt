@@ -8,7 +8,7 @@ use Rattle.package_layout.specs.declared.run_package.RunPackage.{RunPackage}
 use Rattle.package_layout.specs.declared.run.Run.{Run}
 use Rattle.package_layout.specs.declared.version.Version.TheVariants.{Two}
 use Rattle.package_layout.specs.Events.{names_at}
-use Rattle.package_layout.specs.Fields.{Found, ◌>>=◌, both_at, list_at, made_at, number_at}
+use Rattle.package_layout.specs.Fields.{DecodeResult, ◌>>=◌, both_at, list_at, made_at, number_at}
 use Rattle.package_layout.specs.RunPackages.{run_rules}
 use Rattle.package_layout.specs.Runs.{run_at as trace_run_at}
 use Rattle.package_join.specs.declared.joined.Clash.{Clash}
@@ -20,27 +20,27 @@ use Rattle.package_join.specs.declared.run_joined.RunJoined.{RunJoined}
 use Rattle.package_join.specs.Joined.{clash_of, put_together, unless_clash}
 use Rattle.package_join.specs.Layout.{bare_run_at, common_files_at, common_tables_at, named_reason_at, paths_at}
 use Rattle.package_join.specs.RunJoins.{cut_run_at, cut_joined_at, cut_joined_of, cut_sections, picked_runs}
-use Rattle.package_join.specs.RunJoins.{with_runs, if_rejoined, rejoined, cut_anew, cut_spelled_so, cuts_in}
+use Rattle.package_join.specs.RunJoins.{with_runs, if_rejoined, join_of_packages, cut_anew, cut_spelled_so, cuts_in}
 use Rattle.package_join.proofs.CutLaws.{if_tested, so_spelled}
 
 -- ---- what holds of all that is found
 
-abbrev Finds : {X : Type 0} → (X → Type 0) → (List ℕ → Found X) → Type 0
+abbrev Finds : {X : Type 0} → (X → Type 0) → (List ℕ → DecodeResult X) → Type 0
 Finds {X = X} P x_at = (bytes : List ℕ) (x : X × List ℕ) → x_at bytes ≡ Some x → P x.0
 
-anything : {X : Type 0} (x_at : List ℕ → Found X) → Finds (λ (x : X). Unit {0}) x_at
+anything : {X : Type 0} (x_at : List ℕ → DecodeResult X) → Finds (λ (x : X). Unit {0}) x_at
 anything x_at bytes x e = tt
 
-both_find : {X Y : Type 0} (P : X → Type 0) (Q : Y → Type 0) (x_at : List ℕ → Found X) (y_at : List ℕ → Found Y)
+both_find : {X Y : Type 0} (P : X → Type 0) (Q : Y → Type 0) (x_at : List ℕ → DecodeResult X) (y_at : List ℕ → DecodeResult Y)
     → Finds P x_at → Finds Q y_at → Finds (λ (z : X × Y). P z.0 × Q z.1) (both_at x_at y_at)
 both_find {X = X} {Y = Y} P Q x_at y_at p q bytes z e =
-    let paired : X × List ℕ → Y × List ℕ → Found (X × Y) = λ x y. Some ((x.0, y.0), y.1) in
+    let paired : X × List ℕ → Y × List ℕ → DecodeResult (X × Y) = λ x y. Some ((x.0, y.0), y.1) in
     let one = bind-some (x_at bytes) (λ (x : X × List ℕ). y_at x.1 >>= paired x) z e in
     let two = bind-some (y_at one.0.1) (paired one.0) z one.2 in
     subst (λ (w : (X × Y) × List ℕ). P w.0.0 × Q w.0.1) (same-some ((one.0.0, two.0.0), two.0.1) z two.2)
     (p bytes one.0 one.1, q one.0.1 two.0 two.1)
 
-made_find : {A B : Type 0} (Q : A → Type 0) (P : B → Type 0) (make : A → B) (a_at : List ℕ → Found A)
+made_find : {A B : Type 0} (Q : A → Type 0) (P : B → Type 0) (make : A → B) (a_at : List ℕ → DecodeResult A)
     → Finds Q a_at → ((a : A) → Q a → P (make a)) → Finds P (made_at (λ a. Some (make a)) a_at)
 made_find {A = A} {B = B} Q P make a_at found holds bytes x e =
     let one = bind-some (a_at bytes) (λ (a : A × List ℕ). Some (make a.0) >>= λ (b : B). Some (b, a.1)) x e in
@@ -54,7 +54,7 @@ HasNoEvents run = run.events ≡ []
 abbrev pub AreBare : RunJoined → Type 0
 AreBare r = (r.first.bare.events ≡ []) × (r.second.bare.events ≡ [])
 
-abbrev all_at : List ℕ → Found (List (List ℕ) × (ℕ × (ℕ × (List (List ℕ) × (List (List ℕ) × (List (List ℕ) × List Reason))))))
+abbrev all_at : List ℕ → DecodeResult (List (List ℕ) × (ℕ × (ℕ × (List (List ℕ) × (List (List ℕ) × (List (List ℕ) × List Reason))))))
 all_at = both_at names_at (both_at (number_at w64) (both_at (number_at w32)
     (both_at paths_at (both_at paths_at (both_at names_at (list_at w32 named_reason_at))))))
 
@@ -113,7 +113,7 @@ cuts_are_bare bytes q e =
     let two = bind-some (cut_anew r) (cut_spelled_so bytes) q one.2 in
     let p = two.0 in
     let same : p ≡ q = so_spelled (bytes_eq (cut_sections p) bytes) p q two.2 in
-    let three = if_tested (run_rules Two a && run_rules Two b) (rejoined a b) p two.1 in
+    let three = if_tested (run_rules Two a && run_rules Two b) (join_of_packages a b) p two.1 in
     let read : AreBare r = read_bare bytes r one.1 in
     let its = joined_bare a b (clash_of a.bare b.bare) p three.1 in
     subst AreBare same (its.0 ∙ read.0, its.1 ∙ read.1)

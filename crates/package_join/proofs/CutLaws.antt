@@ -8,8 +8,8 @@ use Rattle.ldv_value.proofs.Options.{bind-some, same-some}
 use Rattle.run_model.specs.declared.event.Event.{Event}
 use Rattle.run_model.specs.ValidPackage.{rules}
 use Rattle.package_layout.specs.declared.run_package.RunPackage.{RunPackage}
-use Rattle.package_layout.specs.Fields.{Found, ◌>>=◌, both_at, list_at, list_spelling}
-use Rattle.package_layout.specs.RunPackages.{whole, run_rules}
+use Rattle.package_layout.specs.Fields.{DecodeResult, ◌>>=◌, both_at, list_at, list_spelling}
+use Rattle.package_layout.specs.RunPackages.{expanded_package, run_rules}
 use Rattle.package_layout.specs.declared.version.Version.TheVariants.{Two}
 use Rattle.package_layout.specs.declared.run.Run.{Run}
 use Rattle.package_layout.specs.Runs.{are_runs, events_in, events_of_runs, run_spelling, runs_at, runs_of}
@@ -27,34 +27,34 @@ use Rattle.package_join.specs.declared.run_joined.CutRun.{CutRun}
 use Rattle.package_join.specs.declared.run_joined.RunJoined.{RunJoined}
 use Rattle.package_join.specs.Joined.{clash_of, joined_of, put_together, unless_clash}
 use Rattle.package_join.specs.Layout.{bare_run_at, bare_run_spelling, run_at, common_files_at, common_tables_at, common_files_spelling, common_tables_spelling, all_of_joined, joined_sections, with_trace}
-use Rattle.package_join.specs.RunJoins.{whole_run, whole_joined, cut_run_at, cut_joined_of, cut_sections, picked_runs, with_runs, if_rejoined, rejoined, cut_anew, cut_spelled_so, cuts_in}
+use Rattle.package_join.specs.RunJoins.{whole_run, whole_join, cut_run_at, cut_joined_of, cut_sections, picked_runs, with_runs, if_rejoined, join_of_packages, cut_anew, cut_spelled_so, cuts_in}
 use Rattle.package_join.specs.Rooms.{joined_room}
-use Rattle.package_join.specs.Valid.{if_joined, joined_anew, spelled_so, joined_in}
+use Rattle.package_join.specs.Valid.{if_joined, joined_anew, if_spelling_is, joined_in}
 use Rattle.package_join.proofs.LayoutLaws.{all_took}
 use Rattle.package_join.proofs.RoomLaws.{picked_room}
 
 -- ---- a run
 
-abbrev run_kept : CutRun × List ℕ → Found JoinedRun
+abbrev run_kept : CutRun × List ℕ → DecodeResult JoinedRun
 run_kept x = cond (are_runs x.0.runs) (Some (whole_run x.0, x.1)) None
 
 -- what is found, and the bytes behind it
-abbrev behind : {X : Type 0} → X → List ℕ → Found X
+abbrev behind : {X : Type 0} → X → List ℕ → DecodeResult X
 behind x rest = Some (x, rest)
 
-abbrev paired : {X Y : Type 0} → X → Y × List ℕ → Found (X × Y)
+abbrev paired : {X Y : Type 0} → X → Y × List ℕ → DecodeResult (X × Y)
 paired x y = Some ((x, y.0), y.1)
 
-abbrev next : {X Y : Type 0} → (List ℕ → Found Y) → X × List ℕ → Found (X × Y)
+abbrev next : {X Y : Type 0} → (List ℕ → DecodeResult Y) → X × List ℕ → DecodeResult (X × Y)
 next y_at x = y_at x.1 >>= paired x.0
 
-abbrev traced : (JoinedRun × List Event) × List ℕ → Found JoinedRun
+abbrev traced : (JoinedRun × List Event) × List ℕ → DecodeResult JoinedRun
 traced q = behind (with_trace q.0.0 q.0.1) q.1
 
-abbrev cut_traced : (JoinedRun × List Run) × List ℕ → Found CutRun
+abbrev cut_traced : (JoinedRun × List Run) × List ℕ → DecodeResult CutRun
 cut_traced q = behind (record { bare = q.0.0; runs = q.0.1 }) q.1
 
-abbrev events_kept : List Run × List ℕ → Found (List Event)
+abbrev events_kept : List Run × List ℕ → DecodeResult (List Event)
 events_kept a = events_of_runs a.0 >>= λ b. behind b a.1
 
 one_kept : (b : Bool) (run : JoinedRun) (es : List Event) (rest : List ℕ)
@@ -62,12 +62,12 @@ one_kept : (b : Bool) (run : JoinedRun) (es : List Event) (rest : List ℕ)
 one_kept true run es rest = refl
 one_kept false run es rest = refl
 
-by_runs : (run : JoinedRun) (found : Found (List Run))
+by_runs : (run : JoinedRun) (found : DecodeResult (List Run))
     → (((found >>= events_kept) >>= paired run) >>= traced) ≡ (((found >>= paired run) >>= cut_traced) >>= run_kept)
 by_runs run None = refl
 by_runs run (Some y) = one_kept (are_runs y.0) run (events_in y.0) y.1
 
-by_bare : (found : Found JoinedRun) → ((found >>= next runs_at) >>= traced) ≡ (((found >>= next (list_at w32 trace_run_at)) >>= cut_traced) >>= run_kept)
+by_bare : (found : DecodeResult JoinedRun) → ((found >>= next runs_at) >>= traced) ≡ (((found >>= next (list_at w32 trace_run_at)) >>= cut_traced) >>= run_kept)
 by_bare None = refl
 by_bare (Some x) = by_runs x.0 (list_at w32 trace_run_at x.1)
 
@@ -82,10 +82,10 @@ Parts = List PackedFile × (List Table × (JoinedRun × JoinedRun))
 abbrev CutParts : Type 0
 CutParts = List PackedFile × (List Table × (CutRun × CutRun))
 
-abbrev put : Parts × List ℕ → Found Joined
+abbrev put : Parts × List ℕ → DecodeResult Joined
 put q = behind (record { files = q.0.0; tables = q.0.1.0; first = q.0.1.1.0; second = q.0.1.1.1 }) q.1
 
-abbrev cut_put : CutParts × List ℕ → Found RunJoined
+abbrev cut_put : CutParts × List ℕ → DecodeResult RunJoined
 cut_put q = behind (record { files = q.0.0; tables = q.0.1.0; first = q.0.1.1.0; second = q.0.1.1.1 }) q.1
 
 abbrev ended : Joined × List ℕ → Option Joined
@@ -95,12 +95,12 @@ abbrev cut_ended : RunJoined × List ℕ → Option RunJoined
 cut_ended x = cond (length x.1 == 0) (Some x.0) None
 
 abbrev kept : RunJoined → Option Joined
-kept r = cond (are_runs r.first.runs && are_runs r.second.runs) (Some (whole_joined r)) None
+kept r = cond (are_runs r.first.runs && are_runs r.second.runs) (Some (whole_join r)) None
 
-abbrev closed : List PackedFile → List Table → JoinedRun → Found JoinedRun → Option Joined
+abbrev closed : List PackedFile → List Table → JoinedRun → DecodeResult JoinedRun → Option Joined
 closed f t c found = ((((found >>= paired c) >>= paired t) >>= paired f) >>= put) >>= ended
 
-abbrev cut_closed : List PackedFile → List Table → CutRun → Found CutRun → Option RunJoined
+abbrev cut_closed : List PackedFile → List Table → CutRun → DecodeResult CutRun → Option RunJoined
 cut_closed f t c found = ((((found >>= paired c) >>= paired t) >>= paired f) >>= cut_put) >>= cut_ended
 
 abbrev joined_of_parts : List PackedFile → List Table → JoinedRun → JoinedRun → Joined
@@ -127,30 +127,30 @@ none_kept true false b x h = refl
 none_kept false false b x h = refl
 none_kept e true b x h = absurd cc
 
-first_true : (f : List PackedFile) (t : List Table) (x : CutRun) → are_runs x.runs ≡ true → (found : Found CutRun)
+first_true : (f : List PackedFile) (t : List Table) (x : CutRun) → are_runs x.runs ≡ true → (found : DecodeResult CutRun)
     → closed f t (whole_run x) (found >>= run_kept) ≡ (cut_closed f t x found >>= kept)
 first_true f t x h None = refl
 first_true f t x h (Some y) =
     let r : RunJoined = record { files = f; tables = t; first = x; second = y.0 } in
     closed_if f t (whole_run x) (whole_run y.0) y.1 (are_runs y.0.runs)
-    ∙ swapped (length y.1 == 0) (are_runs x.runs) (are_runs y.0.runs) (Some (whole_joined r)) h
+    ∙ swapped (length y.1 == 0) (are_runs x.runs) (are_runs y.0.runs) (Some (whole_join r)) h
     ∙ sym (kept_if (length y.1 == 0) r)
 
-first_false : (f : List PackedFile) (t : List Table) (x : CutRun) → are_runs x.runs ≡ false → (found : Found CutRun)
+first_false : (f : List PackedFile) (t : List Table) (x : CutRun) → are_runs x.runs ≡ false → (found : DecodeResult CutRun)
     → None ≡ (cut_closed f t x found >>= kept)
 first_false f t x h None = refl
 first_false f t x h (Some y) =
     let r : RunJoined = record { files = f; tables = t; first = x; second = y.0 } in
-    none_kept (length y.1 == 0) (are_runs x.runs) (are_runs y.0.runs) (Some (whole_joined r)) h
+    none_kept (length y.1 == 0) (are_runs x.runs) (are_runs y.0.runs) (Some (whole_join r)) h
     ∙ sym (kept_if (length y.1 == 0) r)
 
-abbrev opened : List PackedFile → List Table → Found JoinedRun → Option Joined
+abbrev opened : List PackedFile → List Table → DecodeResult JoinedRun → Option Joined
 opened f t found = ((((found >>= next run_at) >>= paired t) >>= paired f) >>= put) >>= ended
 
-abbrev cut_opened : List PackedFile → List Table → Found CutRun → Option RunJoined
+abbrev cut_opened : List PackedFile → List Table → DecodeResult CutRun → Option RunJoined
 cut_opened f t found = ((((found >>= next cut_run_at) >>= paired t) >>= paired f) >>= cut_put) >>= cut_ended
 
-by_first : (f : List PackedFile) (t : List Table) (found : Found CutRun) → opened f t (found >>= run_kept) ≡ (cut_opened f t found >>= kept)
+by_first : (f : List PackedFile) (t : List Table) (found : DecodeResult CutRun) → opened f t (found >>= run_kept) ≡ (cut_opened f t found >>= kept)
 by_first f t None = refl
 by_first f t (Some x) = by (are_runs x.0.runs) refl
   where
@@ -158,17 +158,17 @@ by_first f t (Some x) = by (are_runs x.0.runs) refl
     by true h = ap (closed f t (whole_run x.0)) (run_cut x.1) ∙ first_true f t x.0 h (cut_run_at x.1)
     by false h = first_false f t x.0 h (cut_run_at x.1)
 
-abbrev tabled : List PackedFile → Found (List Table) → Option Joined
+abbrev tabled : List PackedFile → DecodeResult (List Table) → Option Joined
 tabled f found = (((found >>= next (both_at run_at run_at)) >>= paired f) >>= put) >>= ended
 
-abbrev cut_tabled : List PackedFile → Found (List Table) → Option RunJoined
+abbrev cut_tabled : List PackedFile → DecodeResult (List Table) → Option RunJoined
 cut_tabled f found = (((found >>= next (both_at cut_run_at cut_run_at)) >>= paired f) >>= cut_put) >>= cut_ended
 
-by_tables : (f : List PackedFile) (found : Found (List Table)) → tabled f found ≡ (cut_tabled f found >>= kept)
+by_tables : (f : List PackedFile) (found : DecodeResult (List Table)) → tabled f found ≡ (cut_tabled f found >>= kept)
 by_tables f None = refl
 by_tables f (Some t) = ap (opened f t.0) (run_cut t.1) ∙ by_first f t.0 (cut_run_at t.1)
 
-by_files : (found : Found (List PackedFile))
+by_files : (found : DecodeResult (List PackedFile))
     → (((found >>= next (both_at common_tables_at (both_at run_at run_at))) >>= put) >>= ended)
     ≡ ((((found >>= next (both_at common_tables_at (both_at cut_run_at cut_run_at))) >>= cut_put) >>= cut_ended) >>= kept)
 by_files None = refl
@@ -180,8 +180,8 @@ joined_cut bytes = by_files (common_files_at bytes)
 -- ---- the packages of both runs
 
 -- the same test, where the runs are runs and the format has room
-test_as : (p : RunPackage) → are_runs p.runs ≡ true → has_room (whole p) ≡ true → valid_test (whole p) ≡ run_rules Two p
-test_as p h k = by (are_runs p.runs) (has_room (whole p)) (rules (whole p)) h k
+test_as : (p : RunPackage) → are_runs p.runs ≡ true → has_room (expanded_package p) ≡ true → valid_test (expanded_package p) ≡ run_rules Two p
+test_as p h k = by (are_runs p.runs) (has_room (expanded_package p)) (rules (expanded_package p)) h k
   where
     by : (a b c : Bool) → a ≡ true → b ≡ true → (b && c) ≡ (a && (c && true))
     by true true true e f = refl
@@ -202,13 +202,13 @@ abbrev anew_of : Package → Package → Option Joined
 anew_of a b = if_joined (joined_of a b)
 
 abbrev found_as : List ℕ → Option Joined → Option Joined
-found_as bytes o = o >>= spelled_so bytes
+found_as bytes o = o >>= if_spelling_is bytes
 
 abbrev cut_found_as : List ℕ → Option RunJoined → Option RunJoined
 cut_found_as bytes o = o >>= cut_spelled_so bytes
 
 -- both traces are spelled as their runs
-cut_is : (r : RunJoined) → are_runs r.first.runs ≡ true → are_runs r.second.runs ≡ true → joined_sections (whole_joined r) ≡ cut_sections r
+cut_is : (r : RunJoined) → are_runs r.first.runs ≡ true → are_runs r.second.runs ≡ true → joined_sections (whole_join r) ≡ cut_sections r
 cut_is r h k =
     let one : runs_of (events_in r.first.runs) ≡ r.first.runs = sym (is_cut r.first.runs h) in
     let two : runs_of (events_in r.second.runs) ≡ r.second.runs = sym (is_cut r.second.runs k) in
@@ -217,23 +217,23 @@ cut_is r h k =
     ++ ((bare_run_spelling r.first.bare ++ list_spelling w32 run_spelling (one i))
     ++ (bare_run_spelling r.second.bare ++ list_spelling w32 run_spelling (two i))))
 
-if_out : (b : Bool) (r : RunJoined) → cond b (Some (whole_joined r)) None ≡ option_map whole_joined (cond b (Some r) None)
+if_out : (b : Bool) (r : RunJoined) → cond b (Some (whole_join r)) None ≡ option_map whole_join (cond b (Some r) None)
 if_out true r = refl
 if_out false r = refl
 
 joined_same : (bytes : List ℕ) (a b : RunPackage) → are_runs a.runs ≡ true → are_runs b.runs ≡ true
-    → found_as bytes (anew_of (whole a) (whole b)) ≡ option_map whole_joined (cut_found_as bytes (rejoined a b))
+    → found_as bytes (anew_of (expanded_package a) (expanded_package b)) ≡ option_map whole_join (cut_found_as bytes (join_of_packages a b))
 joined_same bytes a b h k = by (clash_of a.bare b.bare)
   where
-    by : (o : Option Clash) → found_as bytes (if_joined (unless_clash o (put_together (whole a) (whole b))))
-        ≡ option_map whole_joined (cut_found_as bytes (if_rejoined a.runs b.runs (unless_clash o (put_together a.bare b.bare))))
+    by : (o : Option Clash) → found_as bytes (if_joined (unless_clash o (put_together (expanded_package a) (expanded_package b))))
+        ≡ option_map whole_join (cut_found_as bytes (if_rejoined a.runs b.runs (unless_clash o (put_together a.bare b.bare))))
     by (Some clash) = refl
     by None =
         let q : RunJoined = with_runs a.runs b.runs (put_together a.bare b.bare) in
-        ap (λ (l : List ℕ). cond (bytes_eq l bytes) (Some (whole_joined q)) None) (cut_is q h k) ∙ if_out (bytes_eq (cut_sections q) bytes) q
+        ap (λ (l : List ℕ). cond (bytes_eq l bytes) (Some (whole_join q)) None) (cut_is q h k) ∙ if_out (bytes_eq (cut_sections q) bytes) q
 
 if_valid : (bytes : List ℕ) (t : Bool) (a b : RunPackage) → are_runs a.runs ≡ true → are_runs b.runs ≡ true
-    → found_as bytes (cond t (anew_of (whole a) (whole b)) None) ≡ option_map whole_joined (cut_found_as bytes (cond t (rejoined a b) None))
+    → found_as bytes (cond t (anew_of (expanded_package a) (expanded_package b)) None) ≡ option_map whole_join (cut_found_as bytes (cond t (join_of_packages a b) None))
 if_valid bytes true a b h k = joined_same bytes a b h k
 if_valid bytes false a b h k = refl
 
@@ -243,39 +243,39 @@ later bytes j = found_as bytes (joined_anew j)
 abbrev cut_later : List ℕ → RunJoined → Option RunJoined
 cut_later bytes r = cut_found_as bytes (cut_anew r)
 
-by_valid : (bytes : List ℕ) (r : RunJoined) → are_runs r.first.runs ≡ true → are_runs r.second.runs ≡ true → joined_room (whole_joined r) ≡ true
-    → later bytes (whole_joined r) ≡ option_map whole_joined (cut_later bytes r)
+by_valid : (bytes : List ℕ) (r : RunJoined) → are_runs r.first.runs ≡ true → are_runs r.second.runs ≡ true → joined_room (whole_join r) ≡ true
+    → later bytes (whole_join r) ≡ option_map whole_join (cut_later bytes r)
 by_valid bytes r h k room =
     let a : RunPackage = picked_runs First r in
     let b : RunPackage = picked_runs Second r in
-    let one : valid_test (whole a) ≡ run_rules Two a = test_as a h (picked_room First (whole_joined r) room) in
-    let two : valid_test (whole b) ≡ run_rules Two b = test_as b k (picked_room Second (whole_joined r) room) in
-    (λ i. found_as bytes (cond (one i && two i) (anew_of (whole a) (whole b)) None))
+    let one : valid_test (expanded_package a) ≡ run_rules Two a = test_as a h (picked_room First (whole_join r) room) in
+    let two : valid_test (expanded_package b) ≡ run_rules Two b = test_as b k (picked_room Second (whole_join r) room) in
+    (λ i. found_as bytes (cond (one i && two i) (anew_of (expanded_package a) (expanded_package b)) None))
     ∙ if_valid bytes (run_rules Two a && run_rules Two b) a b h k
 
 by_unruly : (bytes : List ℕ) (r : RunJoined) → (are_runs r.first.runs && are_runs r.second.runs) ≡ false
-    → None ≡ option_map whole_joined (cut_later bytes r)
+    → None ≡ option_map whole_join (cut_later bytes r)
 by_unruly bytes r unruly =
     let a : RunPackage = picked_runs First r in
     let b : RunPackage = picked_runs Second r in
-    let none : (run_rules Two a && run_rules Two b) ≡ false = untested (are_runs a.runs) (are_runs b.runs) (rules (whole a) && true) (rules (whole b) && true) unruly in
-    λ i. option_map whole_joined (cut_found_as bytes (cond (sym none i) (rejoined a b) None))
+    let none : (run_rules Two a && run_rules Two b) ≡ false = untested (are_runs a.runs) (are_runs b.runs) (rules (expanded_package a) && true) (rules (expanded_package b) && true) unruly in
+    λ i. option_map whole_join (cut_found_as bytes (cond (sym none i) (join_of_packages a b) None))
 
-by_cut : (bytes : List ℕ) (o : Option RunJoined) → ((r : RunJoined) → o ≡ Some r → kept r ≡ Some (whole_joined r) → joined_room (whole_joined r) ≡ true)
-    → ((o >>= kept) >>= later bytes) ≡ option_map whole_joined (o >>= cut_later bytes)
+by_cut : (bytes : List ℕ) (o : Option RunJoined) → ((r : RunJoined) → o ≡ Some r → kept r ≡ Some (whole_join r) → joined_room (whole_join r) ≡ true)
+    → ((o >>= kept) >>= later bytes) ≡ option_map whole_join (o >>= cut_later bytes)
 by_cut bytes None room = refl
 by_cut bytes (Some r) room = by (are_runs r.first.runs) (are_runs r.second.runs) refl refl
   where
     by : (x y : Bool) → are_runs r.first.runs ≡ x → are_runs r.second.runs ≡ y
-        → (cond (x && y) (Some (whole_joined r)) None >>= later bytes) ≡ option_map whole_joined (cut_later bytes r)
-    by true true e f = by_valid bytes r e f (room r refl (λ i. cond (e i && f i) (Some (whole_joined r)) None))
+        → (cond (x && y) (Some (whole_join r)) None >>= later bytes) ≡ option_map whole_join (cut_later bytes r)
+    by true true e f = by_valid bytes r e f (room r refl (λ i. cond (e i && f i) (Some (whole_join r)) None))
     by true false e f = by_unruly bytes r (λ i. e i && f i)
     by false y e f = by_unruly bytes r (λ i. e i && are_runs r.second.runs)
 
-pub same_joined : (bytes : List ℕ) → IsBytes bytes → joined_in bytes ≡ option_map whole_joined (cuts_in bytes)
+pub same_joined : (bytes : List ℕ) → IsBytes bytes → joined_in bytes ≡ option_map whole_join (cuts_in bytes)
 same_joined bytes h =
     ap (λ (o : Option Joined). o >>= later bytes) (joined_cut bytes)
-    ∙ by_cut bytes (cut_joined_of bytes) (λ r is k. (all_took bytes (whole_joined r) h (joined_cut bytes ∙ ap (λ (o : Option RunJoined). o >>= kept) is ∙ k)).2)
+    ∙ by_cut bytes (cut_joined_of bytes) (λ r is k. (all_took bytes (whole_join r) h (joined_cut bytes ∙ ap (λ (o : Option RunJoined). o >>= kept) is ∙ k)).2)
 
 -- ---- the runs of what was read
 
@@ -303,10 +303,10 @@ cuts_are_runs bytes q e =
     let two = bind-some (cut_anew r) (cut_spelled_so bytes) q one.2 in
     let p = two.0 in
     let same : p ≡ q = so_spelled (bytes_eq (cut_sections p) bytes) p q two.2 in
-    let three = if_tested (run_rules Two a && run_rules Two b) (rejoined a b) p two.1 in
+    let three = if_tested (run_rules Two a && run_rules Two b) (join_of_packages a b) p two.1 in
     let both = and-parts (run_rules Two a) (run_rules Two b) three.0 in
-    let first : are_runs a.runs ≡ true = (and-parts (are_runs a.runs) (rules (whole a) && true) both.0).0 in
-    let second : are_runs b.runs ≡ true = (and-parts (are_runs b.runs) (rules (whole b) && true) both.1).0 in
+    let first : are_runs a.runs ≡ true = (and-parts (are_runs a.runs) (rules (expanded_package a) && true) both.0).0 in
+    let second : are_runs b.runs ≡ true = (and-parts (are_runs b.runs) (rules (expanded_package b) && true) both.1).0 in
     let its = has_runs a.runs b.runs (joined_of a.bare b.bare) p three.1 in
     subst (λ (q : RunJoined). (are_runs q.first.runs ≡ true) × (are_runs q.second.runs ≡ true)) same
     (ap are_runs its.0 ∙ first, ap are_runs its.1 ∙ second)

@@ -12,9 +12,9 @@ use Rattle.sql_model.specs.declared.need.Rule.{Rule}
 use Rattle.sql_model.specs.declared.table.Schema.{Schema}
 use Rattle.package_layout.specs.Counts.{CountedList, CountedFile, CountedSchema}
 use Rattle.package_layout.specs.Events.{names_spelling, names_at}
-use Rattle.package_layout.specs.Fields.{Found, then_at, both_at, number_at, text_spelling, list_spelling, list_at, text_at}
+use Rattle.package_layout.specs.Fields.{DecodeResult, then_at, both_at, number_at, text_spelling, list_spelling, list_at, text_at}
 use Rattle.package_layout.specs.Reading.{value_at, reason_at, cells_at, schema_at, file_at}
-use Rattle.package_layout.specs.Room.{schema_room, some_thousands}
+use Rattle.package_layout.specs.Room.{schema_room, fits_u16_count}
 use Rattle.package_layout.specs.Runs.{CountedRun, runs_of, runs_spelling, runs_at, trace_room}
 use Rattle.package_layout.specs.Spelling.{value_spelling, number_spelling, reason_spelling, cells_spelling, schema_spelling, file_spelling}
 use Rattle.package_layout.specs.Typed.{IsU32, TypedValue, TypedValues, TypedFile, TypedEvent, TypedSchema}
@@ -30,7 +30,7 @@ use Rattle.package_join.specs.declared.joined.Joined.{Joined}
 use Rattle.package_join.specs.declared.joined.JoinedRun.{JoinedRun}
 use Rattle.package_join.specs.declared.joined.Reason.{Reason}
 use Rattle.package_join.specs.Layout.{common_row_spelling, common_rows_spelling, common_table_spelling, common_files_spelling, common_tables_spelling, named_reason_spelling, paths_spelling, bare_run_spelling, run_spelling, joined_sections, with_trace, common_row_at, common_rows_at, common_table_at, common_files_at, common_tables_at, named_reason_at, paths_at, bare_run_at, run_at, joined_at, all_of_joined}
-use Rattle.package_join.specs.Rooms.{TypedCommonRow, TypedCommonTable, TypedReason, TypedTexts, TypedBareRun, TypedJoinedRun, TypedJoined, common_row_room, common_table_room, common_tables_room, bare_run_room, joined_run_room, joined_room, CountedCommonRow, CountedCommonTable, CountedReason, CountedTexts, CountedPaths, CountedBareRun, CountedJoinedRun, CountedJoined}
+use Rattle.package_join.specs.Rooms.{TypedCommonRow, TypedCommonTable, TypedReason, TypedTexts, TypedBareRun, TypedJoinedRun, IsTypedJoined, common_row_room, common_table_room, common_tables_room, bare_run_room, joined_run_room, joined_room, CountedCommonRow, CountedCommonTable, CountedReason, CountedTexts, CountedPaths, CountedBareRun, CountedJoinedRun, IsCountedJoined}
 
 -- ---- rows
 
@@ -78,7 +78,7 @@ CountedEnd p = Unit {0} × CountedList CountedCommonRow p.1
 abbrev end_room : Schema → TableEnd → Bool
 end_room s p = list_all (common_row_room (length s.columns)) p.1
 
-abbrev end_at : Schema → List ℕ → Found TableEnd
+abbrev end_at : Schema → List ℕ → DecodeResult TableEnd
 end_at s = both_at (number_at w32) (common_rows_at (length s.columns))
 
 end_law : (s : Schema) → IsField end_spelling TypedEnd (end_room s) CountedEnd (end_at s)
@@ -96,7 +96,7 @@ CountedTail p = CountedSchema Two p.0 × CountedEnd p.1
 abbrev tail_room : TableTail → Bool
 tail_room p = schema_room p.0 && end_room p.0 p.1
 
-abbrev tail_at : List ℕ → Found TableTail
+abbrev tail_at : List ℕ → DecodeResult TableTail
 tail_at = then_at (schema_at Two) end_at
 
 -- version 2 has the foreign keys of each schema
@@ -183,7 +183,7 @@ abbrev m1 : N1 → Type 0
 m1 p = TypedTexts p.0 × m2 p.1
 
 abbrev f3 : N3 → Bool
-f3 p = some_thousands p.0 && true
+f3 p = fits_u16_count p.0 && true
 
 abbrev f2 : N2 → Bool
 f2 p = f3 p.1
@@ -200,17 +200,17 @@ c2 p = CountedPaths p.0 × c3 p.1
 abbrev c1 : N1 → Type 0
 c1 p = CountedPaths p.0 × c2 p.1
 
-abbrev r3 : List ℕ → Found N3
+abbrev r3 : List ℕ → DecodeResult N3
 r3 = both_at names_at (list_at w32 named_reason_at)
 
-abbrev r2 : List ℕ → Found N2
+abbrev r2 : List ℕ → DecodeResult N2
 r2 = both_at paths_at r3
 
-abbrev r1 : List ℕ → Found N1
+abbrev r1 : List ℕ → DecodeResult N1
 r1 = both_at paths_at r2
 
 l3 : IsField n3 m3 f3 c3 r3
-l3 = then_law names_spelling TypedTexts some_thousands names_at (list_spelling w32 named_reason_spelling) (AllByRecursion TypedReason) (λ a. always) (λ a. list_at w32 named_reason_at) names_law (λ a. reasons_law)
+l3 = then_law names_spelling TypedTexts fits_u16_count names_at (list_spelling w32 named_reason_spelling) (AllByRecursion TypedReason) (λ a. always) (λ a. list_at w32 named_reason_at) names_law (λ a. reasons_law)
 
 l2 : IsField n2 m2 f2 c2 r2
 l2 = then_law paths_spelling TypedTexts always paths_at n3 m3 (λ a. f3) (λ a. r3) paths_law (λ a. l3)
@@ -254,7 +254,7 @@ abbrev g2 : B2 → Bool
 g2 p = g3 p.1
 
 abbrev g1 : B1 → Bool
-g1 p = some_thousands p.0 && g2 p.1
+g1 p = fits_u16_count p.0 && g2 p.1
 
 abbrev d3 : B3 → Type 0
 d3 p = Unit {0} × c1 p.1
@@ -265,13 +265,13 @@ d2 p = Unit {0} × d3 p.1
 abbrev d1 : B1 → Type 0
 d1 p = CountedTexts p.0 × d2 p.1
 
-abbrev q3 : List ℕ → Found B3
+abbrev q3 : List ℕ → DecodeResult B3
 q3 = both_at (number_at w32) r1
 
-abbrev q2 : List ℕ → Found B2
+abbrev q2 : List ℕ → DecodeResult B2
 q2 = both_at (number_at w64) q3
 
-abbrev q1 : List ℕ → Found B1
+abbrev q1 : List ℕ → DecodeResult B1
 q1 = both_at names_at q2
 
 k3 : IsField b3 t3 g3 d3 q3
@@ -281,7 +281,7 @@ k2 : IsField b2 t2 g2 d2 q2
 k2 = then_law (to_be_bytes w64) (λ n. n < 2 ^ 64) always (number_at w64) b3 t3 (λ a. g3) (λ a. q3) (number_law w64 (2 ^ 64) wide64) (λ a. k3)
 
 k1 : IsField b1 t1 g1 d1 q1
-k1 = then_law names_spelling TypedTexts some_thousands names_at b2 t2 (λ a. g2) (λ a. q2) names_law (λ a. k2)
+k1 = then_law names_spelling TypedTexts fits_u16_count names_at b2 t2 (λ a. g2) (λ a. q2) names_law (λ a. k2)
 
 abbrev make_bare : B1 → JoinedRun
 make_bare p = record {
@@ -318,11 +318,11 @@ long_bare_law = made_law b1 t1 g1 q1 IsBareRun long_bare_room (λ p. Some (make_
 bare_run_law : IsField bare_run_spelling IsBareRun bare_run_room CountedBareRun bare_run_at
 bare_run_law = recount CountedBareRun (restate bare_run_spelling IsBareRun IsBareRun long_bare_room bare_run_room bare_run_at long_bare_law
     (λ run t h.
-    let a = and-parts (some_thousands run.start) (some_thousands run.tables) h in
-    (t, and-from (some_thousands run.start) (some_thousands run.tables && true) a.0 (and-from (some_thousands run.tables) true a.1 refl)))
+    let a = and-parts (fits_u16_count run.start) (fits_u16_count run.tables) h in
+    (t, and-from (fits_u16_count run.start) (fits_u16_count run.tables && true) a.0 (and-from (fits_u16_count run.tables) true a.1 refl)))
     (λ run t h.
-    let a = and-parts (some_thousands run.start) (some_thousands run.tables && true) h in
-    (t, and-from (some_thousands run.start) (some_thousands run.tables) a.0 (and-parts (some_thousands run.tables) true a.1).0)))
+    let a = and-parts (fits_u16_count run.start) (fits_u16_count run.tables && true) h in
+    (t, and-from (fits_u16_count run.start) (fits_u16_count run.tables) a.0 (and-parts (fits_u16_count run.tables) true a.1).0)))
     (λ run n. (n.0, (tt, (tt, n.1)))) (λ run n. (n.0, n.1.1.1))
 
 -- ---- the trace behind it
@@ -405,13 +405,13 @@ w2 p = AllByRecursion CountedCommonTable p.0 × w3 p.1
 abbrev w1 : J1 → Type 0
 w1 p = CountedList CountedFile p.0 × w2 p.1
 
-abbrev x3 : List ℕ → Found Runs
+abbrev x3 : List ℕ → DecodeResult Runs
 x3 = both_at run_at run_at
 
-abbrev x2 : List ℕ → Found J2
+abbrev x2 : List ℕ → DecodeResult J2
 x2 = both_at common_tables_at x3
 
-abbrev x1 : List ℕ → Found J1
+abbrev x1 : List ℕ → DecodeResult J1
 x1 = both_at common_files_at x2
 
 y3 : IsField j3 u3 v3 w3 x3
@@ -423,12 +423,12 @@ y2 = then_law common_tables_spelling (AllByRecursion TypedCommonTable) common_ta
 y1 : IsField j1 u1 v1 w1 x1
 y1 = then_law common_files_spelling (AllByRecursion TypedFile) always common_files_at j2 u2 (λ a. v2) (λ a. x2) files_law (λ a. y2)
 
-pub sections_law : IsField joined_sections TypedJoined joined_room CountedJoined joined_at
+pub sections_law : IsField joined_sections IsTypedJoined joined_room IsCountedJoined joined_at
 sections_law = struct_law j1 u1 v1 x1
     (λ (p : J1). record { files = p.0; tables = p.1.0; first = p.1.1.0; second = p.1.1.1 }) (λ (j : Joined). (j.files, (j.tables, (j.first, j.second))))
     y1 (λ j. refl) (λ p. refl)
 
-pub all_again : (j : Joined) → TypedJoined j → joined_room j ≡ true → CountedJoined j → all_of_joined (joined_sections j) ≡ Some j
+pub all_again : (j : Joined) → IsTypedJoined j → joined_room j ≡ true → IsCountedJoined j → all_of_joined (joined_sections j) ≡ Some j
 all_again j t h n =
     let one : joined_at (joined_sections j ++ []) ≡ Some (j, []) = sections_law.again j [] t h n in
     let two : joined_at (joined_sections j) ≡ Some (j, []) = ap joined_at (sym (append-nil (joined_sections j))) ∙ one in
@@ -441,11 +441,11 @@ ended_is : (x : Joined × List ℕ) (j : Joined) (b : Bool) → (length x.1 == 0
 ended_is x j true e h = (same-some x.0 j h, nil_from_length x.1 (eqb-true _ _ e))
 ended_is x j false e h = absurd cc
 
-pub all_took : (bytes : List ℕ) (j : Joined) → IsBytes bytes → all_of_joined bytes ≡ Some j → (bytes ≡ joined_sections j) × TypedJoined j × (joined_room j ≡ true) × CountedJoined j
+pub all_took : (bytes : List ℕ) (j : Joined) → IsBytes bytes → all_of_joined bytes ≡ Some j → (bytes ≡ joined_sections j) × IsTypedJoined j × (joined_room j ≡ true) × IsCountedJoined j
 all_took bytes j h e =
     let first = bind-some (joined_at bytes) ended j e in
     let x = first.0 in
     let k = sections_law.took bytes x.0 x.1 h first.1 in
     let end = ended_is x j (length x.1 == 0) refl first.2 in
     let parts : bytes ≡ joined_sections x.0 = k.parts ∙ ap (λ (l : List ℕ). joined_sections x.0 ++ l) end.1 ∙ append-nil (joined_sections x.0) in
-    subst (λ (q : Joined). (bytes ≡ joined_sections q) × TypedJoined q × (joined_room q ≡ true) × CountedJoined q) end.0 (parts, k.is_typed, k.is_fit, k.is_counted)
+    subst (λ (q : Joined). (bytes ≡ joined_sections q) × IsTypedJoined q × (joined_room q ≡ true) × IsCountedJoined q) end.0 (parts, k.is_typed, k.is_fit, k.is_counted)

@@ -25,8 +25,8 @@ use Rattle.run_model.specs.Schedule.{choose}
 use Rattle.run_model.specs.Slice.{is_read, reason_in, act_reason, first_reason, names_table, is_table_needed}
 use Rattle.run_model.specs.SqlDatabase.{SqlDatabase, lists_of, sql_base}
 use Rattle.run_model.specs.Start.{start_script, start_state}
-use Rattle.run_model.specs.State.{State, Stepped}
-use Rattle.run_model.specs.Step.{Ask, asked_act, quiet, took, ask_at, ends_at, asking}
+use Rattle.run_model.specs.State.{State, StepResult}
+use Rattle.run_model.specs.Step.{Ask, asked_act, local_step, took, next_ask, ends_at, asking}
 use Rattle.run_model.specs.WorldRun.{events_in, events_within}
 use Rattle.package_join.specs.Types.{Act, Asked, Event, Table, World}
 use Rattle.package_join.proofs.Lists.{any_in, in_any}
@@ -92,7 +92,7 @@ module _ (name : List ℕ) (number : ℕ) where
   asking_names : (step : ℕ) (s : State SqlDatabase) (o : Option Ask) → is_there s.db.tables ≡ true
       → AllByRecursion Names (asking sql_base step s o).acts
   asking_names step s None there =
-      all_unasked ((quiet step s.core).acts ++ ends_at step (quiet step s.core).core) (quiet_unasked step s.core)
+      all_unasked ((local_step step s.core).acts ++ ends_at step (local_step step s.core).core) (quiet_unasked step s.core)
   asking_names step s (Some a) there =
       let statement : Option Statement = statement_of a.question.text a.question.params in
       let ends : List Act = ends_at step (took step a (reply_of statement s.db.tables) s.core) in (
@@ -103,7 +103,7 @@ module _ (name : List ℕ) (number : ℕ) where
   move_names : (pick : Option ℕ) (s : State SqlDatabase) → is_there s.db.tables ≡ true → AllByRecursion Names (move sql_base pick s).acts
   move_names pick s there =
       let step : ℕ = choose pick s.core in
-      asking_names step (chosen step s) (ask_at step (chosen step s).core) there
+      asking_names step (chosen step s) (next_ask step (chosen step s).core) there
 
   asking_there : (step : ℕ) (s : State SqlDatabase) (o : Option Ask) → is_there s.db.tables ≡ true
       → is_there (asking sql_base step s o).state.db.tables ≡ true
@@ -113,7 +113,7 @@ module _ (name : List ℕ) (number : ℕ) where
   move_there : (pick : Option ℕ) (s : State SqlDatabase) → is_there s.db.tables ≡ true → is_there (move sql_base pick s).state.db.tables ≡ true
   move_there pick s there =
       let step : ℕ = choose pick s.core in
-      asking_there step (chosen step s) (ask_at step (chosen step s).core) there
+      asking_there step (chosen step s) (next_ask step (chosen step s).core) there
 
   -- ---- events
 
@@ -142,7 +142,7 @@ module _ (name : List ℕ) (number : ℕ) where
   run_names (suc n) step picks s there = elim (cases_Bool (is_over s.core)) [
     | inl over ↦ subst NamesAll (sym (events-over sql_base (suc n) step picks s over)) no_events
     | inr going ↦
-        let m : Stepped SqlDatabase = move sql_base (first_pick picks) s in
+        let m : StepResult SqlDatabase = move sql_base (first_pick picks) s in
         let later : List Event = events sql_base n (step + 1) (later_picks picks) m.state in
         let rest : NamesAll later = run_names n (step + 1) (later_picks picks) m.state (move_there (first_pick picks) s there) in
         subst NamesAll (sym (events-suc sql_base n step picks s going))

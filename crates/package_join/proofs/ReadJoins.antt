@@ -26,9 +26,9 @@ use Rattle.package_join.specs.declared.run_joined.RunJoined.{RunJoined}
 use Rattle.package_join.specs.Joined.{joined_of, run_package}
 use Rattle.package_join.specs.Laws.{OneSpellingLaw, RoundTripLaw}
 use Rattle.package_join.specs.Layout.{all_of_joined, joined_magic, joined_sections, joined_spelling}
-use Rattle.package_join.specs.Rooms.{CountedJoined, TypedJoined}
-use Rattle.package_join.specs.RunJoins.{CutsReadAs, JoinedReadsAs, whole_joined, cuts_in}
-use Rattle.package_join.specs.Valid.{IsJoinedRead, IsNoJoined, ValidJoined, digested_reading, form_of, has_joined_magic, if_joined, joined_anew, joined_damage_before, joined_in, joined_reading, spelled_so}
+use Rattle.package_join.specs.Rooms.{IsCountedJoined, IsTypedJoined}
+use Rattle.package_join.specs.RunJoins.{CutsReadAs, JoinedReadsAs, whole_join, cuts_in}
+use Rattle.package_join.specs.Valid.{IsJoinedRead, IsNoJoined, IsValidJoined, digested_reading, form_of, has_joined_magic, if_joined, joined_anew, joined_damage_before, joined_in, joined_reading, if_spelling_is}
 use Rattle.package_join.proofs.CutLaws.{same_joined, cuts_are_runs}
 use Rattle.package_join.proofs.LayoutLaws.{all_again, sections_law}
 use Rattle.package_join.proofs.SpelledJoins.{spelled_digest, spelled_length, spelled_magic, spelled_middle, parts_of}
@@ -80,22 +80,22 @@ eight = refl
 same_bytes : (bytes : List ℕ) → bytes_eq bytes bytes ≡ true
 same_bytes bytes = (bytes_eq-Decides bytes bytes).1 refl
 
-anew_again : (j : Joined) → ValidJoined j → joined_anew j ≡ Some j
+anew_again : (j : Joined) → IsValidJoined j → joined_anew j ≡ Some j
 anew_again j v =
     let one : valid_test (run_package First j) ≡ true = v.first in
     let two : valid_test (run_package Second j) ≡ true = v.second in
     λ i. cond (one i && two i) (if_joined (v.same i)) None
 
-in_again : (j : Joined) → TypedJoined j → ValidJoined j → CountedJoined j → joined_in (joined_sections j) ≡ Some j
+in_again : (j : Joined) → IsTypedJoined j → IsValidJoined j → IsCountedJoined j → joined_in (joined_sections j) ≡ Some j
 in_again j t v n =
     let bytes : List ℕ = joined_sections j in
     let read : all_of_joined bytes ≡ Some j = all_again j t (valid_room j v) n in
     let anew : joined_anew j ≡ Some j = anew_again j v in
-    ap (λ (o : Option Joined). o >>= λ k. joined_anew k >>= spelled_so bytes) read
-    ∙ ap (λ (o : Option Joined). o >>= spelled_so bytes) anew
+    ap (λ (o : Option Joined). o >>= λ k. joined_anew k >>= if_spelling_is bytes) read
+    ∙ ap (λ (o : Option Joined). o >>= if_spelling_is bytes) anew
     ∙ ap (λ (b : Bool). cond b (Some j) None) (same_bytes bytes)
 
-pub read_again : (j : Joined) → TypedJoined j → ValidJoined j → CountedJoined j → joined_reading (joined_spelling j) ≡ Ok j
+pub read_again : (j : Joined) → IsTypedJoined j → IsValidJoined j → IsCountedJoined j → joined_reading (joined_spelling j) ≡ Ok j
 read_again j t v n =
     let bytes : List ℕ = joined_spelling j in
     let m : has_joined_magic bytes ≡ true =
@@ -104,7 +104,7 @@ read_again j t v n =
     let o : joined_in (middle bytes) ≡ Some j = ap joined_in (spelled_middle joined_magic (joined_sections j) eight) ∙ in_again j t v n in
     λ i. by_magic (m i) (d i) (o i)
 
-counted_within : (j : Joined) → length (joined_spelling j) ≤ 67108864 → CountedJoined j
+counted_within : (j : Joined) → length (joined_spelling j) ≤ 67108864 → IsCountedJoined j
 counted_within j within =
     sections_law.short j
     (omega (arith, within, spelled_length joined_magic (joined_sections j) eight, length-append joined_magic (joined_sections j)))
@@ -131,18 +131,18 @@ ok_joined : (r : Result Joined Clash) (k : Joined) → if_joined r ≡ Some k �
 ok_joined (Ok j) k e = ap Ok (same-some j k e)
 ok_joined (Err clash) k e = absurd cc
 
-read_sections : (bytes : List ℕ) (j : Joined) → joined_in bytes ≡ Some j → ValidJoined j × (joined_sections j ≡ bytes)
+read_sections : (bytes : List ℕ) (j : Joined) → joined_in bytes ≡ Some j → IsValidJoined j × (joined_sections j ≡ bytes)
 read_sections bytes j e =
-    let one = bind-some (all_of_joined bytes) (λ k. joined_anew k >>= spelled_so bytes) j e in
+    let one = bind-some (all_of_joined bytes) (λ k. joined_anew k >>= if_spelling_is bytes) j e in
     let a : Package = run_package First one.0 in
     let b : Package = run_package Second one.0 in
-    let two = bind-some (joined_anew one.0) (spelled_so bytes) j one.2 in
+    let two = bind-some (joined_anew one.0) (if_spelling_is bytes) j one.2 in
     let three = so_spelled (bytes_eq (joined_sections two.0) bytes) two.0 j two.2 in
     let four = if_tested (valid_test a && valid_test b) (if_joined (joined_of a b)) two.0 two.1 in
     let both = and-parts (valid_test a) (valid_test b) four.0 in
-    let valid : ValidJoined two.0 = valid_law a b two.0 both.0 both.1 refl refl (ok_joined (joined_of a b) two.0 four.1) in
+    let valid : IsValidJoined two.0 = valid_law a b two.0 both.0 both.1 refl refl (ok_joined (joined_of a b) two.0 four.1) in
     let same : joined_sections two.0 ≡ bytes = (bytes_eq-Decides (joined_sections two.0) bytes).0 three.0 in
-    subst (λ (k : Joined). ValidJoined k × (joined_sections k ≡ bytes)) three.1 (valid, same)
+    subst (λ (k : Joined). IsValidJoined k × (joined_sections k ≡ bytes)) three.1 (valid, same)
 
 pub ok_read : (bytes : List ℕ) (j : Joined) → joined_reading bytes ≡ Ok j → IsJoinedRead bytes j
 ok_read bytes j e =
@@ -195,12 +195,12 @@ module _ (bytes : List ℕ) (r : Result Joined PackageStop) (due : JoinedReadsAs
   pub form_is : r ≡ damaged Form → HasDigest bytes × IsNoJoined bytes
   form_is e = form_read bytes (says Form e)
 
-pub found : (bytes : List ℕ) (r : Result Joined PackageStop) → JoinedReadsAs r (joined_reading bytes) → IfOk r (IsJoinedRead bytes)
-found bytes (Ok j) due = ok_read bytes j due
-found bytes (Err stop) due = tt
+pub IfOk-joined_reading : (bytes : List ℕ) (r : Result Joined PackageStop) → JoinedReadsAs r (joined_reading bytes) → IfOk r (IsJoinedRead bytes)
+IfOk-joined_reading bytes (Ok j) due = ok_read bytes j due
+IfOk-joined_reading bytes (Err stop) due = tt
 
-pub cuts_found : (bytes : List ℕ) (r : Result RunJoined PackageStop) → CutsReadAs r (joined_reading bytes) → IfOk r (λ r. IsJoinedRead bytes (whole_joined r))
-cuts_found bytes (Ok r) due = ok_read bytes (whole_joined r) due
+pub cuts_found : (bytes : List ℕ) (r : Result RunJoined PackageStop) → CutsReadAs r (joined_reading bytes) → IfOk r (λ r. IsJoinedRead bytes (whole_join r))
+cuts_found bytes (Ok r) due = ok_read bytes (whole_join r) due
 cuts_found bytes (Err stop) due = tt
 
 -- ---- the answers
@@ -209,10 +209,10 @@ clean : (bytes : List ℕ) → IsBytes bytes → IsBytes (middle bytes)
 clean bytes h = IsBytes-drop 8 (before_digest bytes) (IsBytes-take (length bytes - 32) bytes h)
 
 pub middle_ok : (bytes m : List ℕ) (r : RunJoined) → IsBytes bytes → has_digest bytes ≡ true → m ≡ middle bytes → cuts_in m ≡ Some r
-    → digested_reading bytes ≡ Ok (whole_joined r)
+    → digested_reading bytes ≡ Ok (whole_join r)
 middle_ok bytes m r h d is e =
-    let o : joined_in (middle bytes) ≡ Some (whole_joined r) =
-    same_joined (middle bytes) (clean bytes h) ∙ ap (option_map whole_joined) (ap cuts_in (sym is) ∙ e) in
+    let o : joined_in (middle bytes) ≡ Some (whole_join r) =
+    same_joined (middle bytes) (clean bytes h) ∙ ap (option_map whole_join) (ap cuts_in (sym is) ∙ e) in
     λ i. by_digest (d i) (o i)
 
 pub middle_form : (bytes m : List ℕ) (e : DecodeError) → IsBytes bytes → has_digest bytes ≡ true → m ≡ middle bytes → e ≡ Malformed
@@ -220,7 +220,7 @@ pub middle_form : (bytes m : List ℕ) (e : DecodeError) → IsBytes bytes → h
 middle_form bytes m e h d is form none =
     let no : cuts_in m ≡ None = subst (λ (e : DecodeError). Makes {X = RunJoined} (Err e) (cuts_in m)) form none in
     let o : joined_in (middle bytes) ≡ None =
-    same_joined (middle bytes) (clean bytes h) ∙ ap (option_map whole_joined) (ap cuts_in (sym is) ∙ no) in
+    same_joined (middle bytes) (clean bytes h) ∙ ap (option_map whole_join) (ap cuts_in (sym is) ∙ no) in
     λ i. by_digest (d i) (o i)
 
 pub middle_first : (m : List ℕ) (r : RunJoined) → cuts_in m ≡ Some r → are_runs r.first.runs ≡ true
@@ -231,8 +231,8 @@ middle_second m r e = (cuts_are_runs m r e).1
 
 -- ---- the answer with all events
 
-pub whole_due : (bytes : List ℕ) (r : RunJoined) (o : Result Joined PackageStop) → joined_reading bytes ≡ Ok (whole_joined r)
-    → IfOk o (λ j. j ≡ whole_joined r) → ((stop : PackageStop) → o ≡ Err stop → stop ≡ NoMemory) → JoinedReadsAs o (joined_reading bytes)
+pub whole_due : (bytes : List ℕ) (r : RunJoined) (o : Result Joined PackageStop) → joined_reading bytes ≡ Ok (whole_join r)
+    → IfOk o (λ j. j ≡ whole_join r) → ((stop : PackageStop) → o ≡ Err stop → stop ≡ NoMemory) → JoinedReadsAs o (joined_reading bytes)
 whole_due bytes r (Ok j) due is none = due ∙ (λ i. Ok (sym is i))
 whole_due bytes r (Err NoMemory) due is none = tt
 whole_due bytes r (Err (Damaged kind)) due is none = let no : Damaged kind ≡ NoMemory = none (Damaged kind) refl in absurd cc

@@ -4,7 +4,7 @@ use Rattle.std.specs.Prelude.{filter, find, option_map}
 use Rattle.std.specs.List.{list_all, filter_map, cons_option}
 use Rattle.std.proofs.lemmas.Bool.{ltb-true, lt-ltb}
 use Rattle.ldv_value.proofs.Booleans.{and-parts, and-from}
-use Rattle.package_layout.specs.Room.{row_room, schema_room, some_thousands, table_room, log_room}
+use Rattle.package_layout.specs.Room.{row_room, schema_room, fits_u16_count, table_room, log_room}
 use Rattle.package_layout.specs.Runs.{trace_room}
 use Rattle.package_layout.specs.Whole.{has_room, tables_room}
 use Rattle.package_join.specs.Types.{Package, PackedRow, PackedTable, Table, TableRow}
@@ -62,7 +62,7 @@ module _ (run : JoinedRun) (test : Table → Bool) where
       by true rest = omega (arith, rest)
       by false rest = omega (arith, rest)
 
-  few_enough : (ts : List Table) → some_thousands ts ≡ true → some_thousands (picked ts) ≡ true
+  few_enough : (ts : List Table) → fits_u16_count ts ≡ true → fits_u16_count (picked ts) ≡ true
   few_enough ts h = lt-ltb (length (picked ts)) (2 ^ 16) (omega (arith, fewer ts, ltb-true (length ts) (2 ^ 16) h))
 
 -- ---- the package of a run
@@ -71,14 +71,14 @@ package_fits : (run : JoinedRun) (j : Joined) → common_tables_room j.tables �
     → has_room (picked_package run j.files j.tables) ≡ true
 package_fits run j h k =
     let p : Package = picked_package run j.files j.tables in
-    let tables = and-parts (some_thousands j.tables) (list_all common_table_room j.tables) h in
+    let tables = and-parts (fits_u16_count j.tables) (list_all common_table_room j.tables) h in
     let traced = and-parts (bare_run_room run) (trace_room run.events) k in
-    let bare = and-parts (some_thousands run.start) (some_thousands run.tables) traced.0 in
-    let many : some_thousands p.tables ≡ true = few_enough run (λ (t : Table). is_among t.name run.tables) j.tables tables.0 in
+    let bare = and-parts (fits_u16_count run.start) (fits_u16_count run.tables) traced.0 in
+    let many : fits_u16_count p.tables ≡ true = few_enough run (λ (t : Table). is_among t.name run.tables) j.tables tables.0 in
     let each : list_all table_room p.tables ≡ true = tables_fit run (λ (t : Table). is_among t.name run.tables) j.tables tables.1 in
-    and-from (some_thousands p.start) (tables_room p && (list_all log_room p.logs && trace_room p.events)) bare.0
+    and-from (fits_u16_count p.start) (tables_room p && (list_all log_room p.logs && trace_room p.events)) bare.0
     (and-from (tables_room p) (list_all log_room p.logs && trace_room p.events)
-    (and-from (some_thousands p.tables) (list_all table_room p.tables) many each)
+    (and-from (fits_u16_count p.tables) (list_all table_room p.tables) many each)
     (and-from (list_all log_room p.logs) (trace_room p.events) refl traced.1))
 
 pub picked_room : (which : Which) (j : Joined) → joined_room j ≡ true → has_room (run_package which j) ≡ true

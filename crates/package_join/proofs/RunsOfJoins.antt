@@ -34,7 +34,7 @@ use Rattle.run_model.specs.Between.{IsIn}
 use Rattle.run_model.specs.Package.{own_row, own_table}
 use Rattle.run_model.specs.ValidPackage.{content_rule, file_rule, is_script, is_script_file, packed_file_precedes, parts_rule, rows_rule, rules, script_rule, table_rule, whole_rule}
 use Rattle.run_model.specs.ValidWorld.{CanRun}
-use Rattle.package_layout.specs.Valid.{Valid}
+use Rattle.package_layout.specs.Valid.{IsValidPackage}
 use Rattle.package_layout.specs.Whole.{has_room}
 use Rattle.package_join.specs.Types.{File, Package, PackedFile, PackedRow, PackedTable, Table, TableRow}
 use Rattle.package_join.specs.declared.joined.Joined.{Joined}
@@ -244,7 +244,7 @@ starts : (run : JoinedRun) (files : List PackedFile) → Rising path_of (slice_c
 starts run files rises [] rule = absurd cc
 starts run files rises (word ∷ words) rule = script_seen run word files rises rule
 
-script_ruled : (p : Package) → Valid p → script_rule p.start p.files ≡ true
+script_ruled : (p : Package) → IsValidPackage p → script_rule p.start p.files ≡ true
 script_ruled p valid =
     let all = (and-parts (has_room p) (rules p) valid).1 in
     (and-parts (parts_rule p && whole_rule p) (script_rule p.start p.files) all).1
@@ -387,7 +387,7 @@ module _ (a b : Package) (ia : IsIncluded a) (ib : IsIncluded b) (none : clash_o
 
 -- ---- the law
 
-can_run : (run : JoinedRun) (j : Joined) (a b : Package) → Valid a → Valid b → IsIncluded a → IsIncluded b → clash_of a b ≡ None → put_together a b ≡ j
+can_run : (run : JoinedRun) (j : Joined) (a b : Package) → IsValidPackage a → IsValidPackage b → IsIncluded a → IsIncluded b → clash_of a b ≡ None → put_together a b ≡ j
     → AllByRecursion TypedCommonTable j.tables → script_rule run.start (filter_map (picked_file run) j.files) ≡ true → CanRun (world_of run j)
 can_run run j a b va vb ia ib none same typed script =
     let files : List PackedFile = merged_files a.files b.files in

@@ -9,7 +9,7 @@ use Rattle.ldv_value.specs.declared.value.Value.{Value}
 use Rattle.sql_model.specs.Changes.{KeyClash, shares_key, clash_or, clash_after, clash_by, key_clash}
 use Rattle.sql_model.specs.Keys.{same_values, values_at}
 use Rattle.package_join.specs.Types.{Table, TableRow}
-use Rattle.package_join.specs.TakenKeys.{unseen, seen_after, first_taken}
+use Rattle.package_join.specs.TakenKeys.{unseen, seen_after, first_taken_row}
 
 abbrev pub later_number : KeyClash → ℕ
 later_number clash = clash.later.number
@@ -45,18 +45,18 @@ module _ (places : List ℕ) where
   either (Some earlier) true row rest more is same = refl
   either (Some earlier) false row rest more is same = cc
 
-  pub taken : (before rows : List TableRow) → option_map later_number (clash_after places before rows) ≡ first_taken places (among before) rows
+  pub taken : (before rows : List TableRow) → option_map later_number (clash_after places before rows) ≡ first_taken_row places (among before) rows
   taken before [] = refl
   taken before (row ∷ rows) =
       either (find (shares_key places row) before) (among before (key_of row)) row (clash_after places (before ++ row ∷ []) rows)
-      (first_taken places (seen_after (key_of row) (among before)) rows)
+      (first_taken_row places (seen_after (key_of row) (among before)) rows)
       (found_any (shares_key places row) before)
-      (taken (before ++ row ∷ []) rows ∙ (λ i. first_taken places (λ key. one_more before row key i) rows))
+      (taken (before ++ row ∷ []) rows ∙ (λ i. first_taken_row places (λ key. one_more before row key i) rows))
 
-pub second_is : (table : Table) → (length table.schema.key == 0) ≡ false → option_map later_number (key_clash table) ≡ first_taken table.schema.key unseen table.rows
+pub second_is : (table : Table) → (length table.schema.key == 0) ≡ false → option_map later_number (key_clash table) ≡ first_taken_row table.schema.key unseen table.rows
 second_is table some = by table.schema.key some
   where
-    by : (key : List ℕ) → (length key == 0) ≡ false → option_map later_number (clash_by key table.rows) ≡ first_taken key unseen table.rows
+    by : (key : List ℕ) → (length key == 0) ≡ false → option_map later_number (clash_by key table.rows) ≡ first_taken_row key unseen table.rows
     by [] some = cc
     by (place ∷ places) some = taken (place ∷ places) [] table.rows
 
@@ -74,14 +74,14 @@ second_none table none = by table.schema.key none
 
 pub one_seen : (places : List ℕ) (seen now : List Value → Bool) (row : TableRow) (rows : List TableRow) → seen (values_at places row.values) ≡ false
     → ((key : List Value) → now key ≡ seen_after (values_at places row.values) seen key)
-    → first_taken places now rows ≡ first_taken places seen (row ∷ rows)
+    → first_taken_row places now rows ≡ first_taken_row places seen (row ∷ rows)
 one_seen places seen now row rows fresh after =
-    (λ i. first_taken places (λ key. after key i) rows)
-    ∙ ap (λ (b : Bool). cond b (Some row.number) (first_taken places (seen_after (values_at places row.values) seen) rows)) (sym fresh)
+    (λ i. first_taken_row places (λ key. after key i) rows)
+    ∙ ap (λ (b : Bool). cond b (Some row.number) (first_taken_row places (seen_after (values_at places row.values) seen) rows)) (sym fresh)
 
 pub one_taken : (places : List ℕ) (seen : List Value → Bool) (row : TableRow) (rows : List TableRow) → seen (values_at places row.values) ≡ true
-    → first_taken places seen (row ∷ rows) ≡ Some row.number
-one_taken places seen row rows there = ap (λ (b : Bool). cond b (Some row.number) (first_taken places (seen_after (values_at places row.values) seen) rows)) there
+    → first_taken_row places seen (row ∷ rows) ≡ Some row.number
+one_taken places seen row rows there = ap (λ (b : Bool). cond b (Some row.number) (first_taken_row places (seen_after (values_at places row.values) seen) rows)) there
 
 pub seen_true : (added seen : Bool) → added ≡ false → added ≡ not seen → seen ≡ true
 seen_true added true missed is = refl

@@ -10,7 +10,7 @@ use Rattle.run_model.specs.Package.{own_row, own_table}
 use Rattle.run_model.specs.TypedPackage.{IsTyped, TypedFile, TypedRow, TypedTable}
 use Rattle.package_join.specs.Types.{Package, PackedFile, PackedTable, Table, TableRow}
 use Rattle.package_join.specs.Joined.{both_files, both_rows, both_tables, merged_files, merged_rows, merged_tables, own_tables, path_unless, presents_of, put_together, row_reason, run_in, table_reasons, whole_path, wholes_of}
-use Rattle.package_join.specs.Rooms.{TypedCommonRow, TypedCommonTable, TypedJoined, TypedJoinedRun, TypedReason, TypedTexts}
+use Rattle.package_join.specs.Rooms.{TypedCommonRow, TypedCommonTable, IsTypedJoined, TypedJoinedRun, TypedReason, TypedTexts}
 use Rattle.package_join.proofs.MergedLists.{in_merged, IsOf}
 use Rattle.package_join.proofs.PickedFiles.{path_of}
 use Rattle.package_join.proofs.PickedTables.{name_of, number_of}
@@ -109,7 +109,7 @@ tables_typed xs ys tx ty =
         let two = typed_in TypedCommonTable ys ty made.1.0 made.1.1.1.0 in
         subst TypedCommonTable (sym made.1.1.1.1.1) (one.0, (one.1.0, (one.1.1.0, rows_typed made.0.rows made.1.0.rows one.1.1.1 two.1.1.1)))
 
-pub together_typed : (a b : Package) → IsTyped a → IsTyped b → TypedJoined (put_together a b)
+pub together_typed : (a b : Package) → IsTyped a → IsTyped b → IsTypedJoined (put_together a b)
 together_typed a b ta tb = (
   files_typed a.files b.files ta.1.1.1.0 tb.1.1.1.0,
   (

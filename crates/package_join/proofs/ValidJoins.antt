@@ -4,7 +4,7 @@ use Rattle.std.specs.Prelude.{Option, Some, None, Result, Ok, Err, IfOk, ◌==�
 use Rattle.std.proofs.lemmas.Bool.{and_parts, eqb-true}
 use Rattle.std.proofs.lemmas.List.{nil_from_length}
 use Rattle.ldv_value.specs.Limits.{max_files, max_tables}
-use Rattle.package_layout.specs.Valid.{Valid}
+use Rattle.package_layout.specs.Valid.{IsValidPackage}
 use Rattle.package_layout.specs.Whole.{has_room}
 use Rattle.run_model.specs.ValidPackage.{start_rule, are_files, files_rule, are_tables, tables_rule, logs_rule, mode_rule, steps_rule, trace_rule, reasons_rule, script_rule, parts_rule, whole_rule, rules}
 use Rattle.run_model.specs.ValidTrace.{asked_count}
@@ -17,10 +17,10 @@ use Rattle.package_join.specs.Joined.{clash_of, joined_of, put_together, run_pac
 use Rattle.package_join.specs.Laws.{IsIncluded, ValidLaw}
 use Rattle.package_join.specs.Parts.{JoinsAs}
 use Rattle.package_join.specs.Picked.{without_logs}
-use Rattle.package_join.specs.Valid.{ValidJoined}
+use Rattle.package_join.specs.Valid.{IsValidJoined}
 use Rattle.package_join.proofs.Picks.{pick_law, anew_law}
 
-pub included : (p : Package) → Valid p → p.mode ≡ Included → IsIncluded p
+pub included : (p : Package) → IsValidPackage p → p.mode ≡ Included → IsIncluded p
 included p valid mode =
     let all = (and_parts (has_room p) (rules p) valid).1 in
     let two = and_parts (parts_rule p && whole_rule p) (script_rule p.start p.files) all in
@@ -42,14 +42,14 @@ included p valid mode =
 pub valid_law : ValidLaw
 valid_law a b j va vb ma mb is = by (clash_of a b) refl is
   where
-    by : (o : Option Clash) → clash_of a b ≡ o → unless_clash o (put_together a b) ≡ Ok j → ValidJoined j
+    by : (o : Option Clash) → clash_of a b ≡ o → unless_clash o (put_together a b) ≡ Ok j → IsValidJoined j
     by (Some clash) none ok = cc
     by None none ok =
         let same : put_together a b ≡ j = cc in
         let picked = pick_law a b (included a va ma) (included b vb mb) none in
         record {
-          first = subst Valid (sym picked.first ∙ ap (run_package First) same) va;
-          second = subst Valid (sym picked.second ∙ ap (run_package Second) same) vb;
+          first = subst IsValidPackage (sym picked.first ∙ ap (run_package First) same) va;
+          second = subst IsValidPackage (sym picked.second ∙ ap (run_package Second) same) vb;
           same = anew_law a b (included a va ma) (included b vb mb) j is;
         }
 
@@ -59,7 +59,7 @@ pub copies_as : (a b first second : Package) (result : Result Joined JoinStop) �
 copies_as a b first second result one two due = subst (JoinsAs result) (λ i. joined_of (one i) (two i)) due
 
 -- and it is valid
-pub copies_joined : (a b first second : Package) (result : Result Joined JoinStop) → Valid a → Valid b → a.mode ≡ Included → b.mode ≡ Included
-    → first ≡ without_logs a → second ≡ without_logs b → JoinsAs result (joined_of first second) → IfOk result (λ j. ValidJoined j)
+pub copies_joined : (a b first second : Package) (result : Result Joined JoinStop) → IsValidPackage a → IsValidPackage b → a.mode ≡ Included → b.mode ≡ Included
+    → first ≡ without_logs a → second ≡ without_logs b → JoinsAs result (joined_of first second) → IfOk result (λ j. IsValidJoined j)
 copies_joined a b first second (Ok j) va vb ma mb one two due = valid_law a b j va vb ma mb ((λ i. joined_of (sym one i) (sym two i)) ∙ due)
 copies_joined a b first second (Err stop) va vb ma mb one two due = tt

@@ -15,9 +15,9 @@ use Rattle.sql_model.specs.declared.table.Schema.{Schema}
 use Rattle.run_model.specs.Between.{IsIn}
 use Rattle.run_model.specs.Package.{own_row, own_table}
 use Rattle.run_model.specs.ValidPackage.{start_rule, files_rule, tables_rule, are_tables, logs_rule, parts_rule, whole_rule, script_rule, rules}
-use Rattle.package_layout.specs.Room.{row_room, schema_room, some_thousands, table_room, log_room}
+use Rattle.package_layout.specs.Room.{row_room, schema_room, fits_u16_count, table_room, log_room}
 use Rattle.package_layout.specs.Runs.{trace_room}
-use Rattle.package_layout.specs.Valid.{Valid}
+use Rattle.package_layout.specs.Valid.{IsValidPackage}
 use Rattle.package_layout.specs.Whole.{has_room, tables_room}
 use Rattle.package_join.specs.Types.{Package, PackedRow, PackedTable, Table, TableRow}
 use Rattle.package_join.specs.declared.joined.Clash.{Clash}
@@ -27,7 +27,7 @@ use Rattle.package_join.specs.Joined.{both_rows, both_tables, clash_of, merged_r
 use Rattle.package_join.specs.Laws.{IsIncluded}
 use Rattle.package_join.specs.Merging.{merged}
 use Rattle.package_join.specs.Rooms.{common_row_room, common_table_room, common_tables_room, bare_run_room, joined_run_room, joined_room}
-use Rattle.package_join.specs.Valid.{ValidJoined}
+use Rattle.package_join.specs.Valid.{IsValidJoined}
 use Rattle.package_join.proofs.Lists.{all_in, each_of}
 use Rattle.package_join.proofs.MergedLists.{in_merged, IsOf}
 use Rattle.package_join.proofs.PickedTables.{equal_names, name_of, number_of}
@@ -67,13 +67,13 @@ own_table_fits t h =
     let both = and-parts (schema_room t.schema) (list_all (row_room columns) t.rows) h in
     and-from (schema_room t.schema) (list_all (common_row_room columns) (map own_row t.rows)) both.0 (own_rows_fit columns t.rows both.1)
 
-module _ (p : Package) (valid : Valid p) where
-  p_rooms : (some_thousands p.start ≡ true) × (some_thousands p.tables ≡ true) × (list_all table_room p.tables ≡ true) × (trace_room p.events ≡ true)
+module _ (p : Package) (valid : IsValidPackage p) where
+  p_rooms : (fits_u16_count p.start ≡ true) × (fits_u16_count p.tables ≡ true) × (list_all table_room p.tables ≡ true) × (trace_room p.events ≡ true)
   p_rooms =
       let room = (and-parts (has_room p) (rules p) valid).0 in
-      let one = and-parts (some_thousands p.start) (tables_room p && (list_all log_room p.logs && trace_room p.events)) room in
+      let one = and-parts (fits_u16_count p.start) (tables_room p && (list_all log_room p.logs && trace_room p.events)) room in
       let two = and-parts (tables_room p) (list_all log_room p.logs && trace_room p.events) one.1 in
-      let three = and-parts (some_thousands p.tables) (list_all table_room p.tables) two.0 in
+      let three = and-parts (fits_u16_count p.tables) (list_all table_room p.tables) two.0 in
       (one.0, three.0, three.1, (and-parts (list_all log_room p.logs) (trace_room p.events) two.1).1)
 
   -- they are few enough
@@ -94,12 +94,12 @@ module _ (p : Package) (valid : Valid p) where
   run_fits : joined_run_room (run_in p) ≡ true
   run_fits =
       let names : List (List ℕ) = map (λ table. table.name) p.tables in
-      let many : some_thousands names ≡ true = ap (λ (n : ℕ). nat_lt n (2 ^ 16)) (length-map p.tables (λ (table : PackedTable). table.name)) ∙ p_rooms.1 in
-      and-from (bare_run_room (run_in p)) (trace_room p.events) (and-from (some_thousands p.start) (some_thousands names) p_rooms.0 many) p_rooms.3
+      let many : fits_u16_count names ≡ true = ap (λ (n : ℕ). nat_lt n (2 ^ 16)) (length-map p.tables (λ (table : PackedTable). table.name)) ∙ p_rooms.1 in
+      and-from (bare_run_room (run_in p)) (trace_room p.events) (and-from (fits_u16_count p.start) (fits_u16_count names) p_rooms.0 many) p_rooms.3
 
 -- ---- what they are joined to
 
-module _ (a b : Package) (va : Valid a) (vb : Valid b) (ia : IsIncluded a) (ib : IsIncluded b) (none : clash_of a b ≡ None) where
+module _ (a b : Package) (va : IsValidPackage a) (vb : IsValidPackage b) (ia : IsIncluded a) (ib : IsIncluded b) (none : clash_of a b ≡ None) where
   row_fits : (columns : ℕ) (xs ys : List TableRow) → list_all (common_row_room columns) xs ≡ true → list_all (common_row_room columns) ys ≡ true
       → (z : TableRow) → IsIn z (merged_rows xs ys) → common_row_room columns z ≡ true
   row_fits columns xs ys hx hy z is = by (in_merged number_of nat_cmp nat_cmp_total both_rows (λ x y e. refl) z xs ys is)
@@ -135,9 +135,9 @@ module _ (a b : Package) (va : Valid a) (vb : Valid b) (ia : IsIncluded a) (ib :
       let long = merged_length table_cmp both_tables (own_tables a) (own_tables b) in
       let one : length (own_tables a) ≡ length a.tables = length-map a.tables own_table in
       let two : length (own_tables b) ≡ length b.tables = length-map b.tables own_table in
-      let many : some_thousands tables ≡ true = lt-ltb (length tables) (2 ^ 16) (omega (arith, long, one, two, p_few a va, p_few b vb)) in
+      let many : fits_u16_count tables ≡ true = lt-ltb (length tables) (2 ^ 16) (omega (arith, long, one, two, p_few a va, p_few b vb)) in
       and-from (common_tables_room tables) (joined_run_room (run_in a) && joined_run_room (run_in b))
-      (and-from (some_thousands tables) (list_all common_table_room tables) many (all_in common_table_room tables table_fits))
+      (and-from (fits_u16_count tables) (list_all common_table_room tables) many (all_in common_table_room tables table_fits))
       (and-from (joined_run_room (run_in a)) (joined_run_room (run_in b)) (run_fits a va) (run_fits b vb))
 
 -- what is joined without a clash
@@ -146,7 +146,7 @@ pub unclashed : (a b : Package) (j : Joined) (o : Option Clash) → clash_of a b
 unclashed a b j (Some clash) e ok = cc
 unclashed a b j None e ok = (e, cc)
 
-pub valid_room : (j : Joined) → ValidJoined j → joined_room j ≡ true
+pub valid_room : (j : Joined) → IsValidJoined j → joined_room j ≡ true
 valid_room j v =
     let a : Package = run_package First j in
     let b : Package = run_package Second j in

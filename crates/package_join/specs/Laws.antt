@@ -4,7 +4,7 @@ use Rattle.std.specs.List.{AllByRecursion}
 use Rattle.ldv_value.specs.Limits.{input_limit}
 use Rattle.ldv_value.specs.FileState.{files_test}
 use Rattle.sql_model.specs.Tables.{tables_test}
-use Rattle.package_layout.specs.Valid.{Valid}
+use Rattle.package_layout.specs.Valid.{IsValidPackage}
 use Rattle.run_model.specs.Between.{Between}
 use Rattle.run_model.specs.Package.{package_of}
 use Rattle.run_model.specs.ValidPackage.{are_files, are_tables}
@@ -12,8 +12,8 @@ use Rattle.package_join.specs.Types.{Included, Package, World}
 use Rattle.package_join.specs.declared.joined.Joined.{Joined}
 use Rattle.package_join.specs.Joined.{clash_of, joined_of, picked_package, put_together}
 use Rattle.package_join.specs.Layout.{joined_spelling}
-use Rattle.package_join.specs.Rooms.{TypedCommonTable, TypedJoined}
-use Rattle.package_join.specs.Valid.{ValidJoined, joined_reading}
+use Rattle.package_join.specs.Rooms.{TypedCommonTable, IsTypedJoined}
+use Rattle.package_join.specs.Valid.{IsValidJoined, joined_reading}
 use Rattle.package_join.specs.Worlds.{joined_world, world_of}
 use Rattle.run_model.specs.ValidWorld.{CanRun}
 use Rattle.package_join.specs.declared.joined.Which.{Which}
@@ -57,23 +57,24 @@ AnewLaw = (a b : Package) → IsIncluded a → IsIncluded b → (j : Joined) →
 
 -- what two valid included packages are joined to is valid
 abbrev pub ValidLaw : Type 0
-ValidLaw = (a b : Package) (j : Joined) → Valid a → Valid b → a.mode ≡ Included → b.mode ≡ Included
-    → joined_of a b ≡ Ok j → ValidJoined j
+ValidLaw = (a b : Package) (j : Joined) → IsValidPackage a
+    → IsValidPackage b → a.mode ≡ Included → b.mode ≡ Included
+    → joined_of a b ≡ Ok j → IsValidJoined j
 
 -- ---- bytes
 
 -- a valid joined package whose spelling is within the limit is read from it
 abbrev pub RoundTripLaw : Type 0
-RoundTripLaw = (j : Joined) → TypedJoined j → ValidJoined j → length (joined_spelling j) ≤ input_limit
+RoundTripLaw = (j : Joined) → IsTypedJoined j → IsValidJoined j → length (joined_spelling j) ≤ input_limit
     → joined_reading (joined_spelling j) ≡ Ok j
 
 -- no two have one spelling
 abbrev pub OneSpellingLaw : Type 0
-OneSpellingLaw = (j k : Joined) → TypedJoined j → TypedJoined k → ValidJoined j → ValidJoined k
+OneSpellingLaw = (j k : Joined) → IsTypedJoined j → IsTypedJoined k → IsValidJoined j → IsValidJoined k
     → length (joined_spelling j) ≤ input_limit → joined_spelling j ≡ joined_spelling k → j ≡ k
 
 -- ---- the world of a run can be run
 
 abbrev pub RunsLaw : Type 0
-RunsLaw = (which : Which) (j : Joined) → AllByRecursion TypedCommonTable j.tables → ValidJoined j
+RunsLaw = (which : Which) (j : Joined) → AllByRecursion TypedCommonTable j.tables → IsValidJoined j
     → CanRun (joined_world which j)

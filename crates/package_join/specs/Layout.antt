@@ -4,7 +4,7 @@ use Rattle.std.specs.Prelude.{ℕ, List, [], ◌++◌, codes, length, Option, So
 use Rattle.std.specs.Int.{w16, w32, w64, to_be_bytes}
 use Rattle.sha2.specs.Sha256.{sha256}
 use Rattle.package_layout.specs.Events.{names_spelling, names_at}
-use Rattle.package_layout.specs.Fields.{Found, ◌>>=◌, then_at, both_at, made_at, number_at, list_at, text_at}
+use Rattle.package_layout.specs.Fields.{DecodeResult, ◌>>=◌, then_at, both_at, made_at, number_at, list_at, text_at}
 use Rattle.package_layout.specs.Fields.{text_spelling, list_spelling}
 use Rattle.package_layout.specs.Reading.{file_at, schema_at, cells_at, reason_at}
 use Rattle.package_layout.specs.Runs.{runs_spelling, runs_at}
@@ -81,29 +81,29 @@ joined_spelling j = joined_body j ++ sha256 (joined_body j)
 
 -- ---- reading
 
-abbrev pub common_row_at : ℕ → List ℕ → Found TableRow
+abbrev pub common_row_at : ℕ → List ℕ → DecodeResult TableRow
 common_row_at columns =
     made_at (λ r. Some (record { number = r.0; values = r.1 })) (both_at (number_at w32) (cells_at columns))
 
-abbrev pub common_rows_at : ℕ → List ℕ → Found (List TableRow)
+abbrev pub common_rows_at : ℕ → List ℕ → DecodeResult (List TableRow)
 common_rows_at columns = list_at w32 (common_row_at columns)
 
-abbrev pub common_table_at : List ℕ → Found Table
+abbrev pub common_table_at : List ℕ → DecodeResult Table
 common_table_at =
     made_at (λ t. Some (record { name = t.0; schema = t.1.0; next = t.1.1.0; rows = t.1.1.1 }))
     (both_at text_at
     (then_at (schema_at Two) (λ s. both_at (number_at w32) (common_rows_at (length s.columns)))))
 
-abbrev pub named_reason_at : List ℕ → Found Reason
+abbrev pub named_reason_at : List ℕ → DecodeResult Reason
 named_reason_at =
     made_at (λ r. Some (record { table = r.0; row = r.1.0; statement = r.1.1.0; rule = r.1.1.1 }))
     (both_at text_at (both_at (number_at w32) reason_at))
 
-abbrev pub paths_at : List ℕ → Found (List (List ℕ))
+abbrev pub paths_at : List ℕ → DecodeResult (List (List ℕ))
 paths_at = list_at w32 text_at
 
 -- all of a run but its trace
-abbrev pub bare_run_at : List ℕ → Found JoinedRun
+abbrev pub bare_run_at : List ℕ → DecodeResult JoinedRun
 bare_run_at =
     made_at
     (λ r. Some (record {
@@ -132,16 +132,16 @@ with_trace run events = record {
   events = events;
 }
 
-abbrev pub run_at : List ℕ → Found JoinedRun
+abbrev pub run_at : List ℕ → DecodeResult JoinedRun
 run_at = made_at (λ r. Some (with_trace r.0 r.1)) (both_at bare_run_at runs_at)
 
-abbrev pub common_files_at : List ℕ → Found (List PackedFile)
+abbrev pub common_files_at : List ℕ → DecodeResult (List PackedFile)
 common_files_at = list_at w32 file_at
 
-abbrev pub common_tables_at : List ℕ → Found (List Table)
+abbrev pub common_tables_at : List ℕ → DecodeResult (List Table)
 common_tables_at = list_at w16 common_table_at
 
-abbrev pub joined_at : List ℕ → Found Joined
+abbrev pub joined_at : List ℕ → DecodeResult Joined
 joined_at =
     made_at (λ j. Some (record { files = j.0; tables = j.1.0; first = j.1.1.0; second = j.1.1.1 }))
     (both_at common_files_at (both_at common_tables_at (both_at run_at run_at)))

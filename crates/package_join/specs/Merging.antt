@@ -39,6 +39,6 @@ first_of f (x ∷ xs) = option_or (f x) (first_of f xs)
 
 -- ---- a list whose first item was taken out; without it nothing was left
 
-abbrev pub queued : {X : Type 0} → Option X → List X → List X
-queued None xs = []
-queued (Some x) xs = x ∷ xs
+abbrev pub queue_with : {X : Type 0} → Option X → List X → List X
+queue_with None xs = []
+queue_with (Some x) xs = x ∷ xs

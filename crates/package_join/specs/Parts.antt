@@ -28,11 +28,11 @@ parts_together a b = record {
   second = b.run;
 }
 
-abbrev pub late_joined : Parts → Parts → Result Joined TheClash
-late_joined a b = unless_clash (first_of keys_clash (merged_tables a.tables b.tables)) (parts_together a b)
+abbrev pub join_of_parts : Parts → Parts → Result Joined TheClash
+join_of_parts a b = unless_clash (first_of keys_clash (merged_tables a.tables b.tables)) (parts_together a b)
 
 abbrev pub joined_after : Option TheClash → Parts → Parts → Result Joined TheClash
-joined_after None a b = late_joined a b
+joined_after None a b = join_of_parts a b
 joined_after (Some clash) a b = Err clash
 
 abbrev pub joined_parts : Parts → Parts → Result Joined TheClash

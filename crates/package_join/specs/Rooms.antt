@@ -4,7 +4,7 @@ use Rattle.std.specs.Prelude.{ℕ, ◌<◌, ◌^◌, List, length, Bool, ◌&&�
 use Rattle.std.specs.List.{list_all, AllByRecursion}
 use Rattle.std.specs.Str.{IsUtf8}
 use Rattle.package_layout.specs.Counts.{IsCountable, CountedList, CountedValue, CountedSchema, CountedFile}
-use Rattle.package_layout.specs.Room.{some_thousands, schema_room}
+use Rattle.package_layout.specs.Room.{fits_u16_count, schema_room}
 use Rattle.package_layout.specs.Runs.{CountedRun, runs_of, trace_room}
 use Rattle.package_layout.specs.Typed.{IsU32, TypedValues, TypedSchema, TypedFile, TypedEvent}
 use Rattle.package_layout.specs.declared.version.Version.TheVariants.{Two}
@@ -41,8 +41,8 @@ TypedBareRun run = TypedTexts run.start × TypedRunNumbers run
 abbrev pub TypedJoinedRun : JoinedRun → Type 0
 TypedJoinedRun run = TypedBareRun run × AllByRecursion TypedEvent run.events
 
-abbrev pub TypedJoined : Joined → Type 0
-TypedJoined j = AllByRecursion TypedFile j.files
+abbrev pub IsTypedJoined : Joined → Type 0
+IsTypedJoined j = AllByRecursion TypedFile j.files
     × (AllByRecursion TypedCommonTable j.tables × (TypedJoinedRun j.first × TypedJoinedRun j.second))
 
 -- ---- counts of one and two bytes
@@ -54,10 +54,10 @@ abbrev pub common_table_room : Table → Bool
 common_table_room t = schema_room t.schema && list_all (common_row_room (length t.schema.columns)) t.rows
 
 abbrev pub common_tables_room : List Table → Bool
-common_tables_room tables = some_thousands tables && list_all common_table_room tables
+common_tables_room tables = fits_u16_count tables && list_all common_table_room tables
 
 abbrev pub bare_run_room : JoinedRun → Bool
-bare_run_room run = some_thousands run.start && some_thousands run.tables
+bare_run_room run = fits_u16_count run.start && fits_u16_count run.tables
 
 abbrev pub joined_run_room : JoinedRun → Bool
 joined_run_room run = bare_run_room run && trace_room run.events
@@ -92,6 +92,6 @@ CountedBareRun run = CountedTexts run.start × CountedNeeds run
 abbrev pub CountedJoinedRun : JoinedRun → Type 0
 CountedJoinedRun run = CountedBareRun run × CountedList CountedRun (runs_of run.events)
 
-abbrev pub CountedJoined : Joined → Type 0
-CountedJoined j = CountedList CountedFile j.files
+abbrev pub IsCountedJoined : Joined → Type 0
+IsCountedJoined j = CountedList CountedFile j.files
     × (AllByRecursion CountedCommonTable j.tables × (CountedJoinedRun j.first × CountedJoinedRun j.second))

@@ -6,7 +6,7 @@ use Rattle.package_layout.specs.declared.damage.DamageKind.{DamageKind}
 use Rattle.package_layout.specs.declared.layout.PackageStop.{PackageStop}
 use Rattle.package_layout.specs.declared.layout.PackageStop.TheVariants.{Damaged, NoMemory}
 use Rattle.package_layout.specs.declared.run_package.RunPackage.{RunPackage}
-use Rattle.package_layout.specs.Fields.{Found, ◌>>=◌, both_at, made_at, list_at, list_spelling}
+use Rattle.package_layout.specs.Fields.{DecodeResult, ◌>>=◌, both_at, made_at, list_at, list_spelling}
 use Rattle.package_layout.specs.RunPackages.{run_rules}
 use Rattle.package_layout.specs.declared.run.Run.{Run}
 use Rattle.package_layout.specs.Runs.{events_in, run_spelling}
@@ -29,8 +29,8 @@ use Rattle.package_join.specs.Layout.{common_tables_at, common_tables_spelling, 
 abbrev pub whole_run : CutRun → JoinedRun
 whole_run r = with_trace r.bare (events_in r.runs)
 
-abbrev pub whole_joined : RunJoined → Joined
-whole_joined r = record {
+abbrev pub whole_join : RunJoined → Joined
+whole_join r = record {
   files = r.files;
   tables = r.tables;
   first = whole_run r.first;
@@ -49,11 +49,11 @@ both_cuts_spelling r = cut_run_spelling r.first ++ cut_run_spelling r.second
 abbrev pub cut_sections : RunJoined → List ℕ
 cut_sections r = common_files_spelling r.files ++ (common_tables_spelling r.tables ++ both_cuts_spelling r)
 
-abbrev pub cut_run_at : List ℕ → Found CutRun
+abbrev pub cut_run_at : List ℕ → DecodeResult CutRun
 cut_run_at =
     made_at (λ r. Some (record { bare = r.0; runs = r.1 })) (both_at bare_run_at (list_at w32 trace_run_at))
 
-abbrev pub cut_joined_at : List ℕ → Found RunJoined
+abbrev pub cut_joined_at : List ℕ → DecodeResult RunJoined
 cut_joined_at =
     made_at (λ j. Some (record { files = j.0; tables = j.1.0; first = j.1.1.0; second = j.1.1.1 }))
     (both_at common_files_at (both_at common_tables_at (both_at cut_run_at cut_run_at)))
@@ -89,15 +89,15 @@ abbrev pub if_rejoined : List Run → List Run → Result Joined Clash → Optio
 if_rejoined first second (Ok j) = Some (with_runs first second j)
 if_rejoined first second (Err clash) = None
 
-abbrev pub rejoined : RunPackage → RunPackage → Option RunJoined
-rejoined a b = if_rejoined a.runs b.runs (joined_of a.bare b.bare)
+abbrev pub join_of_packages : RunPackage → RunPackage → Option RunJoined
+join_of_packages a b = if_rejoined a.runs b.runs (joined_of a.bare b.bare)
 
 -- where both are valid packages of version 2
-abbrev pub rejoined_valid : RunPackage → RunPackage → Option RunJoined
-rejoined_valid a b = if run_rules Two a && run_rules Two b then rejoined a b else None
+abbrev pub join_of_valid_packages : RunPackage → RunPackage → Option RunJoined
+join_of_valid_packages a b = if run_rules Two a && run_rules Two b then join_of_packages a b else None
 
 abbrev pub cut_anew : RunJoined → Option RunJoined
-cut_anew r = rejoined_valid (picked_runs First r) (picked_runs Second r)
+cut_anew r = join_of_valid_packages (picked_runs First r) (picked_runs Second r)
 
 abbrev pub cut_spelled_so : List ℕ → RunJoined → Option RunJoined
 cut_spelled_so bytes r = if bytes_eq (cut_sections r) bytes then Some r else None
@@ -119,6 +119,6 @@ JoinedReadsAs (Err NoMemory) due = Unit {0}
 
 -- the same of one whose traces are kept as runs
 abbrev pub CutsReadAs : Result RunJoined PackageStop → Result Joined DamageKind → Type 0
-CutsReadAs (Ok r) due = due ≡ Ok (whole_joined r)
+CutsReadAs (Ok r) due = due ≡ Ok (whole_join r)
 CutsReadAs (Err (Damaged kind)) due = due ≡ Err kind
 CutsReadAs (Err NoMemory) due = Unit {0}

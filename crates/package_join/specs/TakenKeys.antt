@@ -9,8 +9,8 @@ unseen key = false
 abbrev pub seen_after : List Value → (List Value → Bool) → List Value → Bool
 seen_after key seen other = if same_values key other then true else seen other
 
-abbrev pub first_taken : List ℕ → (List Value → Bool) → List TableRow → Option ℕ
-first_taken places seen [] = None
-first_taken places seen (row ∷ rows) =
+abbrev pub first_taken_row : List ℕ → (List Value → Bool) → List TableRow → Option ℕ
+first_taken_row places seen [] = None
+first_taken_row places seen (row ∷ rows) =
     if seen (values_at places row.values) then Some row.number
-    else first_taken places (seen_after (values_at places row.values) seen) rows
+    else first_taken_row places (seen_after (values_at places row.values) seen) rows

@@ -5,18 +5,18 @@ use Rattle.std.specs.Prelude.{Result, Ok, Err}
 use Rattle.package_layout.specs.declared.damage.DamageKind.{DamageKind}
 use Rattle.package_layout.specs.declared.damage.DamageKind.TheVariants.{Magic, Digest, Form}
 use Rattle.package_layout.specs.Fields.{◌>>=◌}
-use Rattle.package_layout.specs.Valid.{Valid, valid_test, has_digest, middle}
+use Rattle.package_layout.specs.Valid.{IsValidPackage, valid_test, has_digest, middle}
 use Rattle.package_join.specs.declared.joined.Clash.{Clash}
 use Rattle.package_join.specs.declared.joined.Joined.{Joined}
 use Rattle.package_join.specs.declared.joined.Which.TheVariants.{First, Second}
 use Rattle.package_join.specs.Joined.{joined_of, run_package}
 use Rattle.package_join.specs.Layout.{all_of_joined, joined_magic, joined_sections, joined_spelling}
-use Rattle.package_join.specs.Rooms.{CountedJoined, TypedJoined}
+use Rattle.package_join.specs.Rooms.{IsCountedJoined, IsTypedJoined}
 
 -- the packages of both runs are valid, and it is what they are joined to
-pub record ValidJoined (j : Joined) : Type 0 where
-  pub first : Valid (run_package First j)
-  pub second : Valid (run_package Second j)
+pub record IsValidJoined (j : Joined) : Type 0 where
+  pub first : IsValidPackage (run_package First j)
+  pub second : IsValidPackage (run_package Second j)
   pub same : joined_of (run_package First j) (run_package Second j) ≡ Ok j
 
 -- ---- bytes and what they spell
@@ -31,15 +31,15 @@ joined_anew j =
     if valid_test (run_package First j) && valid_test (run_package Second j)
     then if_joined (joined_of (run_package First j) (run_package Second j)) else None
 
-abbrev pub spelled_so : List ℕ → Joined → Option Joined
-spelled_so bytes j = if bytes_eq (joined_sections j) bytes then Some j else None
+abbrev pub if_spelling_is : List ℕ → Joined → Option Joined
+if_spelling_is bytes j = if bytes_eq (joined_sections j) bytes then Some j else None
 
 -- the valid joined package whose sections these bytes are
 abbrev pub joined_in : List ℕ → Option Joined
 joined_in bytes = do
   j ← all_of_joined bytes
   anew ← joined_anew j
-  spelled_so bytes anew
+  if_spelling_is bytes anew
 
 abbrev pub form_of : Option Joined → Result Joined DamageKind
 form_of (Some j) = Ok j
@@ -59,16 +59,16 @@ joined_reading bytes = if has_joined_magic bytes then digested_reading bytes els
 
 -- The bytes are the spelling of a joined package. It has one where all of its counts fit their fields.
 pub record IsJoinedSpelling (j : Joined) (bytes : List ℕ) : Type 0 where
-  pub counted : CountedJoined j
+  pub counted : IsCountedJoined j
   pub same : joined_spelling j ≡ bytes
 
 -- the bytes spell no valid joined package
 abbrev pub IsNoJoined : List ℕ → Type 0
-IsNoJoined bytes = (j : Joined) → TypedJoined j → ValidJoined j → ¬ IsJoinedSpelling j bytes
+IsNoJoined bytes = (j : Joined) → IsTypedJoined j → IsValidJoined j → ¬ IsJoinedSpelling j bytes
 
 -- the joined package is valid, and the bytes are its spelling
 abbrev pub IsJoinedRead : List ℕ → Joined → Type 0
-IsJoinedRead bytes j = ValidJoined j × (joined_spelling j ≡ bytes)
+IsJoinedRead bytes j = IsValidJoined j × (joined_spelling j ≡ bytes)
 
 -- the damage that is seen before anything is read
 abbrev pub joined_damage_before : List ℕ → Option DamageKind

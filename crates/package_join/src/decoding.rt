@@ -1,7 +1,7 @@
 //! The parts of a joined package, from bytes to values.
 
 ghost use Rattle.std.specs.Prelude.{◌≡◌, length};
-ghost use Rattle.package_layout.specs.Fields.{Gives, Makes, items_at};
+ghost use Rattle.package_layout.specs.Fields.{Decodes, Makes, items_at};
 ghost use Rattle.package_join.specs.Layout.{bare_run_at, common_row_at, common_rows_at, common_table_at};
 ghost use Rattle.package_join.specs.Layout.{common_tables_at};
 ghost use Rattle.package_join.specs.RunJoins.{cut_joined_at, cut_joined_of, cut_run_at};
@@ -21,7 +21,7 @@ fn decode_common_row(
     columns: usize,
     cursor: &mut Cursor,
 ) -> Result<TableRow, DecodeError>
-    ensures { Gives result cursor.new (common_row_at columns cursor.old) }
+    ensures { Decodes result cursor.new (common_row_at columns cursor.old) }
 {
     let number = decode_u32(cursor)?;
     let values = decode_items(alloc, columns, cursor)?;
@@ -33,7 +33,7 @@ fn decode_common_rows(
     columns: &Columns,
     cursor: &mut Cursor,
 ) -> Result<TableRows, DecodeError>
-    ensures { Gives result cursor.new (common_rows_at (length columns.now) cursor.old) }
+    ensures { Decodes result cursor.new (common_rows_at (length columns.now) cursor.old) }
 {
     let count = decode_u32(cursor)?;
     decode_some_rows(alloc, columns.len(), count, cursor)
@@ -46,7 +46,7 @@ fn decode_some_rows(
     count: u32,
     cursor: &mut Cursor,
 ) -> Result<TableRows, DecodeError>
-    ensures { Gives result cursor.new (items_at (common_row_at columns) count cursor.old) }
+    ensures { Decodes result cursor.new (items_at (common_row_at columns) count cursor.old) }
 {
     let mut rows = List::new(alloc);
     for _turn in 0..count {
@@ -57,7 +57,7 @@ fn decode_some_rows(
 }
 
 fn decode_common_table(alloc: Global, cursor: &mut Cursor) -> Result<Table, DecodeError>
-    ensures { Gives result cursor.new (common_table_at cursor.old) }
+    ensures { Decodes result cursor.new (common_table_at cursor.old) }
 {
     let name = decode_text(alloc, cursor)?;
     let schema = decode_schema(alloc, Version::Two, cursor)?;
@@ -72,14 +72,14 @@ fn decode_common_table(alloc: Global, cursor: &mut Cursor) -> Result<Table, Deco
 }
 
 fn decode_common_tables(alloc: Global, cursor: &mut Cursor) -> Result<Tables, DecodeError>
-    ensures { Gives result cursor.new (common_tables_at cursor.old) }
+    ensures { Decodes result cursor.new (common_tables_at cursor.old) }
 {
     let count = decode_u16(cursor)?;
     decode_some_tables(alloc, count, cursor)
 }
 
 fn decode_some_tables(alloc: Global, count: u16, cursor: &mut Cursor) -> Result<Tables, DecodeError>
-    ensures { Gives result cursor.new (items_at common_table_at count cursor.old) }
+    ensures { Decodes result cursor.new (items_at common_table_at count cursor.old) }
 {
     let mut tables = List::new(alloc);
     for _turn in 0..count {
@@ -108,7 +108,7 @@ impl Decode for Reason {
 }
 
 fn decode_bare_run(alloc: Global, cursor: &mut Cursor) -> Result<JoinedRun, DecodeError>
-    ensures { Gives result cursor.new (bare_run_at cursor.old) }
+    ensures { Decodes result cursor.new (bare_run_at cursor.old) }
 {
     let start = decode_list(alloc, Width::Two, cursor)?;
     let seed = decode_u64(cursor)?;
@@ -130,7 +130,7 @@ fn decode_bare_run(alloc: Global, cursor: &mut Cursor) -> Result<JoinedRun, Deco
 }
 
 fn decode_cut_run(alloc: Global, cursor: &mut Cursor) -> Result<CutRun, DecodeError>
-    ensures { Gives result cursor.new (cut_run_at cursor.old) }
+    ensures { Decodes result cursor.new (cut_run_at cursor.old) }
 {
     let bare = decode_bare_run(alloc, cursor)?;
     let runs = decode_list(alloc, Width::Four, cursor)?;
@@ -138,7 +138,7 @@ fn decode_cut_run(alloc: Global, cursor: &mut Cursor) -> Result<CutRun, DecodeEr
 }
 
 fn decode_cut_joined(alloc: Global, cursor: &mut Cursor) -> Result<RunJoined, DecodeError>
-    ensures { Gives result cursor.new (cut_joined_at cursor.old) }
+    ensures { Decodes result cursor.new (cut_joined_at cursor.old) }
 {
     let files = decode_list(alloc, Width::Four, cursor)?;
     let tables = decode_common_tables(alloc, cursor)?;

@@ -6,7 +6,7 @@ ghost use Rattle.package_join.specs.Layout.{bare_run_spelling, both_runs_spellin
 ghost use Rattle.package_join.specs.Layout.{common_rows_spelling, common_table_spelling};
 ghost use Rattle.package_join.specs.Layout.{common_tables_spelling, joined_sections, needs_spelling};
 ghost use Rattle.package_join.specs.Layout.{numbers_spelling, run_spelling};
-ghost use Rattle.package_join.specs.Rooms.{TypedBareRun, TypedCommonRow, TypedCommonTable, TypedJoined};
+ghost use Rattle.package_join.specs.Rooms.{TypedBareRun, TypedCommonRow, TypedCommonTable, IsTypedJoined};
 ghost use Rattle.package_join.specs.Rooms.{TypedJoinedRun, TypedNeeds, TypedRunNumbers};
 ghost use Rattle.package_join.specs.RunJoins.{both_cuts_spelling, cut_run_spelling, cut_sections};
 
@@ -135,7 +135,7 @@ fn encode_both_runs(joined: &Joined, to: &mut Bytes) -> Result<(), AllocError>
 /// Appends all of a joined package between its magic and its digest.
 pub(crate) fn encode_joined(joined: &Joined, to: &mut Bytes) -> Result<(), AllocError>
     ensures bytes { OnOk result (to.new ≡ to.old ++ joined_sections joined.now) }
-    ensures typed { OnOk result (TypedJoined joined.now) }
+    ensures typed { OnOk result (IsTypedJoined joined.now) }
 {
     encode_list(Width::Four, &joined.files, to)?;
     encode_common_tables(&joined.tables, to)?;

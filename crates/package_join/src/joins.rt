@@ -1,11 +1,11 @@
 //! Two packages, joined.
 
 ghost use Rattle.std.specs.Prelude.{◌≡◌, IfOk};
-ghost use Rattle.package_layout.specs.Valid.{Valid};
+ghost use Rattle.package_layout.specs.Valid.{IsValidPackage};
 ghost use Rattle.run_model.specs.declared.package.Mode.{Mode};
 ghost use Rattle.package_join.specs.Joined.{joined_of};
-ghost use Rattle.package_join.specs.Parts.{JoinsAs, early_clash, joined_after, joined_parts, late_joined};
-ghost use Rattle.package_join.specs.Valid.{ValidJoined};
+ghost use Rattle.package_join.specs.Parts.{JoinsAs, early_clash, joined_after, joined_parts, join_of_parts};
+ghost use Rattle.package_join.specs.Valid.{IsValidJoined};
 
 use crate::clash::{files_clash, schemas_clash, taken_key, values_clash};
 use crate::copying::copy_package;
@@ -38,12 +38,12 @@ impl From<AllocError> for JoinStop {
 /// What two valid included packages are joined to. A clash is the first by `clash_of` of
 /// `specs/Joined.antt`. Both are copied: `join_owned` copies neither.
 pub fn join(alloc: Global, a: &Package, b: &Package) -> Result<Joined, JoinStop>
-    requires first { Valid a.now }
-    requires second { Valid b.now }
+    requires first { IsValidPackage a.now }
+    requires second { IsValidPackage b.now }
     requires first_included { a.now.mode ≡ Mode.Included }
     requires second_included { b.now.mode ≡ Mode.Included }
     ensures joined { JoinsAs result (joined_of a.now b.now) }
-    ensures valid { IfOk result (λ joined. ValidJoined joined) }
+    ensures valid { IfOk result (λ joined. IsValidJoined joined) }
 {
     let first = copy_package(alloc, a)?;
     let second = copy_package(alloc, b)?;
@@ -90,12 +90,12 @@ fn join_after(
 {
     match clash {
         Some(clash) => Err(JoinStop::Clash(clash)),
-        None => late_joined(alloc, first, second),
+        None => join_of_parts(alloc, first, second),
     }
 }
 
-fn late_joined(alloc: Global, first: Parts, second: Parts) -> Result<Joined, JoinStop>
-    ensures { JoinsAs result (late_joined first second) }
+fn join_of_parts(alloc: Global, first: Parts, second: Parts) -> Result<Joined, JoinStop>
+    ensures { JoinsAs result (join_of_parts first second) }
 {
     let tables = merge_lists(alloc, first.tables, second.tables)?;
     match taken_key(alloc, tables.items())? {

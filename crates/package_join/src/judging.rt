@@ -6,7 +6,7 @@ ghost use Rattle.package_layout.specs.Fields.{Makes};
 ghost use Rattle.package_join.specs.Rooms.{TypedCommonTable};
 ghost use Rattle.package_join.specs.declared.joined.Which.TheVariants.{First, Second};
 ghost use Rattle.package_join.specs.RunJoins.{cut_anew, cut_spelled_so, cuts_in, picked_run, picked_runs};
-ghost use Rattle.package_join.specs.RunJoins.{rejoined, rejoined_valid, with_runs};
+ghost use Rattle.package_join.specs.RunJoins.{join_of_packages, join_of_valid_packages, with_runs};
 
 use crate::choosing::picked_package;
 use crate::decoding::decode_all;
@@ -79,8 +79,8 @@ fn with_runs(first: Runs, second: Runs, joined: Joined) -> RunJoined
     }
 }
 
-fn rejoined(alloc: Global, a: RunPackage, b: RunPackage) -> Result<RunJoined, DecodeError>
-    ensures { Makes result (rejoined a b) }
+fn join_of_packages(alloc: Global, a: RunPackage, b: RunPackage) -> Result<RunJoined, DecodeError>
+    ensures { Makes result (join_of_packages a b) }
 {
     match join_owned(alloc, a.bare, b.bare) {
         Ok(joined) => Ok(with_runs(a.runs, b.runs, joined)),
@@ -89,8 +89,8 @@ fn rejoined(alloc: Global, a: RunPackage, b: RunPackage) -> Result<RunJoined, De
     }
 }
 
-fn rejoined_valid(alloc: Global, a: RunPackage, b: RunPackage) -> Result<RunJoined, DecodeError>
-    ensures { Makes result (rejoined_valid a b) }
+fn join_of_valid_packages(alloc: Global, a: RunPackage, b: RunPackage) -> Result<RunJoined, DecodeError>
+    ensures { Makes result (join_of_valid_packages a b) }
 {
     if !is_valid_package(alloc, Version::Two, &a)? {
         return Err(DecodeError::Malformed);
@@ -98,17 +98,17 @@ fn rejoined_valid(alloc: Global, a: RunPackage, b: RunPackage) -> Result<RunJoin
     if !is_valid_package(alloc, Version::Two, &b)? {
         return Err(DecodeError::Malformed);
     }
-    rejoined(alloc, a, b)
+    join_of_packages(alloc, a, b)
 }
 
 fn cut_anew(alloc: Global, joined: RunJoined) -> Result<RunJoined, DecodeError>
     ensures { Makes result (cut_anew joined) }
 {
     let Pair { first, second } = picked_pair(alloc, joined)?;
-    rejoined_valid(alloc, first, second)
+    join_of_valid_packages(alloc, first, second)
 }
 
-fn spelled_so(alloc: Global, bytes: &[u8], joined: RunJoined) -> Result<RunJoined, DecodeError>
+fn if_spelling_is(alloc: Global, bytes: &[u8], joined: RunJoined) -> Result<RunJoined, DecodeError>
     ensures so { Makes result (cut_spelled_so bytes.now joined) }
     ensures typed { IfOk result (λ r. AllByRecursion TypedCommonTable r.tables) }
 {
@@ -130,5 +130,5 @@ pub(crate) fn cuts_in(alloc: Global, bytes: &[u8]) -> Result<RunJoined, DecodeEr
 {
     let read = decode_all(alloc, bytes)?;
     let anew = cut_anew(alloc, read)?;
-    spelled_so(alloc, bytes, anew)
+    if_spelling_is(alloc, bytes, anew)
 }

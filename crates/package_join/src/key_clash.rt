@@ -3,7 +3,7 @@
 ghost use Rattle.std.specs.Prelude.{◌≡◌, IfOk};
 ghost use Rattle.std.specs.Option.{option_map};
 ghost use Rattle.sql_model.specs.Changes.{key_clash};
-ghost use Rattle.package_join.specs.TakenKeys.{first_taken, unseen};
+ghost use Rattle.package_join.specs.TakenKeys.{first_taken_row, unseen};
 
 use ldv_value::Places;
 use sql_model::{KeyOf, Table, TableRow};
@@ -18,11 +18,11 @@ pub(crate) fn second_row(alloc: Global, table: &Table) -> Result<Option<u32>, Al
     if table.schema.key.is_empty() {
         return Ok(None);
     }
-    first_taken(alloc, &table.schema.key, table.rows.items())
+    first_taken_row(alloc, &table.schema.key, table.rows.items())
 }
 
-fn first_taken(alloc: Global, places: &Places, rows: &[TableRow]) -> Result<Option<u32>, AllocError>
-    ensures { IfOk result (λ row. row ≡ first_taken places.now unseen rows.now) }
+fn first_taken_row(alloc: Global, places: &Places, rows: &[TableRow]) -> Result<Option<u32>, AllocError>
+    ensures { IfOk result (λ row. row ≡ first_taken_row places.now unseen rows.now) }
 {
     let mut seen = BTreeSet::new(alloc);
     for row in rows {

@@ -6,7 +6,7 @@
 //!   whole, a table, a row, or a row that has the key of an earlier one (`specs/Joined.antt`,
 //!   `joined_of`);
 //! - the package of a run is picked out again (`run_of`, `run_package`), and what both are joined to anew
-//!   is the same (`pick_law`); joined packages of this kind are valid (`specs/Valid.antt`, `ValidJoined`);
+//!   is the same (`pick_law`); joined packages of this kind are valid (`specs/Valid.antt`, `IsValidJoined`);
 //! - the world of a run has all tables, all whole files and the files that the run needs present
 //!   (`specs/Worlds.antt`). Of two worlds with the same files and tables it lies between what the run
 //!   needs and the run's own world (`join_law`), and it can be run (`joined_runs_law`);

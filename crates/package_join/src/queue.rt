@@ -1,7 +1,7 @@
 //! A list whose items are taken from the front, each moved and none copied.
 
 ghost use Rattle.std.specs.Prelude.{◌≡◌};
-ghost use Rattle.package_join.specs.Merging.{queued};
+ghost use Rattle.package_join.specs.Merging.{queue_with};
 
 use ldv_value::List;
 use std::collections::VecDeque;
@@ -36,7 +36,7 @@ impl<X: Drop> Queue<X> {
 
     /// The first item that is left; `None` where none is.
     pub(crate) fn take(&mut self) -> Option<X>
-        ensures { self.old ≡ queued result self.new }
+        ensures { self.old ≡ queue_with result self.new }
     {
         self.left.pop_front()
     }

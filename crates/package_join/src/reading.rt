@@ -5,7 +5,7 @@ ghost use Rattle.std.specs.List.{AllByRecursion};
 ghost use Rattle.package_layout.specs.Runs.{are_runs};
 ghost use Rattle.package_layout.specs.Valid.{HasDigest, has_digest};
 ghost use Rattle.package_join.specs.Rooms.{TypedCommonTable};
-ghost use Rattle.package_join.specs.RunJoins.{CutsReadAs, JoinedReadsAs, whole_joined, whole_run};
+ghost use Rattle.package_join.specs.RunJoins.{CutsReadAs, JoinedReadsAs, whole_join, whole_run};
 ghost use Rattle.package_join.specs.Valid.{IsJoinedRead, IsNoJoined, digested_reading};
 ghost use Rattle.package_join.specs.Valid.{has_joined_magic, joined_damage_before, joined_reading};
 
@@ -41,7 +41,7 @@ pub fn read_joined(alloc: Global, bytes: &[u8]) -> Result<Joined, PackageStop>
 /// The same joined package, with its traces kept as runs. It takes memory by the bytes that are read, and
 /// none by the number of events. The answers are those of `read_joined`.
 pub fn read_cuts(alloc: Global, bytes: &[u8]) -> Result<RunJoined, PackageStop>
-    ensures found { IfOk result (λ r. IsJoinedRead bytes.now (whole_joined r)) }
+    ensures found { IfOk result (λ r. IsJoinedRead bytes.now (whole_join r)) }
     // The numbers of its tables are those of their types.
     ensures typed { IfOk result (λ r. AllByRecursion TypedCommonTable r.tables) }
     // No events stand beside the runs.
@@ -65,19 +65,19 @@ fn answer(alloc: Global, bytes: &[u8]) -> Result<Joined, PackageStop>
 fn whole_answer(alloc: Global, joined: RunJoined) -> Result<Joined, PackageStop>
     requires first { are_runs joined.first.runs ≡ true }
     requires second { are_runs joined.second.runs ≡ true }
-    ensures ok { IfOk result (λ j. j ≡ whole_joined joined) }
+    ensures ok { IfOk result (λ j. j ≡ whole_join joined) }
     ensures err { (stop : PackageStop) → result ≡ Err stop → stop ≡ PackageStop.NoMemory }
 {
-    match whole_joined(alloc, joined) {
+    match whole_join(alloc, joined) {
         Ok(joined) => Ok(joined),
         Err(_) => Err(PackageStop::NoMemory),
     }
 }
 
-fn whole_joined(alloc: Global, joined: RunJoined) -> Result<Joined, AllocError>
+fn whole_join(alloc: Global, joined: RunJoined) -> Result<Joined, AllocError>
     requires first { are_runs joined.first.runs ≡ true }
     requires second { are_runs joined.second.runs ≡ true }
-    ensures { IfOk result (λ j. j ≡ whole_joined joined) }
+    ensures { IfOk result (λ j. j ≡ whole_join joined) }
 {
     let RunJoined {
         files,

@@ -3,12 +3,12 @@
 ghost use Rattle.std.specs.Prelude.{◌≡◌, ◌≤◌, ◌<◌, IfOk, OnOk, IsErrOf, length};
 ghost use Rattle.ldv_value.specs.Limits.{input_limit};
 ghost use Rattle.package_join.specs.Layout.{joined_body, joined_magic, joined_spelling};
-ghost use Rattle.package_join.specs.Rooms.{TypedJoined};
+ghost use Rattle.package_join.specs.Rooms.{IsTypedJoined};
 
 use crate::encoding::encode_joined;
 use crate::joined::Joined;
 use ldv_value::Bytes;
-use package_layout::{SpellStop, sealed};
+use package_layout::{SpellStop, append_digest};
 use std::alloc::{AllocError, Global};
 
 /// What a joined package begins with.
@@ -25,15 +25,15 @@ pub fn spell_joined(alloc: Global, joined: &Joined) -> Result<Bytes, SpellStop>
     ensures within { IfOk result (λ bytes. length bytes ≤ input_limit) }
     ensures too_long { IsErrOf result SpellStop.TooLong → input_limit < length (joined_spelling joined.now) }
     // What every joined package in memory meets, and a law over all of them asks for.
-    ensures typed { OnOk result (TypedJoined joined.now) }
+    ensures typed { OnOk result (IsTypedJoined joined.now) }
 {
     let body = body_of(alloc, joined)?;
-    sealed(body)
+    append_digest(body)
 }
 
 fn body_of(alloc: Global, joined: &Joined) -> Result<Bytes, AllocError>
     ensures bytes { IfOk result (λ bytes. bytes ≡ joined_body joined.now) }
-    ensures typed { OnOk result (TypedJoined joined.now) }
+    ensures typed { OnOk result (IsTypedJoined joined.now) }
 {
     let mut bytes = Bytes::of_slice(alloc, joined_magic())?;
     encode_joined(joined, &mut bytes)?;

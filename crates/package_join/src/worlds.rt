@@ -3,7 +3,7 @@
 ghost use Rattle.std.specs.Prelude.{◌≡◌, IfOk};
 ghost use Rattle.std.specs.List.{filter_map};
 ghost use Rattle.slicer.specs.Marks.{has_name};
-ghost use Rattle.package_join.specs.RunJoins.{whole_joined};
+ghost use Rattle.package_join.specs.RunJoins.{whole_join};
 ghost use Rattle.package_join.specs.Worlds.{empty_if, joined_world, seen_by, world_by, world_file, world_of};
 
 use crate::choosing::name_set;
@@ -40,7 +40,7 @@ fn world_of(alloc: Global, run: &JoinedRun, joined: &Joined) -> Result<World, Al
 
 /// The same of one whose traces are kept as runs, in its own memory: no file and no row is copied.
 pub fn world_owned(alloc: Global, joined: RunJoined, which: Which) -> Result<World, AllocError>
-    ensures { IfOk result (λ world. world ≡ joined_world which (whole_joined joined)) }
+    ensures { IfOk result (λ world. world ≡ joined_world which (whole_join joined)) }
 {
     let RunJoined {
         files,

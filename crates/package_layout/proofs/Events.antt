@@ -10,12 +10,12 @@ use Rattle.sql_model.specs.declared.need.Need.{Need}
 use Rattle.run_model.specs.declared.event.Act.{Act}
 use Rattle.run_model.specs.declared.event.Act.TheVariants as acts
 use Rattle.run_model.specs.declared.event.Event.{Event}
-use Rattle.package_layout.specs.declared.part.ReadPart.{ReadPart}
-use Rattle.package_layout.specs.declared.part.MadePart.{MadePart}
-use Rattle.package_layout.specs.Fields.{Found, both_at, number_at, text_at, text_spelling}
+use Rattle.package_layout.specs.declared.event_part.ReadPart.{ReadPart}
+use Rattle.package_layout.specs.declared.event_part.MadePart.{MadePart}
+use Rattle.package_layout.specs.Fields.{DecodeResult, both_at, number_at, text_at, text_spelling}
 use Rattle.package_layout.specs.Spelling.{rule_number}
 use Rattle.package_layout.specs.Typed.{IsU32}
-use Rattle.package_layout.specs.Room.{some_thousands}
+use Rattle.package_layout.specs.Room.{fits_u16_count}
 use Rattle.package_layout.specs.Reading.{rule_at}
 use Rattle.package_layout.specs.Groups.{TypedGroup}
 use Rattle.package_layout.specs.Parts.{read_part_spelling, made_part_spelling, TypedReadPart, TypedMadePart, read_part_at, made_part_at, need_table, need_part, need_of, member_table, member_part, member_of}
@@ -109,15 +109,15 @@ TypedFlagged p = IsUtf8 p.0 × Unit {0}
 abbrev CountedFlagged : Flagged → Type 0
 CountedFlagged p = IsCountable p.0 × Unit {0}
 
-abbrev pair_at : List ℕ → Found Flagged
+abbrev pair_at : List ℕ → DecodeResult Flagged
 pair_at = both_at text_at flag_at
 
 flagged_law : IsField pair_spelling TypedFlagged always CountedFlagged pair_at
 flagged_law = then_law text_spelling IsUtf8 always text_at flag_spelling Anything (λ a. always) (λ a. flag_at) text_law (λ a. flag_law)
 
-pub names_law : IsField names_spelling (AllByRecursion IsUtf8) some_thousands (AllByRecursion IsCountable) names_at
-names_law = restate names_spelling (AllByRecursion IsUtf8) (AllByRecursion IsUtf8) (λ ns. some_thousands ns && list_all always ns) some_thousands names_at (short_list_law text_spelling IsUtf8 always text_at text_law)
-    (λ ns t h. (t, and-from (some_thousands ns) (list_all always ns) h (list_all-always ns))) (λ ns t h. (t, (and-parts (some_thousands ns) (list_all always ns) h).0))
+pub names_law : IsField names_spelling (AllByRecursion IsUtf8) fits_u16_count (AllByRecursion IsCountable) names_at
+names_law = restate names_spelling (AllByRecursion IsUtf8) (AllByRecursion IsUtf8) (λ ns. fits_u16_count ns && list_all always ns) fits_u16_count names_at (short_list_law text_spelling IsUtf8 always text_at text_law)
+    (λ ns t h. (t, and-from (fits_u16_count ns) (list_all always ns) h (list_all-always ns))) (λ ns t h. (t, (and-parts (fits_u16_count ns) (list_all always ns) h).0))
 
 abbrev AskedEnd : Type 0
 AskedEnd = List Need × List Member
@@ -159,18 +159,18 @@ abbrev end_room : AskedEnd → Bool
 end_room p = needs_room p.0 && members_room p.1
 
 abbrev tail_room : AskedTail → Bool
-tail_room p = some_thousands p.0 && end_room p.1
+tail_room p = fits_u16_count p.0 && end_room p.1
 
 abbrev asked_room : AskedParts → Bool
 asked_room p = tail_room p.1
 
-abbrev end_at : List ℕ → Found AskedEnd
+abbrev end_at : List ℕ → DecodeResult AskedEnd
 end_at = both_at needs_at members_at
 
-abbrev tail_at : List ℕ → Found AskedTail
+abbrev tail_at : List ℕ → DecodeResult AskedTail
 tail_at = both_at names_at end_at
 
-abbrev asked_at : List ℕ → Found AskedParts
+abbrev asked_at : List ℕ → DecodeResult AskedParts
 asked_at = both_at (number_at w32) tail_at
 
 abbrev asked : AskedParts → Act
@@ -180,7 +180,7 @@ end_law : IsField end_spelling TypedEnd end_room CountedEnd end_at
 end_law = then_law needs_spelling (AllByRecursion TypedNeed) needs_room needs_at members_spelling (AllByRecursion TypedMember) (λ a. members_room) (λ a. members_at) needs_law (λ a. members_law)
 
 tail_law : IsField tail_spelling TypedTail tail_room CountedTail tail_at
-tail_law = then_law names_spelling (AllByRecursion IsUtf8) some_thousands names_at end_spelling TypedEnd (λ a. end_room) (λ a. end_at) names_law (λ a. end_law)
+tail_law = then_law names_spelling (AllByRecursion IsUtf8) fits_u16_count names_at end_spelling TypedEnd (λ a. end_room) (λ a. end_at) names_law (λ a. end_law)
 
 asked_law : IsField asked_spelling TypedAsked asked_room CountedAsked asked_at
 asked_law = then_law (to_be_bytes w32) IsU32 always (number_at w32) tail_spelling TypedTail (λ a. tail_room) (λ a. tail_at) u32_law (λ a. tail_law)

@@ -8,17 +8,17 @@ use Rattle.ldv_value.proofs.Booleans.{and-parts, and-from}
 use Rattle.ldv_value.proofs.Options.{same-some}
 use Rattle.sql_model.specs.SqlNames.{sql_name_test}
 use Rattle.package_layout.specs.declared.group.Group.{Group}
-use Rattle.package_layout.specs.Fields.{Found, both_at, list_at, text_at, text_spelling, list_spelling}
-use Rattle.package_layout.specs.Room.{some_thousands}
+use Rattle.package_layout.specs.Fields.{DecodeResult, both_at, list_at, text_at, text_spelling, list_spelling}
+use Rattle.package_layout.specs.Room.{fits_u16_count}
 use Rattle.package_layout.specs.Counts.{IsCountable, CountedGroup}
-use Rattle.package_layout.specs.Groups.{TypedGroup, groups, is_group, group_of, group_at, group_spelling, neighbours_differ, ungroup, ungrouped, grouped_at}
+use Rattle.package_layout.specs.Groups.{TypedGroup, groups, is_group, group_of, group_at, group_spelling, neighbours_differ, ungroup, items_of_groups, grouped_at}
 use Rattle.package_layout.proofs.Laws.{IsField, just, always, list_all-always, Uncounted, all_uncounted, restate, recount, made_law, then_law}
 use Rattle.package_layout.proofs.Numbers.{text_law, short_list_law, long_law}
 use Rattle.package_layout.proofs.Groups.{groups_ungroup, add_all_typed, add_all_fits, add_all_apart, ungroup_groups, fits}
 
 -- ---- one group
 
-module _ {P : Type 0} (spell : P → List ℕ) (good : P → Type 0) (read : List ℕ → Found P) (part : IsField spell good always Uncounted read) (filled : (p : P) → 0 < length (spell p)) where
+module _ {P : Type 0} (spell : P → List ℕ) (good : P → Type 0) (read : List ℕ → DecodeResult P) (part : IsField spell good always Uncounted read) (filled : (p : P) → 0 < length (spell p)) where
   abbrev Parts : Type 0
   Parts = List ℕ × List P
 
@@ -78,7 +78,7 @@ module _ {X P : Type 0} (table_of : X → List ℕ) (part_of : X → P) (place :
       let both = and-parts (is_group g.table g.parts) (list_all (fits table_of part_of) gs) h in
       all_true_append (λ x. sql_name_test (table_of x)) (ungroup place g) (flat_map (ungroup place) gs) (parts_named g.table g.parts (and-parts (sql_name_test g.table) (not (length g.parts == 0)) both.0).0) (ungroup_named gs both.1)
 
-module _ {X P : Type 0} (table_of : X → List ℕ) (part_of : X → P) (place : List ℕ → P → X) (spell : P → List ℕ) (good : P → Type 0) (read : List ℕ → Found P)
+module _ {X P : Type 0} (table_of : X → List ℕ) (part_of : X → P) (place : List ℕ → P → X) (spell : P → List ℕ) (good : P → Type 0) (read : List ℕ → DecodeResult P)
     (back : (x : X) → place (table_of x) (part_of x) ≡ x) (table_is : (t : List ℕ) (p : P) → table_of (place t p) ≡ t) (part_is : (t : List ℕ) (p : P) → part_of (place t p) ≡ p)
     (part : IsField spell good always Uncounted read) (filled : (p : P) → 0 < length (spell p)) where
   abbrev Typed : X → Type 0
@@ -91,33 +91,33 @@ module _ {X P : Type 0} (table_of : X → List ℕ) (part_of : X → P) (place :
   ok = fits table_of part_of
 
   abbrev room : List X → Bool
-  room xs = some_thousands (groups table_of part_of xs) && is_named xs
+  room xs = fits_u16_count (groups table_of part_of xs) && is_named xs
 
   forth : (xs : List X) → AllByRecursion Typed xs → room xs ≡ true
-      → AllByRecursion (TypedGroup good) (groups table_of part_of xs) × ((some_thousands (groups table_of part_of xs) && list_all ok (groups table_of part_of xs)) ≡ true) × (ungrouped place (groups table_of part_of xs) ≡ Some xs)
+      → AllByRecursion (TypedGroup good) (groups table_of part_of xs) × ((fits_u16_count (groups table_of part_of xs) && list_all ok (groups table_of part_of xs)) ≡ true) × (items_of_groups place (groups table_of part_of xs) ≡ Some xs)
   forth xs t h =
-      let both = and-parts (some_thousands (groups table_of part_of xs)) (is_named xs) h in
+      let both = and-parts (fits_u16_count (groups table_of part_of xs)) (is_named xs) h in
       let apart : neighbours_differ [] (groups table_of part_of xs) ≡ true = add_all_apart table_of part_of [] xs refl both.1 in (
         add_all_typed table_of part_of good [] xs tt t,
-        and-from (some_thousands (groups table_of part_of xs)) (list_all ok (groups table_of part_of xs)) both.0 (add_all_fits table_of part_of [] xs refl both.1),
+        and-from (fits_u16_count (groups table_of part_of xs)) (list_all ok (groups table_of part_of xs)) both.0 (add_all_fits table_of part_of [] xs refl both.1),
         rw apart (ap just (groups_ungroup table_of part_of place back xs)),
       )
 
-  from_apart : (gs : List (Group P)) (xs : List X) (b : Bool) → neighbours_differ [] gs ≡ b → AllByRecursion (TypedGroup good) gs → (some_thousands gs && list_all ok gs) ≡ true → cond b (Some (flat_map (ungroup place) gs)) None ≡ Some xs
+  from_apart : (gs : List (Group P)) (xs : List X) (b : Bool) → neighbours_differ [] gs ≡ b → AllByRecursion (TypedGroup good) gs → (fits_u16_count gs && list_all ok gs) ≡ true → cond b (Some (flat_map (ungroup place) gs)) None ≡ Some xs
       → (gs ≡ groups table_of part_of xs) × AllByRecursion Typed xs × (room xs ≡ true)
   from_apart gs xs true e t h k =
-      let both = and-parts (some_thousands gs) (list_all ok gs) h in
+      let both = and-parts (fits_u16_count gs) (list_all ok gs) h in
       let same : groups table_of part_of (flat_map (ungroup place) gs) ≡ gs = ungroup_groups table_of part_of place table_is part_is gs e both.1 in
-      let few : some_thousands (groups table_of part_of (flat_map (ungroup place) gs)) ≡ true = ap (λ (l : List (Group P)). some_thousands l) same ∙ both.0 in
+      let few : fits_u16_count (groups table_of part_of (flat_map (ungroup place) gs)) ≡ true = ap (λ (l : List (Group P)). fits_u16_count l) same ∙ both.0 in
       subst (λ (l : List X). (gs ≡ groups table_of part_of l) × AllByRecursion Typed l × (room l ≡ true)) (same-some (flat_map (ungroup place) gs) xs k) (
         sym same,
         ungroup_typed table_of part_of place good table_is part_is gs t,
-        and-from (some_thousands (groups table_of part_of (flat_map (ungroup place) gs))) (is_named (flat_map (ungroup place) gs)) few (ungroup_named table_of part_of place good table_is part_is gs both.1),
+        and-from (fits_u16_count (groups table_of part_of (flat_map (ungroup place) gs))) (is_named (flat_map (ungroup place) gs)) few (ungroup_named table_of part_of place good table_is part_is gs both.1),
       )
   from_apart gs xs false e t h k = absurd cc
 
   pub grouped_law : IsField (λ xs. list_spelling w16 (group_spelling spell) (groups table_of part_of xs)) (AllByRecursion Typed) room (λ xs. AllByRecursion CountedGroup (groups table_of part_of xs)) (grouped_at place read)
-  grouped_law = made_law (list_spelling w16 (group_spelling spell)) (AllByRecursion (TypedGroup good)) (λ gs. some_thousands gs && list_all ok gs) (list_at w16 (group_at read)) (AllByRecursion Typed) room (ungrouped place) (groups table_of part_of)
+  grouped_law = made_law (list_spelling w16 (group_spelling spell)) (AllByRecursion (TypedGroup good)) (λ gs. fits_u16_count gs && list_all ok gs) (list_at w16 (group_at read)) (AllByRecursion Typed) room (items_of_groups place) (groups table_of part_of)
       (short_list_law (group_spelling spell) (TypedGroup good) ok (group_at read) (group_law spell good read part filled))
       forth (λ gs xs t h k. from_apart gs xs (neighbours_differ [] gs) refl t h k)
 

@@ -11,7 +11,7 @@ use Rattle.ldv_value.proofs.Booleans.{and-parts, and-from}
 use Rattle.ldv_value.proofs.SameBytes.{bytes_eq-true}
 use Rattle.sql_model.specs.SqlNames.{sql_name_test}
 use Rattle.package_layout.specs.declared.group.Group.{Group}
-use Rattle.package_layout.specs.Groups.{TypedGroup, single, with_part, after, add, add_all, groups, is_group, neighbours_differ, ungroup}
+use Rattle.package_layout.specs.Groups.{TypedGroup, group_of_one, with_part, after, add, add_all, groups, is_group, neighbours_differ, ungroup}
 
 bytes_eq-self : (a b : List ℕ) → a ≡ b → bytes_eq a b ≡ true
 bytes_eq-self a b e = (bytes_eq-Decides a b).1 e
@@ -82,7 +82,7 @@ module _ {X P : Type 0} (table_of : X → List ℕ) (part_of : X → P) where
   abbrev pub fits : Group P → Bool
   fits g = is_group g.table g.parts
 
-  single_fits : (x : X) → sql_name_test (table_of x) ≡ true → fits (single table_of part_of x) ≡ true
+  single_fits : (x : X) → sql_name_test (table_of x) ≡ true → fits (group_of_one table_of part_of x) ≡ true
   single_fits x h = rw h refl
 
   above_zero : (n : ℕ) → 0 < n → not (n == 0) ≡ true
@@ -93,10 +93,10 @@ module _ {X P : Type 0} (table_of : X → List ℕ) (part_of : X → P) where
 
   after_fits : (g : Group P) (x : X) (b : Bool) → bytes_eq g.table (table_of x) ≡ b → fits g ≡ true → sql_name_test (table_of x) ≡ true → list_all fits (after table_of part_of g x) ≡ true
   after_fits g x true e h k = rw e (and-from (fits (with_part g (part_of x))) true (and-from (sql_name_test g.table) (not (length (g.parts ++ part_of x ∷ []) == 0)) (and-parts (sql_name_test g.table) (not (length g.parts == 0)) h).0 (not_empty g.parts (part_of x))) refl)
-  after_fits g x false e h k = rw e (and-from (fits g) (fits (single table_of part_of x) && true) h (and-from (fits (single table_of part_of x)) true (single_fits x k) refl))
+  after_fits g x false e h k = rw e (and-from (fits g) (fits (group_of_one table_of part_of x) && true) h (and-from (fits (group_of_one table_of part_of x)) true (single_fits x k) refl))
 
   add_fits : (gs : List (Group P)) (x : X) → list_all fits gs ≡ true → sql_name_test (table_of x) ≡ true → list_all fits (add table_of part_of gs x) ≡ true
-  add_fits [] x h k = and-from (fits (single table_of part_of x)) true (single_fits x k) refl
+  add_fits [] x h k = and-from (fits (group_of_one table_of part_of x)) true (single_fits x k) refl
   add_fits (g ∷ []) x h k = after_fits g x (bytes_eq g.table (table_of x)) refl (and-parts (fits g) true h).0 k
   add_fits (g ∷ i ∷ gs) x h k = let both = and-parts (fits g) (list_all fits (i ∷ gs)) h in and-from (fits g) (list_all fits (add table_of part_of (i ∷ gs) x)) both.0 (add_fits (i ∷ gs) x both.1 k)
 
@@ -139,7 +139,7 @@ module _ {X P : Type 0} (table_of : X → List ℕ) (part_of : X → P) (place :
   last_is (h ∷ k ∷ gs) g = last_is (k ∷ gs) g
 
   -- a row of another table begins a group
-  add_other : (gs : List (Group P)) (x : X) → bytes_eq (last_table gs) (table_of x) ≡ false → add table_of part_of gs x ≡ gs ++ single table_of part_of x ∷ []
+  add_other : (gs : List (Group P)) (x : X) → bytes_eq (last_table gs) (table_of x) ≡ false → add table_of part_of gs x ≡ gs ++ group_of_one table_of part_of x ∷ []
   unfolding last_table
   add_other [] x e = refl
   add_other (g ∷ []) x e = rw e refl
@@ -166,7 +166,7 @@ module _ {X P : Type 0} (table_of : X → List ℕ) (part_of : X → P) (place :
   add_group gs t [] xs h k = let no : (sql_name_test t && false) ≡ true = k in absurd (let both = and-parts (sql_name_test t) false no in cc)
   add_group gs t (p ∷ ps) xs h k =
       let e : bytes_eq (last_table gs) (table_of (place t p)) ≡ false = rw (table_is t p) (other t (last_table gs) h) in
-      let one : single table_of part_of (place t p) ≡ part_group t (p ∷ []) = rw (table_is t p, part_is t p) refl in
+      let one : group_of_one table_of part_of (place t p) ≡ part_group t (p ∷ []) = rw (table_is t p, part_is t p) refl in
       ap (λ l. add_all table_of part_of l (map (place t) ps ++ xs)) (add_other gs (place t p) e ∙ ap (λ g. gs ++ g ∷ []) one)
       ∙ add_parts gs t (p ∷ []) ps xs
 

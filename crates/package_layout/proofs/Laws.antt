@@ -5,7 +5,7 @@ use Rattle.std.proofs.lemmas.Bool.{cases_lt}
 use Rattle.std.proofs.lemmas.List.{length-append, length-take, get_or-drop, get_or-take, get_or_past}
 use Rattle.ldv_value.proofs.Booleans.{and-parts, and-from}
 use Rattle.ldv_value.proofs.Options.{bind-some, same-some}
-use Rattle.package_layout.specs.Fields.{Found, ◌>>=◌, then_at, made_at}
+use Rattle.package_layout.specs.Fields.{DecodeResult, ◌>>=◌, then_at, made_at}
 
 -- ---- bytes
 
@@ -49,7 +49,7 @@ pub record Took {X : Type 0} (spell : X → List ℕ) (typed : X → Type 0) (fi
   pub is_fit : fits x ≡ true
   pub is_counted : counted x
 
-pub record IsField {X : Type 0} (spell : X → List ℕ) (typed : X → Type 0) (fits : X → Bool) (counted : X → Type 0) (read : List ℕ → Found X) : Type 0 where
+pub record IsField {X : Type 0} (spell : X → List ℕ) (typed : X → Type 0) (fits : X → Bool) (counted : X → Type 0) (read : List ℕ → DecodeResult X) : Type 0 where
   pub again : (x : X) (rest : List ℕ) → typed x → fits x ≡ true → counted x → read (spell x ++ rest) ≡ Some (x, rest)
   pub took : (bytes : List ℕ) (x : X) (rest : List ℕ) → IsBytes bytes → read bytes ≡ Some (x, rest) → Took spell typed fits counted bytes x rest
   -- in a short spelling the counts of four bytes fit
@@ -72,7 +72,7 @@ all_uncounted [] = tt
 all_uncounted (x ∷ xs) = (tt, all_uncounted xs)
 
 -- the same values, said in other words
-pub restate : {X : Type 0} (spell : X → List ℕ) (t u : X → Type 0) (f g : X → Bool) {c : X → Type 0} (read : List ℕ → Found X) → IsField spell t f c read
+pub restate : {X : Type 0} (spell : X → List ℕ) (t u : X → Type 0) (f g : X → Bool) {c : X → Type 0} (read : List ℕ → DecodeResult X) → IsField spell t f c read
     → ((x : X) → u x → g x ≡ true → t x × (f x ≡ true)) → ((x : X) → t x → f x ≡ true → u x × (g x ≡ true)) → IsField spell u g c read
 restate spell t u f g read field to from = record {
   again = λ x rest h k n. let both = to x h k in field.again x rest both.0 both.1 n;
@@ -84,7 +84,7 @@ restate spell t u f g read field to from = record {
 }
 
 -- the same counts, said in other words
-pub recount : {X : Type 0} {spell : X → List ℕ} {t : X → Type 0} {f : X → Bool} {c : X → Type 0} {read : List ℕ → Found X} (d : X → Type 0) → IsField spell t f c read
+pub recount : {X : Type 0} {spell : X → List ℕ} {t : X → Type 0} {f : X → Bool} {c : X → Type 0} {read : List ℕ → DecodeResult X} (d : X → Type 0) → IsField spell t f c read
     → ((x : X) → d x → c x) → ((x : X) → c x → d x) → IsField spell t f d read
 recount d field to from = record {
   again = λ x rest h k n. field.again x rest h k (to x n);
@@ -93,7 +93,7 @@ recount d field to from = record {
 }
 
 -- the same spelling, said in other words
-pub respell : {X : Type 0} (s z : X → List ℕ) (typed : X → Type 0) (fits : X → Bool) {counted : X → Type 0} (read : List ℕ → Found X) → IsField s typed fits counted read → ((x : X) → z x ≡ s x) → IsField z typed fits counted read
+pub respell : {X : Type 0} (s z : X → List ℕ) (typed : X → Type 0) (fits : X → Bool) {counted : X → Type 0} (read : List ℕ → DecodeResult X) → IsField s typed fits counted read → ((x : X) → z x ≡ s x) → IsField z typed fits counted read
 respell s z typed fits read field same = record {
   again = λ x rest t h n. ap (λ (l : List ℕ). read (l ++ rest)) (same x) ∙ field.again x rest t h n;
   took = λ bytes x rest b e. let k = field.took bytes x rest b e in record { parts = k.parts ∙ ap (λ (l : List ℕ). l ++ rest) (sym (same x)); is_typed = k.is_typed; is_fit = k.is_fit; is_counted = k.is_counted };
@@ -102,7 +102,7 @@ respell s z typed fits read field same = record {
 
 -- ---- one field after another
 
-then_again : {A B : Type 0} {ca : A → Type 0} {cb : B → Type 0} (sa : A → List ℕ) (ta : A → Type 0) (fa : A → Bool) (ra : List ℕ → Found A) (sb : B → List ℕ) (tb : B → Type 0) (fb : A → B → Bool) (rb : A → List ℕ → Found B)
+then_again : {A B : Type 0} {ca : A → Type 0} {cb : B → Type 0} (sa : A → List ℕ) (ta : A → Type 0) (fa : A → Bool) (ra : List ℕ → DecodeResult A) (sb : B → List ℕ) (tb : B → Type 0) (fb : A → B → Bool) (rb : A → List ℕ → DecodeResult B)
     → IsField sa ta fa ca ra → ((a : A) → IsField sb tb (fb a) cb (rb a)) → (x : A × B) (rest : List ℕ) → ta x.0 × tb x.1 → (fa x.0 && fb x.0 x.1) ≡ true → ca x.0 × cb x.1
     → then_at ra rb ((sa x.0 ++ sb x.1) ++ rest) ≡ Some (x, rest)
 then_again sa ta fa ra sb tb fb rb one two x rest t f n =
@@ -111,7 +111,7 @@ then_again sa ta fa ra sb tb fb rb one two x rest t f n =
     let second : rb x.0 (sb x.1 ++ rest) ≡ Some (x.1, rest) = (two x.0).again x.1 rest t.1 both.1 n.1 in
     ap (then_at ra rb) (append_assoc (sa x.0) (sb x.1) rest) ∙ rw (first, second) refl
 
-then_took : {A B : Type 0} {ca : A → Type 0} {cb : B → Type 0} (sa : A → List ℕ) (ta : A → Type 0) (fa : A → Bool) (ra : List ℕ → Found A) (sb : B → List ℕ) (tb : B → Type 0) (fb : A → B → Bool) (rb : A → List ℕ → Found B)
+then_took : {A B : Type 0} {ca : A → Type 0} {cb : B → Type 0} (sa : A → List ℕ) (ta : A → Type 0) (fa : A → Bool) (ra : List ℕ → DecodeResult A) (sb : B → List ℕ) (tb : B → Type 0) (fb : A → B → Bool) (rb : A → List ℕ → DecodeResult B)
     → IsField sa ta fa ca ra → ((a : A) → IsField sb tb (fb a) cb (rb a)) → (bytes : List ℕ) (x : A × B) (rest : List ℕ) → IsBytes bytes → then_at ra rb bytes ≡ Some (x, rest)
     → Took (λ (p : A × B). sa p.0 ++ sb p.1) (λ (p : A × B). ta p.0 × tb p.1) (λ (p : A × B). fa p.0 && fb p.0 p.1) (λ (p : A × B). ca p.0 × cb p.1) bytes x rest
 then_took {A = A} {B = B} {ca = ca} {cb = cb} sa ta fa ra sb tb fb rb one two bytes x rest h e =
@@ -126,19 +126,19 @@ then_took {A = A} {B = B} {ca = ca} {cb = cb} sa ta fa ra sb tb fb rb one two by
     subst (λ (y : (A × B) × List ℕ). Took (λ (p : A × B). sa p.0 ++ sb p.1) (λ (p : A × B). ta p.0 × tb p.1) (λ (p : A × B). fa p.0 && fb p.0 p.1) (λ (p : A × B). ca p.0 × cb p.1) bytes y.0 y.1) (same-some ((a.0, b.0), b.1) (x, rest) second.2)
     (record { parts = whole; is_typed = (k.is_typed, l.is_typed); is_fit = and-from (fa a.0) (fb a.0 b.0) k.is_fit l.is_fit; is_counted = (k.is_counted, l.is_counted) })
 
-then_short : {A B : Type 0} {ca : A → Type 0} {cb : B → Type 0} (sa : A → List ℕ) (ta : A → Type 0) (fa : A → Bool) (ra : List ℕ → Found A) (sb : B → List ℕ) (tb : B → Type 0) (fb : A → B → Bool) (rb : A → List ℕ → Found B)
+then_short : {A B : Type 0} {ca : A → Type 0} {cb : B → Type 0} (sa : A → List ℕ) (ta : A → Type 0) (fa : A → Bool) (ra : List ℕ → DecodeResult A) (sb : B → List ℕ) (tb : B → Type 0) (fb : A → B → Bool) (rb : A → List ℕ → DecodeResult B)
     → IsField sa ta fa ca ra → ((a : A) → IsField sb tb (fb a) cb (rb a)) → (x : A × B) → length (sa x.0 ++ sb x.1) < 2 ^ 32 → ca x.0 × cb x.1
 then_short sa ta fa ra sb tb fb rb one two x len =
     let both = length-append (sa x.0) (sb x.1) in
     (one.short x.0 (omega (arith, both)), (two x.0).short x.1 (omega (arith, both)))
 
-pub then_law : {A B : Type 0} {ca : A → Type 0} {cb : B → Type 0} (sa : A → List ℕ) (ta : A → Type 0) (fa : A → Bool) (ra : List ℕ → Found A) (sb : B → List ℕ) (tb : B → Type 0) (fb : A → B → Bool) (rb : A → List ℕ → Found B)
+pub then_law : {A B : Type 0} {ca : A → Type 0} {cb : B → Type 0} (sa : A → List ℕ) (ta : A → Type 0) (fa : A → Bool) (ra : List ℕ → DecodeResult A) (sb : B → List ℕ) (tb : B → Type 0) (fb : A → B → Bool) (rb : A → List ℕ → DecodeResult B)
     → IsField sa ta fa ca ra → ((a : A) → IsField sb tb (fb a) cb (rb a)) → IsField (λ (p : A × B). sa p.0 ++ sb p.1) (λ (p : A × B). ta p.0 × tb p.1) (λ (p : A × B). fa p.0 && fb p.0 p.1) (λ (p : A × B). ca p.0 × cb p.1) (then_at ra rb)
 then_law sa ta fa ra sb tb fb rb one two = record { again = then_again sa ta fa ra sb tb fb rb one two; took = then_took sa ta fa ra sb tb fb rb one two; short = then_short sa ta fa ra sb tb fb rb one two }
 
 -- ---- what is made of a field
 
-made_took : {A B : Type 0} {ca : A → Type 0} (sa : A → List ℕ) (ta : A → Type 0) (fa : A → Bool) (ra : List ℕ → Found A) (tb : B → Type 0) (fb : B → Bool) (make : A → Option B) (back : B → A)
+made_took : {A B : Type 0} {ca : A → Type 0} (sa : A → List ℕ) (ta : A → Type 0) (fa : A → Bool) (ra : List ℕ → DecodeResult A) (tb : B → Type 0) (fb : B → Bool) (make : A → Option B) (back : B → A)
     → IsField sa ta fa ca ra → ((a : A) (b : B) → ta a → fa a ≡ true → make a ≡ Some b → (a ≡ back b) × tb b × (fb b ≡ true))
     → (bytes : List ℕ) (x : B) (rest : List ℕ) → IsBytes bytes → made_at make ra bytes ≡ Some (x, rest) → Took (λ b. sa (back b)) tb fb (λ b. ca (back b)) bytes x rest
 made_took {B = B} {ca = ca} sa ta fa ra tb fb make back one reverse bytes x rest h e =
@@ -151,7 +151,7 @@ made_took {B = B} {ca = ca} sa ta fa ra tb fb make back one reverse bytes x rest
     subst (λ (y : B × List ℕ). Took (λ b. sa (back b)) tb fb (λ b. ca (back b)) bytes y.0 y.1) (same-some (b, a.1) (x, rest) second.2)
     (record { parts = k.parts ∙ ap (λ z. sa z ++ a.1) r.0; is_typed = r.1; is_fit = r.2; is_counted = subst ca r.0 k.is_counted })
 
-pub made_law : {A B : Type 0} {ca : A → Type 0} (sa : A → List ℕ) (ta : A → Type 0) (fa : A → Bool) (ra : List ℕ → Found A) (tb : B → Type 0) (fb : B → Bool) (make : A → Option B) (back : B → A)
+pub made_law : {A B : Type 0} {ca : A → Type 0} (sa : A → List ℕ) (ta : A → Type 0) (fa : A → Bool) (ra : List ℕ → DecodeResult A) (tb : B → Type 0) (fb : B → Bool) (make : A → Option B) (back : B → A)
     → IsField sa ta fa ca ra
     → ((b : B) → tb b → fb b ≡ true → ta (back b) × (fa (back b) ≡ true) × (make (back b) ≡ Some b))
     → ((a : A) (b : B) → ta a → fa a ≡ true → make a ≡ Some b → (a ≡ back b) × tb b × (fb b ≡ true))
@@ -167,7 +167,7 @@ made_law sa ta fa ra tb fb make back one forth reverse = record {
 }
 
 -- a struct of parts
-pub struct_law : {A B : Type 0} {ca : A → Type 0} (sa : A → List ℕ) (ta : A → Type 0) (fa : A → Bool) (ra : List ℕ → Found A) (make : A → B) (back : B → A)
+pub struct_law : {A B : Type 0} {ca : A → Type 0} (sa : A → List ℕ) (ta : A → Type 0) (fa : A → Bool) (ra : List ℕ → DecodeResult A) (make : A → B) (back : B → A)
     → IsField sa ta fa ca ra → ((b : B) → make (back b) ≡ b) → ((a : A) → back (make a) ≡ a)
     → IsField (λ b. sa (back b)) (λ b. ta (back b)) (λ b. fa (back b)) (λ b. ca (back b)) (made_at (λ a. Some (make a)) ra)
 struct_law sa ta fa ra make back one there here = made_law sa ta fa ra (λ b. ta (back b)) (λ b. fa (back b)) (λ a. Some (make a)) back one

@@ -13,10 +13,10 @@ use Rattle.sql_model.specs.declared.reply.Reply.TheVariants.{Rows, Changed, Refu
 use Rattle.run_model.specs.declared.name.ProcName.{ProcName}
 use Rattle.run_model.specs.declared.package.Entry.{Entry}
 use Rattle.run_model.specs.declared.package.Log.{Log}
-use Rattle.package_layout.specs.Fields.{Found, both_at, number_at, text_spelling, list_spelling, list_at, text_at}
+use Rattle.package_layout.specs.Fields.{DecodeResult, both_at, number_at, text_spelling, list_spelling, list_at, text_at}
 use Rattle.package_layout.specs.Spelling.{value_spelling, values_spelling, row_key_spelling, refusal_spelling, reply_spelling, entry_spelling, parts_spelling, log_spelling}
 use Rattle.package_layout.specs.Typed.{IsU32, TypedValue, TypedValues, TypedRefusal, TypedReply, TypedEntry, TypedLog}
-use Rattle.package_layout.specs.Room.{few, some_thousands, refusal_room, reply_room, entry_room, log_room}
+use Rattle.package_layout.specs.Room.{fits_u8_count, fits_u16_count, refusal_room, reply_room, entry_room, log_room}
 use Rattle.package_layout.specs.Counts.{IsCountable, CountedList, CountedValue, CountedRefusal, CountedReply, CountedEntry, CountedLog}
 use Rattle.package_layout.specs.Reading.{value_at, values_at, refusal_of_code, refusal_at, reply_of_tag, reply_at, entry_at, name_at, log_at}
 use Rattle.package_layout.proofs.Laws.{IsBytes, IsField, just, always, list_all-always, Uncounted, all_uncounted, restate, recount, then_law, struct_law}
@@ -40,7 +40,7 @@ abbrev CountedTaken : TakenParts → Type 0
 CountedTaken p = IsCountable p.0 × AllByRecursion CountedValue p.1
 
 abbrev taken_room : TakenParts → Bool
-taken_room p = few p.1
+taken_room p = fits_u8_count p.1
 
 abbrev taken : TakenParts → SqlRefusal
 taken p = KeyTaken p.0 p.1
@@ -51,15 +51,15 @@ missing p = NoParent p.0 p.1
 abbrev lost : TakenParts → SqlRefusal
 lost p = HasChild p.0 p.1
 
-abbrev taken_at : List ℕ → Found TakenParts
+abbrev taken_at : List ℕ → DecodeResult TakenParts
 taken_at = both_at text_at (list_at w8 value_at)
 
-key_law : IsField (list_spelling w8 value_spelling) TypedValues few (AllByRecursion CountedValue) (list_at w8 value_at)
-key_law = restate (list_spelling w8 value_spelling) TypedValues TypedValues (λ vs. few vs && list_all always vs) few (list_at w8 value_at) (byte_list_law value_spelling TypedValue always value_at value_law)
-    (λ vs t h. (t, and-from (few vs) (list_all always vs) h (list_all-always vs))) (λ vs t h. (t, (and-parts (few vs) (list_all always vs) h).0))
+key_law : IsField (list_spelling w8 value_spelling) TypedValues fits_u8_count (AllByRecursion CountedValue) (list_at w8 value_at)
+key_law = restate (list_spelling w8 value_spelling) TypedValues TypedValues (λ vs. fits_u8_count vs && list_all always vs) fits_u8_count (list_at w8 value_at) (byte_list_law value_spelling TypedValue always value_at value_law)
+    (λ vs t h. (t, and-from (fits_u8_count vs) (list_all always vs) h (list_all-always vs))) (λ vs t h. (t, (and-parts (fits_u8_count vs) (list_all always vs) h).0))
 
 taken_law : IsField taken_spelling TypedTaken taken_room CountedTaken taken_at
-taken_law = then_law text_spelling IsUtf8 always text_at (list_spelling w8 value_spelling) TypedValues (λ a. few) (λ a. list_at w8 value_at) text_law (λ a. key_law)
+taken_law = then_law text_spelling IsUtf8 always text_at (list_spelling w8 value_spelling) TypedValues (λ a. fits_u8_count) (λ a. list_at w8 value_at) text_law (λ a. key_law)
 
 abbrev refusal_rest : SqlRefusal → List ℕ
 refusal_rest Syntax = []
@@ -150,20 +150,20 @@ reply_rest (Refused r) = refusal_spelling r
 values_filled : (vs : List Value) → 0 < length (values_spelling vs)
 values_filled vs = omega arith
 
-rows_law : IsField (list_spelling w32 values_spelling) (AllByRecursion TypedValues) (list_all some_thousands) (CountedList (AllByRecursion CountedValue)) (list_at w32 values_at)
-rows_law = long_law values_spelling TypedValues some_thousands values_at values_law values_filled
+rows_law : IsField (list_spelling w32 values_spelling) (AllByRecursion TypedValues) (list_all fits_u16_count) (CountedList (AllByRecursion CountedValue)) (list_at w32 values_at)
+rows_law = long_law values_spelling TypedValues fits_u16_count values_at values_law values_filled
 
 u64_law : IsField (to_be_bytes w64) (λ n. n < 2 ^ 64) always Uncounted (number_at w64)
 u64_law = number_law w64 (2 ^ 64) wide64
 
 reply_again : (r : Reply) (rest : List ℕ) → TypedReply r → reply_room r ≡ true → CountedReply r → reply_of_tag (reply_tag r) (reply_rest r ++ rest) ≡ Some (r, rest)
-reply_again (Rows rows) rest t f n = case_again (list_spelling w32 values_spelling) (AllByRecursion TypedValues) (list_all some_thousands) (list_at w32 values_at) Rows rows rest rows_law t f n
+reply_again (Rows rows) rest t f n = case_again (list_spelling w32 values_spelling) (AllByRecursion TypedValues) (list_all fits_u16_count) (list_at w32 values_at) Rows rows rest rows_law t f n
 reply_again (Changed k) rest t f n = case_again (to_be_bytes w64) (λ n. n < 2 ^ 64) always (number_at w64) Changed k rest u64_law t f n
 reply_again (Refused r) rest t f n = case_again refusal_spelling TypedRefusal refusal_room refusal_at Refused r rest refusal_law t f n
 
 reply_took : (t : ℕ) (bytes : List ℕ) (r : Reply) (rest : List ℕ) → IsBytes bytes → reply_of_tag t bytes ≡ Some (r, rest) → TookTagged reply_tag reply_rest TypedReply reply_room CountedReply t bytes r rest
 reply_took zero bytes r rest h e = absurd cc
-reply_took (suc zero) bytes r rest h e = case_took (list_spelling w32 values_spelling) (AllByRecursion TypedValues) (list_all some_thousands) (list_at w32 values_at) Rows reply_tag reply_rest TypedReply reply_room CountedReply 1 bytes r rest rows_law h e (λ a. refl) (λ a. refl) (λ a t. t) (λ a f. f) (λ a n. n)
+reply_took (suc zero) bytes r rest h e = case_took (list_spelling w32 values_spelling) (AllByRecursion TypedValues) (list_all fits_u16_count) (list_at w32 values_at) Rows reply_tag reply_rest TypedReply reply_room CountedReply 1 bytes r rest rows_law h e (λ a. refl) (λ a. refl) (λ a t. t) (λ a f. f) (λ a n. n)
 reply_took (suc (suc zero)) bytes r rest h e = case_took (to_be_bytes w64) (λ n. n < 2 ^ 64) always (number_at w64) Changed reply_tag reply_rest TypedReply reply_room CountedReply 2 bytes r rest u64_law h e (λ a. refl) (λ a. refl) (λ a t. t) (λ a f. f) (λ a n. n)
 reply_took (suc (suc (suc zero))) bytes r rest h e = case_took refusal_spelling TypedRefusal refusal_room refusal_at Refused reply_tag reply_rest TypedReply reply_room CountedReply 3 bytes r rest refusal_law h e (λ a. refl) (λ a. refl) (λ a t. t) (λ a f. f) (λ a n. n)
 reply_took (suc (suc (suc (suc t)))) bytes r rest h e = absurd cc
@@ -194,25 +194,25 @@ EntryTail = List Value × Reply
 abbrev EntryParts : Type 0
 EntryParts = List ℕ × EntryTail
 
-entry_tail_law : IsField (λ (p : EntryTail). values_spelling p.0 ++ reply_spelling p.1) (λ (p : EntryTail). TypedValues p.0 × TypedReply p.1) (λ (p : EntryTail). some_thousands p.0 && reply_room p.1) (λ (p : EntryTail). AllByRecursion CountedValue p.0 × CountedReply p.1) (both_at values_at reply_at)
-entry_tail_law = then_law values_spelling TypedValues some_thousands values_at reply_spelling TypedReply (λ a. reply_room) (λ a. reply_at) values_law (λ a. reply_law)
+entry_tail_law : IsField (λ (p : EntryTail). values_spelling p.0 ++ reply_spelling p.1) (λ (p : EntryTail). TypedValues p.0 × TypedReply p.1) (λ (p : EntryTail). fits_u16_count p.0 && reply_room p.1) (λ (p : EntryTail). AllByRecursion CountedValue p.0 × CountedReply p.1) (both_at values_at reply_at)
+entry_tail_law = then_law values_spelling TypedValues fits_u16_count values_at reply_spelling TypedReply (λ a. reply_room) (λ a. reply_at) values_law (λ a. reply_law)
 
 entry_law : IsField entry_spelling TypedEntry entry_room CountedEntry entry_at
-entry_law = struct_law (λ (p : EntryParts). text_spelling p.0 ++ (values_spelling p.1.0 ++ reply_spelling p.1.1)) (λ (p : EntryParts). IsUtf8 p.0 × (TypedValues p.1.0 × TypedReply p.1.1)) (λ (p : EntryParts). some_thousands p.1.0 && reply_room p.1.1) (both_at text_at (both_at values_at reply_at))
+entry_law = struct_law (λ (p : EntryParts). text_spelling p.0 ++ (values_spelling p.1.0 ++ reply_spelling p.1.1)) (λ (p : EntryParts). IsUtf8 p.0 × (TypedValues p.1.0 × TypedReply p.1.1)) (λ (p : EntryParts). fits_u16_count p.1.0 && reply_room p.1.1) (both_at text_at (both_at values_at reply_at))
     (λ (p : EntryParts). record { text = p.0; params = p.1.0; reply = p.1.1 }) (λ (e : Entry). (e.text, (e.params, e.reply)))
-    (then_law text_spelling IsUtf8 always text_at (λ (p : EntryTail). values_spelling p.0 ++ reply_spelling p.1) (λ (p : EntryTail). TypedValues p.0 × TypedReply p.1) (λ a (p : EntryTail). some_thousands p.0 && reply_room p.1) (λ a. both_at values_at reply_at) text_law (λ a. entry_tail_law))
+    (then_law text_spelling IsUtf8 always text_at (λ (p : EntryTail). values_spelling p.0 ++ reply_spelling p.1) (λ (p : EntryTail). TypedValues p.0 × TypedReply p.1) (λ a (p : EntryTail). fits_u16_count p.0 && reply_room p.1) (λ a. both_at values_at reply_at) text_law (λ a. entry_tail_law))
     (λ e. refl) (λ p. refl)
 
 entry_filled : (e : Entry) → 0 < length (entry_spelling e)
 entry_filled e = omega arith
 
-parts_law : IsField parts_spelling (AllByRecursion IsU32) some_thousands Uncounted (list_at w16 (number_at w32))
-parts_law = recount Uncounted (restate parts_spelling (AllByRecursion IsU32) (AllByRecursion IsU32) (λ ns. some_thousands ns && list_all always ns) some_thousands (list_at w16 (number_at w32)) (short_list_law (to_be_bytes w32) IsU32 always (number_at w32) u32_law)
-    (λ ns t h. (t, and-from (some_thousands ns) (list_all always ns) h (list_all-always ns))) (λ ns t h. (t, (and-parts (some_thousands ns) (list_all always ns) h).0)))
+parts_law : IsField parts_spelling (AllByRecursion IsU32) fits_u16_count Uncounted (list_at w16 (number_at w32))
+parts_law = recount Uncounted (restate parts_spelling (AllByRecursion IsU32) (AllByRecursion IsU32) (λ ns. fits_u16_count ns && list_all always ns) fits_u16_count (list_at w16 (number_at w32)) (short_list_law (to_be_bytes w32) IsU32 always (number_at w32) u32_law)
+    (λ ns t h. (t, and-from (fits_u16_count ns) (list_all always ns) h (list_all-always ns))) (λ ns t h. (t, (and-parts (fits_u16_count ns) (list_all always ns) h).0)))
     (λ ns n. all_uncounted ns) (λ ns n. tt)
 
-name_law : IsField (λ n. parts_spelling n.parts) (λ n. AllByRecursion IsU32 n.parts) (λ n. some_thousands n.parts) Uncounted name_at
-name_law = struct_law parts_spelling (AllByRecursion IsU32) some_thousands (list_at w16 (number_at w32)) (λ parts. record { parts = parts }) (λ (n : ProcName). n.parts) parts_law (λ n. refl) (λ p. refl)
+name_law : IsField (λ n. parts_spelling n.parts) (λ n. AllByRecursion IsU32 n.parts) (λ n. fits_u16_count n.parts) Uncounted name_at
+name_law = struct_law parts_spelling (AllByRecursion IsU32) fits_u16_count (list_at w16 (number_at w32)) (λ parts. record { parts = parts }) (λ (n : ProcName). n.parts) parts_law (λ n. refl) (λ p. refl)
 
 entries_law : IsField (list_spelling w32 entry_spelling) (AllByRecursion TypedEntry) (list_all entry_room) (CountedList CountedEntry) (list_at w32 entry_at)
 entries_law = long_law entry_spelling TypedEntry entry_room entry_at entry_law entry_filled
@@ -221,9 +221,9 @@ abbrev LogParts : Type 0
 LogParts = ProcName × List Entry
 
 pub log_law : IsField log_spelling TypedLog log_room CountedLog log_at
-log_law = recount CountedLog (struct_law (λ (p : LogParts). parts_spelling p.0.parts ++ list_spelling w32 entry_spelling p.1) (λ (p : LogParts). AllByRecursion IsU32 p.0.parts × AllByRecursion TypedEntry p.1) (λ (p : LogParts). some_thousands p.0.parts && list_all entry_room p.1) (both_at name_at (list_at w32 entry_at))
+log_law = recount CountedLog (struct_law (λ (p : LogParts). parts_spelling p.0.parts ++ list_spelling w32 entry_spelling p.1) (λ (p : LogParts). AllByRecursion IsU32 p.0.parts × AllByRecursion TypedEntry p.1) (λ (p : LogParts). fits_u16_count p.0.parts && list_all entry_room p.1) (both_at name_at (list_at w32 entry_at))
     (λ (p : LogParts). record { process = p.0; entries = p.1 }) (λ (l : Log). (l.process, l.entries))
-    (then_law (λ n. parts_spelling n.parts) (λ n. AllByRecursion IsU32 n.parts) (λ n. some_thousands n.parts) name_at (list_spelling w32 entry_spelling) (AllByRecursion TypedEntry) (λ a. list_all entry_room) (λ a. list_at w32 entry_at) name_law (λ a. entries_law))
+    (then_law (λ n. parts_spelling n.parts) (λ n. AllByRecursion IsU32 n.parts) (λ n. fits_u16_count n.parts) name_at (list_spelling w32 entry_spelling) (AllByRecursion TypedEntry) (λ a. list_all entry_room) (λ a. list_at w32 entry_at) name_law (λ a. entries_law))
     (λ l. refl) (λ p. refl))
     (λ l n. (tt, n)) (λ l n. n.1)
 

@@ -12,7 +12,7 @@ use Rattle.std.proofs.lemmas.List.{take_at, drop_at, take-append-drop, length-ap
 use Rattle.std.proofs.lemmas.Nat.{be_bytes_2, be_bytes_4, be_bytes_8, from_be_bytes-to_be_bytes_2, from_be_bytes-to_be_bytes_4, from_be_bytes-to_be_bytes_8}
 use Rattle.ldv_value.proofs.Booleans.{and-parts, and-from}
 use Rattle.ldv_value.proofs.Options.{bind-some, same-some}
-use Rattle.package_layout.specs.Fields.{Found, ◌>>=◌, bytes_at, number_at, signed_at, items_at, list_at, list_spelling, text_spelling, sized_at, text_of, text_at}
+use Rattle.package_layout.specs.Fields.{DecodeResult, ◌>>=◌, bytes_at, number_at, signed_at, items_at, list_at, list_spelling, text_spelling, sized_at, text_of, text_at}
 use Rattle.package_layout.specs.Counts.{IsCountable, CountedList}
 use Rattle.package_layout.proofs.Laws.{IsBytes, IsBytes-take, IsBytes-rest, just, guard_some, Took, IsField, always, Uncounted, recount, made_law}
 
@@ -133,7 +133,7 @@ text_law = made_law text_spelling (λ _. Unit {0}) always sized_at IsUtf8 always
 
 -- ---- lists
 
-items_again : {X : Type 0} (s : X → List ℕ) (t : X → Type 0) (f : X → Bool) (c : X → Type 0) (r : List ℕ → Found X) → IsField s t f c r → (xs : List X) (rest : List ℕ) → AllByRecursion t xs → list_all f xs ≡ true → AllByRecursion c xs
+items_again : {X : Type 0} (s : X → List ℕ) (t : X → Type 0) (f : X → Bool) (c : X → Type 0) (r : List ℕ → DecodeResult X) → IsField s t f c r → (xs : List X) (rest : List ℕ) → AllByRecursion t xs → list_all f xs ≡ true → AllByRecursion c xs
     → items_at r (length xs) (flat_map s xs ++ rest) ≡ Some (xs, rest)
 items_again s t f c r one [] rest h k n = refl
 items_again s t f c r one (x ∷ xs) rest h k n =
@@ -142,7 +142,7 @@ items_again s t f c r one (x ∷ xs) rest h k n =
     let more : items_at r (length xs) (flat_map s xs ++ rest) ≡ Some (xs, rest) = items_again s t f c r one xs rest h.1 both.1 n.1 in
     ap (items_at r (suc (length xs))) (append_assoc (s x) (flat_map s xs) rest) ∙ rw (first, more) refl
 
-items_short : {X : Type 0} (s : X → List ℕ) (t : X → Type 0) (f : X → Bool) (c : X → Type 0) (r : List ℕ → Found X) → IsField s t f c r → (xs : List X) → length (flat_map s xs) < 2 ^ 32 → AllByRecursion c xs
+items_short : {X : Type 0} (s : X → List ℕ) (t : X → Type 0) (f : X → Bool) (c : X → Type 0) (r : List ℕ → DecodeResult X) → IsField s t f c r → (xs : List X) → length (flat_map s xs) < 2 ^ 32 → AllByRecursion c xs
 items_short s t f c r one [] len = tt
 items_short s t f c r one (x ∷ xs) len =
     let both = length-append (s x) (flat_map s xs) in
@@ -156,7 +156,7 @@ pub record TookItems {X : Type 0} (s : X → List ℕ) (t : X → Type 0) (f : X
   pub is_counted : AllByRecursion c xs
   pub count : length xs ≡ n
 
-pub items_took : {X : Type 0} (s : X → List ℕ) (t : X → Type 0) (f : X → Bool) (c : X → Type 0) (r : List ℕ → Found X) → IsField s t f c r → (n : ℕ) (bytes : List ℕ) (xs : List X) (rest : List ℕ) → IsBytes bytes → items_at r n bytes ≡ Some (xs, rest) → TookItems s t f c n bytes xs rest
+pub items_took : {X : Type 0} (s : X → List ℕ) (t : X → Type 0) (f : X → Bool) (c : X → Type 0) (r : List ℕ → DecodeResult X) → IsField s t f c r → (n : ℕ) (bytes : List ℕ) (xs : List X) (rest : List ℕ) → IsBytes bytes → items_at r n bytes ≡ Some (xs, rest) → TookItems s t f c n bytes xs rest
 items_took {X = X} s t f c r one zero bytes xs rest h e =
     subst (λ (y : List X × List ℕ). TookItems s t f c zero bytes y.0 y.1) (same-some ([], bytes) (xs, rest) e) (record { parts = refl; is_typed = tt; is_fit = refl; is_counted = tt; count = refl })
 items_took {X = X} s t f c r one (suc n) bytes xs rest h e =
@@ -170,7 +170,7 @@ items_took {X = X} s t f c r one (suc n) bytes xs rest h e =
     subst (λ (z : List X × List ℕ). TookItems s t f c (suc n) bytes z.0 z.1) (same-some (x.0 ∷ y.0, y.1) (xs, rest) second.2)
     (record { parts = whole; is_typed = (k.is_typed, l.is_typed); is_fit = and-from (f x.0) (list_all f y.0) k.is_fit l.is_fit; is_counted = (k.is_counted, l.is_counted); count = ap suc l.count })
 
-pub items_law : {X : Type 0} (s : X → List ℕ) (t : X → Type 0) (f : X → Bool) {c : X → Type 0} (r : List ℕ → Found X) → IsField s t f c r → (n : ℕ)
+pub items_law : {X : Type 0} (s : X → List ℕ) (t : X → Type 0) (f : X → Bool) {c : X → Type 0} (r : List ℕ → DecodeResult X) → IsField s t f c r → (n : ℕ)
     → IsField (flat_map s) (AllByRecursion t) (λ xs. (length xs == n) && list_all f xs) (AllByRecursion c) (items_at r n)
 items_law s t f {c = c} r one n = record {
   again = λ xs rest h k m.
@@ -183,7 +183,7 @@ items_law s t f {c = c} r one n = record {
 }
 
 -- a list with its count: room and many say together that the count fits its field
-list_law : {X : Type 0} (w : Width) (limit : ℕ) → IsWide w limit → (s : X → List ℕ) (t : X → Type 0) (f : X → Bool) (c : X → Type 0) (r : List ℕ → Found X) → IsField s t f c r → (room : List X → Bool) (many : List X → Type 0)
+list_law : {X : Type 0} (w : Width) (limit : ℕ) → IsWide w limit → (s : X → List ℕ) (t : X → Type 0) (f : X → Bool) (c : X → Type 0) (r : List ℕ → DecodeResult X) → IsField s t f c r → (room : List X → Bool) (many : List X → Type 0)
     → ((xs : List X) → room xs ≡ true → many xs → length xs < limit) → ((xs : List X) → length xs < limit → (room xs ≡ true) × many xs) → ((xs : List X) → length (flat_map s xs) < 2 ^ 32 → many xs)
     → IsField (list_spelling w s) (AllByRecursion t) (λ xs. room xs && list_all f xs) (λ xs. many xs × AllByRecursion c xs) (list_at w r)
 list_law {X = X} w limit wide s t f c r one room many small roomy brief = record {
@@ -213,7 +213,7 @@ few_items : {X : Type 0} (s : X → List ℕ) → ((x : X) → 0 < length (s x))
 few_items s filled [] = omega arith
 few_items s filled (x ∷ xs) = omega (arith, filled x, few_items s filled xs, length-append (s x) (flat_map s xs))
 
-pub long_law : {X : Type 0} (s : X → List ℕ) (t : X → Type 0) (f : X → Bool) {c : X → Type 0} (r : List ℕ → Found X) → IsField s t f c r → ((x : X) → 0 < length (s x))
+pub long_law : {X : Type 0} (s : X → List ℕ) (t : X → Type 0) (f : X → Bool) {c : X → Type 0} (r : List ℕ → DecodeResult X) → IsField s t f c r → ((x : X) → 0 < length (s x))
     → IsField (list_spelling w32 s) (AllByRecursion t) (λ xs. list_all f xs) (CountedList c) (list_at w32 r)
 long_law s t f {c = c} r one filled = list_law w32 (2 ^ 32) wide32 s t f c r one always IsCountable
     (λ xs k n. n) (λ xs lt. (refl, lt)) (λ xs len. omega (arith, len, few_items s filled xs))
@@ -221,12 +221,12 @@ long_law s t f {c = c} r one filled = list_law w32 (2 ^ 32) wide32 s t f c r one
 pub ltb_from : (a b : ℕ) → a < b → nat_lt a b ≡ true
 ltb_from a b lt = grind arith
 
-pub byte_list_law : {X : Type 0} (s : X → List ℕ) (t : X → Type 0) (f : X → Bool) {c : X → Type 0} (r : List ℕ → Found X) → IsField s t f c r
+pub byte_list_law : {X : Type 0} (s : X → List ℕ) (t : X → Type 0) (f : X → Bool) {c : X → Type 0} (r : List ℕ → DecodeResult X) → IsField s t f c r
     → IsField (list_spelling w8 s) (AllByRecursion t) (λ xs. nat_lt (length xs) 256 && list_all f xs) (AllByRecursion c) (list_at w8 r)
 byte_list_law s t f {c = c} r one = recount (AllByRecursion c) (list_law w8 256 wide8 s t f c r one (λ xs. nat_lt (length xs) 256) Uncounted (λ xs k n. ltb-true _ _ k) (λ xs lt. (ltb_from _ _ lt, tt)) (λ xs len. tt))
     (λ xs n. (tt, n)) (λ xs n. n.1)
 
-pub short_list_law : {X : Type 0} (s : X → List ℕ) (t : X → Type 0) (f : X → Bool) {c : X → Type 0} (r : List ℕ → Found X) → IsField s t f c r
+pub short_list_law : {X : Type 0} (s : X → List ℕ) (t : X → Type 0) (f : X → Bool) {c : X → Type 0} (r : List ℕ → DecodeResult X) → IsField s t f c r
     → IsField (list_spelling w16 s) (AllByRecursion t) (λ xs. nat_lt (length xs) (2 ^ 16) && list_all f xs) (AllByRecursion c) (list_at w16 r)
 short_list_law s t f {c = c} r one = recount (AllByRecursion c) (list_law w16 (2 ^ 16) wide16 s t f c r one (λ xs. nat_lt (length xs) (2 ^ 16)) Uncounted (λ xs k n. ltb-true _ _ k) (λ xs lt. (ltb_from _ _ lt, tt)) (λ xs len. tt))
     (λ xs n. (tt, n)) (λ xs n. n.1)

@@ -19,9 +19,9 @@ use Rattle.package_layout.specs.declared.run_package.RunPackage.{RunPackage}
 use Rattle.package_layout.specs.Counted.{IsCounted}
 use Rattle.package_layout.specs.Plain.{has_no_foreign, is_plain_row, is_plain_table, is_plain_log, is_plain_event, has_tables, fits_version}
 use Rattle.package_layout.specs.ReadResult.{ReadsAs, RunsReadAs, damage_by, damage_before}
-use Rattle.package_layout.specs.RunPackages.{whole}
+use Rattle.package_layout.specs.RunPackages.{expanded_package}
 use Rattle.package_layout.specs.Runs.{IsCut, are_runs}
-use Rattle.package_layout.specs.Valid.{rules, Valid, HasDigest, IsSpelling, IsSpelled, IsNoSpelling, IsUnspelled, before_digest, middle, kept_if, package_in, has_digest, form_of, reading_as, reading_by, reading}
+use Rattle.package_layout.specs.Valid.{rules, IsValidPackage, HasDigest, IsSpelling, IsSpelled, IsNoSpelling, IsUnspelled, before_digest, middle, kept_if, package_in, has_digest, form_of, reading_as, reading_by, reading}
 use Rattle.package_layout.specs.Version.{Version, One, Two, magic, HasMagic, version_of}
 use Rattle.package_layout.specs.Whole.{sections, body, spelling_as, IsTyped, has_room, all_of}
 use Rattle.package_layout.proofs.Laws.{IsBytes, IsBytes-take, IsBytes-drop, just}
@@ -100,7 +100,7 @@ fit_tables Two p h = refl
 
 pub record IsRead (v : Version) (bytes : List ℕ) (p : Package) : Type 0 where
   pub is_typed : IsTyped p
-  pub is_valid : Valid p
+  pub is_valid : IsValidPackage p
   pub spells : IsSpelling v p bytes
 
 -- ---- each version
@@ -135,25 +135,25 @@ module _ (version : Version) where
 
   -- ---- what is spelled is read
 
-  section_again : (p : Package) → IsTyped p → Valid p → fits_version version p ≡ true → IsCounted version p → package_in version (sections version p) ≡ Some p
+  section_again : (p : Package) → IsTyped p → IsValidPackage p → fits_version version p ≡ true → IsCounted version p → package_in version (sections version p) ≡ Some p
   section_again p t v f n =
       let both = and-parts (has_room p) (rules p) v in
       let one : all_of version (sections version p) ≡ Some p = all_again version p t both.0 (fit_tables version p f) n in
       rw one (kept (rules p && fits_version version p) p (and-from (rules p) (fits_version version p) both.1 f))
 
-  read_again : (p : Package) → IsTyped p → Valid p → fits_version version p ≡ true → IsCounted version p → reading_as version (spelling_as version p) ≡ Ok p
+  read_again : (p : Package) → IsTyped p → IsValidPackage p → fits_version version p ≡ true → IsCounted version p → reading_as version (spelling_as version p) ≡ Ok p
   read_again p t v f n =
       let d : has_digest (spelling_as version p) ≡ true = digest_test (spelling_as version p) (spelled_digest p) in
       let i : package_in version (middle (spelling_as version p)) ≡ Some p = ap (package_in version) (spelled_middle p) ∙ section_again p t v f n in
       from_tests (has_digest (spelling_as version p)) (package_in version (middle (spelling_as version p))) p d i
 
-  pub reads_back : (p : Package) → IsTyped p → Valid p → IsTrue (fits_version version p) → IsCounted version p → reading (spelling_as version p) ≡ Ok p
+  pub reads_back : (p : Package) → IsTyped p → IsValidPackage p → IsTrue (fits_version version p) → IsCounted version p → reading (spelling_as version p) ≡ Ok p
   reads_back p t v f n =
       let bytes : List ℕ = spelling_as version p in
       ap (λ (o : Option Version). reading_by o bytes) (version_is version bytes (spelled_magic p)) ∙ read_again p t v f n
 
   -- the tables are what the version has, whatever rules and replies are
-  pub one_spelling : (p q : Package) → IsTyped p → IsTyped q → Valid p → Valid q → IsTrue (has_tables version p) → IsTrue (has_tables version q) → IsCounted version p → IsCounted version q → spelling_as version p ≡ spelling_as version q → p ≡ q
+  pub one_spelling : (p q : Package) → IsTyped p → IsTyped q → IsValidPackage p → IsValidPackage q → IsTrue (has_tables version p) → IsTrue (has_tables version q) → IsCounted version p → IsCounted version q → spelling_as version p ≡ spelling_as version q → p ≡ q
   one_spelling p q t u v w f g n m e =
       let same : sections version p ≡ sections version q = sym (spelled_middle p) ∙ ap middle e ∙ spelled_middle q in
       let first : all_of version (sections version p) ≡ Some p = all_again version p t (and-parts (has_room p) (rules p) v).0 f n in
@@ -205,11 +205,11 @@ no_both p q e =
 -- ---- what reading says of bytes
 
 module _ (bytes : List ℕ) where
-  read_as_is : (o : Option Version) (p : Package) → version_of bytes ≡ o → IsBytes bytes → reading_by o bytes ≡ Ok p → IsTyped p × Valid p × IsSpelled bytes p
+  read_as_is : (o : Option Version) (p : Package) → version_of bytes ≡ o → IsBytes bytes → reading_by o bytes ≡ Ok p → IsTyped p × IsValidPackage p × IsSpelled bytes p
   read_as_is (Some v) p is h e = let k = read_is v bytes p h (version_fact v bytes is) e in (k.is_typed, k.is_valid, (v, is, k.spells))
   read_as_is None p is h e = absurd cc
 
-  ok_read : (p : Package) → IsBytes bytes → reading bytes ≡ Ok p → IsTyped p × Valid p × IsSpelled bytes p
+  ok_read : (p : Package) → IsBytes bytes → reading bytes ≡ Ok p → IsTyped p × IsValidPackage p × IsSpelled bytes p
   ok_read p h e = read_as_is (version_of bytes) p refl h e
 
   form_by : (o : Option Version) → version_of bytes ≡ o → reading_by o bytes ≡ Err Form → HasDigest bytes × IsUnspelled bytes
@@ -253,9 +253,9 @@ read_says bytes r due kind e = subst (λ z. ReadsAs z (reading bytes)) e due
 runs_say : (bytes : List ℕ) (r : Result RunPackage PackageStop) → RunsReadAs r (reading bytes) → (kind : DamageKind) → r ≡ damaged kind → reading bytes ≡ Err kind
 runs_say bytes r due kind e = subst (λ z. RunsReadAs z (reading bytes)) e due
 
-pub found : (bytes : List ℕ) (r : Result Package PackageStop) → IsBytes bytes → ReadsAs r (reading bytes) → IfOk r (λ p. IsTyped p × Valid p × IsSpelled bytes p)
-found bytes (Ok p) h due = ok_read bytes p h due
-found bytes (Err stop) h due = tt
+pub IfOk-reading : (bytes : List ℕ) (r : Result Package PackageStop) → IsBytes bytes → ReadsAs r (reading bytes) → IfOk r (λ p. IsTyped p × IsValidPackage p × IsSpelled bytes p)
+IfOk-reading bytes (Ok p) h due = ok_read bytes p h due
+IfOk-reading bytes (Err stop) h due = tt
 
 pub magic_is : (bytes : List ℕ) (r : Result Package PackageStop) → ReadsAs r (reading bytes) → IfSome (damage_before bytes) (λ kind. r ≡ damaged kind) → (r ≡ damaged Magic) ↔ (version_of bytes ≡ None)
 magic_is bytes r due once = magic_answer bytes r (read_says bytes r due) once
@@ -266,8 +266,8 @@ digest_is bytes r due once = digest_answer bytes r (read_says bytes r due) once
 pub form_is : (bytes : List ℕ) (r : Result Package PackageStop) → ReadsAs r (reading bytes) → IfSome (damage_before bytes) (λ kind. r ≡ damaged kind) → r ≡ damaged Form → HasDigest bytes × IsUnspelled bytes
 form_is bytes r due once = form_answer bytes r (read_says bytes r due) once
 
-pub runs_found : (bytes : List ℕ) (r : Result RunPackage PackageStop) → IsBytes bytes → RunsReadAs r (reading bytes) → IfOk r (λ r. IsTyped (whole r) × Valid (whole r) × IsSpelled bytes (whole r))
-runs_found bytes (Ok r) h due = ok_read bytes (whole r) h due
+pub runs_found : (bytes : List ℕ) (r : Result RunPackage PackageStop) → IsBytes bytes → RunsReadAs r (reading bytes) → IfOk r (λ r. IsTyped (expanded_package r) × IsValidPackage (expanded_package r) × IsSpelled bytes (expanded_package r))
+runs_found bytes (Ok r) h due = ok_read bytes (expanded_package r) h due
 runs_found bytes (Err stop) h due = tt
 
 pub runs_magic : (bytes : List ℕ) (r : Result RunPackage PackageStop) → RunsReadAs r (reading bytes) → IfSome (damage_before bytes) (λ kind. r ≡ damaged kind) → (r ≡ damaged Magic) ↔ (version_of bytes ≡ None)
@@ -300,7 +300,7 @@ none_once bytes r is e = subst (λ (o : Option Version). IfSome (damage_by o byt
 
 -- ---- the answer with all events
 
-pub whole_due : (bytes : List ℕ) (r : RunPackage) (o : Result Package PackageStop) → reading bytes ≡ Ok (whole r) → IfOk o (λ p. p ≡ whole r) → ((stop : PackageStop) → o ≡ Err stop → stop ≡ NoMemory)
+pub whole_due : (bytes : List ℕ) (r : RunPackage) (o : Result Package PackageStop) → reading bytes ≡ Ok (expanded_package r) → IfOk o (λ p. p ≡ expanded_package r) → ((stop : PackageStop) → o ≡ Err stop → stop ≡ NoMemory)
     → ReadsAs o (reading bytes)
 whole_due bytes r (Ok p) due is none = due ∙ (λ j. Ok (sym is j))
 whole_due bytes r (Err NoMemory) due is none = tt

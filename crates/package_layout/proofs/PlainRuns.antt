@@ -8,15 +8,15 @@ use Rattle.package_layout.specs.Plain.{is_plain_act, is_plain_event}
 use Rattle.package_layout.specs.Runs.{Run, steps_from, at_step, run_events, events_in, is_run}
 use Rattle.package_layout.proofs.Runs.{run_some}
 
-twice : (b : Bool) → (b && b) ≡ b
-twice true = refl
-twice false = refl
+and-same : (b : Bool) → (b && b) ≡ b
+and-same true = refl
+and-same false = refl
 
 some_plain : (e : Event) (step stride n : ℕ)
     → list_all is_plain_event (map (at_step e) (steps_from step stride (suc n))) ≡ is_plain_act e.act
 some_plain e step stride zero = and-true (is_plain_act e.act)
 some_plain e step stride (suc n) =
-    ap (λ (b : Bool). is_plain_act e.act && b) (some_plain e (step + stride) stride n) ∙ twice (is_plain_act e.act)
+    ap (λ (b : Bool). is_plain_act e.act && b) (some_plain e (step + stride) stride n) ∙ and-same (is_plain_act e.act)
 
 count_plain : (e : Event) (step stride n : ℕ) → 1 ≤ n
     → list_all is_plain_event (map (at_step e) (steps_from step stride n)) ≡ is_plain_act e.act

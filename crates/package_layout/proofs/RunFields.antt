@@ -21,7 +21,7 @@ use Rattle.package_layout.proofs.Laws.{IsField, just, always, restate, recount, 
 use Rattle.package_layout.proofs.Numbers.{long_law}
 use Rattle.package_layout.proofs.Tables.{u32_law}
 use Rattle.package_layout.specs.Runs.{Run, TypedRun, CountedRun, run_room, run_spelling, run_at, runs_spelling, runs_at, trace_room, events_of_runs}
-use Rattle.package_layout.specs.Runs.{Begun, single, joins, grown, runs_from, runs_of, steps_from, at_step, run_events, events_in, total, last_step, is_run, stops_before, are_longest, are_runs, max_events}
+use Rattle.package_layout.specs.Runs.{Begun, run_of_one, joins, run_with_event, runs_from, runs_of, steps_from, at_step, run_events, events_in, total, last_step, is_run, stops_before, are_longest, are_runs, max_events}
 use Rattle.package_layout.proofs.Runs.{grown_begun, grown_events, unasked, last_from, last-is, last_step-is, joined, IsBegun, single_begun, events_again, formed_run, run_shape, run_some, heads_by, runs_again, HasShape, IsSmall, run_is, all_formed, runs_good, events-length}
 
 -- ---- numbers of their types, and room
@@ -191,20 +191,20 @@ first_typed r h typed = by r.count refl
 abbrev pub TypedFrom : List Event → Begun → List Event → Type 0
 TypedFrom all b left = AllByRecursion TypedEvent (run_events b.run ++ left) → AllByRecursion TypedEvent all
 
-pub record Stands (all : List Event) (b : Begun) (left : List Event) : Type 0 where
+pub record IsCutSoFar (all : List Event) (b : Begun) (left : List Event) : Type 0 where
   pub begun : IsBegun b
   pub shape : HasShape b
   pub typed : TypedFrom all b left
 
-begun_typed : (all : List Event) (b : Begun) (left : List Event) → Stands all b left → b.last < 2 ^ 32 → TypedEvent b.run.first
+begun_typed : (all : List Event) (b : Begun) (left : List Event) → IsCutSoFar all b left → b.last < 2 ^ 32 → TypedEvent b.run.first
     → AllByRecursion TypedEvent (run_events b.run)
 begun_typed all b left s small first = first_typed b.run (run_is b s.begun s.shape small) first
 
-pub stands_first : (e : Event) (es : List Event) → Stands (e ∷ es) (single e) es
+pub stands_first : (e : Event) (es : List Event) → IsCutSoFar (e ∷ es) (run_of_one e) es
 stands_first e es = record { begun = single_begun e; shape = inl (refl, refl); typed = λ h. h }
 
-pub stands_grown : (all : List Event) (b : Begun) (left : List Event) (e : Event) (es : List Event) → Stands all b left → left ≡ e ∷ es
-    → joins b e ≡ true → Stands all (grown b e) es
+pub stands_grown : (all : List Event) (b : Begun) (left : List Event) (e : Event) (es : List Event) → IsCutSoFar all b left → left ≡ e ∷ es
+    → joins b e ≡ true → IsCutSoFar all (run_with_event b e) es
 stands_grown all b left e es s is on = record {
   begun = grown_begun b e s.begun on;
   shape = inr (omega (arith, s.begun.count), (joined b e on).unasked);
@@ -214,8 +214,8 @@ stands_grown all b left e es s is on = record {
       ∙ ap (λ (l : List Event). run_events b.run ++ l) (sym is)) h);
 }
 
-pub stands_next : (all : List Event) (b : Begun) (left : List Event) (e : Event) (es : List Event) → Stands all b left → left ≡ e ∷ es
-    → b.last < 2 ^ 32 → TypedEvent b.run.first → Stands all (single e) es
+pub stands_next : (all : List Event) (b : Begun) (left : List Event) (e : Event) (es : List Event) → IsCutSoFar all b left → left ≡ e ∷ es
+    → b.last < 2 ^ 32 → TypedEvent b.run.first → IsCutSoFar all (run_of_one e) es
 stands_next all b left e es s is small first = record {
   begun = single_begun e;
   shape = inl (refl, refl);
@@ -223,7 +223,7 @@ stands_next all b left e es s is small first = record {
       s.typed (all_appended TypedEvent (run_events b.run) left (begun_typed all b left s small first) (subst (AllByRecursion TypedEvent) (sym is) h));
 }
 
-pub stands_last : (all : List Event) (b : Begun) (left : List Event) → Stands all b left → left ≡ []
+pub stands_last : (all : List Event) (b : Begun) (left : List Event) → IsCutSoFar all b left → left ≡ []
     → b.last < 2 ^ 32 → TypedEvent b.run.first → AllByRecursion TypedEvent all
 stands_last all b left s is small first =
     s.typed (all_appended TypedEvent (run_events b.run) left (begun_typed all b left s small first) (subst (AllByRecursion TypedEvent) (sym is) tt))
@@ -233,19 +233,19 @@ abbrev pub Due : List ℕ → Begun → List Event → List ℕ → Type 0
 Due to b left all = to ++ flat_map run_spelling (runs_from b left) ≡ all
 
 pub due_grown : (to all : List ℕ) (b : Begun) (left : List Event) (e : Event) (es : List Event) → left ≡ e ∷ es → joins b e ≡ true
-    → Due to b left all → Due to (grown b e) es all
+    → Due to b left all → Due to (run_with_event b e) es all
 due_grown to all b left e es is on due =
-    let step : runs_from b (e ∷ es) ≡ runs_from (grown b e) es = rw on refl in
+    let step : runs_from b (e ∷ es) ≡ runs_from (run_with_event b e) es = rw on refl in
     subst (λ (rs : List Run). to ++ flat_map run_spelling rs ≡ all) (ap (runs_from b) is ∙ step) due
 
 pub due_next : (to new all : List ℕ) (b : Begun) (left : List Event) (e : Event) (es : List Event) → left ≡ e ∷ es → joins b e ≡ false
-    → new ≡ to ++ run_spelling b.run → Due to b left all → Due new (single e) es all
+    → new ≡ to ++ run_spelling b.run → Due to b left all → Due new (run_of_one e) es all
 due_next to new all b left e es is off wrote due =
-    let step : runs_from b (e ∷ es) ≡ b.run ∷ runs_from (single e) es = rw off refl in
-    let was : to ++ (run_spelling b.run ++ flat_map run_spelling (runs_from (single e) es)) ≡ all =
+    let step : runs_from b (e ∷ es) ≡ b.run ∷ runs_from (run_of_one e) es = rw off refl in
+    let was : to ++ (run_spelling b.run ++ flat_map run_spelling (runs_from (run_of_one e) es)) ≡ all =
     subst (λ (rs : List Run). to ++ flat_map run_spelling rs ≡ all) (ap (runs_from b) is ∙ step) due in
-    ap (λ (l : List ℕ). l ++ flat_map run_spelling (runs_from (single e) es)) wrote
-    ∙ append_assoc to (run_spelling b.run) (flat_map run_spelling (runs_from (single e) es)) ∙ was
+    ap (λ (l : List ℕ). l ++ flat_map run_spelling (runs_from (run_of_one e) es)) wrote
+    ∙ append_assoc to (run_spelling b.run) (flat_map run_spelling (runs_from (run_of_one e) es)) ∙ was
 
 -- a list whose first item is x; same is the list, as a slice of it names it
 pub head_of : {X : Type 0} (rest same : List X) (x : X) → 1 ≤ length rest → x ≡ get_or rest 0 x → same ≡ rest

@@ -13,9 +13,9 @@ use Rattle.package_layout.specs.declared.run_package.RunPackage.{RunPackage}
 use Rattle.package_layout.specs.Events.{event_at}
 use Rattle.package_layout.specs.declared.decode_error.DecodeError.{DecodeError}
 use Rattle.package_layout.specs.declared.decode_error.DecodeError.TheVariants.{Malformed}
-use Rattle.package_layout.specs.Fields.{Found, ◌>>=◌, Makes, list_at}
+use Rattle.package_layout.specs.Fields.{DecodeResult, ◌>>=◌, Makes, list_at}
 use Rattle.package_layout.specs.Plain.{fits_version}
-use Rattle.package_layout.specs.RunPackages.{whole, cut_at, run_sections_at, run_sections_of, run_rules, runs_in}
+use Rattle.package_layout.specs.RunPackages.{expanded_package, cut_at, run_sections_at, run_sections_of, run_rules, runs_in}
 use Rattle.package_layout.specs.Runs.{Run, runs_of, events_in, is_run, are_longest, are_runs, run_at, total, max_events, events_of_runs, few_events}
 use Rattle.package_layout.specs.Typed.{TypedEvent}
 use Rattle.package_layout.specs.Valid.{rules, before_digest, middle, kept_if, package_in, has_digest, form_of, reading_as}
@@ -28,11 +28,11 @@ use Rattle.package_layout.proofs.Whole.{bare_took, events_took}
 
 -- ---- the trace
 
-abbrev kept_events : List Run × List ℕ → Found (List Event)
+abbrev kept_events : List Run × List ℕ → DecodeResult (List Event)
 kept_events x = cond (are_runs x.0) (Some (events_in x.0, x.1)) None
 
 -- what is found, and the bytes behind it
-abbrev behind : {X : Type 0} → X → List ℕ → Found X
+abbrev behind : {X : Type 0} → X → List ℕ → DecodeResult X
 behind x rest = Some (x, rest)
 
 kept_by : (b : Bool) (es : List Event) (rest : List ℕ) → (cond b (Some es) None >>= λ x. behind x rest) ≡ cond b (behind es rest) None
@@ -51,14 +51,14 @@ runs_are es typed =
     both_true (nat_le (total (runs_of es)) max_events) (list_all is_run (runs_of es)) (are_longest (runs_of es)) good.0 good.1
     ∙ ap (λ (n : ℕ). nat_le n max_events) many
 
-one_cut : (found : Found (List Event)) → ((es : List Event) (rest : List ℕ) → found ≡ Some (es, rest) → AllByRecursion TypedEvent es)
+one_cut : (found : DecodeResult (List Event)) → ((es : List Event) (rest : List ℕ) → found ≡ Some (es, rest) → AllByRecursion TypedEvent es)
     → (found >>= λ a. few_events a.0 >>= λ b. behind b a.1) ≡ ((found >>= λ a. behind (runs_of a.0) a.1) >>= kept_events)
 one_cut None typed = refl
 one_cut (Some a) typed =
     kept_by (nat_le (length a.0) max_events) a.0 a.1
     ∙ (λ j. cond (sym (runs_are a.0 (typed a.0 a.1 refl)) j) (behind (sym (events_again a.0) j) a.1) None)
 
-two_cut : (found : Found (List Run)) → (found >>= λ a. events_of_runs a.0 >>= λ b. behind b a.1) ≡ (found >>= kept_events)
+two_cut : (found : DecodeResult (List Run)) → (found >>= λ a. events_of_runs a.0 >>= λ b. behind b a.1) ≡ (found >>= kept_events)
 two_cut None = refl
 two_cut (Some a) = kept_by (are_runs a.0) (events_in a.0) a.1
 
@@ -87,23 +87,23 @@ runs_ended x = cond (length x.1 == 0) (Some x.0) None
 abbrev runs_tested : Version → RunPackage → Option RunPackage
 runs_tested v r = cond (run_rules v r) (Some r) None
 
-abbrev paired : {X : Type 0} → Package → X × List ℕ → Found (Package × X)
+abbrev paired : {X : Type 0} → Package → X × List ℕ → DecodeResult (Package × X)
 paired p y = Some ((p, y.0), y.1)
 
-abbrev next : {X : Type 0} → (List ℕ → Found X) → Package × List ℕ → Found (Package × X)
+abbrev next : {X : Type 0} → (List ℕ → DecodeResult X) → Package × List ℕ → DecodeResult (Package × X)
 next x_at p = x_at p.1 >>= paired p.0
 
-abbrev put : (Package × List Event) × List ℕ → Found Package
+abbrev put : (Package × List Event) × List ℕ → DecodeResult Package
 put q = behind (with_events q.0.0 q.0.1) q.1
 
-abbrev runs_put : (Package × List Run) × List ℕ → Found RunPackage
+abbrev runs_put : (Package × List Run) × List ℕ → DecodeResult RunPackage
 runs_put q = behind (of_parts q.0.0 q.0.1) q.1
 
 -- what is made of a bare package and the events behind it, or the runs
-abbrev packed : Version → Package → Found (List Event) → Option Package
+abbrev packed : Version → Package → DecodeResult (List Event) → Option Package
 packed v p found = (((found >>= paired p) >>= put) >>= ended) >>= tested v
 
-abbrev runs_packed : Version → Package → Found (List Run) → Option RunPackage
+abbrev runs_packed : Version → Package → DecodeResult (List Run) → Option RunPackage
 runs_packed v p found = (((found >>= paired p) >>= runs_put) >>= runs_ended) >>= runs_tested v
 
 bind_if : {A B : Type 0} (b : Bool) (x : A) (f : A → Option B) → (cond b (Some x) None >>= f) ≡ cond b (f x) None
@@ -114,30 +114,30 @@ packed_if : (v : Version) (p : Package) (b : Bool) (es : List Event) (rest : Lis
 packed_if v p true es rest = refl
 packed_if v p false es rest = refl
 
-by_tests : (a e g : Bool) (r : RunPackage) → cond a (cond e (kept_if g (whole r)) None) None ≡ option_map whole (cond e (cond (a && g) (Some r) None) None)
+by_tests : (a e g : Bool) (r : RunPackage) → cond a (cond e (kept_if g (expanded_package r)) None) None ≡ option_map expanded_package (cond e (cond (a && g) (Some r) None) None)
 by_tests true true true r = refl
 by_tests true true false r = refl
 by_tests true false g r = refl
 by_tests false true g r = refl
 by_tests false false g r = refl
 
-packed_runs : (v : Version) (p : Package) (found : Found (List Run)) → packed v p (found >>= kept_events) ≡ option_map whole (runs_packed v p found)
+packed_runs : (v : Version) (p : Package) (found : DecodeResult (List Run)) → packed v p (found >>= kept_events) ≡ option_map expanded_package (runs_packed v p found)
 packed_runs v p None = refl
 packed_runs v p (Some x) =
     let r : RunPackage = of_parts p x.0 in
     let a = are_runs x.0 in
     let e = length x.1 == 0 in
     packed_if v p a (events_in x.0) x.1
-    ∙ ap (λ (o : Option Package). cond a o None) (bind_if e (whole r) (tested v))
-    ∙ by_tests a e (passes v (whole r)) r
-    ∙ ap (option_map whole) (sym (bind_if e r (runs_tested v)))
+    ∙ ap (λ (o : Option Package). cond a o None) (bind_if e (expanded_package r) (tested v))
+    ∙ by_tests a e (passes v (expanded_package r)) r
+    ∙ ap (option_map expanded_package) (sym (bind_if e r (runs_tested v)))
 
-by_bare : (v : Version) (found : Found Package) → ((p : Package) (rest : List ℕ) → found ≡ Some (p, rest) → IsBytes rest)
-    → ((((found >>= next (trace_at v)) >>= put) >>= ended) >>= tested v) ≡ option_map whole ((((found >>= next (cut_at v)) >>= runs_put) >>= runs_ended) >>= runs_tested v)
+by_bare : (v : Version) (found : DecodeResult Package) → ((p : Package) (rest : List ℕ) → found ≡ Some (p, rest) → IsBytes rest)
+    → ((((found >>= next (trace_at v)) >>= put) >>= ended) >>= tested v) ≡ option_map expanded_package ((((found >>= next (cut_at v)) >>= runs_put) >>= runs_ended) >>= runs_tested v)
 by_bare v None h = refl
 by_bare v (Some x) h = ap (packed v x.0) (trace_cut v x.1 (h x.0 x.1 refl)) ∙ packed_runs v x.0 (cut_at v x.1)
 
-pub same_package : (v : Version) (bytes : List ℕ) → IsBytes bytes → package_in v bytes ≡ option_map whole (runs_in v bytes)
+pub same_package : (v : Version) (bytes : List ℕ) → IsBytes bytes → package_in v bytes ≡ option_map expanded_package (runs_in v bytes)
 same_package v bytes h = by_bare v (bare_at v bytes) (λ p rest e. (bare_took v bytes p rest h e).1)
 
 -- ---- what is read
@@ -174,19 +174,19 @@ runs_read v bytes r h e =
     let q = one.0 in
     let two = runs_tests (run_rules v q) q r one.2 in
     subst (λ (r : RunPackage). (are_runs r.runs ≡ true) × (r.bare.events ≡ [])) two.1
-    ((and-parts (are_runs q.runs) (passes v (whole q)) two.0).0, no_events v bytes q h one.1)
+    ((and-parts (are_runs q.runs) (passes v (expanded_package q)) two.0).0, no_events v bytes q h one.1)
 
 clean : (bytes : List ℕ) → IsBytes bytes → IsBytes (middle bytes)
 clean bytes h = IsBytes-drop 8 (before_digest bytes) (IsBytes-take (length bytes - 32) bytes h)
 
-pub read_ok : (v : Version) (bytes : List ℕ) (r : RunPackage) → IsBytes bytes → has_digest bytes ≡ true → runs_in v (middle bytes) ≡ Some r → reading_as v bytes ≡ Ok (whole r)
+pub read_ok : (v : Version) (bytes : List ℕ) (r : RunPackage) → IsBytes bytes → has_digest bytes ≡ true → runs_in v (middle bytes) ≡ Some r → reading_as v bytes ≡ Ok (expanded_package r)
 read_ok v bytes r h d e =
-    let is : package_in v (middle bytes) ≡ Some (whole r) = same_package v (middle bytes) (clean bytes h) ∙ ap (option_map whole) e in
+    let is : package_in v (middle bytes) ≡ Some (expanded_package r) = same_package v (middle bytes) (clean bytes h) ∙ ap (option_map expanded_package) e in
     (λ j. cond (d j) (form_of (is j)) (Err Digest))
 
 pub read_none : (v : Version) (bytes : List ℕ) → IsBytes bytes → has_digest bytes ≡ true → runs_in v (middle bytes) ≡ None → reading_as v bytes ≡ Err Form
 read_none v bytes h d e =
-    let is : package_in v (middle bytes) ≡ None = same_package v (middle bytes) (clean bytes h) ∙ ap (option_map whole) e in
+    let is : package_in v (middle bytes) ≡ None = same_package v (middle bytes) (clean bytes h) ∙ ap (option_map expanded_package) e in
     (λ j. cond (d j) (form_of (is j)) (Err Digest))
 
 pub middle_read : (v : Version) (bytes : List ℕ) (r : RunPackage) → IsBytes bytes → runs_in v (middle bytes) ≡ Some r → (are_runs r.runs ≡ true) × (r.bare.events ≡ [])
@@ -194,7 +194,7 @@ middle_read v bytes r h e = runs_read v (middle bytes) r (clean bytes h) e
 
 -- ---- the answers
 
-pub middle_ok : (v : Version) (bytes m : List ℕ) (r : RunPackage) → IsBytes bytes → has_digest bytes ≡ true → m ≡ middle bytes → runs_in v m ≡ Some r → reading_as v bytes ≡ Ok (whole r)
+pub middle_ok : (v : Version) (bytes m : List ℕ) (r : RunPackage) → IsBytes bytes → has_digest bytes ≡ true → m ≡ middle bytes → runs_in v m ≡ Some r → reading_as v bytes ≡ Ok (expanded_package r)
 middle_ok v bytes m r h d is e = read_ok v bytes r h d (ap (runs_in v) (sym is) ∙ e)
 
 pub middle_form : (v : Version) (bytes m : List ℕ) (e : DecodeError) → IsBytes bytes → has_digest bytes ≡ true → m ≡ middle bytes → e ≡ Malformed → Makes {X = RunPackage} (Err e) (runs_in v m) → reading_as v bytes ≡ Err Form

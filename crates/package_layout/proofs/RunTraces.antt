@@ -244,9 +244,9 @@ not_twice : (s x a y : Bool) → (s ≡ true → a ≡ false) → (s && ((x && a
 not_twice true x a y h = let none : a ≡ false = h refl in rw none (ap (λ (b : Bool). b && y) (and-false x))
 not_twice false x a y h = refl
 
-none_left : (s f : Bool) → false ≡ ((s && false) && f)
-none_left true f = refl
-none_left false f = refl
+and-and-false : (s f : Bool) → false ≡ ((s && false) && f)
+and-and-false true f = refl
+and-and-false false f = refl
 
 module _ (path : List ℕ) (steps : ℕ) where
   first_by : (e : Event) (stride : ℕ) (es : List Event) (n : ℕ)
@@ -259,7 +259,7 @@ module _ (path : List ℕ) (steps : ℕ) where
       let left : List Event = map (at_step e) (steps_from (e.step + stride + stride) stride n) ++ es in
       not_twice (starts path e) early (act_rule before e.act) (follows steps (progress_after before next) left)
       (λ h. once path before e.act (and-parts ((e.step == 0) && (e.process == 0)) (starts_on path e.act) h).1)
-      ∙ none_left (starts path e) (follows steps at_start es)
+      ∙ and-and-false (starts path e) (follows steps at_start es)
       ∙ ap (λ (b : Bool). starts path e && b && follows steps at_start es) (sym (ne_eqb (suc (suc n)) 1 (λ is. omega (arith, is))))
 
   trace_first : (r : Run) (rs : List Run) → is_run r ≡ true

@@ -11,7 +11,7 @@ use Rattle.run_model.specs.declared.event.Act.TheVariants as acts
 use Rattle.run_model.specs.declared.event.Event.{Event}
 use Rattle.run_model.specs.ValidTrace.{is_asked}
 use Rattle.package_layout.specs.Runs.{Run, IsCut, IsCutOf, is_formed}
-use Rattle.package_layout.specs.Runs.{act_kind, act_path, act_number, same_act, is_alike, Begun, single, joins, grown, runs_from, runs_of, steps_from, at_step, run_events, events_in, total, last_step, begun_by, is_run, stops_before, are_longest, are_runs, max_events}
+use Rattle.package_layout.specs.Runs.{act_kind, act_path, act_number, same_act, is_alike, Begun, run_of_one, joins, run_with_event, runs_from, runs_of, steps_from, at_step, run_events, events_in, total, last_step, begun_by, is_run, stops_before, are_longest, are_runs, max_events}
 
 -- ---- the same act
 
@@ -169,7 +169,7 @@ pub record IsBegun (b : Begun) : Type 0 where
   pub count : b.run.count ≡ suc before
   pub last : b.last ≡ last_from b.run.first.step b.run.stride before
 
-pub single_begun : (e : Event) → IsBegun (single e)
+pub single_begun : (e : Event) → IsBegun (run_of_one e)
 single_begun e = record { before = 0; count = refl; last = refl }
 
 -- the steps so far are the same with the stride that the next event gives
@@ -201,10 +201,10 @@ module _ (b : Begun) (e : Event) (begun : IsBegun b) (h : joins b e ≡ true) wh
   reaches : last_from first stride (suc begun.before) ≡ e.step
   reaches = omega (arith, last-more first stride begun.before, same.1, begun.last, facts.later)
 
-  pub grown_begun : IsBegun (grown b e)
+  pub grown_begun : IsBegun (run_with_event b e)
   grown_begun = record { before = suc begun.before; count = more; last = sym reaches }
 
-  pub grown_events : run_events (grown b e).run ≡ run_events b.run ++ e ∷ []
+  pub grown_events : run_events (run_with_event b e).run ≡ run_events b.run ++ e ∷ []
   grown_events =
       let a = b.run.first in
       let steps : steps_from first stride (b.run.count + 1) ≡ steps_from first b.run.stride b.run.count ++ e.step ∷ [] =
@@ -222,20 +222,20 @@ expands : (b : Begun) (es : List Event) → IsBegun b → events_in (runs_from b
 expands b [] begun = refl
 expands b (e ∷ es) begun = elim (cases_Bool (joins b e)) [
   | inl on ↦
-      let more : events_in (runs_from (grown b e) es) ≡ run_events b.run ++ e ∷ es =
-      expands (grown b e) es (grown_begun b e begun on)
+      let more : events_in (runs_from (run_with_event b e) es) ≡ run_events b.run ++ e ∷ es =
+      expands (run_with_event b e) es (grown_begun b e begun on)
       ∙ ap (λ (l : List Event). l ++ es) (grown_events b e begun on)
       ∙ append_assoc (run_events b.run) (e ∷ []) es in
       rw on more
   | inr off ↦
-      let more : run_events b.run ++ events_in (runs_from (single e) es) ≡ run_events b.run ++ e ∷ es =
-      ap (λ (l : List Event). run_events b.run ++ l) (expands (single e) es (single_begun e)) in
+      let more : run_events b.run ++ events_in (runs_from (run_of_one e) es) ≡ run_events b.run ++ e ∷ es =
+      ap (λ (l : List Event). run_events b.run ++ l) (expands (run_of_one e) es (single_begun e)) in
       rw off more
 ]
 
 pub events_again : (es : List Event) → events_in (runs_of es) ≡ es
 events_again [] = refl
-events_again (e ∷ es) = expands (single e) es (single_begun e)
+events_again (e ∷ es) = expands (run_of_one e) es (single_begun e)
 
 -- ---- what a run by itself meets
 
@@ -266,9 +266,9 @@ alike_itself first step un =
     and-from (first.process == first.process) (same_act first.act first.act) (eq-eqb first.process first.process refl) (same_itself first.act un)
 
 -- the next event of a run of two or more goes on with it, and the first one after a single event does
-goes_on : (first : Event) (count stride last : ℕ) → is_asked first.act ≡ false
+joins-at_step : (first : Event) (count stride last : ℕ) → is_asked first.act ≡ false
     → joins (begun_at first count stride last) (at_step first (last + stride)) ≡ true
-goes_on first count stride last un =
+joins-at_step first count stride last un =
     let e : Event = at_step first (last + stride) in
     let b : Begun = begun_at first count stride last in
     and-from (is_alike first e && nat_le last (last + stride)) ((count == 1) || ((last + stride) - last == stride))
@@ -276,7 +276,7 @@ goes_on first count stride last un =
     (or_right (count == 1) ((last + stride) - last == stride) (eq-eqb ((last + stride) - last) stride (omega arith)))
 
 single_goes_on : (first : Event) (stride : ℕ) → is_asked first.act ≡ false
-    → joins (single first) (at_step first (first.step + stride)) ≡ true
+    → joins (run_of_one first) (at_step first (first.step + stride)) ≡ true
 single_goes_on first stride un =
     let e : Event = at_step first (first.step + stride) in
     and-from (is_alike first e && nat_le first.step (first.step + stride)) true
@@ -294,11 +294,11 @@ takes_in first stride un (suc n) count last end rest is =
     let b : Begun = begun_at first count stride last in
     let later : List Event = map (at_step first) (steps_from (last + stride + stride) stride n) ++ rest in
     let apart : (last + stride) - last ≡ stride = omega arith in
-    let one : runs_from (grown b (at_step first (last + stride))) later ≡ runs_from (begun_at first (count + 1) stride (last + stride)) later =
+    let one : runs_from (run_with_event b (at_step first (last + stride))) later ≡ runs_from (begun_at first (count + 1) stride (last + stride)) later =
     ap (λ (d : ℕ). runs_from (begun_at first (count + 1) d (last + stride)) later) apart in
     let more : runs_from (begun_at first (count + 1) stride (last + stride)) later ≡ runs_from (begun_at first end stride (last_from (last + stride) stride n)) rest =
     takes_in first stride un n (count + 1) (last + stride) end rest (omega (arith, is)) in
-    rw (goes_on first count stride last un) (one ∙ more)
+    rw (joins-at_step first count stride last un) (one ∙ more)
 
 -- the events of a run begin it, and nothing else is of it so far
 begins_by : (first : Event) (count stride : ℕ) (rest : List Event) → is_formed (record { first = first; count = count; stride = stride }) ≡ true
@@ -317,7 +317,7 @@ begins_by first (suc (suc n)) stride rest h =
     let un : is_asked first.act ≡ false = not-true (is_asked first.act) (rw two at shape.1) in
     let later : List Event = map (at_step first) (steps_from (first.step + stride + stride) stride n) ++ rest in
     let apart : (first.step + stride) - first.step ≡ stride = omega arith in
-    let second : runs_from (grown (single first) (at_step first (first.step + stride))) later ≡ runs_from (begun_at first 2 stride (first.step + stride)) later =
+    let second : runs_from (run_with_event (run_of_one first) (at_step first (first.step + stride))) later ≡ runs_from (begun_at first 2 stride (first.step + stride)) later =
     ap (λ (d : ℕ). runs_from (begun_at first 2 d (first.step + stride)) later) apart in
     let more : runs_from (begun_at first 2 stride (first.step + stride)) later ≡ runs_from (begun_at first (suc (suc n)) stride (last_from (first.step + stride) stride n)) rest =
     takes_in first stride un n 2 (first.step + stride) (suc (suc n)) rest (omega arith) in
@@ -362,10 +362,10 @@ HasShape b = ((b.run.count ≡ 1) × (b.run.stride ≡ 0)) ⊎ ((2 ≤ b.run.cou
 abbrev pub IsSmall : Event → Type 0
 IsSmall e = e.step < 2 ^ 32
 
-single_shape : (e : Event) → HasShape (single e)
+single_shape : (e : Event) → HasShape (run_of_one e)
 single_shape e = inl (refl, refl)
 
-grown_shape : (b : Begun) (e : Event) → IsBegun b → joins b e ≡ true → HasShape (grown b e)
+grown_shape : (b : Begun) (e : Event) → IsBegun b → joins b e ≡ true → HasShape (run_with_event b e)
 grown_shape b e begun h = inr (omega (arith, begun.count), (joined b e h).unasked)
 
 run_by : (count stride : ℕ) (asked : Bool) → ((count ≡ 1) × (stride ≡ 0)) ⊎ ((2 ≤ count) × (asked ≡ false))
@@ -411,10 +411,10 @@ longest_from b [] begun shape = record {
   begins = refl;
 }
 longest_from b (e ∷ es) begun shape = elim (cases_Bool (joins b e)) [
-  | inl on ↦ rw on (longest_from (grown b e) es (grown_begun b e begun on) (grown_shape b e begun on))
+  | inl on ↦ rw on (longest_from (run_with_event b e) es (grown_begun b e begun on) (grown_shape b e begun on))
   | inr off ↦
-      let rs : List Run = runs_from (single e) es in
-      let more : Longest e rs = longest_from (single e) es (single_begun e) (single_shape e) in
+      let rs : List Run = runs_from (run_of_one e) es in
+      let more : Longest e rs = longest_from (run_of_one e) es (single_begun e) (single_shape e) in
       let stops : stops_before b.run rs ≡ true =
       ap (stops_before b.run) more.split
       ∙ ap (λ (x : Event). not (joins (begun_by b.run) x)) more.begins
@@ -433,7 +433,7 @@ longest_from b (e ∷ es) begun shape = elim (cases_Bool (joins b e)) [
 runs_formed : (es : List Event) → (list_all is_formed (runs_of es) ≡ true) × (are_longest (runs_of es) ≡ true)
 runs_formed [] = (refl, refl)
 runs_formed (e ∷ es) =
-    let all = longest_from (single e) es (single_begun e) (single_shape e) in
+    let all = longest_from (run_of_one e) es (single_begun e) (single_shape e) in
     (all.formed, all.longest)
 
 pub one_cut : (es : List Event) → IsCutOf es (runs_of es)
@@ -450,15 +450,15 @@ is_small r = nat_lt (last_step r) (2 ^ 32)
 small_from : (b : Begun) (es : List Event) → IsBegun b → b.last < 2 ^ 32 → AllByRecursion IsSmall es → list_all is_small (runs_from b es) ≡ true
 small_from b [] begun small all = and-from (is_small b.run) true (small_is b begun small) refl
 small_from b (e ∷ es) begun small all = elim (cases_Bool (joins b e)) [
-  | inl on ↦ rw on (small_from (grown b e) es (grown_begun b e begun on) all.0 all.1)
+  | inl on ↦ rw on (small_from (run_with_event b e) es (grown_begun b e begun on) all.0 all.1)
   | inr off ↦
-      let rs : List Run = runs_from (single e) es in
-      rw off (and-from (is_small b.run) (list_all is_small rs) (small_is b begun small) (small_from (single e) es (single_begun e) all.0 all.1))
+      let rs : List Run = runs_from (run_of_one e) es in
+      rw off (and-from (is_small b.run) (list_all is_small rs) (small_is b begun small) (small_from (run_of_one e) es (single_begun e) all.0 all.1))
 ]
 
 runs_small : (es : List Event) → AllByRecursion IsSmall es → list_all is_small (runs_of es) ≡ true
 runs_small [] small = refl
-runs_small (e ∷ es) small = small_from (single e) es (single_begun e) small.0 small.1
+runs_small (e ∷ es) small = small_from (run_of_one e) es (single_begun e) small.0 small.1
 
 all_runs : (rs : List Run) → list_all is_formed rs ≡ true → list_all is_small rs ≡ true → list_all is_run rs ≡ true
 all_runs [] formed small = refl

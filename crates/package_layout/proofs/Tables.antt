@@ -16,10 +16,10 @@ use Rattle.sql_model.specs.declared.table.Foreign.{Foreign}
 use Rattle.sql_model.specs.declared.table.Schema.{Schema}
 use Rattle.run_model.specs.declared.package.PackedRow.{PackedRow}
 use Rattle.run_model.specs.declared.package.PackedTable.{PackedTable}
-use Rattle.package_layout.specs.Fields.{Found, then_at, both_at, number_at, text_spelling, list_spelling, list_at, text_at}
+use Rattle.package_layout.specs.Fields.{DecodeResult, then_at, both_at, number_at, text_spelling, list_spelling, list_at, text_at}
 use Rattle.package_layout.specs.Spelling.{value_spelling, kind_number, rule_number, column_spelling, number_spelling, reason_spelling, cells_spelling, row_spelling, places_spelling, foreign_spelling, foreigns_spelling, schema_spelling, table_spelling}
 use Rattle.package_layout.specs.Typed.{IsU32, TypedValue, TypedValues, TypedColumn, TypedForeign, TypedSchema, TypedRow, TypedTable}
-use Rattle.package_layout.specs.Room.{few, key_room, foreign_room, foreigns_room, schema_room, row_room, table_room}
+use Rattle.package_layout.specs.Room.{fits_u8_count, key_room, foreign_room, foreigns_room, schema_room, row_room, table_room}
 use Rattle.package_layout.specs.Counts.{CountedList, CountedValue, CountedColumn, CountedForeign, CountedForeigns, CountedSchema, CountedRow, CountedTable}
 use Rattle.package_layout.specs.Reading.{value_at, kind_of, kind_at, column_at, rule_of, rule_at, reason_at, cells_at, row_at, rows_at, places_at, foreign_at, foreigns_at, schema_at, table_at}
 use Rattle.package_layout.proofs.Laws.{number_is, Took, IsField, always, list_all-always, Uncounted, all_uncounted, restate, recount, made_law, then_law, struct_law}
@@ -124,7 +124,7 @@ parts_spelling p = number_spelling p.0 ++ end_spelling p.1
 abbrev TypedParts : RowParts → Type 0
 TypedParts p = IsU32 p.0 × TypedEnd p.1
 
-abbrev parts_at : ℕ → List ℕ → Found RowParts
+abbrev parts_at : ℕ → List ℕ → DecodeResult RowParts
 parts_at columns = both_at (number_at w32) (both_at reason_at (cells_at columns))
 
 parts_law : (columns : ℕ) → IsField parts_spelling TypedParts (λ (p : RowParts). so_many columns p.1.1) (λ (p : RowParts). Unit {0} × CountedEnd p.1) (parts_at columns)
@@ -155,9 +155,9 @@ bytes_fact [] h = tt
 bytes_fact (k ∷ key) h = let both = and-parts (nat_lt k 256) (list_all (λ place. nat_lt place 256) key) h in (ltb-true k 256 both.0, bytes_fact key both.1)
 
 places_law : IsField (list_spelling w8 (to_be_bytes w8)) Anything key_room Uncounted places_at
-places_law = recount Uncounted (restate (list_spelling w8 (to_be_bytes w8)) (AllByRecursion (λ n. n < 256)) Anything (λ key. few key && list_all always key) key_room places_at (byte_list_law (to_be_bytes w8) (λ n. n < 256) always (number_at w8) (number_law w8 256 wide8))
-    (λ key t h. let both = and-parts (few key) (list_all (λ place. nat_lt place 256) key) h in (bytes_fact key both.1, and-from (few key) (list_all always key) both.0 (list_all-always key)))
-    (λ key t h. (tt, and-from (few key) (list_all (λ place. nat_lt place 256) key) (and-parts (few key) (list_all always key) h).0 (bytes_test key t))))
+places_law = recount Uncounted (restate (list_spelling w8 (to_be_bytes w8)) (AllByRecursion (λ n. n < 256)) Anything (λ key. fits_u8_count key && list_all always key) key_room places_at (byte_list_law (to_be_bytes w8) (λ n. n < 256) always (number_at w8) (number_law w8 256 wide8))
+    (λ key t h. let both = and-parts (fits_u8_count key) (list_all (λ place. nat_lt place 256) key) h in (bytes_fact key both.1, and-from (fits_u8_count key) (list_all always key) both.0 (list_all-always key)))
+    (λ key t h. (tt, and-from (fits_u8_count key) (list_all (λ place. nat_lt place 256) key) (and-parts (fits_u8_count key) (list_all always key) h).0 (bytes_test key t))))
     (λ key n. all_uncounted key) (λ key n. tt)
 
 -- ---- foreign keys
@@ -225,7 +225,7 @@ keys_law : (v : Version) → IsField (keys_parts v) TypedKeys (keys_fit v) (λ (
 keys_law v = then_law places_spelling Anything key_room places_at (foreigns_spelling v) (AllByRecursion TypedForeign) (λ a. foreigns_fit v) (λ a. foreigns_at v) places_law (λ a. foreigns_law v)
 
 abbrev columns_fit : List Column → Bool
-columns_fit cs = few cs && list_all always cs
+columns_fit cs = fits_u8_count cs && list_all always cs
 
 abbrev pub schema_fits : Version → Schema → Bool
 schema_fits v s = schema_room s && has_of v s.foreign
@@ -234,10 +234,10 @@ schema_fits v s = schema_room s && has_of v s.foreign
 schema_to : (v : Version) (s : Schema) → schema_fits v s ≡ true → (columns_fit s.columns && keys_fit v (s.key, s.foreign)) ≡ true
 schema_to v s h =
     let a = and-parts (schema_room s) (has_of v s.foreign) h in
-    let b = and-parts (few s.columns) (key_room s.key && foreigns_room s.foreign) a.0 in
+    let b = and-parts (fits_u8_count s.columns) (key_room s.key && foreigns_room s.foreign) a.0 in
     let c = and-parts (key_room s.key) (foreigns_room s.foreign) b.1 in
     and-from (columns_fit s.columns) (keys_fit v (s.key, s.foreign))
-    (and-from (few s.columns) (list_all always s.columns) b.0 (list_all-always s.columns))
+    (and-from (fits_u8_count s.columns) (list_all always s.columns) b.0 (list_all-always s.columns))
     (and-from (key_room s.key) (foreigns_fit v s.foreign) c.0 (and-from (foreigns_room s.foreign) (has_of v s.foreign) c.1 a.1))
 
 schema_from : (v : Version) (s : Schema) → (columns_fit s.columns && keys_fit v (s.key, s.foreign)) ≡ true → schema_fits v s ≡ true
@@ -246,7 +246,7 @@ schema_from v s h =
     let b = and-parts (key_room s.key) (foreigns_fit v s.foreign) a.1 in
     let c = and-parts (foreigns_room s.foreign) (has_of v s.foreign) b.1 in
     and-from (schema_room s) (has_of v s.foreign)
-    (and-from (few s.columns) (key_room s.key && foreigns_room s.foreign) (and-parts (few s.columns) (list_all always s.columns) a.0).0
+    (and-from (fits_u8_count s.columns) (key_room s.key && foreigns_room s.foreign) (and-parts (fits_u8_count s.columns) (list_all always s.columns) a.0).0
     (and-from (key_room s.key) (foreigns_room s.foreign) b.0 c.0))
     c.1
 
@@ -281,7 +281,7 @@ CountedTail v p = CountedSchema v p.0 × (Unit {0} × CountedList CountedRow p.1
 abbrev tail_fits : Version → TableTail → Bool
 tail_fits v p = schema_fits v p.0 && list_all (row_room (length p.0.columns)) p.1.1
 
-abbrev tail_at : Version → List ℕ → Found TableTail
+abbrev tail_at : Version → List ℕ → DecodeResult TableTail
 tail_at v = then_at (schema_at v) (λ s. both_at (number_at w32) (rows_at (length s.columns)))
 
 table_end_law : (s : Schema) → IsField (λ (p : TableEnd). to_be_bytes w32 p.0 ++ list_spelling w32 row_spelling p.1) (λ (p : TableEnd). IsU32 p.0 × AllByRecursion TypedRow p.1) (λ (p : TableEnd). list_all (row_room (length s.columns)) p.1) (λ (p : TableEnd). Unit {0} × CountedList CountedRow p.1) (both_at (number_at w32) (rows_at (length s.columns)))

@@ -11,7 +11,7 @@ use Rattle.run_model.specs.declared.package.PackedFile.{PackedFile}
 use Rattle.package_layout.specs.Fields.{both_at, signed_at, text_spelling, sized_at, text_at}
 use Rattle.package_layout.specs.Spelling.{value_spelling, values_spelling, content_spelling, file_spelling}
 use Rattle.package_layout.specs.Typed.{TypedValue, TypedValues, TypedFile}
-use Rattle.package_layout.specs.Room.{some_thousands}
+use Rattle.package_layout.specs.Room.{fits_u16_count}
 use Rattle.package_layout.specs.Counts.{IsCountable, CountedValue, CountedContent, CountedFile}
 use Rattle.package_layout.specs.Reading.{value_of_tag, value_at, values_at, content_of_tag, content_at, file_at}
 use Rattle.package_layout.proofs.Laws.{IsBytes, IsField, always, list_all-always, restate, then_law, struct_law}
@@ -59,9 +59,9 @@ value_same (Text t) = refl
 pub value_law : IsField value_spelling TypedValue always CountedValue value_at
 value_law = tagged_law value_spelling value_tag value_rest TypedValue always CountedValue value_of_tag (record { small = value_small; again = value_again; took = value_took; short = value_short }) value_same
 
-pub values_law : IsField values_spelling TypedValues some_thousands (AllByRecursion CountedValue) values_at
-values_law = restate values_spelling TypedValues TypedValues (λ xs. some_thousands xs && list_all always xs) some_thousands values_at (short_list_law value_spelling TypedValue always value_at value_law)
-    (λ xs t h. (t, and-from (some_thousands xs) (list_all always xs) h (list_all-always xs))) (λ xs t h. (t, (and-parts (some_thousands xs) (list_all always xs) h).0))
+pub values_law : IsField values_spelling TypedValues fits_u16_count (AllByRecursion CountedValue) values_at
+values_law = restate values_spelling TypedValues TypedValues (λ xs. fits_u16_count xs && list_all always xs) fits_u16_count values_at (short_list_law value_spelling TypedValue always value_at value_law)
+    (λ xs t h. (t, and-from (fits_u16_count xs) (list_all always xs) h (list_all-always xs))) (λ xs t h. (t, (and-parts (fits_u16_count xs) (list_all always xs) h).0))
 
 -- ---- files
 

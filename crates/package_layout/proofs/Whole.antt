@@ -14,12 +14,12 @@ use Rattle.run_model.specs.declared.package.PackedTable.{PackedTable}
 use Rattle.run_model.specs.declared.package.Log.{Log}
 use Rattle.run_model.specs.declared.event.Event.{Event}
 use Rattle.run_model.specs.declared.package.Package.{Package}
-use Rattle.package_layout.specs.Fields.{Found, both_at, number_at, list_at, list_spelling}
+use Rattle.package_layout.specs.Fields.{DecodeResult, both_at, number_at, list_at, list_spelling}
 use Rattle.package_layout.specs.Spelling.{file_spelling, table_spelling, log_spelling}
-use Rattle.package_layout.specs.Bare.{BareTyped}
+use Rattle.package_layout.specs.Bare.{IsTypedBare}
 use Rattle.package_layout.specs.Plain.{has_tables}
 use Rattle.package_layout.specs.Typed.{IsU32, TypedFile, TypedTable, TypedLog}
-use Rattle.package_layout.specs.Room.{some_thousands, table_room, log_room}
+use Rattle.package_layout.specs.Room.{fits_u16_count, table_room, log_room}
 use Rattle.package_layout.specs.Counts.{IsCountable, CountedList, CountedFile, CountedTable, CountedLog}
 use Rattle.package_layout.specs.Counted.{CountedTrace, IsCounted}
 use Rattle.package_layout.specs.Runs.{max_events, few_events, trace_room}
@@ -29,7 +29,7 @@ use Rattle.ldv_value.proofs.Booleans.{and-parts, and-from}
 use Rattle.package_layout.specs.Reading.{file_at, table_at, log_at}
 use Rattle.package_layout.specs.Events.{names_spelling, names_at, event_spelling, TypedEvent, event_room, event_at}
 use Rattle.package_layout.specs.Version.{Version, One, Two}
-use Rattle.package_layout.specs.Whole.{mode_number, mode_spelling, mode_of, mode_at, trace_spelling, trace_at, bare, bare_at, sections, with_events, IsTyped, tables_room, has_room, sections_at, all_of}
+use Rattle.package_layout.specs.Whole.{mode_number, mode_spelling, mode_of, mode_at, trace_spelling, trace_at, bytes_before_trace, bare_at, sections, with_events, IsTyped, tables_room, has_room, sections_at, all_of}
 use Rattle.package_layout.proofs.Laws.{number_is, IsBytes, IsBytes-rest, IsField, just, always, list_all-always, Uncounted, restate, recount, made_law, then_law}
 use Rattle.package_layout.proofs.Numbers.{wide8, wide64, number_law, short_list_law, long_law}
 use Rattle.package_layout.proofs.Tables.{Anything, u32_law, has_of, table_fits, table_law}
@@ -56,7 +56,7 @@ files_law = restate (list_spelling w32 file_spelling) (AllByRecursion TypedFile)
     (λ fs t h. (t, list_all-always fs)) (λ fs t h. (t, refl))
 
 abbrev tables_fit : Version → List PackedTable → Bool
-tables_fit v ts = some_thousands ts && list_all (table_fits v) ts
+tables_fit v ts = fits_u16_count ts && list_all (table_fits v) ts
 
 tables_law : (v : Version) → IsField (list_spelling w16 (table_spelling v)) (AllByRecursion TypedTable) (tables_fit v) (AllByRecursion (CountedTable v)) (list_at w16 (table_at v))
 tables_law v = short_list_law (table_spelling v) TypedTable (table_fits v) (table_at v) (table_law v)
@@ -164,27 +164,27 @@ abbrev f3 : Version → P3 → Bool
 f3 v p = f4 v p.1
 
 abbrev f2 : Version → P2 → Bool
-f2 v p = some_thousands p.0 && f3 v p.1
+f2 v p = fits_u16_count p.0 && f3 v p.1
 
 abbrev f1 : Version → P1 → Bool
 f1 v p = f2 v p.1
 
-abbrev r6 : Version → List ℕ → Found P6
+abbrev r6 : Version → List ℕ → DecodeResult P6
 r6 v = both_at (list_at w16 (table_at v)) (list_at w32 log_at)
 
-abbrev r5 : Version → List ℕ → Found P5
+abbrev r5 : Version → List ℕ → DecodeResult P5
 r5 v = both_at (list_at w32 file_at) (r6 v)
 
-abbrev r4 : Version → List ℕ → Found P4
+abbrev r4 : Version → List ℕ → DecodeResult P4
 r4 v = both_at (number_at w32) (r5 v)
 
-abbrev r3 : Version → List ℕ → Found P3
+abbrev r3 : Version → List ℕ → DecodeResult P3
 r3 v = both_at (number_at w64) (r4 v)
 
-abbrev r2 : Version → List ℕ → Found P2
+abbrev r2 : Version → List ℕ → DecodeResult P2
 r2 v = both_at names_at (r3 v)
 
-abbrev r1 : Version → List ℕ → Found P1
+abbrev r1 : Version → List ℕ → DecodeResult P1
 r1 v = both_at mode_at (r2 v)
 
 l6 : (v : Version) → IsField (s6 v) t6 (f6 v) (c6 v) (r6 v)
@@ -200,7 +200,7 @@ l3 : (v : Version) → IsField (s3 v) t3 (f3 v) (c3 v) (r3 v)
 l3 v = then_law (to_be_bytes w64) (λ n. n < 2 ^ 64) always (number_at w64) (s4 v) t4 (λ a. f4 v) (λ a. r4 v) (number_law w64 (2 ^ 64) wide64) (λ a. l4 v)
 
 l2 : (v : Version) → IsField (s2 v) t2 (f2 v) (c2 v) (r2 v)
-l2 v = then_law names_spelling (AllByRecursion IsUtf8) some_thousands names_at (s3 v) t3 (λ a. f3 v) (λ a. r3 v) names_law (λ a. l3 v)
+l2 v = then_law names_spelling (AllByRecursion IsUtf8) fits_u16_count names_at (s3 v) t3 (λ a. f3 v) (λ a. r3 v) names_law (λ a. l3 v)
 
 l1 : (v : Version) → IsField (s1 v) t1 (f1 v) (c1 v) (r1 v)
 l1 v = then_law mode_spelling Anything always mode_at (s2 v) t2 (λ a. f2 v) (λ a. r2 v) mode_law (λ a. l2 v)
@@ -213,7 +213,7 @@ back p = (p.mode, (p.start, (p.seed, (p.steps, (p.files, (p.tables, p.logs))))))
 
 -- a package without events
 abbrev IsBare : Package → Type 0
-IsBare p = BareTyped p × (p.events ≡ [])
+IsBare p = IsTypedBare p × (p.events ≡ [])
 
 abbrev bare_room : Version → Package → Bool
 bare_room v p = f1 v (back p)
@@ -224,7 +224,7 @@ BareCounted v p = c1 v (back p)
 made_again : (p : Package) → p.events ≡ [] → make (back p) ≡ p
 made_again p none = λ j. with_events p (sym none j)
 
-bare_law : (v : Version) → IsField (bare v) IsBare (bare_room v) (BareCounted v) (bare_at v)
+bare_law : (v : Version) → IsField (bytes_before_trace v) IsBare (bare_room v) (BareCounted v) (bare_at v)
 bare_law v = made_law (s1 v) t1 (f1 v) (r1 v) IsBare (bare_room v) (λ p. Some (make p)) back (l1 v)
     (λ p t h. ((tt, t.0), h, ap just (made_again p t.1)))
     (λ a p t h e.
@@ -242,38 +242,38 @@ apart p = (with_events p [], p.events)
 -- the format has room for the package, and the version has its tables
 abbrev pub has_place : Version → Package → Bool
 has_place v p =
-    some_thousands p.start
+    fits_u16_count p.start
     && (tables_fit v p.tables && (list_all log_room p.logs && trace_room p.events))
 
 room_apart : (v : Version) (p : Package) → has_place v p ≡ true → (bare_room v p && trace_room p.events) ≡ true
 room_apart v p h =
-    let one = and-parts (some_thousands p.start) (tables_fit v p.tables && (list_all log_room p.logs && trace_room p.events)) h in
+    let one = and-parts (fits_u16_count p.start) (tables_fit v p.tables && (list_all log_room p.logs && trace_room p.events)) h in
     let two = and-parts (tables_fit v p.tables) (list_all log_room p.logs && trace_room p.events) one.1 in
     let three = and-parts (list_all log_room p.logs) (trace_room p.events) two.1 in
     and-from (bare_room v p) (trace_room p.events)
-    (and-from (some_thousands p.start) (tables_fit v p.tables && list_all log_room p.logs) one.0 (and-from (tables_fit v p.tables) (list_all log_room p.logs) two.0 three.0))
+    (and-from (fits_u16_count p.start) (tables_fit v p.tables && list_all log_room p.logs) one.0 (and-from (tables_fit v p.tables) (list_all log_room p.logs) two.0 three.0))
     three.1
 
 room_joined : (v : Version) (p : Package) → bare_room v p ≡ true → trace_room p.events ≡ true → has_place v p ≡ true
 room_joined v p h k =
-    let one = and-parts (some_thousands p.start) (tables_fit v p.tables && list_all log_room p.logs) h in
+    let one = and-parts (fits_u16_count p.start) (tables_fit v p.tables && list_all log_room p.logs) h in
     let two = and-parts (tables_fit v p.tables) (list_all log_room p.logs) one.1 in
-    and-from (some_thousands p.start) (tables_fit v p.tables && (list_all log_room p.logs && trace_room p.events)) one.0
+    and-from (fits_u16_count p.start) (tables_fit v p.tables && (list_all log_room p.logs && trace_room p.events)) one.0
     (and-from (tables_fit v p.tables) (list_all log_room p.logs && trace_room p.events) two.0 (and-from (list_all log_room p.logs) (trace_room p.events) two.1 k))
 
-typed_joined : (p : Package) → BareTyped p → AllByRecursion TypedEvent p.events → IsTyped p
+typed_joined : (p : Package) → IsTypedBare p → AllByRecursion TypedEvent p.events → IsTyped p
 typed_joined p t e = (t.0, (t.1.0, (t.1.1.0, (t.1.1.1.0, (t.1.1.1.1.0, (t.1.1.1.1.1, e))))))
 
-typed_apart : (p : Package) → IsTyped p → BareTyped p × AllByRecursion TypedEvent p.events
+typed_apart : (p : Package) → IsTyped p → IsTypedBare p × AllByRecursion TypedEvent p.events
 typed_apart p t = ((t.0, (t.1.0, (t.1.1.0, (t.1.1.1.0, (t.1.1.1.1.0, t.1.1.1.1.1.0))))), t.1.1.1.1.1.1)
 
 parts_again : (q : Sections) (p : Package) → q.0.events ≡ [] → with_events q.0 q.1 ≡ p → q ≡ apart p
 parts_again q p none is = subst (λ (r : Package). q ≡ apart r) is (λ j. (with_events q.0 (none j), q.1))
 
 pub sections_law : (v : Version) → IsField (sections v) IsTyped (has_place v) (IsCounted v) (sections_at v)
-sections_law v = recount (IsCounted v) (made_law (λ (q : Sections). bare v q.0 ++ trace_spelling v q.1) (λ (q : Sections). IsBare q.0 × AllByRecursion TypedEvent q.1) (λ (q : Sections). bare_room v q.0 && trace_room q.1) (both_at (bare_at v) (trace_at v))
+sections_law v = recount (IsCounted v) (made_law (λ (q : Sections). bytes_before_trace v q.0 ++ trace_spelling v q.1) (λ (q : Sections). IsBare q.0 × AllByRecursion TypedEvent q.1) (λ (q : Sections). bare_room v q.0 && trace_room q.1) (both_at (bare_at v) (trace_at v))
     IsTyped (has_place v) (λ q. Some (with_events q.0 q.1)) apart
-    (then_law (bare v) IsBare (bare_room v) (bare_at v) (trace_spelling v) (AllByRecursion TypedEvent) (λ a. trace_room) (λ a. trace_at v) (bare_law v) (λ a. events_law v))
+    (then_law (bytes_before_trace v) IsBare (bare_room v) (bare_at v) (trace_spelling v) (AllByRecursion TypedEvent) (λ a. trace_room) (λ a. trace_at v) (bare_law v) (λ a. events_law v))
     (λ p t h. let both = typed_apart p t in (((both.0, refl), both.1), room_apart v p h, refl))
     (λ q p t h e.
     let is : with_events q.0 q.1 ≡ p = same-some (with_events q.0 q.1) p e in
@@ -314,23 +314,23 @@ of_foreign Two p h = refl
 pub place_from : (v : Version) (p : Package) → has_room p ≡ true → has_tables v p ≡ true → has_place v p ≡ true
 place_from v p h k =
     let rest : Bool = list_all log_room p.logs && trace_room p.events in
-    let one = and-parts (some_thousands p.start) (tables_room p && rest) h in
+    let one = and-parts (fits_u16_count p.start) (tables_room p && rest) h in
     let two = and-parts (tables_room p) rest one.1 in
-    let three = and-parts (some_thousands p.tables) (list_all table_room p.tables) two.0 in
+    let three = and-parts (fits_u16_count p.tables) (list_all table_room p.tables) two.0 in
     let each : list_all (table_fits v) p.tables ≡ true =
     both_all table_room (λ (t : PackedTable). has_of v t.schema.foreign) p.tables three.1 (foreign_of v p k) in
-    and-from (some_thousands p.start) (tables_fit v p.tables && rest) one.0
-    (and-from (tables_fit v p.tables) rest (and-from (some_thousands p.tables) (list_all (table_fits v) p.tables) three.0 each) two.1)
+    and-from (fits_u16_count p.start) (tables_fit v p.tables && rest) one.0
+    (and-from (tables_fit v p.tables) rest (and-from (fits_u16_count p.tables) (list_all (table_fits v) p.tables) three.0 each) two.1)
 
 pub place_parts : (v : Version) (p : Package) → has_place v p ≡ true → (has_room p ≡ true) × (has_tables v p ≡ true)
 place_parts v p h =
     let rest : Bool = list_all log_room p.logs && trace_room p.events in
-    let one = and-parts (some_thousands p.start) (tables_fit v p.tables && rest) h in
+    let one = and-parts (fits_u16_count p.start) (tables_fit v p.tables && rest) h in
     let two = and-parts (tables_fit v p.tables) rest one.1 in
-    let three = and-parts (some_thousands p.tables) (list_all (table_fits v) p.tables) two.0 in
+    let three = and-parts (fits_u16_count p.tables) (list_all (table_fits v) p.tables) two.0 in
     let each = all_both table_room (λ (t : PackedTable). has_of v t.schema.foreign) p.tables three.1 in (
-      and-from (some_thousands p.start) (tables_room p && rest) one.0
-          (and-from (tables_room p) rest (and-from (some_thousands p.tables) (list_all table_room p.tables) three.0 each.0) two.1),
+      and-from (fits_u16_count p.start) (tables_room p && rest) one.0
+          (and-from (tables_room p) rest (and-from (fits_u16_count p.tables) (list_all table_room p.tables) three.0 each.0) two.1),
       of_foreign v p each.1,
     )
 
@@ -338,7 +338,7 @@ place_parts v p h =
 pub bare_took : (v : Version) (bytes : List ℕ) (p : Package) (rest : List ℕ) → IsBytes bytes → bare_at v bytes ≡ Some (p, rest) → (p.events ≡ []) × IsBytes rest
 bare_took v bytes p rest h e =
     let k = (bare_law v).took bytes p rest h e in
-    (k.is_typed.1, IsBytes-rest (bare v p) rest (subst IsBytes k.parts h))
+    (k.is_typed.1, IsBytes-rest (bytes_before_trace v p) rest (subst IsBytes k.parts h))
 
 pub events_took : (bytes : List ℕ) (es : List Event) (rest : List ℕ) → IsBytes bytes → list_at w32 event_at bytes ≡ Some (es, rest) → AllByRecursion TypedEvent es
 events_took bytes es rest h e = ((long_law event_spelling TypedEvent event_room event_at event_law event_filled).took bytes es rest h e).is_typed

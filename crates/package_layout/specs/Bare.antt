@@ -12,5 +12,5 @@ BareParts p =
 abbrev pub BareNumbers : Package → Type 0
 BareNumbers p = (p.seed < 2 ^ 64) × (IsU32 p.steps × BareParts p)
 
-abbrev pub BareTyped : Package → Type 0
-BareTyped p = AllByRecursion IsUtf8 p.start × BareNumbers p
+abbrev pub IsTypedBare : Package → Type 0
+IsTypedBare p = AllByRecursion IsUtf8 p.start × BareNumbers p

@@ -9,15 +9,15 @@ use Rattle.run_model.specs.declared.event.Act.{Act}
 use Rattle.run_model.specs.declared.event.Act.TheVariants as acts
 use Rattle.run_model.specs.declared.event.Event.{Event}
 use Rattle.package_layout.specs.declared.group.Group.{Group}
-use Rattle.package_layout.specs.declared.part.ReadPart.{ReadPart}
-use Rattle.package_layout.specs.declared.part.MadePart.{MadePart}
-use Rattle.package_layout.specs.Fields.{Found, both_at, made_at, tagged_at, number_at, list_at, text_at}
+use Rattle.package_layout.specs.declared.event_part.ReadPart.{ReadPart}
+use Rattle.package_layout.specs.declared.event_part.MadePart.{MadePart}
+use Rattle.package_layout.specs.Fields.{DecodeResult, both_at, made_at, tagged_at, number_at, list_at, text_at}
 use Rattle.package_layout.specs.Fields.{text_spelling, list_spelling}
 use Rattle.package_layout.specs.Groups.{groups, group_spelling, grouped_at}
 use Rattle.package_layout.specs.Parts.{read_part_spelling, made_part_spelling, read_part_at, made_part_at}
 use Rattle.package_layout.specs.Parts.{need_table, need_part, need_of, member_table, member_part, member_of}
 pub use Rattle.package_layout.specs.Typed.{TypedNeed, TypedMember, TypedAct, TypedEvent}
-use Rattle.package_layout.specs.Room.{some_thousands}
+use Rattle.package_layout.specs.Room.{fits_u16_count}
 
 -- ---- spelling
 
@@ -72,11 +72,11 @@ event_spelling e = to_be_bytes w32 e.step ++ (to_be_bytes w32 e.process ++ act_s
 
 -- at most 65,535 groups, whose tables have names
 abbrev pub needs_room : List Need → Bool
-needs_room needs = some_thousands (need_groups needs) && list_all (λ n. sql_name_test (need_table n)) needs
+needs_room needs = fits_u16_count (need_groups needs) && list_all (λ n. sql_name_test (need_table n)) needs
 
 abbrev pub members_room : List Member → Bool
 members_room members =
-    some_thousands (member_groups members) && list_all (λ m. sql_name_test (member_table m)) members
+    fits_u16_count (member_groups members) && list_all (λ m. sql_name_test (member_table m)) members
 
 abbrev pub act_room : Act → Bool
 act_room (acts.Started path) = true
@@ -94,7 +94,7 @@ act_room (acts.Tested path found) = true
 act_room (acts.Waited child) = true
 act_room (acts.Ended status) = true
 act_room (acts.Asked statement tables reads made) =
-    some_thousands tables && (needs_room reads && members_room made)
+    fits_u16_count tables && (needs_room reads && members_room made)
 
 abbrev pub event_room : Event → Bool
 event_room e = act_room e.act
@@ -106,25 +106,25 @@ flag_of zero = Some false
 flag_of (suc zero) = Some true
 flag_of (suc (suc n)) = None
 
-abbrev pub flag_at : List ℕ → Found Bool
+abbrev pub flag_at : List ℕ → DecodeResult Bool
 flag_at = made_at flag_of (number_at w8)
 
-abbrev pub names_at : List ℕ → Found (List (List ℕ))
+abbrev pub names_at : List ℕ → DecodeResult (List (List ℕ))
 names_at = list_at w16 text_at
 
-abbrev pub needs_at : List ℕ → Found (List Need)
+abbrev pub needs_at : List ℕ → DecodeResult (List Need)
 needs_at = grouped_at need_of read_part_at
 
-abbrev pub members_at : List ℕ → Found (List Member)
+abbrev pub members_at : List ℕ → DecodeResult (List Member)
 members_at = grouped_at member_of made_part_at
 
-abbrev pub plain_at : (List ℕ → Act) → List ℕ → Found Act
+abbrev pub plain_at : (List ℕ → Act) → List ℕ → DecodeResult Act
 plain_at make = made_at (λ path. Some (make path)) text_at
 
-abbrev pub flagged_at : (List ℕ → Bool → Act) → List ℕ → Found Act
+abbrev pub flagged_at : (List ℕ → Bool → Act) → List ℕ → DecodeResult Act
 flagged_at make = made_at (λ p. Some (make p.0 p.1)) (both_at text_at flag_at)
 
-abbrev pub act_of_tag : ℕ → List ℕ → Found Act
+abbrev pub act_of_tag : ℕ → List ℕ → DecodeResult Act
 act_of_tag zero = plain_at acts.Started
 act_of_tag (suc zero) = plain_at acts.Spawned
 act_of_tag (suc (suc zero)) = flagged_at acts.Unspawned
@@ -147,10 +147,10 @@ act_of_tag (suc (suc (suc (suc (suc (suc (suc (suc (suc (suc (suc (suc (suc (suc
 act_of_tag (suc (suc (suc (suc (suc (suc (suc (suc (suc (suc (suc (suc (suc (suc (suc n))))))))))))))) =
     λ bytes. None
 
-abbrev pub act_at : List ℕ → Found Act
+abbrev pub act_at : List ℕ → DecodeResult Act
 act_at = tagged_at act_of_tag
 
-abbrev pub event_at : List ℕ → Found Event
+abbrev pub event_at : List ℕ → DecodeResult Event
 event_at =
     made_at (λ e. Some (record { step = e.0; process = e.1.0; act = e.1.1 }))
     (both_at (number_at w32) (both_at (number_at w32) act_at))

@@ -6,7 +6,7 @@ use Rattle.std.specs.Str.{IsUtf8}
 use Rattle.std.specs.Int.{w16, w32}
 use Rattle.sql_model.specs.SqlNames.{sql_name_test}
 use Rattle.package_layout.specs.declared.group.Group.{Group}
-use Rattle.package_layout.specs.Fields.{Found, both_at, made_at, list_at, text_at, text_spelling}
+use Rattle.package_layout.specs.Fields.{DecodeResult, both_at, made_at, list_at, text_at, text_spelling}
 use Rattle.package_layout.specs.Fields.{list_spelling}
 
 abbrev pub group_spelling : {P : Type 0} → (P → List ℕ) → Group P → List ℕ
@@ -17,8 +17,8 @@ TypedGroup TypedPart g = IsUtf8 g.table × AllByRecursion TypedPart g.parts
 
 -- ---- from rows to groups, row by row
 
-abbrev pub single : {X P : Type 0} → (X → List ℕ) → (X → P) → X → Group P
-single table_of part_of x = record { table = table_of x; parts = part_of x ∷ [] }
+abbrev pub group_of_one : {X P : Type 0} → (X → List ℕ) → (X → P) → X → Group P
+group_of_one table_of part_of x = record { table = table_of x; parts = part_of x ∷ [] }
 
 abbrev pub with_part : {P : Type 0} → Group P → P → Group P
 with_part g part = record { table = g.table; parts = g.parts ++ part ∷ [] }
@@ -27,10 +27,10 @@ with_part g part = record { table = g.table; parts = g.parts ++ part ∷ [] }
 abbrev pub after : {X P : Type 0} → (X → List ℕ) → (X → P) → Group P → X → List (Group P)
 after table_of part_of g x =
     if bytes_eq g.table (table_of x) then with_part g (part_of x) ∷ []
-    else g ∷ single table_of part_of x ∷ []
+    else g ∷ group_of_one table_of part_of x ∷ []
 
 abbrev pub add : {X P : Type 0} → (X → List ℕ) → (X → P) → List (Group P) → X → List (Group P)
-add table_of part_of [] x = single table_of part_of x ∷ []
+add table_of part_of [] x = group_of_one table_of part_of x ∷ []
 add table_of part_of (g ∷ []) x = after table_of part_of g x
 add table_of part_of (g ∷ h ∷ gs) x = g ∷ add table_of part_of (h ∷ gs) x
 
@@ -50,7 +50,7 @@ is_group table parts = sql_name_test table && not (length parts == 0)
 abbrev pub group_of : {P : Type 0} → List ℕ × List P → Option (Group P)
 group_of p = if is_group p.0 p.1 then Some (record { table = p.0; parts = p.1 }) else None
 
-abbrev pub group_at : {P : Type 0} → (List ℕ → Found P) → List ℕ → Found (Group P)
+abbrev pub group_at : {P : Type 0} → (List ℕ → DecodeResult P) → List ℕ → DecodeResult (Group P)
 group_at part_at = made_at group_of (both_at text_at (list_at w32 part_at))
 
 -- no two neighbours are of one table, and the first isn't of the table before it
@@ -61,8 +61,9 @@ neighbours_differ before (g ∷ gs) = not (bytes_eq g.table before) && neighbour
 abbrev pub ungroup : {X P : Type 0} → (List ℕ → P → X) → Group P → List X
 ungroup place g = map (place g.table) g.parts
 
-abbrev pub ungrouped : {X P : Type 0} → (List ℕ → P → X) → List (Group P) → Option (List X)
-ungrouped place gs = if neighbours_differ [] gs then Some (flat_map (ungroup place) gs) else None
+abbrev pub items_of_groups : {X P : Type 0} → (List ℕ → P → X) → List (Group P) → Option (List X)
+items_of_groups place gs = if neighbours_differ [] gs then Some (flat_map (ungroup place) gs) else None
 
-abbrev pub grouped_at : {X P : Type 0} → (List ℕ → P → X) → (List ℕ → Found P) → List ℕ → Found (List X)
-grouped_at place part_at = made_at (ungrouped place) (list_at w16 (group_at part_at))
+abbrev pub grouped_at : {X P : Type 0} → (List ℕ → P → X)
+    → (List ℕ → DecodeResult P) → List ℕ → DecodeResult (List X)
+grouped_at place part_at = made_at (items_of_groups place) (list_at w16 (group_at part_at))

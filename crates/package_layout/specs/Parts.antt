@@ -3,9 +3,9 @@ use Rattle.std.specs.Prelude.{ℕ, List, ◌++◌, Some}
 use Rattle.std.specs.Int.{w8, w32, to_be_bytes}
 use Rattle.sql_model.specs.declared.need.Member.{Member}
 use Rattle.sql_model.specs.declared.need.Need.{Need}
-use Rattle.package_layout.specs.declared.part.ReadPart.{ReadPart}
-use Rattle.package_layout.specs.declared.part.MadePart.{MadePart}
-use Rattle.package_layout.specs.Fields.{Found, both_at, made_at, number_at}
+use Rattle.package_layout.specs.declared.event_part.ReadPart.{ReadPart}
+use Rattle.package_layout.specs.declared.event_part.MadePart.{MadePart}
+use Rattle.package_layout.specs.Fields.{DecodeResult, both_at, made_at, number_at}
 use Rattle.package_layout.specs.Spelling.{rule_number}
 use Rattle.package_layout.specs.Typed.{IsU32}
 use Rattle.package_layout.specs.Reading.{rule_at}
@@ -23,12 +23,12 @@ TypedReadPart p = IsU32 p.row × IsU32 p.version
 abbrev pub TypedMadePart : MadePart → Type 0
 TypedMadePart p = IsU32 p.row × IsU32 p.version
 
-abbrev pub read_part_at : List ℕ → Found ReadPart
+abbrev pub read_part_at : List ℕ → DecodeResult ReadPart
 read_part_at =
     made_at (λ p. Some (record { row = p.0; version = p.1.0; rule = p.1.1 }))
     (both_at (number_at w32) (both_at (number_at w32) rule_at))
 
-abbrev pub made_part_at : List ℕ → Found MadePart
+abbrev pub made_part_at : List ℕ → DecodeResult MadePart
 made_part_at =
     made_at (λ p. Some (record { row = p.0; version = p.1 })) (both_at (number_at w32) (number_at w32))
 

@@ -6,7 +6,7 @@ use Rattle.package_layout.specs.declared.damage.DamageKind.TheVariants.{Magic, D
 use Rattle.package_layout.specs.declared.layout.PackageStop.{PackageStop}
 use Rattle.package_layout.specs.declared.layout.PackageStop.TheVariants.{Damaged, NoMemory}
 use Rattle.package_layout.specs.declared.run_package.RunPackage.{RunPackage}
-use Rattle.package_layout.specs.RunPackages.{whole}
+use Rattle.package_layout.specs.RunPackages.{expanded_package}
 use Rattle.package_layout.specs.Valid.{has_digest}
 use Rattle.package_layout.specs.Version.{Version, version_of}
 
@@ -18,7 +18,7 @@ ReadsAs (Err NoMemory) due = Unit {0}
 
 -- the same of a package whose trace is kept as runs
 abbrev pub RunsReadAs : Result RunPackage PackageStop → Result Package DamageKind → Type 0
-RunsReadAs (Ok r) due = due ≡ Ok (whole r)
+RunsReadAs (Ok r) due = due ≡ Ok (expanded_package r)
 RunsReadAs (Err (Damaged kind)) due = due ≡ Err kind
 RunsReadAs (Err NoMemory) due = Unit {0}
 

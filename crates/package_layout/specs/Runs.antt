@@ -11,7 +11,7 @@ use Rattle.run_model.specs.declared.event.Event.{Event}
 use Rattle.run_model.specs.ValidTrace.{is_asked}
 pub use Rattle.package_layout.specs.declared.run.Run.{Run}
 pub use Rattle.package_layout.specs.declared.run.Begun.{Begun}
-use Rattle.package_layout.specs.Fields.{Found, both_at, made_at, number_at, list_at, list_spelling}
+use Rattle.package_layout.specs.Fields.{DecodeResult, both_at, made_at, number_at, list_at, list_spelling}
 use Rattle.package_layout.specs.Typed.{IsU32, TypedEvent}
 use Rattle.package_layout.specs.Events.{event_spelling, event_room, event_at, flag_number}
 use Rattle.package_layout.specs.Counts.{CountedEvent}
@@ -84,8 +84,8 @@ is_alike a b = (a.process == b.process) && same_act a.act b.act
 
 -- ---- from events to runs, by a run that has begun and the step of its last event
 
-abbrev pub single : Event → Begun
-single e = record { run = record { first = e; count = 1; stride = 0 }; last = e.step }
+abbrev pub run_of_one : Event → Begun
+run_of_one e = record { run = record { first = e; count = 1; stride = 0 }; last = e.step }
 
 -- the event is the next one of the run
 abbrev pub joins : Begun → Event → Bool
@@ -93,8 +93,8 @@ joins b e =
     is_alike b.run.first e && nat_le b.last e.step
     && ((b.run.count == 1) || (e.step - b.last == b.run.stride))
 
-abbrev pub grown : Begun → Event → Begun
-grown b e = record {
+abbrev pub run_with_event : Begun → Event → Begun
+run_with_event b e = record {
   run = record { first = b.run.first; count = b.run.count + 1; stride = e.step - b.last };
   last = e.step;
 }
@@ -102,11 +102,12 @@ grown b e = record {
 -- the run that has begun goes on as long as the events let it
 abbrev pub runs_from : Begun → List Event → List Run
 runs_from b [] = b.run ∷ []
-runs_from b (e ∷ es) = if joins b e then runs_from (grown b e) es else b.run ∷ runs_from (single e) es
+runs_from b (e ∷ es) = if joins b e then runs_from (run_with_event b e) es
+    else b.run ∷ runs_from (run_of_one e) es
 
 abbrev pub runs_of : List Event → List Run
 runs_of [] = []
-runs_of (e ∷ es) = runs_from (single e) es
+runs_of (e ∷ es) = runs_from (run_of_one e) es
 
 -- ---- from runs to events
 
@@ -184,7 +185,7 @@ CountedRun r = CountedEvent r.first
 abbrev pub run_room : Run → Bool
 run_room r = event_room r.first
 
-abbrev pub run_at : List ℕ → Found Run
+abbrev pub run_at : List ℕ → DecodeResult Run
 run_at =
     made_at (λ r. Some (record { first = r.0; count = r.1.0; stride = r.1.1 }))
     (both_at event_at (both_at (number_at w32) (number_at w32)))
@@ -192,7 +193,7 @@ run_at =
 abbrev pub runs_spelling : List Event → List ℕ
 runs_spelling es = list_spelling w32 run_spelling (runs_of es)
 
-abbrev pub runs_at : List ℕ → Found (List Event)
+abbrev pub runs_at : List ℕ → DecodeResult (List Event)
 runs_at = made_at events_of_runs (list_at w32 run_at)
 
 -- the format has room for so many events

@@ -24,8 +24,8 @@ pub use Rattle.run_model.specs.ValidPackage.{trace_rule, reasons_rule, parts_rul
 abbrev pub valid_test : Package → Bool
 valid_test p = has_room p && rules p
 
-abbrev pub Valid : Package → Type 0
-Valid p = IsTrue (valid_test p)
+abbrev pub IsValidPackage : Package → Type 0
+IsValidPackage p = IsTrue (valid_test p)
 
 -- ---- bytes and the packages that they spell
 
@@ -52,7 +52,7 @@ IsSpelled bytes p = (version : Version) × (version_of bytes ≡ Some version) �
 
 -- the bytes spell no valid package
 abbrev pub IsNoSpelling : Version → List ℕ → Type 0
-IsNoSpelling version bytes = (p : Package) → IsTyped p → Valid p → ¬ IsSpelling version p bytes
+IsNoSpelling version bytes = (p : Package) → IsTyped p → IsValidPackage p → ¬ IsSpelling version p bytes
 
 -- they begin as a version, and spell no valid package of it
 abbrev pub IsUnspelled : List ℕ → Type 0

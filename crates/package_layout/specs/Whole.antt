@@ -8,10 +8,10 @@ use Rattle.run_model.specs.declared.event.Event.{Event}
 use Rattle.run_model.specs.declared.package.Mode.{Mode}
 use Rattle.run_model.specs.declared.package.Mode.TheVariants.{Included, Excluded}
 use Rattle.run_model.specs.declared.package.Package.{Package}
-use Rattle.package_layout.specs.Fields.{Found, ◌>>=◌, both_at, made_at, number_at, list_at, list_spelling}
+use Rattle.package_layout.specs.Fields.{DecodeResult, ◌>>=◌, both_at, made_at, number_at, list_at, list_spelling}
 use Rattle.package_layout.specs.Spelling.{file_spelling, table_spelling, log_spelling}
 pub use Rattle.package_layout.specs.Typed.{TypedParts, TypedNumbers, IsTyped}
-use Rattle.package_layout.specs.Room.{some_thousands, table_room, log_room}
+use Rattle.package_layout.specs.Room.{fits_u16_count, table_room, log_room}
 use Rattle.package_layout.specs.Reading.{file_at, table_at, log_at}
 use Rattle.package_layout.specs.Events.{names_spelling, names_at, event_spelling, event_at}
 use Rattle.package_layout.specs.Version.{Version, One, Two, magic}
@@ -42,12 +42,12 @@ abbrev pub numbers : Version → Package → List ℕ
 numbers version p = to_be_bytes w64 p.seed ++ (to_be_bytes w32 p.steps ++ parts version p)
 
 -- all between the magic and the trace
-abbrev pub bare : Version → Package → List ℕ
-bare version p = mode_spelling p.mode ++ (names_spelling p.start ++ numbers version p)
+abbrev pub bytes_before_trace : Version → Package → List ℕ
+bytes_before_trace version p = mode_spelling p.mode ++ (names_spelling p.start ++ numbers version p)
 
 -- all between the magic and the digest
 abbrev pub sections : Version → Package → List ℕ
-sections version p = bare version p ++ trace_spelling version p.events
+sections version p = bytes_before_trace version p ++ trace_spelling version p.events
 
 abbrev pub body : Version → Package → List ℕ
 body version p = magic version ++ sections version p
@@ -75,11 +75,11 @@ with_events p events = record {
 -- ---- what the format has room for
 
 abbrev pub tables_room : Package → Bool
-tables_room p = some_thousands p.tables && list_all table_room p.tables
+tables_room p = fits_u16_count p.tables && list_all table_room p.tables
 
 abbrev pub has_room : Package → Bool
 has_room p =
-    some_thousands p.start
+    fits_u16_count p.start
     && (tables_room p && (list_all log_room p.logs && trace_room p.events))
 
 -- ---- reading
@@ -90,15 +90,15 @@ mode_of (suc zero) = Some Included
 mode_of (suc (suc zero)) = Some Excluded
 mode_of (suc (suc (suc n))) = None
 
-abbrev pub mode_at : List ℕ → Found Mode
+abbrev pub mode_at : List ℕ → DecodeResult Mode
 mode_at = made_at mode_of (number_at w8)
 
-abbrev pub trace_at : Version → List ℕ → Found (List Event)
+abbrev pub trace_at : Version → List ℕ → DecodeResult (List Event)
 trace_at One = made_at few_events (list_at w32 event_at)
 trace_at Two = runs_at
 
 -- all but the trace
-abbrev pub bare_at : Version → List ℕ → Found Package
+abbrev pub bare_at : Version → List ℕ → DecodeResult Package
 bare_at version =
     made_at
     (λ p. Some (record {
@@ -114,7 +114,7 @@ bare_at version =
     (both_at mode_at (both_at names_at (both_at (number_at w64) (both_at (number_at w32)
     (both_at (list_at w32 file_at) (both_at (list_at w16 (table_at version)) (list_at w32 log_at)))))))
 
-abbrev pub sections_at : Version → List ℕ → Found Package
+abbrev pub sections_at : Version → List ℕ → DecodeResult Package
 sections_at version = made_at (λ p. Some (with_events p.0 p.1)) (both_at (bare_at version) (trace_at version))
 
 -- all of the bytes

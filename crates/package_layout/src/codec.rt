@@ -2,7 +2,7 @@
 
 ghost use Rattle.std.specs.Prelude.{◌≡◌, ◌++◌, ℕ, List, OnOk, IfOk};
 ghost use Rattle.std.specs.List.{flat_map, AllByRecursion};
-ghost use Rattle.package_layout.specs.Fields.{Found, Gives, items_at, list_at, list_spelling};
+ghost use Rattle.package_layout.specs.Fields.{DecodeResult, Decodes, items_at, list_at, list_spelling};
 ghost use Rattle.package_layout.specs.Widths.{of_count};
 
 use crate::cursor::Cursor;
@@ -29,11 +29,11 @@ pub trait Encode: Drop {
 /// An item that is read from the front of bytes.
 pub trait Decode: Drop {
     /// The item at the front of bytes.
-    ghost reading: { List ℕ → Found Self };
+    ghost reading: { List ℕ → DecodeResult Self };
 
     /// Reads an item.
     fn decode(alloc: Global, cursor: &mut Cursor) -> Result<Self, DecodeError>
-        ensures { Gives result cursor.new (reading cursor.old) };
+        ensures { Decodes result cursor.new (reading cursor.old) };
 }
 
 /// Appends items.
@@ -67,7 +67,7 @@ pub fn decode_list<X: Decode>(
     width: Width,
     cursor: &mut Cursor,
 ) -> Result<Listed<X>, DecodeError>
-    ensures { Gives result cursor.new (list_at (of_count width) X.reading cursor.old) }
+    ensures { Decodes result cursor.new (list_at (of_count width) X.reading cursor.old) }
 {
     let count = decode_count(width, cursor)?;
     decode_items(alloc, count as usize, cursor)
@@ -79,7 +79,7 @@ pub fn decode_items<X: Decode>(
     count: usize,
     cursor: &mut Cursor,
 ) -> Result<Listed<X>, DecodeError>
-    ensures { Gives result cursor.new (items_at X.reading count cursor.old) }
+    ensures { Decodes result cursor.new (items_at X.reading count cursor.old) }
 {
     let mut items = Listed::new(alloc);
     for _turn in 0..count {

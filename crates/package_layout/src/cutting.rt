@@ -4,9 +4,9 @@ ghost use Rattle.std.specs.Prelude.{◌≡◌, ◌+◌, ◌<◌, ◌≤◌, ◌^
 ghost use Rattle.run_model.specs.declared.event.Event.{Event};
 ghost use Rattle.package_layout.specs.Cutting.{begun_count, cut_onto};
 ghost use Rattle.package_layout.specs.Events.{event_at};
-ghost use Rattle.package_layout.specs.Fields.{Gives, items_at, made_at};
+ghost use Rattle.package_layout.specs.Fields.{Decodes, items_at, made_at};
 ghost use Rattle.package_layout.specs.RunPackages.{cut_at};
-ghost use Rattle.package_layout.specs.Runs.{grown, joins, runs_of, single};
+ghost use Rattle.package_layout.specs.Runs.{run_with_event, joins, runs_of, run_of_one};
 ghost use Rattle.package_layout.specs.Version.{One};
 
 use crate::codec::Decode;
@@ -27,14 +27,14 @@ pub(crate) struct Cut {
 
 /// Reads the events of a trace, as their runs.
 pub(crate) fn decode_cut(alloc: Global, cursor: &mut Cursor) -> Result<Runs, DecodeError>
-    ensures { Gives result cursor.new (cut_at One cursor.old) }
+    ensures { Decodes result cursor.new (cut_at One cursor.old) }
 {
     let count = decode_u32(cursor)?;
     cut_events(alloc, count, cursor)
 }
 
 fn cut_events(alloc: Global, count: u32, cursor: &mut Cursor) -> Result<Runs, DecodeError>
-    ensures { Gives result cursor.new
+    ensures { Decodes result cursor.new
         (made_at (λ events. Some (runs_of events)) (items_at event_at count) cursor.old) }
 {
     let mut cut = Cut {
@@ -45,7 +45,7 @@ fn cut_events(alloc: Global, count: u32, cursor: &mut Cursor) -> Result<Runs, De
         let event = Event::decode(alloc, cursor)?;
         cut = with_event(cut, event)?;
     }
-    Ok(ended(cut)?)
+    Ok(runs_of_cut(cut)?)
 }
 
 fn with_event(cut: Cut, event: Event) -> Result<Cut, AllocError>
@@ -55,15 +55,15 @@ fn with_event(cut: Cut, event: Event) -> Result<Cut, AllocError>
 {
     let Cut { done, begun } = cut;
     match begun {
-        Some(begun) => joined(done, begun, event),
+        Some(begun) => cut_with_event(done, begun, event),
         None => Ok(Cut {
             done,
-            begun: Some(single(event)),
+            begun: Some(run_of_one(event)),
         }),
     }
 }
 
-fn joined(done: Runs, begun: Begun, event: Event) -> Result<Cut, AllocError>
+fn cut_with_event(done: Runs, begun: Begun, event: Event) -> Result<Cut, AllocError>
     requires { begun.run.count + 1 < 2 ^ 32 }
     ensures cut { IfOk result (λ new. (es : Items Event) →
         cut_onto new es ≡ cut_onto (record { done = done; begun = Some begun }) (event ∷ es)) }
@@ -73,19 +73,19 @@ fn joined(done: Runs, begun: Begun, event: Event) -> Result<Cut, AllocError>
     if joins(&run.first, run.count as usize, run.stride, last, &event) {
         return Ok(Cut {
             done,
-            begun: Some(grown(run, last, &event)),
+            begun: Some(run_with_event(run, last, &event)),
         });
     }
     let mut done = done;
     done.push(run)?;
     Ok(Cut {
         done,
-        begun: Some(single(event)),
+        begun: Some(run_of_one(event)),
     })
 }
 
-fn single(event: Event) -> Begun
-    ensures { result ≡ single event }
+fn run_of_one(event: Event) -> Begun
+    ensures { result ≡ run_of_one event }
 {
     Begun {
         last: event.step,
@@ -97,10 +97,10 @@ fn single(event: Event) -> Begun
     }
 }
 
-fn grown(run: Run, last: u32, event: &Event) -> Begun
+fn run_with_event(run: Run, last: u32, event: &Event) -> Begun
     requires count { run.count + 1 < 2 ^ 32 }
     requires later { last ≤ event.now.step }
-    ensures { result ≡ grown (record { run = run; last = last }) event.now }
+    ensures { result ≡ run_with_event (record { run = run; last = last }) event.now }
 {
     Begun {
         run: Run {
@@ -112,7 +112,7 @@ fn grown(run: Run, last: u32, event: &Event) -> Begun
     }
 }
 
-fn ended(cut: Cut) -> Result<Runs, AllocError>
+fn runs_of_cut(cut: Cut) -> Result<Runs, AllocError>
     ensures { IfOk result (λ runs. runs ≡ cut_onto cut []) }
 {
     let Cut { done, begun } = cut;

@@ -3,7 +3,7 @@
 ghost use Rattle.std.specs.Prelude.{◌≡◌, ◌++◌, ◌∷◌, OnOk};
 ghost use Rattle.std.specs.List.{AllByRecursion};
 ghost use Rattle.std.specs.Str.{IsUtf8};
-ghost use Rattle.package_layout.specs.Fields.{Gives, Makes, text_spelling};
+ghost use Rattle.package_layout.specs.Fields.{Decodes, Makes, text_spelling};
 ghost use Rattle.package_layout.specs.Events.{flag_spelling, flag_of, flag_at, flagged_spelling};
 ghost use Rattle.package_layout.specs.Events.{needs_spelling, members_spelling, TypedNeed, TypedMember};
 ghost use Rattle.package_layout.specs.Events.{act_spelling, TypedAct, needs_at, members_at, act_of_tag};
@@ -14,7 +14,7 @@ use crate::cursor::Cursor;
 use crate::decode_error::DecodeError;
 use crate::group::{decode_grouped, encode_grouped};
 use crate::number::{decode_u8, decode_u32, encode_u8, encode_u32};
-use crate::part::{MadePart, ReadPart};
+use crate::event_part::{MadePart, ReadPart};
 use crate::text::{decode_text, encode_text};
 use crate::width::Width;
 use ldv_value::{Bytes, Utf8};
@@ -33,7 +33,7 @@ fn encode_flag(found: bool, to: &mut Bytes) -> Result<(), AllocError>
 }
 
 fn decode_flag(cursor: &mut Cursor) -> Result<bool, DecodeError>
-    ensures { Gives result cursor.new (flag_at cursor.old) }
+    ensures { Decodes result cursor.new (flag_at cursor.old) }
 {
     let number = decode_u8(cursor)?;
     flag_of(number)
@@ -81,13 +81,13 @@ fn encode_members(members: &Members, to: &mut Bytes) -> Result<(), AllocError>
 }
 
 fn decode_needs(alloc: Global, cursor: &mut Cursor) -> Result<Needs, DecodeError>
-    ensures { Gives result cursor.new (needs_at cursor.old) }
+    ensures { Decodes result cursor.new (needs_at cursor.old) }
 {
     decode_grouped::<ReadPart, Need>(alloc, cursor)
 }
 
 fn decode_members(alloc: Global, cursor: &mut Cursor) -> Result<Members, DecodeError>
-    ensures { Gives result cursor.new (members_at cursor.old) }
+    ensures { Decodes result cursor.new (members_at cursor.old) }
 {
     decode_grouped::<MadePart, Member>(alloc, cursor)
 }
@@ -133,14 +133,14 @@ fn encode_act(act: &Act, to: &mut Bytes) -> Result<(), AllocError>
 }
 
 fn decode_act(alloc: Global, cursor: &mut Cursor) -> Result<Act, DecodeError>
-    ensures { Gives result cursor.new (act_at cursor.old) }
+    ensures { Decodes result cursor.new (act_at cursor.old) }
 {
     let tag = decode_u8(cursor)?;
     act_of_tag(alloc, tag, cursor)
 }
 
 fn act_of_tag(alloc: Global, tag: u8, cursor: &mut Cursor) -> Result<Act, DecodeError>
-    ensures { Gives result cursor.new (act_of_tag tag cursor.old) }
+    ensures { Decodes result cursor.new (act_of_tag tag cursor.old) }
 {
     match tag {
         0 => Ok(Act::Started {
@@ -195,7 +195,7 @@ fn act_of_tag(alloc: Global, tag: u8, cursor: &mut Cursor) -> Result<Act, Decode
 }
 
 fn decode_asked(alloc: Global, cursor: &mut Cursor) -> Result<Act, DecodeError>
-    ensures { Gives result cursor.new (act_of_tag 14 cursor.old) }
+    ensures { Decodes result cursor.new (act_of_tag 14 cursor.old) }
 {
     let statement = decode_u32(cursor)?;
     let tables = decode_list(alloc, Width::Two, cursor)?;

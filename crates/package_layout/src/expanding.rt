@@ -3,7 +3,7 @@
 ghost use Rattle.std.specs.Prelude.{◌≡◌, ◌++◌, ◌∷◌, [], true, false, IfOk, OnOk};
 ghost use Rattle.std.specs.List.{list_all};
 ghost use Rattle.run_model.specs.ValidTrace.{is_asked};
-ghost use Rattle.package_layout.specs.RunPackages.{whole};
+ghost use Rattle.package_layout.specs.RunPackages.{expanded_package};
 ghost use Rattle.package_layout.specs.Runs.{at_step, are_runs, events_in, is_run, run_events};
 
 use crate::run::{Run, Runs};
@@ -15,9 +15,9 @@ use std::alloc::{AllocError, Global};
 
 /// The package with all events that its runs stand for.
 #[tactic(auto, using(crate::proofs::Runs::are_all_runs))]
-pub(crate) fn whole(alloc: Global, package: RunPackage) -> Result<Package, AllocError>
+pub(crate) fn expanded_package(alloc: Global, package: RunPackage) -> Result<Package, AllocError>
     requires { are_runs «package».runs ≡ true }
-    ensures { IfOk result (λ p. p ≡ whole «package») }
+    ensures { IfOk result (λ p. p ≡ expanded_package «package») }
 {
     let RunPackage { bare, runs } = package;
     let mut whole = bare;

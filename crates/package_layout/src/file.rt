@@ -1,7 +1,7 @@
 //! Files of a package.
 
 ghost use Rattle.std.specs.Prelude.{◌≡◌, ◌++◌, OnOk};
-ghost use Rattle.package_layout.specs.Fields.{Gives};
+ghost use Rattle.package_layout.specs.Fields.{Decodes};
 ghost use Rattle.package_layout.specs.Reading.{content_at, content_of_tag};
 ghost use Rattle.package_layout.specs.Spelling.{content_spelling};
 
@@ -53,14 +53,14 @@ impl Decode for PackedFile {
 }
 
 fn decode_content(alloc: Global, cursor: &mut Cursor) -> Result<Option<Bytes>, DecodeError>
-    ensures { Gives result cursor.new (content_at cursor.old) }
+    ensures { Decodes result cursor.new (content_at cursor.old) }
 {
     let tag = decode_u8(cursor)?;
     content_of_tag(alloc, tag, cursor)
 }
 
 fn content_of_tag(alloc: Global, tag: u8, cursor: &mut Cursor) -> Result<Option<Bytes>, DecodeError>
-    ensures { Gives result cursor.new (content_of_tag tag cursor.old) }
+    ensures { Decodes result cursor.new (content_of_tag tag cursor.old) }
 {
     match tag {
         1 => Ok(Some(decode_sized(alloc, cursor)?)),

@@ -3,9 +3,9 @@
 ghost use Rattle.std.specs.Prelude.{◌≡◌, ◌++◌, [], IfOk, OnOk, ℕ, List};
 ghost use Rattle.std.specs.List.{flat_map, AllByRecursion};
 ghost use Rattle.std.specs.Int.{w16};
-ghost use Rattle.package_layout.specs.Fields.{Gives, Makes, list_spelling};
-ghost use Rattle.package_layout.specs.Groups.{single, with_part, after, add, groups, group_spelling};
-ghost use Rattle.package_layout.specs.Groups.{TypedGroup, group_of, neighbours_differ, ungroup, ungrouped};
+ghost use Rattle.package_layout.specs.Fields.{Decodes, Makes, list_spelling};
+ghost use Rattle.package_layout.specs.Groups.{group_of_one, with_part, after, add, groups, group_spelling};
+ghost use Rattle.package_layout.specs.Groups.{TypedGroup, group_of, neighbours_differ, ungroup, items_of_groups};
 ghost use Rattle.package_layout.specs.Groups.{grouped_at};
 
 use crate::codec::{Decode, Encode, decode_list, encode_list};
@@ -114,7 +114,7 @@ fn add<P: Drop, X: GroupedRow<P>>(
 {
     match found.pop() {
         None => {
-            found.push(single(alloc, item)?)?;
+            found.push(group_of_one(alloc, item)?)?;
             Ok(())
         }
         Some(last) => add_after(alloc, found, last, item),
@@ -134,13 +134,13 @@ fn add_after<P: Drop, X: GroupedRow<P>>(
         Ok(())
     } else {
         found.push(last)?;
-        found.push(single(alloc, item)?)?;
+        found.push(group_of_one(alloc, item)?)?;
         Ok(())
     }
 }
 
-fn single<P: Drop, X: GroupedRow<P>>(alloc: Global, item: &X) -> Result<Group<P>, AllocError>
-    ensures { IfOk result (λ made. made ≡ single X.table_of X.part_of item.now) }
+fn group_of_one<P: Drop, X: GroupedRow<P>>(alloc: Global, item: &X) -> Result<Group<P>, AllocError>
+    ensures { IfOk result (λ made. made ≡ group_of_one X.table_of X.part_of item.now) }
 {
     let table = item.table().copy()?;
     let mut parts = Listed::new(alloc);
@@ -161,17 +161,17 @@ pub(crate) fn decode_grouped<P: Decode + Copy, X: GroupedRow<P>>(
     alloc: Global,
     cursor: &mut Cursor,
 ) -> Result<Listed<X>, DecodeError>
-    ensures { Gives result cursor.new (grouped_at X.place P.reading cursor.old) }
+    ensures { Decodes result cursor.new (grouped_at X.place P.reading cursor.old) }
 {
     let groups = decode_list(alloc, Width::Two, cursor)?;
-    ungrouped(alloc, &groups)
+    items_of_groups(alloc, &groups)
 }
 
-fn ungrouped<P: Copy + Drop, X: GroupedRow<P>>(
+fn items_of_groups<P: Copy + Drop, X: GroupedRow<P>>(
     alloc: Global,
     groups: &Listed<Group<P>>,
 ) -> Result<Listed<X>, DecodeError>
-    ensures { Makes result (ungrouped X.place groups.now) }
+    ensures { Makes result (items_of_groups X.place groups.now) }
 {
     if neighbours_differ(groups) {
         Ok(ungroup_all(alloc, groups)?)

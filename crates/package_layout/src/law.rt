@@ -7,7 +7,7 @@ ghost use Rattle.run_model.specs.declared.package.Package.{Package};
 ghost use Rattle.package_layout.specs.Counted.{IsCounted};
 ghost use Rattle.package_layout.specs.Plain.{fits_version, has_tables};
 ghost use Rattle.package_layout.specs.Runs.{Run, IsCutOf, events_in, runs_of};
-ghost use Rattle.package_layout.specs.Valid.{Valid, reading};
+ghost use Rattle.package_layout.specs.Valid.{IsValidPackage, reading};
 ghost use Rattle.package_layout.specs.Version.{Version, One, Two};
 ghost use Rattle.package_layout.specs.Whole.{IsTyped, spelling_as};
 
@@ -16,10 +16,11 @@ ghost use Rattle.package_layout.specs.Whole.{IsTyped, spelling_as};
 /// package, however long it is, where the version has what is in it and its counts of four bytes fit their
 /// fields. They do where it isn't too long. No bytes are a spelling of both versions.
 pub fn round_trip_law()
-    ensures unique { (version : Version) (p q : Package) → IsTyped p → IsTyped q → Valid p → Valid q →
+    ensures unique { (version : Version) (p q : Package) → IsTyped p
+        → IsTyped q → IsValidPackage p → IsValidPackage q →
         IsTrue (has_tables version p) → IsTrue (has_tables version q) →
         IsCounted version p → IsCounted version q → spelling_as version p ≡ spelling_as version q → p ≡ q }
-    ensures again { (version : Version) (p : Package) → IsTyped p → Valid p →
+    ensures again { (version : Version) (p : Package) → IsTyped p → IsValidPackage p →
         IsTrue (fits_version version p) → IsCounted version p → reading (spelling_as version p) ≡ Ok p }
     ensures counted { (version : Version) (p : Package) → length (spelling_as version p) ≤ input_limit →
         IsCounted version p }

@@ -2,10 +2,10 @@
 
 ghost use Rattle.std.specs.Prelude.{◌≡◌, ◌↔◌, [], true, false, Some, None, Ok, Err, IfOk, IfSome, IsSome};
 ghost use Rattle.package_layout.specs.ReadResult.{ReadsAs, RunsReadAs, damage_before};
-ghost use Rattle.package_layout.specs.RunPackages.{whole, runs_in};
+ghost use Rattle.package_layout.specs.RunPackages.{expanded_package, runs_in};
 ghost use Rattle.package_layout.specs.Runs.{IsCut, are_runs};
 ghost use Rattle.package_layout.specs.Fields.{Makes};
-ghost use Rattle.package_layout.specs.Valid.{Valid, HasDigest, IsSpelled, IsUnspelled, has_digest};
+ghost use Rattle.package_layout.specs.Valid.{IsValidPackage, HasDigest, IsSpelled, IsUnspelled, has_digest};
 ghost use Rattle.package_layout.specs.Valid.{reading, reading_as};
 ghost use Rattle.package_layout.specs.Version.{version_of};
 ghost use Rattle.package_layout.specs.Whole.{IsTyped};
@@ -13,7 +13,7 @@ ghost use Rattle.package_layout.specs.Whole.{IsTyped};
 use crate::damage::DamageKind;
 use crate::decode_error::DecodeError;
 use crate::digest::{has_digest, middle};
-use crate::expanding::whole;
+use crate::expanding::expanded_package;
 use crate::run_package::RunPackage;
 use crate::sections::decode_all;
 use crate::validity::is_valid_package;
@@ -57,7 +57,7 @@ impl From<AllocError> for SpellStop {
 /// A list of its events is made last, once all else is judged. It may be far larger than the bytes: where no
 /// events are wanted, take `read_runs`.
 pub fn read_package(alloc: Global, bytes: &[u8]) -> Result<Package, PackageStop>
-    ensures found { IfOk result (λ p. IsTyped p × Valid p × IsSpelled bytes.now p) }
+    ensures found { IfOk result (λ p. IsTyped p × IsValidPackage p × IsSpelled bytes.now p) }
     ensures magic { (result ≡ Err (PackageStop.Damaged DamageKind.Magic)) ↔ (version_of bytes.now ≡ None) }
     ensures digest { (result ≡ Err (PackageStop.Damaged DamageKind.Digest))
         ↔ (IsSome (version_of bytes.now) × (¬ HasDigest bytes.now)) }
@@ -66,13 +66,14 @@ pub fn read_package(alloc: Global, bytes: &[u8]) -> Result<Package, PackageStop>
     // The same as one function of the bytes.
     ensures reading { ReadsAs result (reading bytes.now) }
 {
-    answer(alloc, bytes)
+    decode_package(alloc, bytes)
 }
 
 /// The same package, with its trace kept as runs. It takes memory by the bytes that are read, and none by
 /// the number of events. The answers are those of `read_package`.
 pub fn read_runs(alloc: Global, bytes: &[u8]) -> Result<RunPackage, PackageStop>
-    ensures found { IfOk result (λ r. IsTyped (whole r) × Valid (whole r) × IsSpelled bytes.now (whole r)) }
+    ensures found { IfOk result (λ r. IsTyped (expanded_package r) × IsValidPackage (expanded_package r)
+        × IsSpelled bytes.now (expanded_package r)) }
     ensures cut { IfOk result (λ r. IsCut r.runs) }
     ensures bare { IfOk result (λ r. r.bare.events ≡ []) }
     ensures magic { (result ≡ Err (PackageStop.Damaged DamageKind.Magic)) ↔ (version_of bytes.now ≡ None) }
@@ -86,7 +87,7 @@ pub fn read_runs(alloc: Global, bytes: &[u8]) -> Result<RunPackage, PackageStop>
     runs_answer(alloc, bytes)
 }
 
-fn answer(alloc: Global, bytes: &[u8]) -> Result<Package, PackageStop>
+fn decode_package(alloc: Global, bytes: &[u8]) -> Result<Package, PackageStop>
     ensures due { ReadsAs result (reading bytes.now) }
     ensures at_once { IfSome (damage_before bytes.now) (λ kind. result ≡ Err (PackageStop.Damaged kind)) }
 {
@@ -98,10 +99,10 @@ fn answer(alloc: Global, bytes: &[u8]) -> Result<Package, PackageStop>
 
 fn whole_answer(alloc: Global, package: RunPackage) -> Result<Package, PackageStop>
     requires { are_runs «package».runs ≡ true }
-    ensures ok { IfOk result (λ p. p ≡ whole «package») }
+    ensures ok { IfOk result (λ p. p ≡ expanded_package «package») }
     ensures err { (stop : PackageStop) → result ≡ Err stop → stop ≡ PackageStop.NoMemory }
 {
-    match whole(alloc, package) {
+    match expanded_package(alloc, package) {
         Ok(package) => Ok(package),
         Err(_) => Err(PackageStop::NoMemory),
     }

@@ -2,7 +2,7 @@
 
 ghost use Rattle.std.specs.Prelude.{◌≡◌, ◌++◌, OnOk};
 ghost use Rattle.std.specs.Str.{IsUtf8};
-ghost use Rattle.package_layout.specs.Fields.{Gives};
+ghost use Rattle.package_layout.specs.Fields.{Decodes};
 ghost use Rattle.package_layout.specs.Reading.{name_at, refusal_at, refusal_of_code, reply_of_tag};
 ghost use Rattle.package_layout.specs.Spelling.{refusal_spelling, row_key_spelling};
 ghost use Rattle.package_layout.specs.Typed.{TypedRefusal, TypedValues};
@@ -54,14 +54,14 @@ fn encode_row_key(table: &Utf8, key: &Values, to: &mut Bytes) -> Result<(), Allo
 }
 
 fn decode_refusal(alloc: Global, cursor: &mut Cursor) -> Result<SqlRefusal, DecodeError>
-    ensures { Gives result cursor.new (refusal_at cursor.old) }
+    ensures { Decodes result cursor.new (refusal_at cursor.old) }
 {
     let code = decode_u8(cursor)?;
     refusal_of_code(alloc, code, cursor)
 }
 
 fn refusal_of_code(alloc: Global, code: u8, cursor: &mut Cursor) -> Result<SqlRefusal, DecodeError>
-    ensures { Gives result cursor.new (refusal_of_code code cursor.old) }
+    ensures { Decodes result cursor.new (refusal_of_code code cursor.old) }
 {
     match code {
         1 => Ok(SqlRefusal::Syntax),
@@ -127,7 +127,7 @@ impl Decode for Reply {
 }
 
 fn reply_of_tag(alloc: Global, tag: u8, cursor: &mut Cursor) -> Result<Reply, DecodeError>
-    ensures { Gives result cursor.new (reply_of_tag tag cursor.old) }
+    ensures { Decodes result cursor.new (reply_of_tag tag cursor.old) }
 {
     match tag {
         1 => Ok(Reply::Rows(decode_list(alloc, Width::Four, cursor)?)),
@@ -170,7 +170,7 @@ impl Decode for Entry {
 }
 
 fn decode_name(alloc: Global, cursor: &mut Cursor) -> Result<ProcName, DecodeError>
-    ensures { Gives result cursor.new (name_at cursor.old) }
+    ensures { Decodes result cursor.new (name_at cursor.old) }
 {
     let parts = decode_list(alloc, Width::Two, cursor)?;
     Ok(ProcName { parts })

@@ -2,7 +2,7 @@
 
 ghost use Rattle.std.specs.Prelude.{◌≡◌, ◌++◌, IfOk, OnOk};
 ghost use Rattle.std.specs.Int.{w8, w16, w32, w64, to_be_bytes, cast_unsigned};
-ghost use Rattle.package_layout.specs.Fields.{Gives, number_at, signed_at};
+ghost use Rattle.package_layout.specs.Fields.{Decodes, number_at, signed_at};
 ghost use Rattle.package_layout.specs.Widths.{of_count};
 
 use crate::cursor::Cursor;
@@ -13,7 +13,7 @@ use std::alloc::AllocError;
 
 /// A number of one byte.
 pub(crate) fn decode_u8(cursor: &mut Cursor) -> Result<u8, DecodeError>
-    ensures { Gives result cursor.new (number_at w8 cursor.old) }
+    ensures { Decodes result cursor.new (number_at w8 cursor.old) }
 {
     match cursor.next(1) {
         None => Err(DecodeError::Malformed),
@@ -23,7 +23,7 @@ pub(crate) fn decode_u8(cursor: &mut Cursor) -> Result<u8, DecodeError>
 
 /// A number of two bytes.
 pub fn decode_u16(cursor: &mut Cursor) -> Result<u16, DecodeError>
-    ensures { Gives result cursor.new (number_at w16 cursor.old) }
+    ensures { Decodes result cursor.new (number_at w16 cursor.old) }
 {
     match cursor.next(2) {
         None => Err(DecodeError::Malformed),
@@ -33,7 +33,7 @@ pub fn decode_u16(cursor: &mut Cursor) -> Result<u16, DecodeError>
 
 /// A number of four bytes.
 pub fn decode_u32(cursor: &mut Cursor) -> Result<u32, DecodeError>
-    ensures { Gives result cursor.new (number_at w32 cursor.old) }
+    ensures { Decodes result cursor.new (number_at w32 cursor.old) }
 {
     match cursor.next(4) {
         None => Err(DecodeError::Malformed),
@@ -43,7 +43,7 @@ pub fn decode_u32(cursor: &mut Cursor) -> Result<u32, DecodeError>
 
 /// A number of eight bytes.
 pub fn decode_u64(cursor: &mut Cursor) -> Result<u64, DecodeError>
-    ensures { Gives result cursor.new (number_at w64 cursor.old) }
+    ensures { Decodes result cursor.new (number_at w64 cursor.old) }
 {
     match cursor.next(8) {
         None => Err(DecodeError::Malformed),
@@ -53,7 +53,7 @@ pub fn decode_u64(cursor: &mut Cursor) -> Result<u64, DecodeError>
 
 /// A signed number in two's complement.
 pub(crate) fn decode_i64(cursor: &mut Cursor) -> Result<i64, DecodeError>
-    ensures { Gives result cursor.new (signed_at cursor.old) }
+    ensures { Decodes result cursor.new (signed_at cursor.old) }
 {
     Ok(decode_u64(cursor)?.cast_signed())
 }
@@ -86,7 +86,7 @@ pub(crate) fn encode_i64(number: i64, to: &mut Bytes) -> Result<(), AllocError>
 
 /// A count of the given width.
 pub(crate) fn decode_count(width: Width, cursor: &mut Cursor) -> Result<u32, DecodeError>
-    ensures { Gives result cursor.new (number_at (of_count width) cursor.old) }
+    ensures { Decodes result cursor.new (number_at (of_count width) cursor.old) }
 {
     match width {
         Width::One => Ok(u32::from(decode_u8(cursor)?)),

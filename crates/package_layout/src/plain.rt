@@ -6,7 +6,7 @@ ghost use Rattle.std.specs.List.{list_all};
 ghost use Rattle.package_layout.specs.Plain.{fits_version, is_plain, is_plain_act, is_plain_entry};
 ghost use Rattle.package_layout.specs.Plain.{is_plain_event, is_plain_log, is_plain_need, is_plain_refusal};
 ghost use Rattle.package_layout.specs.Plain.{is_plain_reply, is_plain_row, is_plain_rule, is_plain_table};
-ghost use Rattle.package_layout.specs.RunPackages.{whole};
+ghost use Rattle.package_layout.specs.RunPackages.{expanded_package};
 ghost use Rattle.package_layout.specs.Runs.{are_runs, events_in, is_run};
 
 use crate::run::Run;
@@ -18,7 +18,7 @@ use sql_model::{Need, Reply, Rule, SqlRefusal};
 /// Whether a version has all that is in a package. It takes no memory.
 pub(crate) fn fits_version(version: Version, package: &RunPackage) -> bool
     requires { are_runs «package».now.runs ≡ true }
-    ensures { result ≡ fits_version version (whole «package».now) }
+    ensures { result ≡ fits_version version (expanded_package «package».now) }
 {
     match version {
         Version::One => is_plain(package),
@@ -29,7 +29,7 @@ pub(crate) fn fits_version(version: Version, package: &RunPackage) -> bool
 #[tactic(auto, using(crate::proofs::Runs::are_all_runs))]
 fn is_plain(package: &RunPackage) -> bool
     requires { are_runs «package».now.runs ≡ true }
-    ensures { result ≡ is_plain (whole «package».now) }
+    ensures { result ≡ is_plain (expanded_package «package».now) }
 {
     are_plain_tables(package.bare.tables.items())
         && are_plain_logs(package.bare.logs.items())

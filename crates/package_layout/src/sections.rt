@@ -2,13 +2,13 @@
 
 ghost use Rattle.std.specs.Prelude.{◌≡◌, ◌++◌, OnOk};
 ghost use Rattle.std.specs.List.{AllByRecursion};
-ghost use Rattle.package_layout.specs.Bare.{BareParts, BareNumbers, BareTyped};
-ghost use Rattle.package_layout.specs.Fields.{Gives, Makes};
-ghost use Rattle.package_layout.specs.RunPackages.{cut_at, run_sections_at, run_sections_of, whole};
+ghost use Rattle.package_layout.specs.Bare.{BareParts, BareNumbers, IsTypedBare};
+ghost use Rattle.package_layout.specs.Fields.{Decodes, Makes};
+ghost use Rattle.package_layout.specs.RunPackages.{cut_at, run_sections_at, run_sections_of, expanded_package};
 ghost use Rattle.package_layout.specs.Runs.{IsCut};
 ghost use Rattle.package_layout.specs.Typed.{TypedEvent};
 ghost use Rattle.package_layout.specs.Version.{Two};
-ghost use Rattle.package_layout.specs.Whole.{mode_number, mode_of, mode_at, parts, numbers, bare, bare_at};
+ghost use Rattle.package_layout.specs.Whole.{mode_number, mode_of, mode_at, parts, numbers, bytes_before_trace, bare_at};
 ghost use Rattle.package_layout.specs.Whole.{sections, trace_spelling, IsTyped};
 
 use crate::codec::{decode_list, encode_list};
@@ -36,7 +36,7 @@ fn number_of_mode(mode: Mode) -> u8
 }
 
 fn decode_mode(cursor: &mut Cursor) -> Result<Mode, DecodeError>
-    ensures { Gives result cursor.new (mode_at cursor.old) }
+    ensures { Decodes result cursor.new (mode_at cursor.old) }
 {
     let number = decode_u8(cursor)?;
     mode_of(number)
@@ -68,7 +68,7 @@ pub(crate) fn encode_sections(
 /// Appends the sections of a package whose trace is kept as runs, in the second version.
 pub(crate) fn encode_run_sections(package: &RunPackage, to: &mut Bytes) -> Result<(), AllocError>
     requires { IsCut «package».now.runs }
-    ensures { OnOk result (to.new ≡ to.old ++ sections Two (whole «package».now)) }
+    ensures { OnOk result (to.new ≡ to.old ++ sections Two (expanded_package «package».now)) }
 {
     encode_bare(&package.bare, Version::Two, to)?;
     encode_list(Width::Four, &package.runs, to)
@@ -85,8 +85,8 @@ fn encode_events(version: Version, events: &Events, to: &mut Bytes) -> Result<()
 }
 
 fn encode_bare(package: &Package, version: Version, to: &mut Bytes) -> Result<(), AllocError>
-    ensures bytes { OnOk result (to.new ≡ to.old ++ bare version «package».now) }
-    ensures typed { OnOk result (BareTyped «package».now) }
+    ensures bytes { OnOk result (to.new ≡ to.old ++ bytes_before_trace version «package».now) }
+    ensures typed { OnOk result (IsTypedBare «package».now) }
 {
     encode_u8(number_of_mode(package.mode), to)?;
     encode_list(Width::Two, &package.start, to)?;
@@ -112,7 +112,7 @@ fn encode_parts(package: &Package, version: Version, to: &mut Bytes) -> Result<(
 }
 
 fn decode_bare(alloc: Global, version: Version, cursor: &mut Cursor) -> Result<Package, DecodeError>
-    ensures { Gives result cursor.new (bare_at version cursor.old) }
+    ensures { Decodes result cursor.new (bare_at version cursor.old) }
 {
     let mode = decode_mode(cursor)?;
     let start = decode_list(alloc, Width::Two, cursor)?;
@@ -134,7 +134,7 @@ fn decode_bare(alloc: Global, version: Version, cursor: &mut Cursor) -> Result<P
 }
 
 fn decode_runs(alloc: Global, version: Version, cursor: &mut Cursor) -> Result<Runs, DecodeError>
-    ensures { Gives result cursor.new (cut_at version cursor.old) }
+    ensures { Decodes result cursor.new (cut_at version cursor.old) }
 {
     match version {
         Version::One => decode_cut(alloc, cursor),
@@ -147,7 +147,7 @@ fn decode_sections(
     version: Version,
     cursor: &mut Cursor,
 ) -> Result<RunPackage, DecodeError>
-    ensures { Gives result cursor.new (run_sections_at version cursor.old) }
+    ensures { Decodes result cursor.new (run_sections_at version cursor.old) }
 {
     let bare = decode_bare(alloc, version, cursor)?;
     let runs = decode_runs(alloc, version, cursor)?;

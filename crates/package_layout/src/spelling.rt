@@ -3,7 +3,7 @@
 ghost use Rattle.std.specs.Prelude.{◌≡◌, ◌<◌, ◌≤◌, ◌-◌, ◌++◌, IfOk, OnOk, IsErrOf, length};
 ghost use Rattle.sha2.specs.Sha256.{sha256};
 ghost use Rattle.ldv_value.specs.Limits.{input_limit};
-ghost use Rattle.package_layout.specs.RunPackages.{whole};
+ghost use Rattle.package_layout.specs.RunPackages.{expanded_package};
 ghost use Rattle.package_layout.specs.Runs.{IsCut};
 ghost use Rattle.package_layout.specs.Version.{Two};
 ghost use Rattle.package_layout.specs.Whole.{body, spelling, spelling_as, IsTyped};
@@ -41,20 +41,20 @@ pub fn spell_as(alloc: Global, package: &Package, version: Version) -> Result<By
     ensures typed { OnOk result (IsTyped «package».now) }
 {
     let body = body_of(alloc, package, version)?;
-    sealed(body)
+    append_digest(body)
 }
 
 /// The spelling of a package whose trace is kept as runs, in the second version. No list of events is made.
 /// `TooLong` exactly where it has more than 67,108,864 bytes, its digest counted.
 pub fn spell_runs(alloc: Global, package: &RunPackage) -> Result<Bytes, SpellStop>
     requires { IsCut «package».now.runs }
-    ensures bytes { IfOk result (λ bytes. bytes ≡ spelling (whole «package».now)) }
+    ensures bytes { IfOk result (λ bytes. bytes ≡ spelling (expanded_package «package».now)) }
     ensures within { IfOk result (λ bytes. length bytes ≤ input_limit) }
     ensures too_long { IsErrOf result SpellStop.TooLong →
-        input_limit < length (spelling (whole «package».now)) }
+        input_limit < length (spelling (expanded_package «package».now)) }
 {
     let body = body_of_runs(alloc, package)?;
-    sealed(body)
+    append_digest(body)
 }
 
 fn body_of(alloc: Global, package: &Package, version: Version) -> Result<Bytes, AllocError>
@@ -68,7 +68,7 @@ fn body_of(alloc: Global, package: &Package, version: Version) -> Result<Bytes, 
 
 fn body_of_runs(alloc: Global, package: &RunPackage) -> Result<Bytes, AllocError>
     requires { IsCut «package».now.runs }
-    ensures { IfOk result (λ bytes. bytes ≡ body Two (whole «package».now)) }
+    ensures { IfOk result (λ bytes. bytes ≡ body Two (expanded_package «package».now)) }
 {
     let mut bytes = Bytes::of_slice(alloc, magic(Version::Two))?;
     encode_run_sections(package, &mut bytes)?;
@@ -76,7 +76,7 @@ fn body_of_runs(alloc: Global, package: &RunPackage) -> Result<Bytes, AllocError
 }
 
 /// What is before a digest, with the digest. `TooLong` exactly where both have more than 67,108,864 bytes.
-pub fn sealed(body: Bytes) -> Result<Bytes, SpellStop>
+pub fn append_digest(body: Bytes) -> Result<Bytes, SpellStop>
     ensures bytes { IfOk result (λ bytes. bytes ≡ body ++ sha256 body) }
     ensures within { IfOk result (λ bytes. length bytes ≤ input_limit) }
     ensures too_long { IsErrOf result SpellStop.TooLong → input_limit < length (body ++ sha256 body) }

@@ -3,7 +3,7 @@
 ghost use Rattle.std.specs.Prelude.{◌≡◌, ◌++◌, length, OnOk};
 ghost use Rattle.std.specs.Int.{w8, w16};
 ghost use Rattle.std.specs.List.{flat_map, AllByRecursion};
-ghost use Rattle.package_layout.specs.Fields.{Gives, Makes, number_at, items_at, list_at, list_spelling};
+ghost use Rattle.package_layout.specs.Fields.{Decodes, Makes, number_at, items_at, list_at, list_spelling};
 ghost use Rattle.package_layout.specs.Reading.{kind_of, kind_at, rule_of, rule_at, reason_at, places_at};
 ghost use Rattle.package_layout.specs.Reading.{foreigns_at, row_at, rows_at, schema_at, table_at};
 ghost use Rattle.package_layout.specs.Spelling.{kind_number, rule_number, reason_spelling, places_spelling};
@@ -64,7 +64,7 @@ impl Decode for Column {
 }
 
 fn decode_kind(cursor: &mut Cursor) -> Result<(bool, bool), DecodeError>
-    ensures { Gives result cursor.new (kind_at cursor.old) }
+    ensures { Decodes result cursor.new (kind_at cursor.old) }
 {
     let number = decode_u8(cursor)?;
     kind_of(number)
@@ -96,7 +96,7 @@ pub(crate) fn number_of_rule(rule: Rule) -> u8
 }
 
 pub(crate) fn decode_rule(cursor: &mut Cursor) -> Result<Rule, DecodeError>
-    ensures { Gives result cursor.new (rule_at cursor.old) }
+    ensures { Decodes result cursor.new (rule_at cursor.old) }
 {
     let number = decode_u8(cursor)?;
     rule_of(number)
@@ -140,7 +140,7 @@ pub fn encode_reason(statement: u32, rule: Rule, to: &mut Bytes) -> Result<(), A
 
 /// Reads why a row is there.
 pub fn decode_reason(cursor: &mut Cursor) -> Result<(u32, Rule), DecodeError>
-    ensures { Gives result cursor.new (reason_at cursor.old) }
+    ensures { Decodes result cursor.new (reason_at cursor.old) }
 {
     let statement = decode_u32(cursor)?;
     let rule = decode_rule(cursor)?;
@@ -148,7 +148,7 @@ pub fn decode_reason(cursor: &mut Cursor) -> Result<(u32, Rule), DecodeError>
 }
 
 fn decode_row(alloc: Global, columns: usize, cursor: &mut Cursor) -> Result<PackedRow, DecodeError>
-    ensures { Gives result cursor.new (row_at columns cursor.old) }
+    ensures { Decodes result cursor.new (row_at columns cursor.old) }
 {
     let number = decode_u32(cursor)?;
     let (statement, rule) = decode_reason(cursor)?;
@@ -166,7 +166,7 @@ fn decode_rows(
     columns: &Columns,
     cursor: &mut Cursor,
 ) -> Result<PackedRows, DecodeError>
-    ensures { Gives result cursor.new (rows_at (length columns.now) cursor.old) }
+    ensures { Decodes result cursor.new (rows_at (length columns.now) cursor.old) }
 {
     let count = decode_u32(cursor)?;
     decode_some_rows(alloc, columns.len(), count, cursor)
@@ -178,7 +178,7 @@ fn decode_some_rows(
     count: u32,
     cursor: &mut Cursor,
 ) -> Result<PackedRows, DecodeError>
-    ensures { Gives result cursor.new (items_at (row_at columns) count cursor.old) }
+    ensures { Decodes result cursor.new (items_at (row_at columns) count cursor.old) }
 {
     let mut rows = List::new(alloc);
     for _turn in 0..count {
@@ -253,7 +253,7 @@ fn decode_foreigns(
     version: Version,
     cursor: &mut Cursor,
 ) -> Result<Foreigns, DecodeError>
-    ensures { Gives result cursor.new (foreigns_at version cursor.old) }
+    ensures { Decodes result cursor.new (foreigns_at version cursor.old) }
 {
     match version {
         Version::One => Ok(List::new(alloc)),
@@ -262,14 +262,14 @@ fn decode_foreigns(
 }
 
 fn decode_place_list(alloc: Global, cursor: &mut Cursor) -> Result<Places, DecodeError>
-    ensures { Gives result cursor.new (places_at cursor.old) }
+    ensures { Decodes result cursor.new (places_at cursor.old) }
 {
     let count = decode_u8(cursor)?;
     decode_places(alloc, count, cursor)
 }
 
 fn decode_places(alloc: Global, count: u8, cursor: &mut Cursor) -> Result<Places, DecodeError>
-    ensures { Gives result cursor.new (items_at (number_at w8) count cursor.old) }
+    ensures { Decodes result cursor.new (items_at (number_at w8) count cursor.old) }
 {
     let mut places = List::new(alloc);
     for _turn in 0..count {
@@ -295,7 +295,7 @@ pub fn decode_schema(
     version: Version,
     cursor: &mut Cursor,
 ) -> Result<Schema, DecodeError>
-    ensures { Gives result cursor.new (schema_at version cursor.old) }
+    ensures { Decodes result cursor.new (schema_at version cursor.old) }
 {
     let columns = decode_list(alloc, Width::One, cursor)?;
     let key = decode_place_list(alloc, cursor)?;
@@ -322,7 +322,7 @@ fn decode_table(
     version: Version,
     cursor: &mut Cursor,
 ) -> Result<PackedTable, DecodeError>
-    ensures { Gives result cursor.new (table_at version cursor.old) }
+    ensures { Decodes result cursor.new (table_at version cursor.old) }
 {
     let name = decode_text(alloc, cursor)?;
     let schema = decode_schema(alloc, version, cursor)?;
@@ -369,7 +369,7 @@ pub(crate) fn decode_tables(
     version: Version,
     cursor: &mut Cursor,
 ) -> Result<PackedTables, DecodeError>
-    ensures { Gives result cursor.new (list_at w16 (table_at version) cursor.old) }
+    ensures { Decodes result cursor.new (list_at w16 (table_at version) cursor.old) }
 {
     let count = decode_u16(cursor)?;
     decode_some_tables(alloc, version, count, cursor)
@@ -381,7 +381,7 @@ fn decode_some_tables(
     count: u16,
     cursor: &mut Cursor,
 ) -> Result<PackedTables, DecodeError>
-    ensures { Gives result cursor.new (items_at (table_at version) count cursor.old) }
+    ensures { Decodes result cursor.new (items_at (table_at version) count cursor.old) }
 {
     let mut tables = List::new(alloc);
     for _turn in 0..count {

@@ -2,7 +2,7 @@
 
 ghost use Rattle.std.specs.Prelude.{◌≡◌, ◌++◌, OnOk};
 ghost use Rattle.std.specs.Str.{IsUtf8};
-ghost use Rattle.package_layout.specs.Fields.{Gives, Makes, sized_at, text_at, text_of, text_spelling};
+ghost use Rattle.package_layout.specs.Fields.{Decodes, Makes, sized_at, text_at, text_of, text_spelling};
 
 use crate::cursor::Cursor;
 use crate::decode_error::DecodeError;
@@ -13,7 +13,7 @@ use std::alloc::{AllocError, Global};
 
 /// Bytes with their length before them.
 pub(crate) fn decode_sized(alloc: Global, cursor: &mut Cursor) -> Result<Bytes, DecodeError>
-    ensures { Gives result cursor.new (sized_at cursor.old) }
+    ensures { Decodes result cursor.new (sized_at cursor.old) }
 {
     let count = decode_u32(cursor)?;
     match cursor.next(count as usize) {
@@ -24,7 +24,7 @@ pub(crate) fn decode_sized(alloc: Global, cursor: &mut Cursor) -> Result<Bytes, 
 
 /// A text: the number of its bytes and the bytes, which have to be UTF-8.
 pub fn decode_text(alloc: Global, cursor: &mut Cursor) -> Result<Utf8, DecodeError>
-    ensures { Gives result cursor.new (text_at cursor.old) }
+    ensures { Decodes result cursor.new (text_at cursor.old) }
 {
     let count = decode_u32(cursor)?;
     match cursor.next(count as usize) {

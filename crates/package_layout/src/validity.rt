@@ -4,7 +4,7 @@ ghost use Rattle.std.specs.Prelude.{◌≡◌, true, IfOk, bytes_eq, find, nat_l
 ghost use Rattle.std.specs.List.{list_all};
 ghost use Rattle.std.specs.Option.{option_map, is_some};
 ghost use Rattle.script_parse.specs.Script.{script_of};
-ghost use Rattle.package_layout.specs.RunPackages.{run_rules, whole};
+ghost use Rattle.package_layout.specs.RunPackages.{run_rules, expanded_package};
 ghost use Rattle.package_layout.specs.Runs.{are_runs, events_in, is_run};
 ghost use Rattle.package_layout.specs.Valid.{mode_rule, steps_rule, is_script, is_script_file, script_rule};
 ghost use Rattle.package_layout.specs.Valid.{trace_rule, reasons_rule, parts_rule, whole_rule, rules};
@@ -43,7 +43,7 @@ pub fn is_valid_package(
 #[tactic(auto, using(crate::proofs::Runs::are_all_runs))]
 fn meets_rules(alloc: Global, package: &RunPackage) -> Result<bool, AllocError>
     requires { are_runs «package».now.runs ≡ true }
-    ensures { IfOk result (λ holds. holds ≡ rules (whole «package».now)) }
+    ensures { IfOk result (λ holds. holds ≡ rules (expanded_package «package».now)) }
 {
     if !is_valid_parts(alloc, &package.bare)? {
         return Ok(false);

@@ -1,7 +1,7 @@
 //! Values and lists of values.
 
 ghost use Rattle.std.specs.Prelude.{◌≡◌, ◌++◌, OnOk};
-ghost use Rattle.package_layout.specs.Fields.{Gives};
+ghost use Rattle.package_layout.specs.Fields.{Decodes};
 ghost use Rattle.package_layout.specs.Reading.{value_of_tag};
 
 use crate::codec::{Decode, Encode, decode_list, encode_list};
@@ -71,7 +71,7 @@ impl Decode for Value {
 }
 
 fn value_of_tag(alloc: Global, tag: u8, cursor: &mut Cursor) -> Result<Value, DecodeError>
-    ensures { Gives result cursor.new (value_of_tag tag cursor.old) }
+    ensures { Decodes result cursor.new (value_of_tag tag cursor.old) }
 {
     match tag {
         0 => Ok(Value::Null),

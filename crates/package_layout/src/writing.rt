@@ -3,7 +3,7 @@
 ghost use Rattle.std.specs.Prelude.{◌≡◌, ◌++◌, ◌∷◌, OnOk, length};
 ghost use Rattle.std.specs.List.{flat_map, AllByRecursion};
 ghost use Rattle.package_layout.specs.Typed.{TypedEvent};
-ghost use Rattle.package_layout.specs.Runs.{run_spelling, runs_from, runs_of, runs_spelling, single};
+ghost use Rattle.package_layout.specs.Runs.{run_spelling, runs_from, runs_of, runs_spelling, run_of_one};
 
 use crate::codec::Encode;
 use crate::number::{encode_count, encode_u32};
@@ -35,7 +35,7 @@ fn encode_runs(events: &[Event], to: &mut Bytes) -> Result<(), AllocError>
 #[tactic(auto, using(crate::proofs::RunFields::stands_first))]
 fn encode_from(first: &Event, rest: &[Event], to: &mut Bytes) -> Result<(), AllocError>
     ensures bytes { OnOk result (to.new ≡ to.old
-        ++ flat_map run_spelling (runs_from (single first.now) rest.now)) }
+        ++ flat_map run_spelling (runs_from (run_of_one first.now) rest.now)) }
     ensures typed { OnOk result (AllByRecursion TypedEvent (first.now ∷ rest.now)) }
 {
     let mut begun = first;
@@ -85,7 +85,7 @@ fn count_runs(events: &[Event]) -> usize
 }
 
 fn count_from(first: &Event, rest: &[Event]) -> usize
-    ensures { result ≡ length (runs_from (single first.now) rest.now) }
+    ensures { result ≡ length (runs_from (run_of_one first.now) rest.now) }
 {
     let mut runs = 1;
     let mut begun = first;

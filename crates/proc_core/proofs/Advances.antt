@@ -4,15 +4,15 @@ use Rattle.std.specs.Prelude.{Option, Some, None, slice_get, is_none, is_some, n
 use Rattle.std.specs.List.{list_all}
 use Rattle.std.proofs.lemmas.Bool.{cases_Bool, and_parts, ne_eqb}
 use Rattle.proc_core.specs.Flags.{runnable_flags}
-use Rattle.ready_set.specs.Ready.{Ready, numbers}
+use Rattle.ready_set.specs.Ready.{ReadyView, numbers}
 use Rattle.proc_core.proofs.FlagLaws.{flags_runnable}
-use Rattle.run_model.specs.Core.{Process, Core, all_ended, is_over}
+use Rattle.run_model.specs.Core.{Process, Core, have_all_ended, is_over}
 use Rattle.run_model.specs.Core.{has_ended as process_ended}
 use Rattle.run_model.specs.Database.{Base}
 use Rattle.run_model.specs.Run.{chosen, move, run}
 use Rattle.run_model.specs.RunLaw.{MayRun}
-use Rattle.run_model.specs.Schedule.{is_waiting, is_runnable, runnable_from, runnable, choose, scheduled}
-use Rattle.run_model.specs.State.{State, Stepped}
+use Rattle.run_model.specs.Schedule.{is_waiting, is_runnable, runnable_from, runnable_processes, choose, core_after_choice}
+use Rattle.run_model.specs.State.{State, StepResult}
 use Rattle.run_model.specs.Step.{step}
 use Rattle.run_model.proofs.Equations.{run-zero, run-over, run-suc}
 use Rattle.run_model.proofs.NeverStuck.{Ordered, chosen_runs, move_ordered}
@@ -52,20 +52,20 @@ one_runs all (q ∷ ps) n (suc k) p at runs =
       | inr rests ↦ rw rests later
     ]
 
-none_left : (c : Core) → Ordered c → (length (runnable c) == 0) ≡ all_ended c
-none_left c ordered = elim (cases_Bool (all_ended c)) [
+is_empty-runnable : (c : Core) → Ordered c → (length (runnable_processes c) == 0) ≡ have_all_ended c
+is_empty-runnable c ordered = elim (cases_Bool (have_all_ended c)) [
   | inl over ↦ ap (λ (ns : List ℕ). length ns == 0) (none_runs c.processes c.processes 0 over) ∙ sym over
   | inr going ↦
       let may : MayRun (choose None c) c = chosen_runs None c ordered going in
-      let some : 1 ≤ length (runnable c) = one_runs c.processes c.processes 0 (choose None c) may.0 may.1 may.2 in
-      ne_eqb (length (runnable c)) 0 (λ none. omega (arith, some, none)) ∙ sym going
+      let some : 1 ≤ length (runnable_processes c) = one_runs c.processes c.processes 0 (choose None c) may.0 may.1 may.2 in
+      ne_eqb (length (runnable_processes c)) 0 (λ none. omega (arith, some, none)) ∙ sym going
 ]
 
 -- no process may run exactly where all have ended
-pub all_ended_same : (m : Machine) (c : Core) → IsReady m c → has_ended m ≡ all_ended c
+pub all_ended_same : (m : Machine) (c : Core) → IsReady m c → has_ended m ≡ have_all_ended c
 all_ended_same m c ready =
-    let same : numbers m.ready.flags ≡ runnable c = ap numbers ready.flags ∙ flags_runnable c in
-    ap (λ (ns : List ℕ). length ns == 0) same ∙ none_left c (kin_ordered m.parents c ready.kin)
+    let same : numbers m.ready.flags ≡ runnable_processes c = ap numbers ready.flags ∙ flags_runnable c in
+    ap (λ (ns : List ℕ). length ns == 0) same ∙ is_empty-runnable c (kin_ordered m.parents c ready.kin)
 
 pub chosen_may_run : {Db : Type 0} (m : Machine) (db : Db) (s : State Db) → has_ended m ≡ false → Stands m db s
     → MayRun (choose None s.core) s.core
@@ -89,7 +89,7 @@ same_core a b c is core =
 module _ {Db : Type 0} (base : Base Db) (m ready after last : Machine) (number : ℕ) (db db1 : Db) (s : State Db)
     (going : has_ended m ≡ false) (is : Stands m db s)
     (picks : (c : Core) → IsCore m c → m.ready.flags ≡ runnable_flags c.processes → number ≡ choose None c)
-    (core : (c : Core) → IsCore m c → IsCore ready (scheduled number c))
+    (core : (c : Core) → IsCore m c → IsCore ready (core_after_choice number c))
     (same_ready : ready.ready ≡ m.ready) (same_parents : ready.parents ≡ m.parents) where
   pub number_is : number ≡ choose None s.core
   number_is = picks s.core is.state.0 is.ready.flags
@@ -100,9 +100,9 @@ module _ {Db : Type 0} (base : Base Db) (m ready after last : Machine) (number :
   pub moved_step : move base None s ≡ step base number (chosen number s)
   moved_step = λ i. step base (sym number_is i) (chosen (sym number_is i) s)
 
-  scheduled_ready : IsReady ready (scheduled number s.core)
+  scheduled_ready : IsReady ready (core_after_choice number s.core)
   scheduled_ready = record {
-    flags = ap (λ (set : Ready). set.flags) same_ready ∙ is.ready.flags;
+    flags = ap (λ (set : ReadyView). set.flags) same_ready ∙ is.ready.flags;
     count = ap length same_parents ∙ is.ready.count;
     kin = subst (λ (l : List ℕ). AreKin l s.core.processes) (sym same_parents) is.ready.kin;
   }
@@ -114,10 +114,10 @@ module _ {Db : Type 0} (base : Base Db) (m ready after last : Machine) (number :
   advanced stands grows flags others =
       let may : MayRun number s.core = subst (λ (n : ℕ). MayRun n s.core) (sym number_is) (chosen_may_run m db s going is) in
       let p : Process = may.0 in
-      let at : slice_get (scheduled number s.core).processes number ≡ Some p = may.1 in
-      subst (λ (t : Stepped Db). Stands last db1 t.state) (sym moved_step) (record {
+      let at : slice_get (core_after_choice number s.core).processes number ≡ Some p = may.1 in
+      subst (λ (t : StepResult Db). Stands last db1 t.state) (sym moved_step) (record {
         state = (same_core after last (step base number (chosen number s)).state.core others stands.0, stands.1);
-        ready = next_ready ready after last number (scheduled number s.core) (step base number (chosen number s)).state.core p
+        ready = next_ready ready after last number (core_after_choice number s.core) (step base number (chosen number s)).state.core p
             scheduled_state.0 scheduled_ready at (may_run_going number s.core may) stands.0 grows flags others
             (step_moved base number p (chosen number s) at);
       })
@@ -143,4 +143,4 @@ module _ {Db : Type 0} (base : Base Db) where
       → MayRun (choose None (run base n [] s).core) (run base n [] s).core
   never_stuck_from m db s is n going =
       let d : Core = (run base n [] s).core in
-      chosen_runs None d (ordered_after n s (kin_ordered m.parents s.core is.ready.kin)) (first_false (is_some d.diverged) (all_ended d) going)
+      chosen_runs None d (ordered_after n s (kin_ordered m.parents s.core is.ready.kin)) (first_false (is_some d.diverged) (have_all_ended d) going)

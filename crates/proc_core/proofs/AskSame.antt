@@ -8,7 +8,7 @@ use Rattle.proc_core.specs.Types.{Value, Null, Int, Text, Instr, Entry}
 use Rattle.run_model.specs.Core.{bind, Cursor, Process, Core}
 use Rattle.run_model.specs.Database.{Question}
 use Rattle.run_model.specs.Outcome.{entry_reply}
-use Rattle.run_model.specs.Step.{Ask, ask, asked_by, ask_by, ask_in, ask_at, took_of, took, replied, entry_of}
+use Rattle.run_model.specs.Step.{Ask, ask, asked_by, ask_of_instr, ask_of_process, next_ask, took_of, took, process_with_reply, entry_of}
 use Rattle.run_model.specs.StepBase.{operand_value, operand_values}
 use Rattle.script_code.specs.declared.code.Code.{Code}
 use Rattle.script_code.specs.declared.code.Scope.{Scope}
@@ -19,13 +19,13 @@ use Rattle.proc_core.specs.declared.ask.Statement.{Statement}
 use Rattle.proc_core.specs.declared.machine.Machine.{Machine}
 use Rattle.proc_core.specs.declared.process.SlotCursor.{SlotCursor}
 use Rattle.proc_core.specs.declared.process.SlotProcess.{SlotProcess}
-use Rattle.proc_core.specs.Slots.{bound_held, cursor_in, HasReply, HaveReplies, Holds}
+use Rattle.proc_core.specs.Slots.{bound_value, cursor_in, HasReply, HaveReplies, Holds}
 use Rattle.proc_core.specs.SlotAsk.{statement_of, slot_ask, slot_ask_in, slot_ask_at, slot_replied, question_of}
-use Rattle.proc_core.specs.SlotStep.{next_slotted}
+use Rattle.proc_core.specs.SlotStep.{next_slot_instr}
 use Rattle.proc_core.specs.Stands.{IsProcess, AreProcesses, IsCore}
 use Rattle.proc_core.proofs.Holding.{value_same, values_same}
 use Rattle.proc_core.proofs.Lookups.{lookup_bound, lookup_other}
-use Rattle.proc_core.proofs.Machines.{found, not_found, replaced, AtSame, next_same}
+use Rattle.proc_core.proofs.Machines.{slot_process-at, not_found, replaced, AtSame, next_same}
 use Rattle.proc_core.proofs.ReplySame.{set_reply}
 
 -- ---- one reply more
@@ -68,13 +68,13 @@ entries_more (d ∷ es) e = ap (λ (l : List Reply). d.reply ∷ l) (entries_mor
 module _ (s : Scope) (index : ℕ) (script : List Instr) where
   holds_replied : (name : List ℕ) (q : Question) (x : Reply) (r : SlotProcess) (p : Process) → IsScope s → HasName s.cursors name
       → Holds s index script r p
-      → Holds s index script (slot_replied (slot_of s.cursors name) x r) (replied (record { cursor = name; question = q }) x p)
+      → Holds s index script (slot_replied (slot_of s.cursors name) x r) (process_with_reply (record { cursor = name; question = q }) x p)
   holds_replied name q x r p scope has h =
       let slot : ℕ = slot_of s.cursors name in
       let held : SlotCursor = record { reply = length r.replies; fetched = 0 } in
       let meant : Cursor = record { reply = x; fetched = 0 } in
-      let f : List ℕ → Option Cursor = bound_held p.cursors in
-      let g : List ℕ → Option Cursor = bound_held (bind name meant p.cursors) in
+      let f : List ℕ → Option Cursor = bound_value p.cursors in
+      let g : List ℕ → Option Cursor = bound_value (bind name meant p.cursors) in
       let more : List Reply = r.replies ++ x ∷ [] in
       let set : slice_set (map f s.cursors) slot (g name) ≡ map g s.cursors =
       set_slot f g s.cursors name scope.cursors has (λ n other. lookup_other name n meant p.cursors other) in
@@ -104,7 +104,7 @@ module _ (s : Scope) (index : ℕ) (script : List Instr) where
   AskSame None (Some a) r p = ⊥
   AskSame (Some t) None r p = ⊥
   AskSame (Some t) (Some a) r p =
-      (a.question ≡ question_of r t) × ((x : Reply) → Holds s index script (slot_replied t.cursor x r) (replied a x p))
+      (a.question ≡ question_of r t) × ((x : Reply) → Holds s index script (slot_replied t.cursor x r) (process_with_reply a x p))
 
   statement_same : (name : List ℕ) (text : Value) (params : List Value) (r : SlotProcess) (p : Process) → IsScope s → HasName s.cursors name
       → Holds s index script r p → AskSame (statement_of (slot_of s.cursors name) text params) (ask name text params p) r p
@@ -144,7 +144,7 @@ module _ (s : Scope) (index : ℕ) (script : List Instr) where
   asks_same (instr.Status to cursor) r p scope has h = tt
 
   asks_at : (i : Option Instr) (o : Option SlotInstr) (r : SlotProcess) (p : Process) → AtSame s i o → IsScope s → Holds s index script r p
-      → AskSame (slot_ask o r) (ask_by i p) r p
+      → AskSame (slot_ask o r) (ask_of_instr i p) r p
   asks_at None None r p at scope h = tt
   asks_at None (Some o) r p at scope h = absurd at
   asks_at (Some i) None r p at scope h = absurd at
@@ -153,12 +153,12 @@ module _ (s : Scope) (index : ℕ) (script : List Instr) where
 
   -- a statement is asked where it is
   asks_some : (t : Statement) (o : Option Statement) (oa : Option Ask) (r : SlotProcess) (p : Process) → AskSame o oa r p → o ≡ Some t
-      → (a : Ask) × (oa ≡ Some a) × (a.question ≡ question_of r t) × ((x : Reply) → Holds s index script (slot_replied t.cursor x r) (replied a x p))
+      → (a : Ask) × (oa ≡ Some a) × (a.question ≡ question_of r t) × ((x : Reply) → Holds s index script (slot_replied t.cursor x r) (process_with_reply a x p))
   asks_some t None oa r p same is = absurd cc
   asks_some t (Some u) None r p same is = absurd same
   asks_some t (Some u) (Some a) r p same is =
       let at : u ≡ t = cc in
-      let both = subst (λ (v : Statement). (a.question ≡ question_of r v) × ((x : Reply) → Holds s index script (slot_replied v.cursor x r) (replied a x p))) at same in
+      let both = subst (λ (v : Statement). (a.question ≡ question_of r v) × ((x : Reply) → Holds s index script (slot_replied v.cursor x r) (process_with_reply a x p))) at same in
       (a, refl, both.0, both.1)
 
   asks_none : (o : Option Statement) (oa : Option Ask) (r : SlotProcess) (p : Process) → AskSame o oa r p → o ≡ None → oa ≡ None
@@ -169,20 +169,20 @@ module _ (s : Scope) (index : ℕ) (script : List Instr) where
 -- ---- by the number of the process
 
 same_at : (m : Machine) (r : SlotProcess) (p : Process) (is : IsProcess m.codes r p)
-    → AskSame is.2.scope is.0 is.1 (slot_ask_in m.codes (Some r)) (ask_in (Some p)) r p
+    → AskSame is.2.scope is.0 is.1 (slot_ask_in m.codes (Some r)) (ask_of_process (Some p)) r p
 same_at m r p is =
-    asks_at is.2.scope is.0 is.1 (slice_get p.script p.place) (next_slotted m.codes (Some r)) r p (next_same m.codes r p is) is.4.scope is.5
+    asks_at is.2.scope is.0 is.1 (slice_get p.script p.place) (next_slot_instr m.codes (Some r)) r p (next_same m.codes r p is) is.4.scope is.5
 
 none_by : (m : Machine) (number : ℕ) (c : Core) (o : Option SlotProcess) → slice_get m.processes.items number ≡ o → IsCore m c
-    → slot_ask_in m.codes o ≡ None → ask_at number c ≡ None
-none_by m number c None is core none = ap ask_in (not_found m.codes m.processes.items c.processes number core.processes is)
+    → slot_ask_in m.codes o ≡ None → next_ask number c ≡ None
+none_by m number c None is core none = ap ask_of_process (not_found m.codes m.processes.items c.processes number core.processes is)
 none_by m number c (Some r) is core none =
-    let there = found m.codes m.processes.items c.processes number r core.processes is in
+    let there = slot_process-at m.codes m.processes.items c.processes number r core.processes is in
     let isp : IsProcess m.codes r there.0 = there.2 in
-    ap ask_in there.1 ∙ asks_none isp.2.scope isp.0 isp.1 (slot_ask_in m.codes (Some r)) (ask_in (Some there.0)) r there.0 (same_at m r there.0 isp) none
+    ap ask_of_process there.1 ∙ asks_none isp.2.scope isp.0 isp.1 (slot_ask_in m.codes (Some r)) (ask_of_process (Some there.0)) r there.0 (same_at m r there.0 isp) none
 
 -- where nothing is asked over slots, nothing is asked
-pub asks_nothing : (m : Machine) (number : ℕ) (c : Core) → IsCore m c → slot_ask_at m number ≡ None → ask_at number c ≡ None
+pub asks_nothing : (m : Machine) (number : ℕ) (c : Core) → IsCore m c → slot_ask_at m number ≡ None → next_ask number c ≡ None
 asks_nothing m number c core none = none_by m number c (slice_get m.processes.items number) refl core none
 
 -- what is asked, and what its reply leaves
@@ -192,11 +192,11 @@ pub record Asks (m : Machine) (number : ℕ) (t : Statement) (c : Core) : Type 0
   pub what : Ask
   pub at_held : slice_get m.processes.items number ≡ Some held
   pub at_process : slice_get c.processes number ≡ Some process
-  pub said : ask_at number c ≡ Some what
+  pub said : next_ask number c ≡ Some what
   pub name : held.name ≡ process.name
   pub count : length held.replies ≡ length process.entries
   pub question : what.question ≡ question_of held t
-  pub takes : (x : Reply) → IsProcess m.codes (slot_replied t.cursor x held) (replied what x process)
+  pub takes : (x : Reply) → IsProcess m.codes (slot_replied t.cursor x held) (process_with_reply what x process)
 
 length_replies : (es : List Entry) → length (map entry_reply es) ≡ length es
 length_replies [] = refl
@@ -206,17 +206,17 @@ some_by : (m : Machine) (number : ℕ) (t : Statement) (c : Core) (o : Option Sl
     → slot_ask_in m.codes o ≡ Some t → Asks m number t c
 some_by m number t c None is core some = absurd cc
 some_by m number t c (Some r) is core some =
-    let there = found m.codes m.processes.items c.processes number r core.processes is in
+    let there = slot_process-at m.codes m.processes.items c.processes number r core.processes is in
     let p : Process = there.0 in
     let isp : IsProcess m.codes r p = there.2 in
-    let got = asks_some isp.2.scope isp.0 isp.1 t (slot_ask_in m.codes (Some r)) (ask_in (Some p)) r p (same_at m r p isp) some in
+    let got = asks_some isp.2.scope isp.0 isp.1 t (slot_ask_in m.codes (Some r)) (ask_of_process (Some p)) r p (same_at m r p isp) some in
     record {
       held = r;
       process = p;
       what = got.0;
       at_held = is;
       at_process = there.1;
-      said = ap ask_in there.1 ∙ got.1;
+      said = ap ask_of_process there.1 ∙ got.1;
       name = isp.5.name;
       count = ap length isp.5.replies ∙ length_replies p.entries;
       question = got.2;
@@ -232,12 +232,12 @@ pub took_core : (m after : Machine) (number : ℕ) (t : Statement) (x : Reply) (
     → after.tree ≡ m.tree → after.seed ≡ m.seed → after.last ≡ m.last → after.x ≡ m.x → after.asked ≡ m.asked + 1
     → IsCore after (took number is.what x c)
 took_core m after number t x c core is codes processes tree seed last xs asked =
-    let all : AreProcesses m.codes (slice_set m.processes.items number (slot_replied t.cursor x is.held)) (slice_set c.processes number (replied is.what x is.process)) =
-    replaced m.codes m.processes.items c.processes number (slot_replied t.cursor x is.held) (replied is.what x is.process) core.processes (is.takes x) in
+    let all : AreProcesses m.codes (slice_set m.processes.items number (slot_replied t.cursor x is.held)) (slice_set c.processes number (process_with_reply is.what x is.process)) =
+    replaced m.codes m.processes.items c.processes number (slot_replied t.cursor x is.held) (process_with_reply is.what x is.process) core.processes (is.takes x) in
     let here : IsCore after (took_of (Some is.process) number is.what x c) = record {
       files = tree ∙ core.files;
-      processes = subst (λ (l : List SlotProcess). AreProcesses after.codes l (slice_set c.processes number (replied is.what x is.process))) (sym processes)
-          (subst (λ (k : List Code). AreProcesses k (slice_set m.processes.items number (slot_replied t.cursor x is.held)) (slice_set c.processes number (replied is.what x is.process))) (sym codes) all);
+      processes = subst (λ (l : List SlotProcess). AreProcesses after.codes l (slice_set c.processes number (process_with_reply is.what x is.process))) (sym processes)
+          (subst (λ (k : List Code). AreProcesses k (slice_set m.processes.items number (slot_replied t.cursor x is.held)) (slice_set c.processes number (process_with_reply is.what x is.process))) (sym codes) all);
       seed = seed ∙ core.seed;
       last = last ∙ core.last;
       x = xs ∙ core.x;

@@ -4,11 +4,11 @@ use Rattle.std.specs.Prelude.{Option, None, replicate}
 use Rattle.std.proofs.lemmas.List.{at_drop_all}
 use Rattle.sql_model.specs.declared.reply.Reply.{Reply}
 use Rattle.proc_core.specs.Types.{Value, Null, Instr}
-use Rattle.run_model.specs.Core.{Binding, Cursor, arguments_from, argument_variables, new_process}
+use Rattle.run_model.specs.Core.{NameBinding, Cursor, arguments_from, argument_variables, new_process}
 use Rattle.script_code.specs.declared.code.Scope.{Scope}
 use Rattle.proc_core.specs.declared.process.SlotCursor.{SlotCursor}
 use Rattle.proc_core.specs.declared.process.SlotProcess.{SlotProcess}
-use Rattle.proc_core.specs.Slots.{value_held, bound_held, cursor_in, HaveReplies, Holds}
+use Rattle.proc_core.specs.Slots.{value_held, bound_value, cursor_in, HaveReplies, Holds}
 use Rattle.proc_core.proofs.Begins.{none_bound, none_set}
 
 -- no argument is bound yet
@@ -16,14 +16,14 @@ pub none_yet : (names : List (List ℕ)) (vs slots : List Value) → slots ≡ r
     → slots ≡ map (value_held (arguments_from (length vs + 1) (drop (length vs) vs))) names
 none_yet names vs slots is =
     is ∙ none_set names
-    ∙ ap (λ (bs : List (Binding Value)). map (value_held bs) names) (sym (at_drop_all (arguments_from (length vs + 1)) vs (length vs) (omega arith)))
+    ∙ ap (λ (bs : List (NameBinding Value)). map (value_held bs) names) (sym (at_drop_all (arguments_from (length vs + 1)) vs (length vs) (omega arith)))
 
 -- other names mean nothing
 abbrev no_cursor : Option SlotCursor
 no_cursor = None
 
 no_cursors : (replies : List Reply) (names : List (List ℕ))
-    → map (cursor_in replies) (replicate (length names) no_cursor) ≡ map (bound_held []) names
+    → map (cursor_in replies) (replicate (length names) no_cursor) ≡ map (bound_value []) names
 no_cursors replies [] = refl
 no_cursors replies (n ∷ ns) = ap (λ (l : List (Option Cursor)). None ∷ l) (no_cursors replies ns)
 

@@ -5,7 +5,7 @@ use Rattle.std.specs.List.{AllByRecursion}
 use Rattle.sql_model.specs.declared.reply.Reply.{Reply}
 use Rattle.std.proofs.lemmas.Bool.{cases_Bool}
 use Rattle.std.proofs.lemmas.List.{length-set}
-use Rattle.ready_set.specs.Ready.{Ready}
+use Rattle.ready_set.specs.Ready.{ReadyView}
 use Rattle.ldv_value.specs.FileState.{FileState, FileRefusal, open_refusal, is_there, read_line, has_room, rest_at}
 use Rattle.ldv_value.specs.Limits.{printed_limit}
 use Rattle.ldv_value.specs.Order.{order, meets}
@@ -14,10 +14,10 @@ use Rattle.ldv_value.specs.declared.line.LineRead.{LineRead}
 use Rattle.ldv_value.specs.declared.line.LineRead.TheVariants as lines
 use Rattle.proc_core.specs.Types.{Value}
 use Rattle.run_model.specs.Core.{OpenFile}
-use Rattle.run_model.specs.StepBase.{Computed, Yields, Misused}
+use Rattle.run_model.specs.StepBase.{Computation, Yields, Misused}
 use Rattle.run_model.specs.StepFiles.{path_in, allows_read, allows_write}
-use Rattle.run_model.specs.StepReplies.{counted, status_value}
-use Rattle.run_model.specs.StepVariables.{calculated, glued, to_number, printed_line}
+use Rattle.run_model.specs.StepReplies.{row_count, status_value}
+use Rattle.run_model.specs.StepVariables.{calculation, concatenation, to_number, printed_line}
 use Rattle.script_code.specs.declared.code.Code.{Code}
 use Rattle.script_code.specs.declared.code.FileInstr.{FileInstr}
 use Rattle.script_code.specs.declared.code.FileInstr.TheVariants as on_files
@@ -38,7 +38,7 @@ use Rattle.proc_core.specs.SlotReplies.{slot_close_file, slot_with_values, slot_
 use Rattle.proc_core.specs.SlotSpawn.{HasChild, IsNoChild, slot_parent}
 use Rattle.proc_core.specs.SlotReady.{marked_by, marked, marked_parent, marked_above, refreshed}
 use Rattle.proc_core.specs.SlotStep.{slot_wait_until, slot_wait_with, slot_child_status, slot_is_runnable, slot_status_in, slot_effect}
-use Rattle.proc_core.specs.SlotVariables.{slot_cut_parts, parts_of, slot_jump_where, slot_print_line}
+use Rattle.proc_core.specs.SlotVariables.{slot_cut_parts, split_value, slot_jump_where, slot_print_line}
 use Rattle.proc_core.specs.Slots.{open_at, cursor_of, cursor_at, child_at, slot_value, slot_values, slot_assign, slot_with_variable}
 use Rattle.proc_core.proofs.Machines.{get_some}
 
@@ -49,7 +49,7 @@ abbrev Same : SlotProcess → SlotProcess → Type 0
 Same r q = counted_of q ≡ counted_of r
 
 module _ (r : SlotProcess) where
-  assigned : (to : ℕ) (v : Computed) → Same r (slot_assign to v r)
+  assigned : (to : ℕ) (v : Computation) → Same r (slot_assign to v r)
   assigned to (Yields v) = refl
   assigned to (Misused status) = refl
 
@@ -93,17 +93,17 @@ module _ (r : SlotProcess) where
 
   own_so : (o : OwnInstr) → Same r (slot_own o r)
   own_so (own.Let to value) = refl
-  own_so (own.Calc to op left right) = assigned r to (calculated op (slot_value r left) (slot_value r right))
-  own_so (own.Glue to left right) = assigned r to (glued (slot_value r left) (slot_value r right))
+  own_so (own.Calc to op left right) = assigned r to (calculation op (slot_value r left) (slot_value r right))
+  own_so (own.Glue to left right) = assigned r to (concatenation (slot_value r left) (slot_value r right))
   own_so (own.ToInt to value) = assigned r to (to_number (slot_value r value))
-  own_so (own.Cut before after by) = cut_so r before after (parts_of (slot_value r by) (slot_value r (Slot after)))
+  own_so (own.Cut before after by) = cut_so r before after (split_value (slot_value r by) (slot_value r (Slot after)))
   own_so (own.Jump place) = refl
   own_so (own.JumpIf op left right place) = jumped r (meets op (order (slot_value r left) (slot_value r right))) place
   own_so (own.Print operands) = printed r (printed_line (slot_values r operands))
   own_so (own.Exit status) = refl
   own_so (own.Close slot) = closed r (open_at slot r) slot
   own_so (own.Fetch slot to place) = fetched (cursor_of slot r) slot to place
-  own_so (own.Count to slot) = assigned r to (counted (option_and_then (cursor_at r.replies) (cursor_of slot r)))
+  own_so (own.Count to slot) = assigned r to (row_count (option_and_then (cursor_at r.replies) (cursor_of slot r)))
   own_so (own.Status to slot) = assigned r to (status_value (option_and_then (cursor_at r.replies) (cursor_of slot r)))
 
   -- ---- one on files
@@ -243,7 +243,7 @@ module _ (m after : Machine) where
         flags = omega (
           arith,
           fewer.flags,
-          ap (λ (set : Ready). length set.flags) ready,
+          ap (λ (set : ReadyView). length set.flags) ready,
           ap length (items r there.1) ∙ length-set m.processes.items number (f r),
         );
       }
@@ -305,7 +305,7 @@ module _ (m after : Machine) where
         flags = omega (
           arith,
           fewer.flags,
-          ap (λ (set : Ready). length set.flags) ready,
+          ap (λ (set : ReadyView). length set.flags) ready,
           ap length (items r there.1) ∙ length-set m.processes.items number q,
         );
       }

@@ -7,7 +7,7 @@ use Rattle.ldv_value.specs.declared.line.LineRead.{LineRead}
 use Rattle.ldv_value.specs.declared.line.LineRead.TheVariants as lines
 use Rattle.proc_core.specs.Types.{Value, Int, Text, Instr, Operand}
 use Rattle.run_model.specs.Core.{OpenFile, Process}
-use Rattle.run_model.specs.StepBase.{operand_values, ended, wrong_kind, too_long, bad_path, not_utf8, with_variable, FileEffect}
+use Rattle.run_model.specs.StepBase.{operand_values, with_exit_status, wrong_kind, too_long_status, bad_path, not_utf8, with_variable, FileEffect}
 use Rattle.run_model.specs.StepFiles.{path_in, path_at, allows_read, allows_write, if_allowed, open_for, at_place, opened_file, with_open, open_unless, open_path, take_line, read_next, write_where, write_text, write_line, copy_where, copy_between, copy_rest, remove_found, remove_path, number_of_test, test_path}
 use Rattle.run_model.specs.StepVariables.{printed_line}
 use Rattle.script_code.specs.declared.code.Scope.{Scope}
@@ -25,7 +25,7 @@ module _ (s : Scope) (index : ℕ) (script : List Instr) where
     pub acts : e.acts ≡ f.acts
 
   misused_same : (status : ℕ) (r : SlotProcess) (p : Process) (st : FileState) → Holds s index script r p
-      → SameEffect (record { process = slot_ended status r; files = st; acts = [] }) (record { process = ended status p; files = st; acts = [] })
+      → SameEffect (record { process = slot_ended status r; files = st; acts = [] }) (record { process = with_exit_status status p; files = st; acts = [] })
   misused_same status r p st h = record { process = holds_ended s index script status r p h; files = refl; acts = refl }
 
   -- ---- `open`
@@ -69,7 +69,7 @@ module _ (s : Scope) (index : ℕ) (script : List Instr) where
       let h1 : Holds s index script r1 p1 = holds_file s index script name (record file { place = next }) r p scope more h in
       holds_went_on s index script (slot_with_variable (slot_of s.variables to) (Text line) r1) (with_variable to (Text line) p1)
       (holds_variable s index script to (Text line) r1 p1 scope has h1)
-  take_line_same lines.TooLong to name file place r p scope has more h = holds_ended s index script too_long r p h
+  take_line_same lines.TooLong to name file place r p scope has more h = holds_ended s index script too_long_status r p h
   take_line_same lines.NotText to name file place r p scope has more h = holds_ended s index script not_utf8 r p h
 
   read_next_same : (file : Option OpenFile) (to name : List ℕ) (place : ℕ) (r : SlotProcess) (p : Process) (st : FileState)
@@ -86,7 +86,7 @@ module _ (s : Scope) (index : ℕ) (script : List Instr) where
 
   write_where_same : (room : Bool) (file : OpenFile) (text : List ℕ) (r : SlotProcess) (p : Process) (st : FileState) → Holds s index script r p
       → SameEffect (slot_write_where room file text r st) (write_where room file text p st)
-  write_where_same false file text r p st h = misused_same too_long r p st h
+  write_where_same false file text r p st h = misused_same too_long_status r p st h
   write_where_same true file text r p st h = record { process = holds_went_on s index script r p h; files = refl; acts = refl }
 
   write_text_same : (file : Option OpenFile) (text : List ℕ) (r : SlotProcess) (p : Process) (st : FileState) → Holds s index script r p
@@ -100,7 +100,7 @@ module _ (s : Scope) (index : ℕ) (script : List Instr) where
       → IsScope s → HasName s.files name → Holds s index script r p
       → SameEffect (slot_copy_where room (slot_of s.files name) source target r st) (copy_where room name source target p st)
   copy_where_same false name source target r p st scope has h =
-      record { process = holds_ended s index script too_long r p h; files = refl; acts = refl }
+      record { process = holds_ended s index script too_long_status r p h; files = refl; acts = refl }
   copy_where_same true name source target r p st scope has h =
       let next : ℕ = copy_end st source.path source.place in
       record {

@@ -7,9 +7,9 @@ use Rattle.std.proofs.lemmas.Option.{slice_get_past, slice_get_within}
 use Rattle.script_parse.specs.declared.script.Instr.TheVariants as instr
 use Rattle.run_model.specs.Types.{Value, Instr}
 use Rattle.run_model.specs.Core.{lookup, Process, Core, new_process}
-use Rattle.run_model.specs.Schedule.{still_runs, waits_for, is_waiting, is_runnable, runnable_from, runnable}
+use Rattle.run_model.specs.Schedule.{still_runs, waits_for, is_waiting, is_runnable, runnable_from, runnable_processes}
 use Rattle.ready_set.specs.Ready.{numbers_from, numbers}
-use Rattle.proc_core.specs.Flags.{runnable_flags, awaited_by, awaited}
+use Rattle.proc_core.specs.Flags.{runnable_flags, awaited_by, awaited_child}
 use Rattle.proc_core.specs.FlagsLaw.{IsAt, OthersPass, GoesOn, Ends, EndsUnder, Wakes, Spawns, NewRuns}
 
 -- ---- the list
@@ -19,7 +19,7 @@ flags_from n all [] = refl
 flags_from n all (p ∷ ps) =
     ap (λ (rest : List ℕ). cond (is_runnable all p) (n ∷ rest) rest) (flags_from (n + 1) all ps)
 
-pub flags_runnable : (c : Core) → numbers (runnable_flags c.processes) ≡ runnable c
+pub flags_runnable : (c : Core) → numbers (runnable_flags c.processes) ≡ runnable_processes c
 flags_runnable c = flags_from 0 c.processes c.processes
 
 -- ---- places
@@ -77,11 +77,11 @@ named_by (Some (instr.Wait to name)) p child is = (name, is)
 named_by (Some other) p child is = absurd cc
 
 -- a process waits only for what a name of its children means
-pub awaited_named : (p : Process) (child : ℕ) → awaited p ≡ Some child → (name : List ℕ) × (lookup name p.children ≡ Some child)
+pub awaited_named : (p : Process) (child : ℕ) → awaited_child p ≡ Some child → (name : List ℕ) × (lookup name p.children ≡ Some child)
 awaited_named p child is = named_by (slice_get p.script p.place) p child is
 
 abbrev runs_by : List Process → Process → Bool
-runs_by all p = is_none p.status && not (waits_for (awaited p) all)
+runs_by all p = is_none p.status && not (waits_for (awaited_child p) all)
 
 pub runnable_is : (all : List Process) (p : Process) → is_runnable all p ≡ runs_by all p
 runnable_is all p = ap (λ (w : Bool). is_none p.status && not w) (waits_by (slice_get p.script p.place) p all)
@@ -93,10 +93,10 @@ waits_same (Some k) all other same = same k refl
 
 -- where what it waits for runs in both or in neither
 pub runnable_same : (all other : List Process) (p : Process)
-    → ((k : ℕ) → awaited p ≡ Some k → still_runs (slice_get all k) ≡ still_runs (slice_get other k))
+    → ((k : ℕ) → awaited_child p ≡ Some k → still_runs (slice_get all k) ≡ still_runs (slice_get other k))
     → is_runnable all p ≡ is_runnable other p
 runnable_same all other p same =
-    runnable_is all p ∙ ap (λ (w : Bool). is_none p.status && not w) (waits_same (awaited p) all other same) ∙ sym (runnable_is other p)
+    runnable_is all p ∙ ap (λ (w : Bool). is_none p.status && not w) (waits_same (awaited_child p) all other same) ∙ sym (runnable_is other p)
 
 -- ---- one process is replaced
 
@@ -145,24 +145,24 @@ module _ (ps : List Process) (number : ℕ) (p q : Process) (is : IsAt number p 
   ended_rests : (status : ℕ) → q.status ≡ Some status → is_runnable now q ≡ false
   ended_rests status end = and_left (is_none q.status) _ (ap is_none end)
 
-  not_awaited : (r : Process) → awaited r ≢ Some number → is_runnable now r ≡ is_runnable ps r
+  not_awaited : (r : Process) → awaited_child r ≢ Some number → is_runnable now r ≡ is_runnable ps r
   not_awaited r apart = runnable_same now ps r (λ k waits. others_run k (λ same. apart (waits ∙ ap {B = Option ℕ} Some same)))
 
-  pub ended : (status : ℕ) → q.status ≡ Some status → OthersPass (λ r k. awaited r ≢ Some number) number ps
+  pub ended : (status : ℕ) → q.status ≡ Some status → OthersPass (λ r k. awaited_child r ≢ Some number) number ps
       → runnable_flags now ≡ set (runnable_flags ps) number false
   ended status end others =
       replaced (λ k r apart there. not_awaited r (others k r apart there))
       ∙ ap (set (runnable_flags ps) number) (ended_rests status end)
 
   -- the one that waits for it is runnable
-  woken : (status : ℕ) (r : Process) → q.status ≡ Some status → r.status ≡ None → awaited r ≡ Some number → is_runnable now r ≡ true
+  woken : (status : ℕ) (r : Process) → q.status ≡ Some status → r.status ≡ None → awaited_child r ≡ Some number → is_runnable now r ≡ true
   woken status r end runs waits =
       let over : still_runs (slice_get now number) ≡ false = ap still_runs (get-set_same ps number q within) ∙ ap is_none end in
-      runnable_is now r ∙ ap (λ (b : Bool). b && not (waits_for (awaited r) now)) (ap is_none runs)
+      runnable_is now r ∙ ap (λ (b : Bool). b && not (waits_for (awaited_child r) now)) (ap is_none runs)
       ∙ ap (λ (o : Option ℕ). true && not (waits_for o now)) waits ∙ ap (λ (b : Bool). true && not b) over
 
   module _ (parent status : ℕ) (r : Process) (end : q.status ≡ Some status) (there : IsAt parent r ps) (apart : parent ≢ number)
-      (others : OthersPass (λ s k. k ≢ parent → awaited s ≢ Some number) number ps) where
+      (others : OthersPass (λ s k. k ≢ parent → awaited_child s ≢ Some number) number ps) where
     abbrev ended_flags : List Bool
     ended_flags = set (runnable_flags ps) number false
 
@@ -195,8 +195,8 @@ module _ (ps : List Process) (number : ℕ) (p q : Process) (is : IsAt number p 
           | inr aside ↦ other_flag k aside ∙ sym (get_or-set_other ended_flags parent k (is_runnable now r) false aside)
         ])
 
-pub goes_on : GoesOn
-goes_on ps number p q is same = replaced ps number p q is (λ k r apart there. runnable_same (set ps number q) ps r (λ j waits. runs j))
+pub runnable-goes_on : GoesOn
+runnable-goes_on ps number p q is same = replaced ps number p q is (λ k r apart there. runnable_same (set ps number q) ps r (λ j waits. runs j))
   where
     runs : (j : ℕ) → still_runs (slice_get (set ps number q) j) ≡ still_runs (slice_get ps j)
     runs j = elim (cases_eq j number) [
@@ -219,7 +219,7 @@ wakes ps number status p q r is end runs waits = woken ps number p q is status r
 -- ---- a child is made
 
 module _ (ps : List Process) (number : ℕ) (p q child : Process) (is : IsAt number p ps) (same : is_none q.status ≡ is_none p.status)
-    (none : OthersPass (λ r k. awaited r ≢ Some (length ps)) number ps) where
+    (none : OthersPass (λ r k. awaited_child r ≢ Some (length ps)) number ps) where
   abbrev front : List Process
   front = set ps number q
 

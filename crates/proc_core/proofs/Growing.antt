@@ -2,7 +2,7 @@
 use Rattle.std.proofs.Common.{◌≡◌, ℕ, suc, ◌<◌, List, [], ◌∷◌, ◌++◌, length, refl, sym, ap, ◌∙◌, subst, true, arith}
 use Rattle.std.specs.Prelude.{Some, slice_get, slice_set}
 use Rattle.std.proofs.lemmas.List.{length-set}
-use Rattle.ready_set.specs.Ready.{Ready}
+use Rattle.ready_set.specs.Ready.{ReadyView}
 use Rattle.proc_core.specs.Types.{Value}
 use Rattle.script_code.specs.declared.code.Code.{Code}
 use Rattle.proc_core.specs.declared.machine.Machine.{Machine}
@@ -48,7 +48,7 @@ module _ (m after : Machine) (number : ℕ) where
       record {
         same = λ as_many. absurd (omega (arith, long, as_many));
         more = λ one. (
-          child.ready ∙ ap (λ (set : Ready). set.flags ++ true ∷ []) ready,
+          child.ready ∙ ap (λ (set : ReadyView). set.flags ++ true ∷ []) ready,
           child.parents ∙ ap (λ (l : List ℕ). l ++ number ∷ []) parents,
         );
       }

@@ -5,12 +5,12 @@ use Rattle.sql_model.specs.Meaning.{or_null}
 use Rattle.script_parse.specs.declared.script.Operand.TheVariants as operand
 use Rattle.proc_core.specs.Types.{Value, Instr, Operand}
 use Rattle.run_model.specs.Core.{lookup, bind, unbind, OpenFile, Process}
-use Rattle.run_model.specs.StepBase.{operand_value, operand_values, ended, went_on, went_to, with_variable, Computed, Yields, Misused, assign}
+use Rattle.run_model.specs.StepBase.{operand_value, operand_values, with_exit_status, went_on, went_to, with_variable, Computation, Yields, Misused, assign}
 use Rattle.script_code.specs.declared.code.Scope.{Scope}
 use Rattle.script_code.specs.Resolved.{slot_of, HasName, slot_operand, HasOperand, HasOperands, IsScope}
 use Rattle.script_code.proofs.SlotLists.{get_slot, set_slot}
 use Rattle.proc_core.specs.declared.process.SlotProcess.{SlotProcess}
-use Rattle.proc_core.specs.Slots.{value_held, bound_held, joined, open_at, child_at, slot_with_file, Holds, slot_value, slot_values, slot_ended, slot_went_on, slot_went_to, slot_with_variable, slot_assign}
+use Rattle.proc_core.specs.Slots.{value_held, bound_value, flatten_option, open_at, child_at, slot_with_file, Holds, slot_value, slot_values, slot_ended, slot_went_on, slot_went_to, slot_with_variable, slot_assign}
 use Rattle.proc_core.proofs.Lookups.{lookup_bound, lookup_other, lookup_unbound, lookup_unbound_other}
 
 -- ---- operands
@@ -31,7 +31,7 @@ module _ (s : Scope) (index : ℕ) (script : List Instr) where
   -- ---- changes
 
   pub holds_ended : (status : ℕ) (r : SlotProcess) (p : Process) → Holds s index script r p
-      → Holds s index script (slot_ended status r) (ended status p)
+      → Holds s index script (slot_ended status r) (with_exit_status status p)
   holds_ended status r p h = record {
     code = h.code;
     runs = h.runs;
@@ -129,7 +129,7 @@ module _ (s : Scope) (index : ℕ) (script : List Instr) where
     status = h.status;
   }
 
-  pub holds_assign : (name : List ℕ) (c : Computed) (r : SlotProcess) (p : Process) → IsScope s → HasName s.variables name
+  pub holds_assign : (name : List ℕ) (c : Computation) (r : SlotProcess) (p : Process) → IsScope s → HasName s.variables name
       → Holds s index script r p → Holds s index script (slot_assign (slot_of s.variables name) c r) (assign name c p)
   holds_assign name (Yields v) r p scope has h =
       holds_went_on (slot_with_variable (slot_of s.variables name) v r) (with_variable name v p)
@@ -140,16 +140,16 @@ module _ (s : Scope) (index : ℕ) (script : List Instr) where
   pub open_same : (name : List ℕ) (r : SlotProcess) (p : Process) → HasName s.files name → Holds s index script r p
       → open_at (slot_of s.files name) r ≡ lookup name p.files
   open_same name r p has h =
-      ap (λ (l : List (Option OpenFile)). joined (slice_get l (slot_of s.files name))) h.files
-      ∙ ap joined (get_slot (bound_held p.files) s.files name has)
+      ap (λ (l : List (Option OpenFile)). flatten_option (slice_get l (slot_of s.files name))) h.files
+      ∙ ap flatten_option (get_slot (bound_value p.files) s.files name has)
 
   pub holds_file : (name : List ℕ) (file : OpenFile) (r : SlotProcess) (p : Process) → IsScope s → HasName s.files name
       → Holds s index script r p
       → Holds s index script (slot_with_file (slot_of s.files name) (Some file) r) (record p { files = bind name file p.files })
   holds_file name file r p scope has h =
       let slot : ℕ = slot_of s.files name in
-      let f : List ℕ → Option OpenFile = bound_held p.files in
-      let g : List ℕ → Option OpenFile = bound_held (bind name file p.files) in
+      let f : List ℕ → Option OpenFile = bound_value p.files in
+      let g : List ℕ → Option OpenFile = bound_value (bind name file p.files) in
       let set : slice_set (map f s.files) slot (g name) ≡ map g s.files =
       set_slot f g s.files name scope.files has (λ n other. lookup_other name n file p.files other) in
       record {
@@ -174,8 +174,8 @@ module _ (s : Scope) (index : ℕ) (script : List Instr) where
       → Holds s index script (slot_with_file (slot_of s.files name) None r) (record p { files = unbind name p.files })
   holds_closed name r p scope has h =
       let slot : ℕ = slot_of s.files name in
-      let f : List ℕ → Option OpenFile = bound_held p.files in
-      let g : List ℕ → Option OpenFile = bound_held (unbind name p.files) in
+      let f : List ℕ → Option OpenFile = bound_value p.files in
+      let g : List ℕ → Option OpenFile = bound_value (unbind name p.files) in
       let set : slice_set (map f s.files) slot (g name) ≡ map g s.files =
       set_slot f g s.files name scope.files has (λ n other. lookup_unbound_other name n p.files other) in
       record {
@@ -199,5 +199,5 @@ module _ (s : Scope) (index : ℕ) (script : List Instr) where
   pub child_same : (name : List ℕ) (r : SlotProcess) (p : Process) → HasName s.children name → Holds s index script r p
       → child_at (slot_of s.children name) r ≡ lookup name p.children
   child_same name r p has h =
-      ap (λ (l : List (Option ℕ)). joined (slice_get l (slot_of s.children name))) h.children
-      ∙ ap joined (get_slot (bound_held p.children) s.children name has)
+      ap (λ (l : List (Option ℕ)). flatten_option (slice_get l (slot_of s.children name))) h.children
+      ∙ ap flatten_option (get_slot (bound_value p.children) s.children name has)

@@ -6,12 +6,12 @@ use Rattle.ldv_value.specs.Limits.{max_processes}
 use Rattle.script_parse.specs.Script.{script_of}
 use Rattle.proc_core.specs.Types.{Instr, Spawned}
 use Rattle.run_model.specs.Core.{Core}
-use Rattle.run_model.specs.Step.{quiet}
+use Rattle.run_model.specs.Step.{local_step}
 use Rattle.script_code.specs.declared.code.Code.{Code}
 use Rattle.script_code.specs.Resolved.{IsCode}
 use Rattle.proc_core.specs.declared.machine.Machine.{Machine}
 use Rattle.proc_core.specs.declared.process.SlotProcess.{SlotProcess}
-use Rattle.proc_core.specs.declared.spawning.Spawning.{Spawning}
+use Rattle.proc_core.specs.declared.spawn_request.Spawning.{Spawning}
 use Rattle.proc_core.specs.SlotReady.{Grows}
 use Rattle.proc_core.specs.SlotSpawn.{slot_spawning_at, Runs, IsElse, HasChild}
 use Rattle.proc_core.specs.Stands.{IsCore}
@@ -37,13 +37,13 @@ module _ (m after : Machine) (number : ℕ) (sp : Spawning) (says : slot_spawnin
     pub known_core : (c : Core) → IsCore m c
         → ((r : SlotProcess) (k : Code) → slice_get m.processes.items number ≡ Some r → slice_get m.codes index ≡ Some k
         → HasChild m number sp.child index k r sp.arguments after)
-        → IsCore after (quiet number c).core
+        → IsCore after (local_step number c).core
     known_core c core makes =
         let coded = runs_code m after number c core bytes index runs in
         made_core m after number c core sp says path at m index runs.2 bytes coded.0 is room coded.1 coded.2 runs.5 refl (nothing_else m)
         (λ r p there. there) core.processes makes
 
-    pub known_acts : (c : Core) → IsCore m c → Spawned path ∷ [] ≡ (quiet number c).acts
+    pub known_acts : (c : Core) → IsCore m c → Spawned path ∷ [] ≡ (local_step number c).acts
     known_acts c core =
         let coded = runs_code m after number c core bytes index runs in
         made_acts m after number c core sp says path at bytes coded.0 is room coded.1
@@ -65,12 +65,12 @@ module _ (m after : Machine) (number : ℕ) (sp : Spawning) (says : slot_spawnin
         let both : Some code ≡ Some k = sym (get_last m.codes code) ∙ there in
         subst (λ (x : Code). HasChild (with_code m code) number sp.child (length m.codes) x r sp.arguments after) (one_code code k both) (makes r here)
 
-    pub new_core : (c : Core) → IsCore m c → IsCore after (quiet number c).core
+    pub new_core : (c : Core) → IsCore m c → IsCore after (local_step number c).core
     new_core c core =
         made_core m after number c core sp says path at (with_code m code) (length m.codes) code bytes script is room reads coded (get_last m.codes code) refl
         (else_same m code) (code_stays m.codes code) (codes_stay m.codes code m.processes.items c.processes core.processes) makes_any
 
-    pub new_acts : (c : Core) → IsCore m c → Spawned path ∷ [] ≡ (quiet number c).acts
+    pub new_acts : (c : Core) → IsCore m c → Spawned path ∷ [] ≡ (local_step number c).acts
     new_acts c core = made_acts m after number c core sp says path at bytes script is room reads
 
     pub new_grows : number < length m.processes.items → Grows m number after

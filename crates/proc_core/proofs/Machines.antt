@@ -6,8 +6,8 @@ use Rattle.script_parse.specs.declared.script.Instr.TheVariants as instr
 use Rattle.proc_core.specs.Types.{Value, Int, Instr, Act, Event}
 use Rattle.run_model.specs.Events.{event_at}
 use Rattle.run_model.specs.Core.{Process, Core, lookup}
-use Rattle.run_model.specs.Step.{execute, execute_next, quiet_of, quiet, ends_at, end_acts, status_acts}
-use Rattle.run_model.specs.StepBase.{ended, went_on, with_variable, Effect, FileEffect, on_files, wrong_kind}
+use Rattle.run_model.specs.Step.{execute, execute_next, local_step_of, local_step, ends_at, end_acts, status_acts}
+use Rattle.run_model.specs.StepBase.{with_exit_status, went_on, with_variable, Effect, FileEffect, on_files, wrong_kind}
 use Rattle.run_model.specs.StepFiles.{path_at, allows_read, open_for, open_path, read_next, write_line, copy_rest, close, remove_path, test_path}
 use Rattle.run_model.specs.StepReplies.{fetch, count, status}
 use Rattle.run_model.specs.StepProcesses.{status_in, wait_until, wait_for}
@@ -21,8 +21,8 @@ use Rattle.proc_core.specs.declared.machine.Machine.{Machine}
 use Rattle.proc_core.specs.declared.process.SlotProcess.{SlotProcess}
 use Rattle.proc_core.specs.Slots.{Holds, child_at, slot_ended, slot_with_variable}
 use Rattle.proc_core.specs.SlotFiles.{SlotEffect}
-use Rattle.proc_core.specs.SlotStep.{slotted_at, next_slotted, slot_status_in, slot_wait_until, slot_wait_for, slot_effect, IsKept}
-use Rattle.proc_core.specs.Stands.{IsProcess, AreProcesses, IsCore, Told}
+use Rattle.proc_core.specs.SlotStep.{slotted_at, next_slot_instr, slot_status_in, slot_wait_until, slot_wait_for, slot_effect, IsKept}
+use Rattle.proc_core.specs.Stands.{IsProcess, AreProcesses, IsCore, AppendsEvents}
 use Rattle.proc_core.proofs.Holding.{holds_ended, holds_went_on, holds_variable, child_same}
 use Rattle.proc_core.proofs.ReplySame.{close_same, fetch_same, count_same, status_same as reply_status_same}
 use Rattle.proc_core.proofs.FileSame.{SameEffect, open_path_effect, read_line_effect, write_line_effect, copy_effect, remove_effect, exists_effect}
@@ -32,15 +32,15 @@ use Rattle.proc_core.proofs.OwnSame.{let_same, calc_same, glue_same, number_same
 
 module _ (codes : List Code) where
   -- what is there by slots is there
-  pub found : (rs : List SlotProcess) (ps : List Process) (n : ℕ) (r : SlotProcess) → AreProcesses codes rs ps
+  pub slot_process-at : (rs : List SlotProcess) (ps : List Process) (n : ℕ) (r : SlotProcess) → AreProcesses codes rs ps
       → slice_get rs n ≡ Some r → (p : Process) × (slice_get ps n ≡ Some p) × IsProcess codes r p
-  found [] [] n r are is = absurd cc
-  found [] (p ∷ ps) n r are is = absurd are
-  found (q ∷ rs) [] n r are is = absurd are
-  found (q ∷ rs) (p ∷ ps) zero r are is =
+  slot_process-at [] [] n r are is = absurd cc
+  slot_process-at [] (p ∷ ps) n r are is = absurd are
+  slot_process-at (q ∷ rs) [] n r are is = absurd are
+  slot_process-at (q ∷ rs) (p ∷ ps) zero r are is =
       let same : q ≡ r = cc in
       (p, refl, subst (λ (x : SlotProcess). IsProcess codes x p) same are.0)
-  found (q ∷ rs) (p ∷ ps) (suc n) r are is = found rs ps n r are.1 is
+  slot_process-at (q ∷ rs) (p ∷ ps) (suc n) r are is = slot_process-at rs ps n r are.1 is
 
   pub not_found : (rs : List SlotProcess) (ps : List Process) (n : ℕ) → AreProcesses codes rs ps
       → slice_get rs n ≡ None → slice_get ps n ≡ None
@@ -90,12 +90,12 @@ resolved_at s (i ∷ is) (o ∷ os) (suc n) all = resolved_at s is os n all.1
 
 -- the next instruction of a process
 pub next_same : (codes : List Code) (r : SlotProcess) (p : Process) (is : IsProcess codes r p)
-    → AtSame is.2.scope (slice_get p.script p.place) (next_slotted codes (Some r))
+    → AtSame is.2.scope (slice_get p.script p.place) (next_slot_instr codes (Some r))
 next_same codes r p is =
     let h : Holds is.2.scope is.0 is.1 r p = is.5 in
     let code : slice_get codes r.code ≡ Some is.2 = ap (λ (k : ℕ). slice_get codes k) h.code ∙ is.3 in
     let by_place : AtSame is.2.scope (slice_get is.1 r.place) (slice_get is.2.instructions r.place) = resolved_at is.2.scope is.1 is.2.instructions r.place is.4.instructions in
-    let same : slotted_at (Some is.2) r.place ≡ next_slotted codes (Some r) = ap (λ (o : Option Code). slotted_at o r.place) (sym code) in
+    let same : slotted_at (Some is.2) r.place ≡ next_slot_instr codes (Some r) = ap (λ (o : Option Code). slotted_at o r.place) (sym code) in
     let there : AtSame is.2.scope (slice_get p.script p.place) (slice_get is.2.instructions r.place) = subst (λ (o : Option Instr). AtSame is.2.scope o (slice_get is.2.instructions r.place)) (λ j. slice_get (sym h.runs j) (h.place j)) by_place in
     subst (AtSame is.2.scope (slice_get p.script p.place)) same there
 
@@ -140,10 +140,10 @@ module _ (s : Scope) (index : ℕ) (script : List Instr) (number : ℕ) (codes :
   wait_for_same None to child scope has at are is found h =
       let effect : slot_effect (Some (Wait (slot_of s.variables to) (slot_of s.children child))) rs r c.files ≡ record { process = slot_ended wrong_kind r; files = c.files; acts = [] } =
       ap (λ (k : Option ℕ). slot_wait_for k (slot_of s.variables to) rs r c.files) found in (
-        ended wrong_kind p,
+        with_exit_status wrong_kind p,
         ap (λ (k : Option ℕ). wait_for k to number p c) is
-            ∙ (λ j. on_files number (record { process = ended wrong_kind p; files = (sym effect j).files; acts = (sym effect j).acts }) c),
-        subst (λ (e : SlotEffect). Holds s index script e.process (ended wrong_kind p)) (sym effect) (holds_ended s index script wrong_kind r p h),
+            ∙ (λ j. on_files number (record { process = with_exit_status wrong_kind p; files = (sym effect j).files; acts = (sym effect j).acts }) c),
+        subst (λ (e : SlotEffect). Holds s index script e.process (with_exit_status wrong_kind p)) (sym effect) (holds_ended s index script wrong_kind r p h),
       )
   wait_for_same (Some k) to child scope has at are is found h =
       wait_until_same (status_in c.processes k) k to (instr.Wait to child) (Wait (slot_of s.variables to) (slot_of s.children child)) scope has at
@@ -172,14 +172,14 @@ module _ (s : Scope) (index : ℕ) (script : List Instr) (number : ℕ) (codes :
   effect_same (instr.Exists to path) scope has kept h at are = let same = exists_effect s index script to path r p c.files scope has.0 has.1 h in ((test_path to (path_at path p) p c.files).process, file_path same, same.process)
   effect_same (instr.Spawn child path arguments place) scope has kept h at are = absurd kept
   effect_same (instr.Wait to child) scope has kept h at are = wait_for_same (lookup child p.children) to child scope has.0 at are refl (child_same s index script child r p has.1 h) h
-  effect_same (instr.Sql cursor text params) scope has kept h at are = (ended wrong_kind p, refl, holds_ended s index script wrong_kind r p h)
+  effect_same (instr.Sql cursor text params) scope has kept h at are = (with_exit_status wrong_kind p, refl, holds_ended s index script wrong_kind r p h)
   effect_same (instr.Fetch cursor to place) scope has kept h at are = (fetch cursor to place p, refl, fetch_same s index script cursor to place r p scope has.0 has.1 h)
   effect_same (instr.Count to cursor) scope has kept h at are = (count to cursor p, refl, count_same s index script to cursor r p scope has.0 has.1 h)
   effect_same (instr.Status to cursor) scope has kept h at are = (status to cursor p, refl, reply_status_same s index script to cursor r p scope has.0 has.1 h)
 
   effect_at : (i : Option Instr) (o : Option SlotInstr) → AtSame s i o → IsScope s → IsKept o → Holds s index script r p
       → slice_get c.processes number ≡ Some p → AreProcesses codes rs c.processes → EffectSame o i
-  effect_at None None at scope kept h there are = (ended 0 p, refl, holds_ended s index script 0 r p h)
+  effect_at None None at scope kept h there are = (with_exit_status 0 p, refl, holds_ended s index script 0 r p h)
   effect_at None (Some o) at scope kept h there are = absurd at
   effect_at (Some i) None at scope kept h there are = absurd at
   effect_at (Some i) (Some o) at scope kept h there are =
@@ -187,35 +187,35 @@ module _ (s : Scope) (index : ℕ) (script : List Instr) (number : ℕ) (codes :
       (effect_same i scope at.1 (subst (λ (x : SlotInstr). IsKept (Some x)) at.0 kept) h there are)
 
 abbrev pub effect_of : Machine → SlotProcess → SlotEffect
-effect_of m r = slot_effect (next_slotted m.codes (Some r)) m.processes.items r m.tree
+effect_of m r = slot_effect (next_slot_instr m.codes (Some r)) m.processes.items r m.tree
 
 abbrev pub effect_with : Machine → SlotProcess → FileState → SlotEffect
-effect_with m r st = slot_effect (next_slotted m.codes (Some r)) m.processes.items r st
+effect_with m r st = slot_effect (next_slot_instr m.codes (Some r)) m.processes.items r st
 
 abbrev pub QuietWith : Machine → ℕ → SlotProcess → Core → FileState → Type 0
 QuietWith m number r c st =
     (q : Process)
-    × (quiet number c ≡ on_files number (record { process = q; files = (effect_with m r st).files; acts = (effect_with m r st).acts }) c)
+    × (local_step number c ≡ on_files number (record { process = q; files = (effect_with m r st).files; acts = (effect_with m r st).acts }) c)
     × IsProcess m.codes (effect_with m r st).process q
 
 abbrev pub QuietSame : Machine → ℕ → SlotProcess → Core → Type 0
 QuietSame m number r c = QuietWith m number r c m.tree
 
 pub quiet_same : (m : Machine) (number : ℕ) (r : SlotProcess) (c : Core) → IsCore m c → slice_get m.processes.items number ≡ Some r
-    → IsKept (next_slotted m.codes (Some r)) → QuietSame m number r c
+    → IsKept (next_slot_instr m.codes (Some r)) → QuietSame m number r c
 quiet_same m number r c core is kept =
-    let there = found m.codes m.processes.items c.processes number r core.processes is in
+    let there = slot_process-at m.codes m.processes.items c.processes number r core.processes is in
     let p : Process = there.0 in
     let isp : IsProcess m.codes r p = there.2 in
-    let e = effect_at isp.2.scope isp.0 isp.1 number m.codes m.processes.items r p c (slice_get p.script p.place) (next_slotted m.codes (Some r)) (next_same m.codes r p isp) isp.4.scope kept isp.5 there.1 core.processes in
-    let by_files : QuietWith m number r c c.files = (e.0, ap (λ (o : Option Process). quiet_of o number c) there.1 ∙ e.1, (isp.0, isp.1, isp.2, isp.3, isp.4, e.2)) in
+    let e = effect_at isp.2.scope isp.0 isp.1 number m.codes m.processes.items r p c (slice_get p.script p.place) (next_slot_instr m.codes (Some r)) (next_same m.codes r p isp) isp.4.scope kept isp.5 there.1 core.processes in
+    let by_files : QuietWith m number r c c.files = (e.0, ap (λ (o : Option Process). local_step_of o number c) there.1 ∙ e.1, (isp.0, isp.1, isp.2, isp.3, isp.4, e.2)) in
     subst (QuietWith m number r c) (sym core.files) by_files
 
 -- the machine after the step
 pub kept_core : (m after : Machine) (number : ℕ) (r : SlotProcess) (c : Core) → IsCore m c → slice_get m.processes.items number ≡ Some r
     → QuietSame m number r c → after.codes ≡ m.codes → after.processes.items ≡ slice_set m.processes.items number (effect_of m r).process
     → after.tree ≡ (effect_of m r).files → after.seed ≡ m.seed → after.last ≡ m.last → after.x ≡ m.x → after.asked ≡ m.asked
-    → IsCore after (quiet number c).core
+    → IsCore after (local_step number c).core
 kept_core m after number r c core is same codes processes tree seed last x asked =
     let all : AreProcesses m.codes (slice_set m.processes.items number (effect_of m r).process) (slice_set c.processes number same.0) = replaced m.codes m.processes.items c.processes number (effect_of m r).process same.0 core.processes same.2 in
     let here : IsCore after (on_files number (record { process = same.0; files = (effect_of m r).files; acts = (effect_of m r).acts }) c).core = record {
@@ -229,13 +229,13 @@ kept_core m after number r c core is same codes processes tree seed last x asked
     } in
     subst (λ (e : Effect). IsCore after e.core) (sym same.1) here
 
-pub kept_acts : (m : Machine) (number : ℕ) (r : SlotProcess) (c : Core) → QuietSame m number r c → (effect_of m r).acts ≡ (quiet number c).acts
+pub kept_acts : (m : Machine) (number : ℕ) (r : SlotProcess) (c : Core) → QuietSame m number r c → (effect_of m r).acts ≡ (local_step number c).acts
 kept_acts m number r c same = ap (λ (e : Effect). e.acts) (sym same.1)
 
 -- a number that no process has
 pub kept_none : (m : Machine) (number : ℕ) (c : Core) → IsCore m c → slice_get m.processes.items number ≡ None
-    → quiet number c ≡ record { core = c; acts = [] }
-kept_none m number c core is = ap (λ (o : Option Process). quiet_of o number c) (not_found m.codes m.processes.items c.processes number core.processes is)
+    → local_step number c ≡ record { core = c; acts = [] }
+kept_none m number c core is = ap (λ (o : Option Process). local_step_of o number c) (not_found m.codes m.processes.items c.processes number core.processes is)
 
 -- a number below the length is that of an item
 pub get_some : {X : Type 0} (xs : List X) (n : ℕ) → n < length xs → (x : X) × (slice_get xs n ≡ Some x)
@@ -246,13 +246,13 @@ get_some (x ∷ xs) (suc n) within = get_some xs n (omega (arith, within))
 -- a step as the code takes it: o is the next instruction
 module _ (m : Machine) (number : ℕ) (o : Option SlotInstr) (c : Core) where
   abbrev pub IsNext : Type 0
-  IsNext = (number < length m.processes.items) × (o ≡ next_slotted m.codes (slice_get m.processes.items number)) × IsKept o
+  IsNext = (number < length m.processes.items) × (o ≡ next_slot_instr m.codes (slice_get m.processes.items number)) × IsKept o
 
   abbrev taken : SlotProcess → SlotEffect
   taken r = slot_effect o m.processes.items r m.tree
 
-  took_next : (r : SlotProcess) → IsNext → slice_get m.processes.items number ≡ Some r → o ≡ next_slotted m.codes (Some r)
-  took_next r next at = next.1 ∙ ap (next_slotted m.codes) at
+  took_next : (r : SlotProcess) → IsNext → slice_get m.processes.items number ≡ Some r → o ≡ next_slot_instr m.codes (Some r)
+  took_next r next at = next.1 ∙ ap (next_slot_instr m.codes) at
 
   next_quiet : (r : SlotProcess) → IsNext → slice_get m.processes.items number ≡ Some r → IsCore m c → QuietSame m number r c
   next_quiet r next at core = quiet_same m number r c core at (subst IsKept (took_next r next at) next.2)
@@ -264,7 +264,7 @@ module _ (m : Machine) (number : ℕ) (o : Option SlotInstr) (c : Core) where
       → ((r : SlotProcess) → slice_get m.processes.items number ≡ Some r → after.processes.items ≡ slice_set m.processes.items number (slot_effect o m.processes.items r m.tree).process)
       → ((r : SlotProcess) → slice_get m.processes.items number ≡ Some r → after.tree ≡ (slot_effect o m.processes.items r m.tree).files)
       → after.codes ≡ m.codes → after.seed ≡ m.seed → after.last ≡ m.last → after.x ≡ m.x → after.asked ≡ m.asked
-      → IsCore m c → IsCore after (quiet number c).core
+      → IsCore m c → IsCore after (local_step number c).core
   next_core after next processes tree codes seed last x asked core =
       let there = get_some m.processes.items number next.0 in
       let r : SlotProcess = there.0 in
@@ -275,24 +275,24 @@ module _ (m : Machine) (number : ℕ) (o : Option SlotInstr) (c : Core) where
       (tree r at ∙ ap (λ (e : SlotEffect). e.files) effect) seed last x asked
 
   pub next_acts : IsNext → (r : SlotProcess) → slice_get m.processes.items number ≡ Some r → IsCore m c
-      → (slot_effect o m.processes.items r m.tree).acts ≡ (quiet number c).acts
+      → (slot_effect o m.processes.items r m.tree).acts ≡ (local_step number c).acts
   next_acts next r at core =
       ap (λ (e : SlotEffect). e.acts) (next_effect r next at) ∙ kept_acts m number r c (next_quiet r next at core)
 
   pub next_told : (keeps : Bool) (old new : List Event) (step : ℕ) → IsNext
-      → ((r : SlotProcess) → slice_get m.processes.items number ≡ Some r → Told keeps old new (map (event_at step number) (slot_effect o m.processes.items r m.tree).acts))
-      → IsCore m c → Told keeps old new (map (event_at step number) (quiet number c).acts)
+      → ((r : SlotProcess) → slice_get m.processes.items number ≡ Some r → AppendsEvents keeps old new (map (event_at step number) (slot_effect o m.processes.items r m.tree).acts))
+      → IsCore m c → AppendsEvents keeps old new (map (event_at step number) (local_step number c).acts)
   next_told keeps old new step next told core =
       let there = get_some m.processes.items number next.0 in
-      subst (λ (acts : List Act). Told keeps old new (map (event_at step number) acts)) (next_acts next there.0 there.1 core) (told there.0 there.1)
+      subst (λ (acts : List Act). AppendsEvents keeps old new (map (event_at step number) acts)) (next_acts next there.0 there.1 core) (told there.0 there.1)
 
 -- nothing is told where no process has the number
 pub none_told : (m : Machine) (number step : ℕ) (c : Core) (keeps : Bool) (old : List Event) → slice_get m.processes.items number ≡ None → IsCore m c
-    → Told keeps old old (map (event_at step number) (quiet number c).acts)
+    → AppendsEvents keeps old old (map (event_at step number) (local_step number c).acts)
 none_told m number step c keeps old none core =
-    subst (λ (e : Effect). Told keeps old old (map (event_at step number) e.acts)) (sym (kept_none m number c core none)) (λ _. sym (append-nil old))
+    subst (λ (e : Effect). AppendsEvents keeps old old (map (event_at step number) e.acts)) (sym (kept_none m number c core none)) (λ _. sym (append-nil old))
 
-pub none_core : (m : Machine) (number : ℕ) (c : Core) → slice_get m.processes.items number ≡ None → IsCore m c → IsCore m (quiet number c).core
+pub none_core : (m : Machine) (number : ℕ) (c : Core) → slice_get m.processes.items number ≡ None → IsCore m c → IsCore m (local_step number c).core
 none_core m number c none core = subst (λ (e : Effect). IsCore m e.core) (sym (kept_none m number c core none)) core
 
 pub get_none : {X : Type 0} (xs : List X) (n : ℕ) → length xs ≤ n → slice_get xs n ≡ None
@@ -320,8 +320,8 @@ map_more {X} {Y} f (x ∷ xs) ys = ap (λ (l : List Y). f x ∷ l) (map_more f x
 
 -- one after the other
 pub told_more : (keeps : Bool) (old mid new : List Event) (step number : ℕ) (first second : List Act)
-    → Told keeps old mid (map (event_at step number) first) → Told keeps mid new (map (event_at step number) second)
-    → Told keeps old new (map (event_at step number) (first ++ second))
+    → AppendsEvents keeps old mid (map (event_at step number) first) → AppendsEvents keeps mid new (map (event_at step number) second)
+    → AppendsEvents keeps old new (map (event_at step number) (first ++ second))
 told_more keeps old mid new step number first second a b = λ on.
     b on ∙ ap (λ (l : List Event). l ++ map (event_at step number) second) (a on)
     ∙ append_assoc old (map (event_at step number) first) (map (event_at step number) second)

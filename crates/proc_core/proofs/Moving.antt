@@ -10,12 +10,12 @@ use Rattle.run_model.specs.Database.{Answer, Gives, Diverges, Base}
 use Rattle.run_model.specs.Schedule.{is_waiting}
 use Rattle.run_model.specs.RunLaw.{MayRun}
 use Rattle.run_model.specs.State.{State}
-use Rattle.run_model.specs.Step.{Ask, execute, execute_next, quiet_of, took_of, ask_at, told, asking, step}
+use Rattle.run_model.specs.Step.{Ask, execute, execute_next, local_step_of, took_of, next_ask, told, asking, step}
 use Rattle.run_model.specs.StepBase.{operand_value, operand_values}
 use Rattle.run_model.specs.StepFiles.{path_at, open_for, allows_read, allows_write, open_path, read_next, write_line, copy_rest, remove_path, test_path}
-use Rattle.run_model.specs.StepProcesses.{Spawning, spawn_script, script_within, spawn_file, spawn_path, spawning_of, status_in, wait_until, wait_for}
-use Rattle.run_model.specs.StepReplies.{counted, status_value}
-use Rattle.run_model.specs.StepVariables.{calculated, to_number, printed_line}
+use Rattle.run_model.specs.StepProcesses.{SpawnRequest, spawn_script, script_within, spawn_file, spawn_path, spawning_of, status_in, wait_until, wait_for}
+use Rattle.run_model.specs.StepReplies.{row_count, status_value}
+use Rattle.run_model.specs.StepVariables.{calculation, to_number, printed_line}
 use Rattle.run_model.proofs.StepKeeps.{Keeps, keeps_assign, keeps_glue, keeps_cut, keeps_jump, keeps_line, keeps_fetch, keeps_close, keeps_open, keeps_read, keeps_write, keeps_copy, keeps_remove, keeps_test, calculated_byte, to_number_byte, counted_byte, status_value_byte}
 use Rattle.proc_core.proofs.Machines.{set_itself}
 use Rattle.proc_core.proofs.Readiness.{Moved}
@@ -31,15 +31,15 @@ module _ (number : ℕ) (p : Process) (c : Core) where
   by_keeps : (q : Process) → Keeps Any p q → Moved c.processes number p (slice_set c.processes number q)
   by_keeps q keeps = inl (q, refl, keeps.children)
 
-  script_moved : (o : Option (List Instr)) (spawning : Spawning) (path : List ℕ) → MovedTo (spawn_script o spawning path number p c).core
+  script_moved : (o : Option (List Instr)) (spawning : SpawnRequest) (path : List ℕ) → MovedTo (spawn_script o spawning path number p c).core
   script_moved None spawning path = inl (_, refl, refl)
   script_moved (Some script) spawning path = inr (spawning.child, script, spawning.arguments, refl)
 
-  file_moved : (o : Option (List ℕ)) (spawning : Spawning) (path : List ℕ) → MovedTo (spawn_file o spawning path number p c).core
+  file_moved : (o : Option (List ℕ)) (spawning : SpawnRequest) (path : List ℕ) → MovedTo (spawn_file o spawning path number p c).core
   file_moved None spawning path = inl (_, refl, refl)
   file_moved (Some bytes) spawning path = script_moved (script_within c bytes) spawning path
 
-  path_moved : (o : Option (List ℕ)) (spawning : Spawning) → MovedTo (spawn_path o spawning number p c).core
+  path_moved : (o : Option (List ℕ)) (spawning : SpawnRequest) → MovedTo (spawn_path o spawning number p c).core
   path_moved None spawning = inl (_, refl, refl)
   path_moved (Some path) spawning = file_moved (content_at c.files path) spawning path
 
@@ -56,7 +56,7 @@ module _ (number : ℕ) (p : Process) (c : Core) where
   executes_moved (instr.Calc to op left right) at =
       let v = operand_value p left in
       let w = operand_value p right in
-      by_keeps _ (keeps_assign Any to (calculated op v w) p (calculated_byte op v w))
+      by_keeps _ (keeps_assign Any to (calculation op v w) p (calculated_byte op v w))
   executes_moved (instr.Glue to left right) at = by_keeps _ (keeps_glue Any to (operand_value p left) (operand_value p right) p)
   executes_moved (instr.ToInt to value) at =
       let v = operand_value p value in
@@ -91,7 +91,7 @@ module _ (number : ℕ) (p : Process) (c : Core) where
   executes_moved (instr.Fetch cursor to place) at = by_keeps _ (keeps_fetch Any (lookup cursor p.cursors) cursor to place p)
   executes_moved (instr.Count to cursor) at =
       let o = lookup cursor p.cursors in
-      by_keeps _ (keeps_assign Any to (counted o) p (counted_byte o))
+      by_keeps _ (keeps_assign Any to (row_count o) p (counted_byte o))
   executes_moved (instr.Status to cursor) at =
       let o = lookup cursor p.cursors in
       by_keeps _ (keeps_assign Any to (status_value o) p (status_value_byte o))
@@ -100,8 +100,8 @@ module _ (number : ℕ) (p : Process) (c : Core) where
   next_moved None at = inl (_, refl, refl)
   next_moved (Some i) at = executes_moved i at
 
-  quiet_moved : (o : Option Process) → slice_get c.processes number ≡ Some p → o ≡ Some p → MovedTo (quiet_of o number c).core
-  quiet_moved o at is = subst (λ (q : Option Process). MovedTo (quiet_of q number c).core) (sym is) (next_moved (slice_get p.script p.place) at)
+  quiet_moved : (o : Option Process) → slice_get c.processes number ≡ Some p → o ≡ Some p → MovedTo (local_step_of o number c).core
+  quiet_moved o at is = subst (λ (q : Option Process). MovedTo (local_step_of q number c).core) (sym is) (next_moved (slice_get p.script p.place) at)
 
   took_moved : (o : Option Process) (a : Ask) (reply : Reply) → o ≡ Some p → MovedTo (took_of o number a reply c)
   took_moved o a reply is = subst (λ (q : Option Process). MovedTo (took_of q number a reply c)) (sym is) (inl (_, refl, refl))
@@ -116,7 +116,7 @@ module _ {Db : Type 0} (base : Base Db) (number : ℕ) (p : Process) (s : State 
   asking_moved (Some a) = told_moved a (base s.db a.question)
 
   pub step_moved : MovedTo number p s.core (step base number s).state.core
-  step_moved = asking_moved (ask_at number s.core)
+  step_moved = asking_moved (next_ask number s.core)
 
 -- what may run hasn't ended
 going_by : (o : Option ℕ) (b : Bool) → (is_none o && b) ≡ true → o ≡ None

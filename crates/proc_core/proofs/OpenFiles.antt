@@ -19,7 +19,7 @@ use Rattle.proc_core.specs.declared.process.SlotProcess.{SlotProcess}
 use Rattle.proc_core.specs.Slots.{open_at, slot_ended, slot_went_on}
 use Rattle.proc_core.specs.SlotCopy.{CopiesTo, CopiesAt, copy_acts, slot_copied}
 use Rattle.proc_core.specs.SlotFiles.{Leaves, slot_at_place, slot_open_for, slot_copy_where, slot_copy_between, slot_take_line, slot_read_next, IsReadBy, read_acts}
-use Rattle.proc_core.specs.Stands.{Told}
+use Rattle.proc_core.specs.Stands.{AppendsEvents}
 
 -- what allows it is open
 allowed_at : (allows : OpenMode → Bool) (o : Option OpenFile) (file : OpenFile) → option_and_then (if_allowed allows) o ≡ Some file → o ≡ Some file
@@ -64,10 +64,10 @@ module _ (to slot place : ℕ) (r : SlotProcess) (st : FileState) where
   acts_by (Some file) = refl
 
   pub read_told : (keeps : Bool) (old new : List Event) (step number : ℕ)
-      → Told keeps old new (map (event_at step number) (read_acts (slot_open_for allows_read slot r)))
-      → Told keeps old new (map (event_at step number) (slot_read_next (slot_open_for allows_read slot r) to slot place r st).acts)
+      → AppendsEvents keeps old new (map (event_at step number) (read_acts (slot_open_for allows_read slot r)))
+      → AppendsEvents keeps old new (map (event_at step number) (slot_read_next (slot_open_for allows_read slot r) to slot place r st).acts)
   read_told keeps old new step number told =
-      subst (λ (acts : List Act). Told keeps old new (map (event_at step number) acts)) (acts_by (slot_open_for allows_read slot r)) told
+      subst (λ (acts : List Act). AppendsEvents keeps old new (map (event_at step number) acts)) (acts_by (slot_open_for allows_read slot r)) told
 
 -- ---- `copy`
 
@@ -105,12 +105,12 @@ module _ (slot : ℕ) (r : SlotProcess) (old new : FileState) where
   -- between files that are open
   pub copy_told : (o t : Option OpenFile) (source target : OpenFile) (next : Option ℕ) (keeps : Bool) (was is_now : List Event) (step number : ℕ)
       → Some source ≡ o → Some target ≡ t → CopiesTo source target old new next
-      → Told keeps was is_now (map (event_at step number) (copy_acts source target next))
-      → Told keeps was is_now (map (event_at step number) (slot_copy_between slot o t r old).acts)
+      → AppendsEvents keeps was is_now (map (event_at step number) (copy_acts source target next))
+      → AppendsEvents keeps was is_now (map (event_at step number) (slot_copy_between slot o t r old).acts)
   copy_told o t source target next keeps was is_now step number from to is told =
-      subst (λ (x : Option OpenFile × Option OpenFile). Told keeps was is_now (map (event_at step number) (slot_copy_between slot x.0 x.1 r old).acts))
+      subst (λ (x : Option OpenFile × Option OpenFile). AppendsEvents keeps was is_now (map (event_at step number) (slot_copy_between slot x.0 x.1 r old).acts))
       (λ i. (from i, to i))
-      (subst (λ (acts : List Act). Told keeps was is_now (map (event_at step number) acts)) (copy_acts_same source target next is) told)
+      (subst (λ (acts : List Act). AppendsEvents keeps was is_now (map (event_at step number) acts)) (copy_acts_same source target next is) told)
 
 -- ---- paths
 

@@ -9,8 +9,8 @@ use Rattle.script_parse.specs.declared.script.Instr.TheVariants as instr
 use Rattle.proc_core.specs.Types.{Value, Null, Int, Text, Instr, Operand, Variable, CalcOp}
 use Rattle.run_model.specs.Core.{Process, Core}
 use Rattle.run_model.specs.Step.{execute, asked_by}
-use Rattle.run_model.specs.StepBase.{operand_value, operand_values, went_to, with_variable, wrong_kind, too_long, Computed, Yields, assign, own}
-use Rattle.run_model.specs.StepVariables.{let_value, calculated, calculate, glued, glue, to_number, let_number, first_place, before_place, after_place, cut_values, cut, jump_where, jump_if, printed_line, print_line, print, exit_status, exit}
+use Rattle.run_model.specs.StepBase.{operand_value, operand_values, went_to, with_variable, wrong_kind, too_long_status, Computation, Yields, assign, own}
+use Rattle.run_model.specs.StepVariables.{let_value, calculation, calculate, concatenation, glue, to_number, let_number, first_place, before_place, after_place, cut_values, cut, jump_where, jump_if, printed_line, print_line, print, exit_status, exit}
 use Rattle.script_code.specs.declared.code.Scope.{Scope}
 use Rattle.script_code.specs.declared.code.OwnInstr.{OwnInstr}
 use Rattle.script_code.specs.declared.code.OwnInstr.TheVariants as owned
@@ -18,20 +18,20 @@ use Rattle.script_code.specs.Resolved.{slot_of, HasName, slot_operand, HasOperan
 use Rattle.proc_core.specs.declared.process.SlotProcess.{SlotProcess}
 use Rattle.proc_core.specs.Slots.{Holds, slot_value, slot_assign, slot_ended, slot_with_variable}
 use Rattle.proc_core.specs.SlotOwn.{slot_own}
-use Rattle.proc_core.specs.SlotVariables.{parts_of, slot_cut_parts, slot_jump_where, slot_print_line}
+use Rattle.proc_core.specs.SlotVariables.{split_value, slot_cut_parts, slot_jump_where, slot_print_line}
 use Rattle.proc_core.proofs.Holding.{value_same, values_same, holds_ended, holds_went_to, holds_went_on, holds_variable, holds_printed, holds_assign}
 
 module _ (s : Scope) (index : ℕ) (script : List Instr) where
   -- a computed value, which both have
-  assign_same : (name : List ℕ) (c d : Computed) (r : SlotProcess) (p : Process) → c ≡ d → IsScope s → HasName s.variables name
+  assign_same : (name : List ℕ) (c d : Computation) (r : SlotProcess) (p : Process) → c ≡ d → IsScope s → HasName s.variables name
       → Holds s index script r p → Holds s index script (slot_assign (slot_of s.variables name) c r) (assign name d p)
   assign_same name c d r p same scope has h =
-      subst (λ (x : Computed). Holds s index script (slot_assign (slot_of s.variables name) x r) (assign name d p)) (sym same)
+      subst (λ (x : Computation). Holds s index script (slot_assign (slot_of s.variables name) x r) (assign name d p)) (sym same)
       (holds_assign s index script name d r p scope has h)
 
   cut_parts_same : (before after : List ℕ) (v w : Value) (r : SlotProcess) (p : Process) → IsScope s → HasName s.variables before
       → HasName s.variables after → Holds s index script r p
-      → Holds s index script (slot_cut_parts (slot_of s.variables before) (slot_of s.variables after) (parts_of v w) r)
+      → Holds s index script (slot_cut_parts (slot_of s.variables before) (slot_of s.variables after) (split_value v w) r)
       (cut_values before after v w p)
   cut_parts_same before after Null w r p scope has more h = holds_ended s index script wrong_kind r p h
   cut_parts_same before after (Int n) w r p scope has more h = holds_ended s index script wrong_kind r p h
@@ -57,7 +57,7 @@ module _ (s : Scope) (index : ℕ) (script : List Instr) where
   print_line_same text r p h = elim (cases-bool (nat_lt printed_limit (length p.printed + length text))) [
     | inl over ↦
         let too : nat_lt printed_limit (length r.printed + length text) ≡ true = ap (λ (l : List ℕ). nat_lt printed_limit (length l + length text)) h.printed ∙ over in
-        rw (over, too) (holds_ended s index script too_long r p h)
+        rw (over, too) (holds_ended s index script too_long_status r p h)
     | inr within ↦
         let too : nat_lt printed_limit (length r.printed + length text) ≡ false = ap (λ (l : List ℕ). nat_lt printed_limit (length l + length text)) h.printed ∙ within in
         rw (within, too)
@@ -91,8 +91,8 @@ module _ (s : Scope) (index : ℕ) (script : List Instr) where
     calculate to op left right p,
     λ number c. refl,
     refl,
-    assign_same to _ (calculated op (operand_value p left) (operand_value p right)) r p
-        (λ j. calculated op (value_same s index script left r p first h j) (value_same s index script right r p second h j)) scope has h,
+    assign_same to _ (calculation op (operand_value p left) (operand_value p right)) r p
+        (λ j. calculation op (value_same s index script left r p first h j) (value_same s index script right r p second h j)) scope has h,
   )
 
   pub glue_same : (to : List ℕ) (left right : Operand) (r : SlotProcess) (p : Process) → IsScope s
@@ -102,8 +102,8 @@ module _ (s : Scope) (index : ℕ) (script : List Instr) where
     glue to left right p,
     λ number c. refl,
     refl,
-    assign_same to _ (glued (operand_value p left) (operand_value p right)) r p
-        (λ j. glued (value_same s index script left r p first h j) (value_same s index script right r p second h j)) scope has h,
+    assign_same to _ (concatenation (operand_value p left) (operand_value p right)) r p
+        (λ j. concatenation (value_same s index script left r p first h j) (value_same s index script right r p second h j)) scope has h,
   )
 
   pub number_same : (to : List ℕ) (value : Operand) (r : SlotProcess) (p : Process) → IsScope s → HasName s.variables to
@@ -124,7 +124,7 @@ module _ (s : Scope) (index : ℕ) (script : List Instr) where
         cut before after by p,
         λ number c. refl,
         refl,
-        subst (λ (v : Value × Value). Holds s index script (slot_cut_parts (slot_of s.variables before) slots (parts_of v.0 v.1) r) (cut before after by p))
+        subst (λ (v : Value × Value). Holds s index script (slot_cut_parts (slot_of s.variables before) slots (split_value v.0 v.1) r) (cut before after by p))
             (λ j. (sym (value_same s index script by r p takes h) j, sym (value_same s index script (Variable after) r p more h) j))
             (cut_parts_same before after (operand_value p by) (operand_value p (Variable after)) r p scope has more h),
       )

@@ -5,13 +5,13 @@ use Rattle.std.specs.List.{AllByRecursion}
 use Rattle.std.proofs.lemmas.Bool.{cases_Bool, cases_eq}
 use Rattle.std.proofs.lemmas.List.{length-set, length-map}
 use Rattle.std.proofs.lemmas.Option.{slice_get_past, slice_get_within}
-use Rattle.ready_set.specs.Ready.{Ready}
+use Rattle.ready_set.specs.Ready.{ReadyView}
 use Rattle.script_code.specs.declared.code.Code.{Code}
-use Rattle.proc_core.specs.Flags.{runnable_flags, awaited}
+use Rattle.proc_core.specs.Flags.{runnable_flags, awaited_child}
 use Rattle.proc_core.specs.FlagsLaw.{OthersPass}
-use Rattle.proc_core.proofs.FlagLaws.{get-set_same, get-set_other, get-append_left, get-append_end, awaited_named, goes_on, ends, ends_under, spawns, new_runs}
+use Rattle.proc_core.proofs.FlagLaws.{get-set_same, get-set_other, get-append_left, get-append_end, awaited_named, runnable-goes_on, ends, ends_under, spawns, new_runs}
 use Rattle.proc_core.specs.Types.{Value, Instr}
-use Rattle.run_model.specs.Core.{Binding, is_bound, lookup, unbind, Process, Core, all_ended}
+use Rattle.run_model.specs.Core.{NameBinding, is_bound, lookup, unbind, Process, Core, have_all_ended}
 use Rattle.run_model.specs.RunLaw.{MayRun}
 use Rattle.run_model.specs.Schedule.{is_waiting, is_runnable, choose}
 use Rattle.run_model.specs.StepProcesses.{child_of, parent_of, status_in}
@@ -21,7 +21,7 @@ use Rattle.proc_core.specs.declared.process.SlotProcess.{SlotProcess}
 use Rattle.proc_core.specs.SlotReady.{Grows, marked_by, marked, marked_above, refreshed, IsKin, AreKin, IsReady}
 use Rattle.proc_core.specs.SlotStep.{slot_status_in}
 use Rattle.proc_core.specs.Stands.{AreProcesses, IsCore}
-use Rattle.proc_core.proofs.Machines.{found, not_found, status_same}
+use Rattle.proc_core.proofs.Machines.{slot_process-at, not_found, status_same}
 use Rattle.proc_core.proofs.Runnable.{runnable_one}
 use Rattle.proc_core.proofs.SpawnSame.{as_many}
 
@@ -52,7 +52,7 @@ module _ (codes : List Code) (rs : List SlotProcess) (ps : List Process) (are : 
   marked_same_by number flags None is =
       ap (λ (q : Option Process). set_by ps number q flags) (sym (not_found codes rs ps number are is))
   marked_same_by number flags (Some r) is =
-      let there = found codes rs ps number r are is in
+      let there = slot_process-at codes rs ps number r are is in
       ap (slice_set flags number) (runnable_one codes r there.0 rs ps there.2 are)
       ∙ ap (λ (q : Option Process). set_by ps number q flags) (sym there.1)
 
@@ -71,8 +71,8 @@ module _ (codes : List Code) (rs : List SlotProcess) (ps : List Process) (are : 
 
 -- ---- kin
 
-lookup_all : (P : Binding ℕ → Type 0) (name : List ℕ) (bs : List (Binding ℕ)) (child : ℕ) → AllByRecursion P bs → lookup name bs ≡ Some child
-    → (b : Binding ℕ) × (b.bound ≡ child) × P b
+lookup_all : (P : NameBinding ℕ → Type 0) (name : List ℕ) (bs : List (NameBinding ℕ)) (child : ℕ) → AllByRecursion P bs → lookup name bs ≡ Some child
+    → (b : NameBinding ℕ) × (b.bound ≡ child) × P b
 lookup_all P name [] child all is = absurd cc
 lookup_all P name (b ∷ bs) child all is = elim (cases_Bool (is_bound name b)) [
   | inl hit ↦
@@ -86,7 +86,7 @@ lookup_all P name (b ∷ bs) child all is = elim (cases_Bool (is_bound name b)) 
 
 -- a child that a process waits for is its own
 awaited_kin : (parents : List ℕ) (ps : List Process) (number child : ℕ) (p : Process) → AreKin parents ps → slice_get ps number ≡ Some p
-    → awaited p ≡ Some child → slice_get parents child ≡ Some number
+    → awaited_child p ≡ Some child → slice_get parents child ≡ Some number
 awaited_kin parents ps number child p kin at waits =
     let named = awaited_named p child waits in
     let there = lookup_all (IsKin parents number) named.0 p.children child (kin number p at) named.1 in
@@ -95,11 +95,11 @@ awaited_kin parents ps number child p kin at waits =
 some_same : {X : Type 0} (x y : X) → Some x ≡ Some y → x ≡ y
 some_same x y both = cc
 
-all_map : (P Q : Binding ℕ → Type 0) (bs : List (Binding ℕ)) → ((b : Binding ℕ) → P b → Q b) → AllByRecursion P bs → AllByRecursion Q bs
+all_map : (P Q : NameBinding ℕ → Type 0) (bs : List (NameBinding ℕ)) → ((b : NameBinding ℕ) → P b → Q b) → AllByRecursion P bs → AllByRecursion Q bs
 all_map P Q [] f all = tt
 all_map P Q (b ∷ bs) f all = (f b all.0, all_map P Q bs f all.1)
 
-all_unbound : (P : Binding ℕ → Type 0) (name : List ℕ) (bs : List (Binding ℕ)) → AllByRecursion P bs → AllByRecursion P (unbind name bs)
+all_unbound : (P : NameBinding ℕ → Type 0) (name : List ℕ) (bs : List (NameBinding ℕ)) → AllByRecursion P bs → AllByRecursion P (unbind name bs)
 all_unbound P name [] all = tt
 all_unbound P name (b ∷ bs) all = elim (cases_Bool (is_bound name b)) [
   | inl hit ↦ rw hit (all_unbound P name bs all.1)
@@ -125,7 +125,7 @@ kin_ordered parents c kin =
     subst (λ (j : ℕ). AllByRecursion (IsKin parents j) p.children) none (kin k p at))
 
 -- the process that is chosen may run
-pub ready_runs : (m : Machine) (c : Core) → IsReady m c → all_ended c ≡ false → MayRun (choose None c) c
+pub ready_runs : (m : Machine) (c : Core) → IsReady m c → have_all_ended c ≡ false → MayRun (choose None c) c
 ready_runs m c ready going = chosen_runs None c (kin_ordered m.parents c ready.kin) going
 
 -- ---- a process stands in place of another
@@ -152,7 +152,7 @@ module _ (parents : List ℕ) (ps : List Process) (number : ℕ) (p q : Process)
   ]
 
   -- no other process than the parent waits for it
-  only_parent : (k : ℕ) (r : Process) → slice_get ps k ≡ Some r → awaited r ≡ Some number → slice_get parents number ≡ Some k
+  only_parent : (k : ℕ) (r : Process) → slice_get ps k ≡ Some r → awaited_child r ≡ Some number → slice_get parents number ≡ Some k
   only_parent k r is waits = awaited_kin parents ps k number r kin is waits
 
   rests : (status : ℕ) → q.status ≡ Some status → is_runnable now q ≡ false
@@ -169,7 +169,7 @@ module _ (parents : List ℕ) (ps : List Process) (number : ℕ) (p q : Process)
   fresh_by o flags is = λ i. set_above now ((status_here ∙ is) i) (slice_get parents number) (flag_here flags i)
 
   -- where none waits for it
-  ended_alone : (status : ℕ) → q.status ≡ Some status → OthersPass (λ r k. awaited r ≢ Some number) number ps
+  ended_alone : (status : ℕ) → q.status ≡ Some status → OthersPass (λ r k. awaited_child r ≢ Some number) number ps
       → slice_set (runnable_flags ps) number (is_runnable now q) ≡ runnable_flags now
   ended_alone status end others =
       ap (slice_set (runnable_flags ps) number) (rests status end) ∙ sym (ends ps number status p q at end others)
@@ -203,7 +203,7 @@ module _ (parents : List ℕ) (ps : List Process) (number : ℕ) (p q : Process)
 
   fresh_changed_by : (o : Option ℕ) → q.status ≡ o → p.status ≡ None → fresh now parents number (runnable_flags ps) ≡ runnable_flags now
   fresh_changed_by None is runs =
-      fresh_by None (runnable_flags ps) is ∙ sym (goes_on ps number p q at (ap is_none is ∙ sym (ap is_none runs)))
+      fresh_by None (runnable_flags ps) is ∙ sym (runnable-goes_on ps number p q at (ap is_none is ∙ sym (ap is_none runs)))
   fresh_changed_by (Some status) is runs =
       fresh_by (Some status) (runnable_flags ps) is ∙ above_flag status (slice_get parents number) is refl
 
@@ -244,7 +244,7 @@ module _ (parents : List ℕ) (ps : List Process) (number : ℕ) (name : List �
   there_now : slice_get more number ≡ Some parent
   there_now = get-append_left front (child ∷ []) number (omega (arith, inside, front_long)) ∙ get-set_same ps number parent inside
 
-  kin_stays : (k : ℕ) (b : Binding ℕ) → IsKin parents k b → IsKin (parents ++ number ∷ []) k b
+  kin_stays : (k : ℕ) (b : NameBinding ℕ) → IsKin parents k b → IsKin (parents ++ number ∷ []) k b
   kin_stays k b is = (get-append_left parents (number ∷ []) b.bound (slice_get_within parents b.bound k is.0) ∙ is.0, is.1)
 
   kin_parent : AllByRecursion (IsKin (parents ++ number ∷ []) number) parent.children
@@ -274,7 +274,7 @@ module _ (parents : List ℕ) (ps : List Process) (number : ℕ) (name : List �
         kin_front k r (sym (get-append_left front (child ∷ []) k below) ∙ is)
   ]
 
-  none_waits : OthersPass (λ r k. awaited r ≢ Some (length ps)) number ps
+  none_waits : OthersPass (λ r k. awaited_child r ≢ Some (length ps)) number ps
   none_waits k r far there waits =
       let is : slice_get parents (length ps) ≡ Some k = awaited_kin parents ps k (length ps) r kin there waits in
       let no : None ≡ Some k = sym (slice_get_past parents (length ps) (omega (arith, count))) ∙ is in
@@ -329,7 +329,7 @@ module _ (m after last : Machine) (number : ℕ) (c d : Core) (p : Process) (cor
       let parents : last.parents ≡ m.parents = same_parents ∙ kept.1 in
       record {
         flags = by_fresh
-            ∙ (λ i. fresh (changed.1 i) (kept.1 i) number ((ap (λ (x : Ready). x.flags) kept.0 ∙ ready.flags) i))
+            ∙ (λ i. fresh (changed.1 i) (kept.1 i) number ((ap (λ (x : ReadyView). x.flags) kept.0 ∙ ready.flags) i))
             ∙ fresh_changed m.parents c.processes number p q ready.kin at runs
             ∙ ap runnable_flags (sym changed.1);
         count = ap length parents ∙ ready.count ∙ sym long;

@@ -9,13 +9,13 @@ use Rattle.proc_core.specs.Types.{Value, Instr}
 use Rattle.run_model.specs.Core.{lookup, bind, unbind, OpenFile, Cursor, Process}
 use Rattle.run_model.specs.StepBase.{with_variable, wrong_kind}
 use Rattle.run_model.specs.StepFiles.{close_file, close}
-use Rattle.run_model.specs.StepReplies.{next_row, with_values, one_more, fetch_row, fetch_from, fetch, counted, count, status_value, status}
+use Rattle.run_model.specs.StepReplies.{next_row, with_values, one_more, fetch_row, fetch_from, fetch, row_count, count, status_value, status}
 use Rattle.script_code.specs.declared.code.Scope.{Scope}
 use Rattle.script_code.specs.Resolved.{slot_of, HasName, HasNames, IsScope}
 use Rattle.script_code.proofs.SlotLists.{get_slot, set_slot}
 use Rattle.proc_core.specs.declared.process.SlotCursor.{SlotCursor}
 use Rattle.proc_core.specs.declared.process.SlotProcess.{SlotProcess}
-use Rattle.proc_core.specs.Slots.{bound_held, joined, cursor_of, cursor_at, cursor_in, HasReply, HaveReplies, Holds, slot_ended, slot_with_variable, slot_with_file, slot_with_cursor, slot_assign}
+use Rattle.proc_core.specs.Slots.{bound_value, flatten_option, cursor_of, cursor_at, cursor_in, HasReply, HaveReplies, Holds, slot_ended, slot_with_variable, slot_with_file, slot_with_cursor, slot_assign}
 use Rattle.proc_core.specs.SlotReplies.{slot_close_file, slot_close, slot_with_values, slot_one_more, slot_fetch_row, slot_next_row, slot_fetch_from, slot_fetch, slot_count, slot_status}
 use Rattle.proc_core.proofs.Holding.{holds_ended, holds_went_on, holds_went_to, holds_variable, holds_closed, holds_assign, open_same}
 use Rattle.proc_core.proofs.Lookups.{lookup_bound, lookup_other}
@@ -24,11 +24,11 @@ use Rattle.proc_core.proofs.Lookups.{lookup_bound, lookup_other}
 
 module _ (replies : List Reply) where
   in_joined : (o : Option (Option SlotCursor)) (x : Option Cursor) → option_map (cursor_in replies) o ≡ Some x
-      → option_and_then (cursor_at replies) (joined o) ≡ x
+      → option_and_then (cursor_at replies) (flatten_option o) ≡ x
   in_joined None x is = absurd cc
   in_joined (Some c) x is = cc
 
-  got_reply : (cs : List (Option SlotCursor)) (slot : ℕ) (c : SlotCursor) → HaveReplies replies cs → joined (slice_get cs slot) ≡ Some c
+  got_reply : (cs : List (Option SlotCursor)) (slot : ℕ) (c : SlotCursor) → HaveReplies replies cs → flatten_option (slice_get cs slot) ≡ Some c
       → HasReply replies (Some c)
   got_reply [] slot c have is = absurd cc
   got_reply (o ∷ cs) zero c have is = subst (HasReply replies) is have.0
@@ -52,15 +52,15 @@ module _ (s : Scope) (index : ℕ) (script : List Instr) where
       let slot : ℕ = slot_of s.cursors name in
       in_joined r.replies (slice_get r.cursors slot) (lookup name p.cursors)
       (sym (slice_get-map (cursor_in r.replies) r.cursors slot) ∙ ap (λ (l : List (Option Cursor)). slice_get l slot) h.cursors
-      ∙ get_slot (bound_held p.cursors) s.cursors name has)
+      ∙ get_slot (bound_value p.cursors) s.cursors name has)
 
   pub holds_cursor : (name : List ℕ) (c : SlotCursor) (x : Cursor) (r : SlotProcess) (p : Process) → cursor_at r.replies c ≡ Some x
       → IsScope s → HasName s.cursors name → Holds s index script r p
       → Holds s index script (slot_with_cursor (slot_of s.cursors name) c r) (record p { cursors = bind name x p.cursors })
   holds_cursor name c x r p is scope has h =
       let slot : ℕ = slot_of s.cursors name in
-      let f : List ℕ → Option Cursor = bound_held p.cursors in
-      let g : List ℕ → Option Cursor = bound_held (bind name x p.cursors) in
+      let f : List ℕ → Option Cursor = bound_value p.cursors in
+      let g : List ℕ → Option Cursor = bound_value (bind name x p.cursors) in
       let set : slice_set (map f s.cursors) slot (g name) ≡ map g s.cursors =
       set_slot f g s.cursors name scope.cursors has (λ n other. lookup_other name n x p.cursors other) in
       record {
@@ -157,8 +157,8 @@ module _ (s : Scope) (index : ℕ) (script : List Instr) where
       → Holds s index script r p
       → Holds s index script (slot_count (slot_of s.variables to) (slot_of s.cursors name) r) (count to name p)
   count_same to name r p scope has more h =
-      subst (λ (o : Option Cursor). Holds s index script (slot_assign (slot_of s.variables to) (counted o) r) (count to name p))
-      (sym (cursor_same name r p more h)) (holds_assign s index script to (counted (lookup name p.cursors)) r p scope has h)
+      subst (λ (o : Option Cursor). Holds s index script (slot_assign (slot_of s.variables to) (row_count o) r) (count to name p))
+      (sym (cursor_same name r p more h)) (holds_assign s index script to (row_count (lookup name p.cursors)) r p scope has h)
 
   pub status_same : (to name : List ℕ) (r : SlotProcess) (p : Process) → IsScope s → HasName s.variables to → HasName s.cursors name
       → Holds s index script r p

@@ -11,11 +11,11 @@ use Rattle.ready_set.specs.Ready.{numbers}
 use Rattle.proc_core.proofs.FlagLaws.{flags_runnable}
 use Rattle.proc_core.specs.Types.{Instr}
 use Rattle.run_model.specs.Core.{Process, Core, lookup}
-use Rattle.run_model.specs.Schedule.{still_runs, waits_for, waits_at, is_waiting, is_runnable, runnable_from, runnable, choose, pick_of, moved_x}
+use Rattle.run_model.specs.Schedule.{still_runs, waits_for, waits_at, is_waiting, is_runnable, runnable_from, runnable_processes, choose, pick_of, moved_x}
 use Rattle.proc_core.specs.declared.machine.Machine.{Machine}
 use Rattle.proc_core.specs.declared.process.SlotProcess.{SlotProcess}
 use Rattle.proc_core.specs.Slots.{Holds}
-use Rattle.proc_core.specs.SlotStep.{next_slotted, slot_still_runs, slot_waits_for, slot_waits_at, slot_is_runnable, slot_runnable_from}
+use Rattle.proc_core.specs.SlotStep.{next_slot_instr, slot_still_runs, slot_waits_for, slot_waits_at, slot_is_runnable, slot_runnable_from}
 use Rattle.proc_core.specs.Stands.{IsProcess, AreProcesses, IsCore}
 use Rattle.proc_core.proofs.Holding.{child_same}
 use Rattle.proc_core.proofs.Machines.{AtSame, next_same}
@@ -73,7 +73,7 @@ module _ (codes : List Code) where
   pub runnable_one : (r : SlotProcess) (p : Process) (rs : List SlotProcess) (ps : List Process) → IsProcess codes r p → AreProcesses codes rs ps
       → slot_is_runnable codes rs r ≡ is_runnable ps p
   runnable_one r p rs ps is are =
-      let waits = waiting_same codes is.2.scope is.0 is.1 r p rs ps (slice_get p.script p.place) (next_slotted codes (Some r)) (next_same codes r p is) is.5 are in
+      let waits = waiting_same codes is.2.scope is.0 is.1 r p rs ps (slice_get p.script p.place) (next_slot_instr codes (Some r)) (next_same codes r p is) is.5 are in
       λ i. is_none (is.5.status i) && not (waits i)
 
   runnable_same : (n : ℕ) (rs qs : List SlotProcess) (ps os : List Process) → AreProcesses codes rs ps → AreProcesses codes qs os
@@ -88,12 +88,12 @@ module _ (codes : List Code) where
 pub chosen_same : (m : Machine) (numbers : List ℕ) (c : Core) → IsCore m c → numbers ≡ slot_runnable_from m.codes 0 m.processes.items m.processes.items
     → pick_of m.seed m.last (moved_x m.seed m.x) numbers ≡ choose None c
 chosen_same m numbers c core is =
-    let all : numbers ≡ runnable c = is ∙ runnable_same m.codes 0 m.processes.items m.processes.items c.processes c.processes core.processes core.processes in
+    let all : numbers ≡ runnable_processes c = is ∙ runnable_same m.codes 0 m.processes.items m.processes.items c.processes c.processes core.processes core.processes in
     λ i. pick_of (core.seed i) (core.last i) (moved_x (core.seed i) (core.x i)) (all i)
 
 -- the same by the set of those that may run
 pub picked_same : (m : Machine) (c : Core) (n : ℕ) → IsCore m c → m.ready.flags ≡ runnable_flags c.processes
     → n ≡ pick_of m.seed m.last (moved_x m.seed m.x) (numbers m.ready.flags) → n ≡ choose None c
 picked_same m c n core flags is =
-    let all : numbers m.ready.flags ≡ runnable c = ap numbers flags ∙ flags_runnable c in
+    let all : numbers m.ready.flags ≡ runnable_processes c = ap numbers flags ∙ flags_runnable c in
     is ∙ (λ i. pick_of (core.seed i) (core.last i) (moved_x (core.seed i) (core.x i)) (all i))

@@ -10,7 +10,7 @@ use Rattle.script_code.specs.Resolved.{slot_of, HasName, IsScope}
 use Rattle.script_code.proofs.SlotLists.{set_slot}
 use Rattle.proc_core.specs.declared.machine.Machine.{Machine}
 use Rattle.proc_core.specs.declared.process.SlotProcess.{SlotProcess}
-use Rattle.proc_core.specs.Slots.{bound_held, Holds}
+use Rattle.proc_core.specs.Slots.{bound_value, Holds}
 use Rattle.proc_core.specs.SlotSpawn.{slot_parent, slot_with_new}
 use Rattle.proc_core.specs.Stands.{IsProcess, AreProcesses, IsCore}
 use Rattle.proc_core.proofs.AskSame.{get_before}
@@ -50,8 +50,8 @@ module _ (s : Scope) (index : ℕ) (script : List Instr) where
       → Holds s index script (slot_parent number (slot_of s.children name) r) (parent_of number name p)
   holds_parent number name r p scope has h =
       let slot : ℕ = slot_of s.children name in
-      let f : List ℕ → Option ℕ = bound_held p.children in
-      let g : List ℕ → Option ℕ = bound_held (bind name number p.children) in
+      let f : List ℕ → Option ℕ = bound_value p.children in
+      let g : List ℕ → Option ℕ = bound_value (bind name number p.children) in
       let set : slice_set (map f s.children) slot (g name) ≡ map g s.children =
       set_slot f g s.children name scope.children has (λ n other. lookup_other name n number p.children other) in
       record {

@@ -9,10 +9,10 @@ use Rattle.script_parse.specs.declared.script.Instr.TheVariants as instr
 use Rattle.proc_core.specs.Types.{Value, Instr, Act, Spawned, Unspawned, Event}
 use Rattle.run_model.specs.Core.{Process, Core, new_process, with_process}
 use Rattle.run_model.specs.Events.{event_at}
-use Rattle.run_model.specs.Step.{execute_next, quiet_of, quiet}
-use Rattle.run_model.specs.StepBase.{Effect, operand_values, ended, went_to, bad_path}
+use Rattle.run_model.specs.Step.{execute_next, local_step_of, local_step}
+use Rattle.run_model.specs.StepBase.{Effect, operand_values, with_exit_status, went_to, bad_path}
 use Rattle.run_model.specs.StepFiles.{path_in, path_at}
-use Rattle.run_model.specs.StepProcesses.{Spawning as Says, child_of, parent_of, spawn_script, spawn_file, spawn_path}
+use Rattle.run_model.specs.StepProcesses.{SpawnRequest as Says, child_of, parent_of, spawn_script, spawn_file, spawn_path}
 use Rattle.script_code.specs.declared.code.Code.{Code}
 use Rattle.script_code.specs.declared.code.Scope.{Scope}
 use Rattle.script_code.specs.declared.code.SlotInstr.{SlotInstr}
@@ -20,13 +20,13 @@ use Rattle.script_code.specs.declared.code.SlotInstr.TheVariants.{Own, OnFiles, 
 use Rattle.script_code.specs.Resolved.{slot_of, HasName, slot_instr, HasAll, IsCode}
 use Rattle.proc_core.specs.declared.machine.Machine.{Machine}
 use Rattle.proc_core.specs.declared.process.SlotProcess.{SlotProcess}
-use Rattle.proc_core.specs.declared.spawning.Spawning.{Spawning}
+use Rattle.proc_core.specs.declared.spawn_request.Spawning.{Spawning}
 use Rattle.proc_core.specs.Slots.{Holds, slot_ended, slot_went_to}
 use Rattle.proc_core.specs.SlotSpawn.{slot_spawning, slot_spawning_in, slot_spawning_at, Runs, script_in, slot_parent, slot_with_new, IsElse, IsNoChild, HasChild}
-use Rattle.proc_core.specs.SlotStep.{next_slotted, IsKept}
-use Rattle.proc_core.specs.Stands.{IsProcess, AreProcesses, IsCore, Told}
+use Rattle.proc_core.specs.SlotStep.{next_slot_instr, IsKept}
+use Rattle.proc_core.specs.Stands.{IsProcess, AreProcesses, IsCore, AppendsEvents}
 use Rattle.proc_core.proofs.Holding.{value_same, values_same, holds_ended, holds_went_to}
-use Rattle.proc_core.proofs.Machines.{AtSame, next_same, found, replaced}
+use Rattle.proc_core.proofs.Machines.{AtSame, next_same, slot_process-at, replaced}
 use Rattle.proc_core.proofs.SpawnSame.{as_many, holds_parent, spawned_core}
 
 -- ---- what isn't a `spawn`
@@ -39,11 +39,11 @@ not_said (Some (Spawn child path arguments place)) r is = absurd cc
 not_said (Some (Wait to child)) r is = tt
 not_said (Some (Sql cursor text params)) r is = tt
 
-kept_by : (codes : List Code) (o : Option SlotProcess) → slot_spawning_in codes o ≡ None → IsKept (next_slotted codes o)
+kept_by : (codes : List Code) (o : Option SlotProcess) → slot_spawning_in codes o ≡ None → IsKept (next_slot_instr codes o)
 kept_by codes None is = tt
-kept_by codes (Some r) is = not_said (next_slotted codes (Some r)) r is
+kept_by codes (Some r) is = not_said (next_slot_instr codes (Some r)) r is
 
-pub kept_at : (m : Machine) (number : ℕ) → slot_spawning_at m number ≡ None → IsKept (next_slotted m.codes (slice_get m.processes.items number))
+pub kept_at : (m : Machine) (number : ℕ) → slot_spawning_at m number ≡ None → IsKept (next_slot_instr m.codes (slice_get m.processes.items number))
 kept_at m number is = kept_by m.codes (slice_get m.processes.items number) is
 
 -- ---- what is
@@ -107,16 +107,16 @@ pub record SpawnsSo (m : Machine) (number : ℕ) (sp : Spawning) (c : Core) : Ty
   pub name : List ℕ
   pub slot : sp.child ≡ slot_of stands.2.scope.children name
   pub has : HasName stands.2.scope.children name
-  pub does : quiet number c ≡ spawn_path sp.path (record { child = name; arguments = sp.arguments; place = sp.place }) number process c
+  pub does : local_step number c ≡ spawn_path sp.path (record { child = name; arguments = sp.arguments; place = sp.place }) number process c
 
 spawns_by : (m : Machine) (number : ℕ) (sp : Spawning) (c : Core) (o : Option SlotProcess) → slice_get m.processes.items number ≡ o → IsCore m c
     → slot_spawning_in m.codes o ≡ Some sp → SpawnsSo m number sp c
 spawns_by m number sp c None is core says = absurd cc
 spawns_by m number sp c (Some r) is core says =
-    let there = found m.codes m.processes.items c.processes number r core.processes is in
+    let there = slot_process-at m.codes m.processes.items c.processes number r core.processes is in
     let p : Process = there.0 in
     let isp : IsProcess m.codes r p = there.2 in
-    let so = does_at isp.2.scope isp.0 isp.1 r p sp number c (slice_get p.script p.place) (next_slotted m.codes (Some r)) (next_same m.codes r p isp) isp.5 says in
+    let so = does_at isp.2.scope isp.0 isp.1 r p sp number c (slice_get p.script p.place) (next_slot_instr m.codes (Some r)) (next_same m.codes r p isp) isp.5 says in
     record {
       held = r;
       process = p;
@@ -126,7 +126,7 @@ spawns_by m number sp c (Some r) is core says =
       name = so.0;
       slot = so.1;
       has = so.2;
-      does = ap (λ (q : Option Process). quiet_of q number c) there.1 ∙ so.3;
+      does = ap (λ (q : Option Process). local_step_of q number c) there.1 ∙ so.3;
     }
 
 pub spawns_so : (m : Machine) (number : ℕ) (sp : Spawning) (c : Core) → IsCore m c → slot_spawning_at m number ≡ Some sp → SpawnsSo m number sp c
@@ -150,7 +150,7 @@ module _ (m after : Machine) (number : ℕ) (c : Core) (core : IsCore m c) where
     going = core.going;
   }
 
-  ended_process : (status : ℕ) (r : SlotProcess) (p : Process) → IsProcess m.codes r p → IsProcess m.codes (slot_ended status r) (ended status p)
+  ended_process : (status : ℕ) (r : SlotProcess) (p : Process) → IsProcess m.codes r p → IsProcess m.codes (slot_ended status r) (with_exit_status status p)
   ended_process status r p is = (is.0, is.1, is.2, is.3, is.4, holds_ended is.2.scope is.0 is.1 status r p is.5)
 
   went_process : (place : ℕ) (r : SlotProcess) (p : Process) → IsProcess m.codes r p → IsProcess m.codes (slot_went_to place r) (went_to place p)
@@ -164,71 +164,71 @@ module _ (m after : Machine) (number : ℕ) (c : Core) (core : IsCore m c) where
     saying = record { child = so.name; arguments = sp.arguments; place = sp.place }
 
     -- its path is none
-    bad_does : sp.path ≡ None → quiet number c ≡ record { core = with_process number (ended bad_path so.process) c; acts = [] }
+    bad_does : sp.path ≡ None → local_step number c ≡ record { core = with_process number (with_exit_status bad_path so.process) c; acts = [] }
     bad_does none = so.does ∙ ap (λ (o : Option (List ℕ)). spawn_path o saying number so.process c) none
 
     pub bad_core : sp.path ≡ None
         → ((r : SlotProcess) → slice_get m.processes.items number ≡ Some r → after.processes.items ≡ slice_set m.processes.items number (slot_ended bad_path r))
-        → IsNoChild m after → IsCore after (quiet number c).core
+        → IsNoChild m after → IsCore after (local_step number c).core
     bad_core none items idle =
         subst (λ (e : Effect). IsCore after e.core) (sym (bad_does none))
-        (changed_core (slot_ended bad_path so.held) (ended bad_path so.process) (ended_process bad_path so.held so.process so.stands) (items so.held so.at_held) idle)
+        (changed_core (slot_ended bad_path so.held) (with_exit_status bad_path so.process) (ended_process bad_path so.held so.process so.stands) (items so.held so.at_held) idle)
 
-    pub bad_acts : sp.path ≡ None → [] ≡ (quiet number c).acts
+    pub bad_acts : sp.path ≡ None → [] ≡ (local_step number c).acts
     bad_acts none = ap (λ (e : Effect). e.acts) (sym (bad_does none))
 
     module _ (path : List ℕ) (at : sp.path ≡ Some path) where
-      file_does : quiet number c ≡ spawn_file (content_at m.tree path) saying path number so.process c
+      file_does : local_step number c ≡ spawn_file (content_at m.tree path) saying path number so.process c
       file_does =
           so.does ∙ ap (λ (o : Option (List ℕ)). spawn_path o saying number so.process c) at
           ∙ ap (λ (st : FileState). spawn_file (content_at st path) saying path number so.process c) (sym core.files)
 
       -- there is no file
       absent_does : content_at m.tree path ≡ None
-          → quiet number c ≡ record { core = with_process number (went_to sp.place so.process) c; acts = Unspawned path false ∷ [] }
+          → local_step number c ≡ record { core = with_process number (went_to sp.place so.process) c; acts = Unspawned path false ∷ [] }
       absent_does none = file_does ∙ ap (λ (o : Option (List ℕ)). spawn_file o saying path number so.process c) none
 
       -- there is a file of these bytes
       bytes_does : (bytes : List ℕ) → content_at m.tree path ≡ Some bytes
-          → quiet number c ≡ spawn_script (script_in m.processes.items bytes) saying path number so.process c
+          → local_step number c ≡ spawn_script (script_in m.processes.items bytes) saying path number so.process c
       bytes_does bytes is =
           file_does ∙ ap (λ (o : Option (List ℕ)). spawn_file o saying path number so.process c) is
           ∙ ap (λ (n : ℕ). spawn_script (if nat_lt n max_processes then script_of bytes else None) saying path number so.process c)
           (sym (as_many m.codes m.processes.items c.processes core.processes))
 
       refused_does : (bytes : List ℕ) → content_at m.tree path ≡ Some bytes → script_in m.processes.items bytes ≡ None
-          → quiet number c ≡ record { core = with_process number (went_to sp.place so.process) c; acts = Unspawned path true ∷ [] }
+          → local_step number c ≡ record { core = with_process number (went_to sp.place so.process) c; acts = Unspawned path true ∷ [] }
       refused_does bytes is none = bytes_does bytes is ∙ ap (λ (o : Option (List Instr)). spawn_script o saying path number so.process c) none
 
-      went_core : (acts : List Act) → quiet number c ≡ record { core = with_process number (went_to sp.place so.process) c; acts = acts }
+      went_core : (acts : List Act) → local_step number c ≡ record { core = with_process number (went_to sp.place so.process) c; acts = acts }
           → ((r : SlotProcess) → slice_get m.processes.items number ≡ Some r → after.processes.items ≡ slice_set m.processes.items number (slot_went_to sp.place r))
-          → IsNoChild m after → IsCore after (quiet number c).core
+          → IsNoChild m after → IsCore after (local_step number c).core
       went_core acts does items idle =
           subst (λ (e : Effect). IsCore after e.core) (sym does)
           (changed_core (slot_went_to sp.place so.held) (went_to sp.place so.process) (went_process sp.place so.held so.process so.stands) (items so.held so.at_held) idle)
 
       pub absent_core : content_at m.tree path ≡ None
           → ((r : SlotProcess) → slice_get m.processes.items number ≡ Some r → after.processes.items ≡ slice_set m.processes.items number (slot_went_to sp.place r))
-          → IsNoChild m after → IsCore after (quiet number c).core
+          → IsNoChild m after → IsCore after (local_step number c).core
       absent_core none items idle = went_core (Unspawned path false ∷ []) (absent_does none) items idle
 
-      pub absent_acts : content_at m.tree path ≡ None → Unspawned path false ∷ [] ≡ (quiet number c).acts
+      pub absent_acts : content_at m.tree path ≡ None → Unspawned path false ∷ [] ≡ (local_step number c).acts
       absent_acts none = ap (λ (e : Effect). e.acts) (sym (absent_does none))
 
       pub refused_core : (bytes : List ℕ) → content_at m.tree path ≡ Some bytes → script_in m.processes.items bytes ≡ None
           → ((r : SlotProcess) → slice_get m.processes.items number ≡ Some r → after.processes.items ≡ slice_set m.processes.items number (slot_went_to sp.place r))
-          → IsNoChild m after → IsCore after (quiet number c).core
+          → IsNoChild m after → IsCore after (local_step number c).core
       refused_core bytes is none items idle = went_core (Unspawned path true ∷ []) (refused_does bytes is none) items idle
 
       pub refused_acts : (bytes : List ℕ) → content_at m.tree path ≡ Some bytes → script_in m.processes.items bytes ≡ None
-          → Unspawned path true ∷ [] ≡ (quiet number c).acts
+          → Unspawned path true ∷ [] ≡ (local_step number c).acts
       refused_acts bytes is none = ap (λ (e : Effect). e.acts) (sym (refused_does bytes is none))
 
       -- ---- a child is made
 
       made_does : (bytes : List ℕ) (script : List Instr) → content_at m.tree path ≡ Some bytes
           → nat_lt (length m.processes.items) max_processes ≡ true → script_of bytes ≡ Some script
-          → quiet number c ≡ spawn_script (Some script) saying path number so.process c
+          → local_step number c ≡ spawn_script (Some script) saying path number so.process c
       made_does bytes script is room reads =
           bytes_does bytes is
           ∙ ap (λ (b : Bool). spawn_script (if b then script_of bytes else None) saying path number so.process c) room
@@ -236,7 +236,7 @@ module _ (m after : Machine) (number : ℕ) (c : Core) (core : IsCore m c) where
 
       pub made_acts : (bytes : List ℕ) (script : List Instr) → content_at m.tree path ≡ Some bytes
           → nat_lt (length m.processes.items) max_processes ≡ true → script_of bytes ≡ Some script
-          → Spawned path ∷ [] ≡ (quiet number c).acts
+          → Spawned path ∷ [] ≡ (local_step number c).acts
       made_acts bytes script is room reads = ap (λ (e : Effect). e.acts) (sym (made_does bytes script is room reads))
 
       -- from a machine with the same processes, whose scripts have one more or are the same
@@ -247,7 +247,7 @@ module _ (m after : Machine) (number : ℕ) (c : Core) (core : IsCore m c) where
           → AreProcesses more.codes m.processes.items c.processes
           → ((r : SlotProcess) (k : Code) → slice_get more.processes.items number ≡ Some r → slice_get more.codes index ≡ Some k
           → HasChild more number sp.child index k r sp.arguments after)
-          → IsCore after (quiet number c).core
+          → IsCore after (local_step number c).core
       made_core more index code bytes script is room reads coded at items rest stays are makes =
           let there : slice_get more.processes.items number ≡ Some so.held = ap (λ (l : List SlotProcess). slice_get l number) items ∙ so.at_held in
           let made : HasChild more number sp.child index code so.held sp.arguments after = makes so.held code there at in
@@ -280,7 +280,7 @@ module _ (m after : Machine) (number : ℕ) (c : Core) (core : IsCore m c) where
   pub runs_code : (bytes : List ℕ) (index : ℕ) → (runs : Runs m.codes m.processes.items bytes index)
       → (script : List Instr) × (script_of bytes ≡ Some script) × IsCode runs.2 script
   runs_code bytes index runs =
-      let there = found m.codes m.processes.items c.processes runs.0 runs.1 core.processes runs.3 in
+      let there = slot_process-at m.codes m.processes.items c.processes runs.0 runs.1 core.processes runs.3 in
       let isp : IsProcess m.codes runs.1 there.0 = there.2 in
       let numbers : isp.0 ≡ index = sym isp.5.code ∙ runs.4 in
       let both : Some isp.2 ≡ Some runs.2 = sym isp.3 ∙ ap (λ (k : ℕ). slice_get m.codes k) numbers ∙ runs.5 in
@@ -296,9 +296,9 @@ nothing_else m = record { tree = refl; seed = refl; last = refl; x = refl; asked
 
 -- what was told of a step
 pub told_by : (keeps : Bool) (old new : List Event) (step number : ℕ) (acts due : List Act) → acts ≡ due
-    → Told keeps old new (map (event_at step number) acts) → Told keeps old new (map (event_at step number) due)
-told_by keeps old new step number acts due same told = subst (λ (l : List Act). Told keeps old new (map (event_at step number) l)) same told
+    → AppendsEvents keeps old new (map (event_at step number) acts) → AppendsEvents keeps old new (map (event_at step number) due)
+told_by keeps old new step number acts due same told = subst (λ (l : List Act). AppendsEvents keeps old new (map (event_at step number) l)) same told
 
 -- nothing was
-pub told_nothing : (keeps : Bool) (old : List Event) (step number : ℕ) → Told keeps old old (map (event_at step number) [])
+pub told_nothing : (keeps : Bool) (old : List Event) (step number : ℕ) → AppendsEvents keeps old old (map (event_at step number) [])
 told_nothing keeps old step number = λ on. sym (append-nil old)

@@ -1,7 +1,7 @@
 -- The script that a run starts with is that of the world's first start word.
 use Rattle.std.proofs.Common.{◌≡◌, ℕ, List, [], ◌∷◌, refl, sym, ◌∙◌, subst}
 use Rattle.std.specs.Prelude.{Option, Some, None, option_map, option_and_then}
-use Rattle.ldv_value.specs.FileState.{FileState, file_at, untouched}
+use Rattle.ldv_value.specs.FileState.{FileState, file_at, initial_files}
 use Rattle.ldv_value.specs.declared.file.File.{File}
 use Rattle.script_parse.specs.Script.{script_of}
 use Rattle.script_parse.specs.declared.script.Instr.{Instr}
@@ -16,11 +16,11 @@ script_in None = refl
 script_in (Some f) = refl
 
 starts_on : (start : List (List ℕ)) (files : List File) (script : List Instr) → first_script start files ≡ Some script
-    → IsStartScript start (untouched files) script
+    → IsStartScript start (initial_files files) script
 starts_on [] files script is = absurd cc
 starts_on (word ∷ words) files script is = script_in (file_at word files) ∙ is
 
-pub start_script_is : (w : World) (script : List Instr) (tree : FileState) → tree ≡ untouched w.files
+pub start_script_is : (w : World) (script : List Instr) (tree : FileState) → tree ≡ initial_files w.files
     → start_script w ≡ Some script → IsStartScript w.start tree script
 start_script_is w script tree is starts =
     subst (λ (s : FileState). IsStartScript w.start s script) (sym is) (starts_on w.start w.files script starts)

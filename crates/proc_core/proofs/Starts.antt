@@ -2,14 +2,14 @@
 use Rattle.std.proofs.Common.{◌≡◌, ℕ, zero, suc, List, [], ◌∷◌, length, map, refl, sym, ap, ◌∙◌, subst, Bool, true}
 use Rattle.std.specs.Prelude.{Option, Some, slice_get, is_some, option_and_then, IsSome}
 use Rattle.std.specs.List.{AllByRecursion}
-use Rattle.ldv_value.specs.FileState.{FileState, content_at, untouched}
+use Rattle.ldv_value.specs.FileState.{FileState, content_at, initial_files}
 use Rattle.script_parse.specs.Script.{script_of}
 use Rattle.script_code.specs.declared.code.Code.{Code}
 use Rattle.script_code.specs.Resolved.{IsCode, IsRead}
 use Rattle.proc_core.proofs.FlagLaws.{new_runs}
 use Rattle.proc_core.specs.Types.{File, Instr, Text}
 use Rattle.run_model.specs.Core.{Process, new_process, start_core}
-use Rattle.run_model.specs.RunLaw.{started}
+use Rattle.run_model.specs.RunLaw.{start_state_of}
 use Rattle.proc_core.specs.declared.machine.Machine.{Machine}
 use Rattle.proc_core.specs.declared.process.SlotProcess.{SlotProcess}
 use Rattle.proc_core.specs.Running.{Stands}
@@ -22,7 +22,7 @@ module _ (m : Machine) (path : List ℕ) (words : List (List ℕ)) (seed : ℕ) 
   first = new_process (0 ∷ []) script (map Text words)
 
   pub started_core : (code : Code) (r : SlotProcess) → m.codes ≡ code ∷ [] → m.processes.items ≡ r ∷ [] → IsCode code script
-      → Holds code.scope 0 script r (new_process (0 ∷ []) script (map Text words)) → m.tree ≡ untouched files → m.seed ≡ seed → m.last ≡ 0
+      → Holds code.scope 0 script r (new_process (0 ∷ []) script (map Text words)) → m.tree ≡ initial_files files → m.seed ≡ seed → m.last ≡ 0
       → m.x ≡ seed → m.asked ≡ 0 → IsCore m (start_core (path ∷ words) seed files script)
   started_core code r codes items coded held tree seeds last x asked =
       let all : AreProcesses (code ∷ []) (r ∷ []) (first ∷ []) = ((0, script, code, refl, coded, held), tt) in
@@ -49,10 +49,10 @@ module _ (m : Machine) (path : List ℕ) (words : List (List ℕ)) (seed : ℕ) 
   }
 
   pub begun : {Db : Type 0} (db : Db) (tree : FileState)
-      → ((script : List Instr) (files : List File) → tree ≡ untouched files → option_and_then script_of (content_at tree path) ≡ Some script
+      → ((script : List Instr) (files : List File) → tree ≡ initial_files files → option_and_then script_of (content_at tree path) ≡ Some script
       → IsCore m (start_core (path ∷ words) seed files script))
       → ((script : List Instr) (files : List File) → IsReady m (start_core (path ∷ words) seed files script))
-      → tree ≡ untouched files → IsStartScript (path ∷ words) tree script → Stands m db (started (path ∷ words) seed files script db)
+      → tree ≡ initial_files files → IsStartScript (path ∷ words) tree script → Stands m db (start_state_of (path ∷ words) seed files script db)
   begun db tree core ready same is = record { state = (core script files same is, refl); ready = ready script files }
 
 -- ---- the script of a file

@@ -12,19 +12,19 @@ use Rattle.run_model.specs.Core.{Core}
 use Rattle.run_model.specs.Database.{Base}
 use Rattle.run_model.specs.Events.{events, events_of_step}
 use Rattle.run_model.specs.Run.{chosen, move, run}
-use Rattle.run_model.specs.Schedule.{choose, scheduled}
-use Rattle.run_model.specs.State.{State, Stepped}
+use Rattle.run_model.specs.Schedule.{choose, core_after_choice}
+use Rattle.run_model.specs.State.{State, StepResult}
 use Rattle.run_model.specs.Step.{step}
 use Rattle.run_model.proofs.Equations.{run-zero, events-zero}
 use Rattle.proc_core.specs.declared.ask.Statement.{Statement}
 use Rattle.proc_core.specs.declared.machine.Machine.{Machine}
 use Rattle.proc_core.specs.declared.process.SlotProcess.{SlotProcess}
-use Rattle.proc_core.specs.declared.stop.Stopped.{Stopped}
+use Rattle.proc_core.specs.declared.error.Stopped.{Stopped}
 use Rattle.proc_core.specs.Running.{Stands, has_ended}
 use Rattle.proc_core.specs.SlotAsk.{slot_ask, slot_ask_in, slot_ask_at}
 use Rattle.proc_core.specs.SlotReady.{Grows, refreshed}
-use Rattle.proc_core.specs.SlotStep.{IsKept, next_slotted, slot_is_kept}
-use Rattle.proc_core.specs.Stands.{IsCore, IsState, Told}
+use Rattle.proc_core.specs.SlotStep.{IsKept, next_slot_instr, slot_is_kept}
+use Rattle.proc_core.specs.Stands.{IsCore, IsState, AppendsEvents}
 use Rattle.proc_core.specs.Stops.{HasStopped}
 use Rattle.proc_core.proofs.Advances.{advanced, moved_step, scheduled_state}
 
@@ -56,13 +56,13 @@ asks_by (Some (Spawn child path arguments place)) r is = refl
 asks_by (Some (Wait to child)) r is = refl
 asks_by (Some (Sql cursor text params)) r is = absurd cc
 
-asks_in : (codes : List Code) (o : Option SlotProcess) → slot_is_kept (next_slotted codes o) ≡ true → slot_ask_in codes o ≡ None
+asks_in : (codes : List Code) (o : Option SlotProcess) → slot_is_kept (next_slot_instr codes o) ≡ true → slot_ask_in codes o ≡ None
 asks_in codes None is = refl
-asks_in codes (Some r) is = asks_by (next_slotted codes (Some r)) r is
+asks_in codes (Some r) is = asks_by (next_slot_instr codes (Some r)) r is
 
-module _ (m : Machine) (number : ℕ) (b : Bool) (is : b ≡ slot_is_kept (next_slotted m.codes (slice_get m.processes.items number))) (so : b ≡ true) where
-  pub kept_next : IsKept (next_slotted m.codes (slice_get m.processes.items number))
-  kept_next = kept_by (next_slotted m.codes (slice_get m.processes.items number)) (sym is ∙ so)
+module _ (m : Machine) (number : ℕ) (b : Bool) (is : b ≡ slot_is_kept (next_slot_instr m.codes (slice_get m.processes.items number))) (so : b ≡ true) where
+  pub kept_next : IsKept (next_slot_instr m.codes (slice_get m.processes.items number))
+  kept_next = kept_by (next_slot_instr m.codes (slice_get m.processes.items number)) (sym is ∙ so)
 
   pub nothing_asked_next : slot_ask_at m number ≡ None
   nothing_asked_next = asks_in m.codes (slice_get m.processes.items number) (sym is ∙ so)
@@ -71,7 +71,7 @@ module _ (m : Machine) (number : ℕ) (b : Bool) (is : b ≡ slot_is_kept (next_
 
 module _ {Db : Type 0} (base : Base Db) (m ready : Machine) (number : ℕ) (db : Db) (s : State Db) (going : has_ended m ≡ false)
     (is : Stands m db s) (picks : (c : Core) → IsCore m c → m.ready.flags ≡ runnable_flags c.processes → number ≡ choose None c)
-    (core : (c : Core) → IsCore m c → IsCore ready (scheduled number c))
+    (core : (c : Core) → IsCore m c → IsCore ready (core_after_choice number c))
     (same_ready : ready.ready ≡ m.ready) (same_parents : ready.parents ≡ m.parents) where
   here : IsState ready db (chosen number s)
   here = scheduled_state base m ready m m number db db s going is picks core same_ready same_parents
@@ -79,22 +79,22 @@ module _ {Db : Type 0} (base : Base Db) (m ready : Machine) (number : ℕ) (db :
   same : move base None s ≡ step base number (chosen number s)
   same = moved_step base m ready m m number db db s going is picks core same_ready same_parents
 
-  pub goes_on : (after last : Machine) (more : Db)
+  pub Stands-move : (after last : Machine) (more : Db)
       → ((t : State Db) → IsState ready db t → IsState after more (step base number t).state) → Grows ready number after
       → last.ready.flags ≡ refreshed after.codes after.processes.items after.parents number after.ready.flags
       → last ≡ record after { ready = last.ready } → Stands last more (move base None s).state
-  goes_on after last more stands grows flags others =
+  Stands-move after last more stands grows flags others =
       advanced base m ready after last number db more s going is picks core same_ready same_parents (stands (chosen number s) here) grows flags others
 
   pub tells : (at : ℕ) (keeps : Bool) (old new : List Event)
-      → ((t : State Db) → IsState ready db t → Told keeps old new (events_of_step at (step base number t)))
-      → Told keeps old new (events_of_step at (move base None s))
+      → ((t : State Db) → IsState ready db t → AppendsEvents keeps old new (events_of_step at (step base number t)))
+      → AppendsEvents keeps old new (events_of_step at (move base None s))
   tells at keeps old new told =
-      subst (λ (st : Stepped Db). Told keeps old new (events_of_step at st)) (sym same) (told (chosen number s) here)
+      subst (λ (st : StepResult Db). AppendsEvents keeps old new (events_of_step at st)) (sym same) (told (chosen number s) here)
 
   pub stops : (stop : Stopped) → ((t : State Db) → IsState ready db t → HasStopped stop (step base number t).state)
       → HasStopped stop (move base None s).state
-  stops stop stopped = subst (λ (st : Stepped Db). HasStopped stop st.state) (sym same) (stopped (chosen number s) here)
+  stops stop stopped = subst (λ (st : StepResult Db). HasStopped stop st.state) (sym same) (stopped (chosen number s) here)
 
 -- ---- no step
 
@@ -102,5 +102,5 @@ module _ {Db : Type 0} (base : Base Db) (m : Machine) (db : Db) where
   pub first_state : (s : State Db) → Stands m db s → Stands m db (run base 0 [] s)
   first_state s from = subst (Stands m db) (sym (run-zero base [] s)) from
 
-  pub first_told : (keeps : Bool) (old : List Event) (s : State Db) → Stands m db s → Told keeps old old (events base 0 1 [] s)
+  pub first_told : (keeps : Bool) (old : List Event) (s : State Db) → Stands m db s → AppendsEvents keeps old old (events base 0 1 [] s)
   first_told keeps old s from = λ _. sym (ap (λ (l : List Event). old ++ l) (events-zero base 1 [] s) ∙ append-nil old)

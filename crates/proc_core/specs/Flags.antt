@@ -16,5 +16,5 @@ awaited_by (Some other) p = None
 awaited_by None p = None
 
 -- the creation number of the child that a process waits for, or would wait for if that one hadn't ended
-abbrev pub awaited : Process → Option ℕ
-awaited p = awaited_by (slice_get p.script p.place) p
+abbrev pub awaited_child : Process → Option ℕ
+awaited_child p = awaited_by (slice_get p.script p.place) p

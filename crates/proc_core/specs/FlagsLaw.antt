@@ -3,9 +3,9 @@ use Rattle.std.specs.Prelude.{◌≡◌, ◌≢◌, ℕ, List, [], ◌∷◌, �
 use Rattle.std.specs.Prelude.{Some, None, is_none, true, false}
 use Rattle.run_model.specs.Types.{Value, Instr}
 use Rattle.run_model.specs.Core.{Process, Core, new_process}
-use Rattle.run_model.specs.Schedule.{is_runnable, runnable}
+use Rattle.run_model.specs.Schedule.{is_runnable, runnable_processes}
 use Rattle.ready_set.specs.Ready.{numbers}
-use Rattle.proc_core.specs.Flags.{runnable_flags, awaited}
+use Rattle.proc_core.specs.Flags.{runnable_flags, awaited_child}
 
 -- the process of a number is this one
 abbrev pub IsAt : ℕ → Process → List Process → Type 0
@@ -26,14 +26,14 @@ GoesOn = (processes : List Process) (number : ℕ) (p q : Process)
 abbrev pub Ends : Type 0
 Ends = (processes : List Process) (number status : ℕ) (p q : Process)
     → IsAt number p processes → q.status ≡ Some status
-    → OthersPass (λ r k. awaited r ≢ Some number) number processes
+    → OthersPass (λ r k. awaited_child r ≢ Some number) number processes
     → runnable_flags (slice_set processes number q) ≡ slice_set (runnable_flags processes) number false
 
 -- a process ends, and at most one other waits for it
 abbrev pub EndsUnder : Type 0
 EndsUnder = (processes : List Process) (number parent status : ℕ) (p q r : Process)
     → IsAt number p processes → q.status ≡ Some status → IsAt parent r processes → parent ≢ number
-    → OthersPass (λ s k. k ≢ parent → awaited s ≢ Some number) number processes
+    → OthersPass (λ s k. k ≢ parent → awaited_child s ≢ Some number) number processes
     → runnable_flags (slice_set processes number q)
     ≡ slice_set (slice_set (runnable_flags processes) number false) parent
     (is_runnable (slice_set processes number q) r)
@@ -41,14 +41,14 @@ EndsUnder = (processes : List Process) (number parent status : ℕ) (p q r : Pro
 -- one that waits for it is runnable from then on
 abbrev pub Wakes : Type 0
 Wakes = (processes : List Process) (number status : ℕ) (p q r : Process)
-    → IsAt number p processes → q.status ≡ Some status → r.status ≡ None → awaited r ≡ Some number
+    → IsAt number p processes → q.status ≡ Some status → r.status ≡ None → awaited_child r ≡ Some number
     → is_runnable (slice_set processes number q) r ≡ true
 
 -- a process makes a child and goes on, and no other waits for the child's number yet
 abbrev pub Spawns : Type 0
 Spawns = (processes : List Process) (number : ℕ) (p q child : Process)
     → IsAt number p processes → is_none q.status ≡ is_none p.status
-    → OthersPass (λ r k. awaited r ≢ Some (length processes)) number processes
+    → OthersPass (λ r k. awaited_child r ≢ Some (length processes)) number processes
     → runnable_flags (slice_set processes number q ++ child ∷ [])
     ≡ slice_set (runnable_flags processes) number (is_runnable (slice_set processes number q ++ child ∷ []) q)
     ++ is_runnable (slice_set processes number q ++ child ∷ []) child ∷ []
@@ -60,7 +60,7 @@ NewRuns = (processes : List Process) (name : List ℕ) (script : List Instr) (ar
 
 pub record FlagsLaw : Type 0 where
   -- the sorted list of the numbers whose flags are set is that of the runnable processes
-  pub runs : (c : Core) → numbers (runnable_flags c.processes) ≡ runnable c
+  pub runs : (c : Core) → numbers (runnable_flags c.processes) ≡ runnable_processes c
   pub goes_on : GoesOn
   pub ends : Ends
   pub ends_under : EndsUnder

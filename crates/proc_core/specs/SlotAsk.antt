@@ -11,7 +11,7 @@ use Rattle.proc_core.specs.declared.ask.Statement.{Statement}
 use Rattle.proc_core.specs.declared.machine.Machine.{Machine}
 use Rattle.proc_core.specs.declared.process.SlotProcess.{SlotProcess}
 use Rattle.proc_core.specs.Slots.{slot_value, slot_values, slot_went_on}
-use Rattle.proc_core.specs.SlotStep.{next_slotted}
+use Rattle.proc_core.specs.SlotStep.{next_slot_instr}
 
 -- what isn't a text isn't asked
 abbrev pub statement_of : ℕ → Value → List Value → Option Statement
@@ -29,7 +29,7 @@ slot_ask (Some (Sql cursor text params)) r = statement_of cursor (slot_value r t
 
 abbrev pub slot_ask_in : List Code → Option SlotProcess → Option Statement
 slot_ask_in codes None = None
-slot_ask_in codes (Some r) = slot_ask (next_slotted codes (Some r)) r
+slot_ask_in codes (Some r) = slot_ask (next_slot_instr codes (Some r)) r
 
 abbrev pub slot_ask_at : Machine → ℕ → Option Statement
 slot_ask_at m number = slot_ask_in m.codes (slice_get m.processes.items number)

@@ -1,9 +1,9 @@
 -- What a copy between open files leaves, by how it ends.
 use Rattle.std.specs.Prelude.{◌≡◌, ℕ, List, [], ◌∷◌, length, true, false, Option, Some, None}
-use Rattle.ldv_value.specs.FileState.{FileState, has_room, rest_at, copied, copy_end}
+use Rattle.ldv_value.specs.FileState.{FileState, has_room, rest_at, after_copy, copy_end}
 use Rattle.proc_core.specs.Types.{Act, Read, Wrote}
 use Rattle.run_model.specs.Core.{OpenFile}
-use Rattle.run_model.specs.StepBase.{wrong_kind, too_long}
+use Rattle.run_model.specs.StepBase.{wrong_kind, too_long_status}
 use Rattle.proc_core.specs.declared.copy.Copying.{Copying}
 use Rattle.proc_core.specs.declared.copy.Copying.TheVariants.{Misused, TooLong, Copied}
 use Rattle.proc_core.specs.declared.process.SlotProcess.{SlotProcess}
@@ -23,7 +23,7 @@ abbrev pub CopiesTo : OpenFile → OpenFile → FileState → FileState → Opti
 CopiesTo source target old new None = HasNoRoomFor source target old × (new ≡ old)
 CopiesTo source target old new (Some next) =
     HasRoomFor source target old
-    × (new ≡ copied old source.path source.place target.path)
+    × (new ≡ after_copy old source.path source.place target.path)
     × (next ≡ copy_end old source.path source.place)
 
 abbrev pub copy_acts : OpenFile → OpenFile → Option ℕ → List Act
@@ -45,5 +45,5 @@ CopiesAt (Some source) (Some target) old (Copied next) new = CopiesTo source tar
 -- what becomes of the process
 abbrev pub slot_copied : Copying → ℕ → OpenFile → SlotProcess → SlotProcess
 slot_copied Misused slot file r = slot_ended wrong_kind r
-slot_copied TooLong slot file r = slot_ended too_long r
+slot_copied TooLong slot file r = slot_ended too_long_status r
 slot_copied (Copied next) slot file r = slot_went_on (slot_at_place slot file next r)

@@ -1,15 +1,15 @@
 -- The steps of `open`, `readline`, `write`, `copy`, `remove` and `exists` over slots.
 use Rattle.std.specs.Prelude.{◌≡◌, ℕ, pos, List, [], ◌∷◌, length, Bool, true, false}
 use Rattle.std.specs.Prelude.{Option, Some, None, option_and_then}
-use Rattle.ldv_value.specs.FileState.{FileState, is_there, FileRefusal, open_refusal, opened, removed}
+use Rattle.ldv_value.specs.FileState.{FileState, is_there, FileRefusal, open_refusal, after_open, after_remove}
 use Rattle.ldv_value.specs.FileState.{has_room}
-use Rattle.ldv_value.specs.FileState.{rest_at, appended, copied, copy_end, read_line}
+use Rattle.ldv_value.specs.FileState.{rest_at, after_append, after_copy, copy_end, read_line}
 use Rattle.ldv_value.specs.declared.file.OpenMode.{OpenMode}
 use Rattle.ldv_value.specs.declared.line.LineRead.{LineRead}
 use Rattle.ldv_value.specs.declared.line.LineRead.TheVariants as lines
 use Rattle.proc_core.specs.Types.{Int, Text, Act, Unopened, Read, Wrote, Removed, Tested}
 use Rattle.run_model.specs.Core.{OpenFile}
-use Rattle.run_model.specs.StepBase.{wrong_kind, too_long, bad_path, not_utf8}
+use Rattle.run_model.specs.StepBase.{wrong_kind, too_long_status, bad_path, not_utf8}
 use Rattle.run_model.specs.StepFiles.{path_in, allows_read, allows_write, if_allowed, opened_file, open_act}
 use Rattle.run_model.specs.StepFiles.{number_of_test}
 use Rattle.run_model.specs.StepVariables.{printed_line}
@@ -43,7 +43,7 @@ slot_open_unless (Some refusal) found slot mode path place r st = record {
 }
 slot_open_unless None found slot mode path place r st = record {
   process = slot_went_on (slot_with_file slot (Some (opened_file path mode)) r);
-  files = opened mode st path;
+  files = after_open mode st path;
   acts = open_act mode path found ∷ [];
 }
 
@@ -68,7 +68,7 @@ abbrev pub slot_take_line : LineRead → ℕ → ℕ → OpenFile → ℕ → Sl
 slot_take_line lines.End to slot file place r = slot_went_to place r
 slot_take_line (lines.Line line next) to slot file place r =
     slot_went_on (slot_with_variable to (Text line) (slot_at_place slot file next r))
-slot_take_line lines.TooLong to slot file place r = slot_ended too_long r
+slot_take_line lines.TooLong to slot file place r = slot_ended too_long_status r
 slot_take_line lines.NotText to slot file place r = slot_ended not_utf8 r
 
 abbrev pub slot_read_next : Option OpenFile → ℕ → ℕ → ℕ → SlotProcess → FileState → SlotEffect
@@ -91,10 +91,10 @@ read_acts (Some file) = Read file.path ∷ []
 -- ---- `write`
 
 abbrev pub slot_write_where : Bool → OpenFile → List ℕ → SlotProcess → FileState → SlotEffect
-slot_write_where false file text r st = slot_misused too_long r st
+slot_write_where false file text r st = slot_misused too_long_status r st
 slot_write_where true file text r st = record {
   process = slot_went_on r;
-  files = appended st file.path text;
+  files = after_append st file.path text;
   acts = Wrote file.path ∷ [];
 }
 
@@ -109,21 +109,21 @@ slot_on_or_ended None r = slot_went_on r
 slot_on_or_ended (Some status) r = slot_ended status r
 
 -- the files after a line was appended, where there was no misuse
-abbrev pub Appended : Option OpenFile → List ℕ → SlotProcess → FileState → Option ℕ → FileState → Type 0
-Appended file text r st misuse left =
+abbrev pub LeavesAppended : Option OpenFile → List ℕ → SlotProcess → FileState → Option ℕ → FileState → Type 0
+LeavesAppended file text r st misuse left =
     Leaves (slot_write_text file text r st) (slot_on_or_ended misuse r) left
 
 -- ---- `copy`
 
 abbrev pub slot_copy_where : Bool → ℕ → OpenFile → OpenFile → SlotProcess → FileState → SlotEffect
 slot_copy_where false slot source target r st = record {
-  process = slot_ended too_long r;
+  process = slot_ended too_long_status r;
   files = st;
   acts = Read source.path ∷ [];
 }
 slot_copy_where true slot source target r st = record {
   process = slot_went_on (slot_at_place slot source (copy_end st source.path source.place) r);
-  files = copied st source.path source.place target.path;
+  files = after_copy st source.path source.place target.path;
   acts = Read source.path ∷ Wrote target.path ∷ [];
 }
 
@@ -149,7 +149,7 @@ slot_remove_found false path place r st = record {
 }
 slot_remove_found true path place r st = record {
   process = slot_went_on r;
-  files = removed st path;
+  files = after_remove st path;
   acts = Removed path ∷ [];
 }
 

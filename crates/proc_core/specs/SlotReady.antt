@@ -4,7 +4,7 @@ use Rattle.std.specs.Prelude.{Option, Some, None}
 use Rattle.std.specs.List.{AllByRecursion}
 use Rattle.script_code.specs.declared.code.Code.{Code}
 use Rattle.proc_core.specs.Flags.{runnable_flags}
-use Rattle.run_model.specs.Core.{Binding, Process, Core}
+use Rattle.run_model.specs.Core.{NameBinding, Process, Core}
 use Rattle.proc_core.specs.declared.machine.Machine.{Machine}
 use Rattle.proc_core.specs.declared.process.SlotProcess.{SlotProcess}
 use Rattle.proc_core.specs.SlotStep.{slot_is_runnable, slot_status_in}
@@ -46,7 +46,7 @@ module _ (codes : List Code) (rs : List SlotProcess) where
 -- ---- what it is for a state
 
 -- a child was made by a process, and after it
-abbrev pub IsKin : List ℕ → ℕ → Binding ℕ → Type 0
+abbrev pub IsKin : List ℕ → ℕ → NameBinding ℕ → Type 0
 IsKin parents number b = (slice_get parents b.bound ≡ Some number) × (number < b.bound)
 
 abbrev pub AreKin : List ℕ → List Process → Type 0

@@ -4,7 +4,7 @@ use Rattle.std.specs.Prelude.{option_and_then}
 use Rattle.proc_core.specs.Types.{Value}
 use Rattle.run_model.specs.Core.{OpenFile}
 use Rattle.run_model.specs.StepBase.{wrong_kind}
-use Rattle.run_model.specs.StepReplies.{next_row, counted, status_value}
+use Rattle.run_model.specs.StepReplies.{next_row, row_count, status_value}
 use Rattle.proc_core.specs.declared.process.SlotCursor.{SlotCursor}
 use Rattle.proc_core.specs.declared.process.SlotProcess.{SlotProcess}
 use Rattle.proc_core.specs.Slots.{open_at, cursor_of, cursor_at, slot_ended, slot_went_on, slot_went_to}
@@ -51,7 +51,7 @@ slot_fetch slot to place r = slot_fetch_from (cursor_of slot r) slot to place r
 -- ---- `count` and `status`
 
 abbrev pub slot_count : ℕ → ℕ → SlotProcess → SlotProcess
-slot_count to slot r = slot_assign to (counted (option_and_then (cursor_at r.replies) (cursor_of slot r))) r
+slot_count to slot r = slot_assign to (row_count (option_and_then (cursor_at r.replies) (cursor_of slot r))) r
 
 abbrev pub slot_status : ℕ → ℕ → SlotProcess → SlotProcess
 slot_status to slot r =

@@ -16,9 +16,9 @@ use Rattle.proc_core.specs.declared.machine.Machine.{Machine}
 use Rattle.proc_core.specs.declared.process.SlotProcess.{SlotProcess}
 use Rattle.proc_core.specs.declared.program.Program.{Program}
 use Rattle.proc_core.specs.declared.program.Program.TheVariants.{Absent, Refused, Known, New}
-use Rattle.proc_core.specs.declared.spawning.Spawning.{Spawning}
+use Rattle.proc_core.specs.declared.spawn_request.Spawning.{Spawning}
 use Rattle.proc_core.specs.Slots.{Holds, slot_value, slot_values, slot_went_on, slot_with_child}
-use Rattle.proc_core.specs.SlotStep.{next_slotted}
+use Rattle.proc_core.specs.SlotStep.{next_slot_instr}
 
 -- ---- what a `spawn` says
 
@@ -37,7 +37,7 @@ slot_spawning (Some (Sql cursor text params)) r = None
 
 abbrev pub slot_spawning_in : List Code → Option SlotProcess → Option Spawning
 slot_spawning_in codes None = None
-slot_spawning_in codes (Some r) = slot_spawning (next_slotted codes (Some r)) r
+slot_spawning_in codes (Some r) = slot_spawning (next_slot_instr codes (Some r)) r
 
 abbrev pub slot_spawning_at : Machine → ℕ → Option Spawning
 slot_spawning_at m number = slot_spawning_in m.codes (slice_get m.processes.items number)

@@ -19,9 +19,9 @@ abbrev pub slotted_at : Option Code → ℕ → Option SlotInstr
 slotted_at None place = None
 slotted_at (Some code) place = slice_get code.instructions place
 
-abbrev pub next_slotted : List Code → Option SlotProcess → Option SlotInstr
-next_slotted codes None = None
-next_slotted codes (Some r) = slotted_at (slice_get codes r.code) r.place
+abbrev pub next_slot_instr : List Code → Option SlotProcess → Option SlotInstr
+next_slot_instr codes None = None
+next_slot_instr codes (Some r) = slotted_at (slice_get codes r.code) r.place
 
 -- a process whose place isn't the last number
 abbrev pub HasRoom : Option SlotProcess → Type 0
@@ -47,7 +47,7 @@ slot_waits_at (Some (Wait to child)) r all = slot_waits_for (child_at child r) a
 slot_waits_at (Some (Sql cursor text params)) r all = false
 
 abbrev pub slot_is_runnable : List Code → List SlotProcess → SlotProcess → Bool
-slot_is_runnable codes all r = is_none r.status && not (slot_waits_at (next_slotted codes (Some r)) r all)
+slot_is_runnable codes all r = is_none r.status && not (slot_waits_at (next_slot_instr codes (Some r)) r all)
 
 abbrev pub slot_runnable_from : List Code → ℕ → List SlotProcess → List SlotProcess → List ℕ
 slot_runnable_from codes n all [] = []

@@ -5,8 +5,8 @@ use Rattle.ldv_value.specs.Limits.{printed_limit}
 use Rattle.ldv_value.specs.Order.{order, meets}
 use Rattle.ldv_value.specs.declared.value.Cmp.{Cmp}
 use Rattle.proc_core.specs.Types.{Value, Null, Int, Text, CalcOp}
-use Rattle.run_model.specs.StepBase.{wrong_kind, too_long, Yields}
-use Rattle.run_model.specs.StepVariables.{calculated, glued, to_number, first_place, before_place}
+use Rattle.run_model.specs.StepBase.{wrong_kind, too_long_status, Yields}
+use Rattle.run_model.specs.StepVariables.{calculation, concatenation, to_number, first_place, before_place}
 use Rattle.run_model.specs.StepVariables.{after_place}
 use Rattle.run_model.specs.StepVariables.{printed_line, exit_status}
 use Rattle.script_code.specs.declared.code.SlotOperand.{SlotOperand}
@@ -20,26 +20,26 @@ abbrev pub slot_let : ℕ → SlotOperand → SlotProcess → SlotProcess
 slot_let to value r = slot_assign to (Yields (slot_value r value)) r
 
 abbrev pub slot_calculate : ℕ → CalcOp → SlotOperand → SlotOperand → SlotProcess → SlotProcess
-slot_calculate to op left right r = slot_assign to (calculated op (slot_value r left) (slot_value r right)) r
+slot_calculate to op left right r = slot_assign to (calculation op (slot_value r left) (slot_value r right)) r
 
 abbrev pub slot_glue : ℕ → SlotOperand → SlotOperand → SlotProcess → SlotProcess
-slot_glue to left right r = slot_assign to (glued (slot_value r left) (slot_value r right)) r
+slot_glue to left right r = slot_assign to (concatenation (slot_value r left) (slot_value r right)) r
 
 abbrev pub slot_let_number : ℕ → SlotOperand → SlotProcess → SlotProcess
 slot_let_number to value r = slot_assign to (to_number (slot_value r value)) r
 
 -- the parts of a text around another, which isn't empty
-abbrev pub parts_at : Option ℕ → List ℕ → List ℕ → CutParts
-parts_at place by text = record { before = before_place place text; after = after_place place by text }
+abbrev pub split_at_place : Option ℕ → List ℕ → List ℕ → CutParts
+split_at_place place by text = record { before = before_place place text; after = after_place place by text }
 
 -- none where it's misuse
-abbrev pub parts_of : Value → Value → Option CutParts
-parts_of Null text = None
-parts_of (Int n) text = None
-parts_of (Text []) text = None
-parts_of (Text (b ∷ bs)) Null = None
-parts_of (Text (b ∷ bs)) (Int n) = None
-parts_of (Text (b ∷ bs)) (Text text) = Some (parts_at (first_place 0 (b ∷ bs) text) (b ∷ bs) text)
+abbrev pub split_value : Value → Value → Option CutParts
+split_value Null text = None
+split_value (Int n) text = None
+split_value (Text []) text = None
+split_value (Text (b ∷ bs)) Null = None
+split_value (Text (b ∷ bs)) (Int n) = None
+split_value (Text (b ∷ bs)) (Text text) = Some (split_at_place (first_place 0 (b ∷ bs) text) (b ∷ bs) text)
 
 abbrev pub slot_cut_parts : ℕ → ℕ → Option CutParts → SlotProcess → SlotProcess
 slot_cut_parts before after None r = slot_ended wrong_kind r
@@ -49,7 +49,7 @@ slot_cut_parts before after (Some parts) r =
 
 abbrev pub slot_cut : ℕ → ℕ → SlotOperand → SlotProcess → SlotProcess
 slot_cut before after by r =
-    slot_cut_parts before after (parts_of (slot_value r by) (slot_value r (Slot after))) r
+    slot_cut_parts before after (split_value (slot_value r by) (slot_value r (Slot after))) r
 
 abbrev pub slot_jump_where : Bool → ℕ → SlotProcess → SlotProcess
 slot_jump_where true place r = slot_went_to place r
@@ -61,7 +61,7 @@ slot_jump_if op left right place r =
 
 abbrev pub slot_print_line : List ℕ → SlotProcess → SlotProcess
 slot_print_line text r =
-    if nat_lt printed_limit (length r.printed + length text) then slot_ended too_long r
+    if nat_lt printed_limit (length r.printed + length text) then slot_ended too_long_status r
     else slot_went_on (record r { printed = r.printed ++ text })
 
 abbrev pub slot_print : List SlotOperand → SlotProcess → SlotProcess

@@ -6,9 +6,9 @@ use Rattle.std.specs.Prelude.{option_and_then}
 use Rattle.sql_model.specs.Meaning.{or_null}
 use Rattle.sql_model.specs.declared.reply.Reply.{Reply}
 use Rattle.proc_core.specs.Types.{Value, Instr}
-use Rattle.run_model.specs.Core.{Binding, lookup, OpenFile, Cursor, Process}
+use Rattle.run_model.specs.Core.{NameBinding, lookup, OpenFile, Cursor, Process}
 use Rattle.run_model.specs.Outcome.{entry_reply}
-use Rattle.run_model.specs.StepBase.{Computed, Yields, Misused}
+use Rattle.run_model.specs.StepBase.{Computation, Yields, Misused}
 use Rattle.script_code.specs.declared.code.SlotOperand.{SlotOperand}
 use Rattle.script_code.specs.declared.code.SlotOperand.TheVariants.{Constant, Slot}
 use Rattle.script_code.specs.declared.code.Scope.{Scope}
@@ -19,11 +19,11 @@ use Rattle.proc_core.specs.declared.process.SlotProcess.{SlotProcess}
 
 -- ---- what a slot holds for a name
 
-abbrev pub value_held : List (Binding Value) → List ℕ → Value
+abbrev pub value_held : List (NameBinding Value) → List ℕ → Value
 value_held bindings name = or_null (lookup name bindings)
 
-abbrev pub bound_held : {X : Type 0} → List (Binding X) → List ℕ → Option X
-bound_held bindings name = lookup name bindings
+abbrev pub bound_value : {X : Type 0} → List (NameBinding X) → List ℕ → Option X
+bound_value bindings name = lookup name bindings
 
 -- what a cursor means, among the replies of its process
 abbrev pub cursor_at : List Reply → SlotCursor → Option Cursor
@@ -51,10 +51,10 @@ pub record Holds (s : Scope) (index : ℕ) (script : List Instr) (r : SlotProces
   pub name : r.name ≡ p.name
   pub place : r.place ≡ p.place
   pub variables : r.variables ≡ map (value_held p.variables) s.variables
-  pub files : r.files ≡ map (bound_held p.files) s.files
-  pub cursors : map (cursor_in r.replies) r.cursors ≡ map (bound_held p.cursors) s.cursors
+  pub files : r.files ≡ map (bound_value p.files) s.files
+  pub cursors : map (cursor_in r.replies) r.cursors ≡ map (bound_value p.cursors) s.cursors
   pub replied : HaveReplies r.replies r.cursors
-  pub children : r.children ≡ map (bound_held p.children) s.children
+  pub children : r.children ≡ map (bound_value p.children) s.children
   pub spawned : r.spawned ≡ p.spawned
   pub printed : r.printed ≡ p.printed
   pub replies : r.replies ≡ map entry_reply p.entries
@@ -71,24 +71,24 @@ slot_values r operands = map (slot_value r) operands
 
 -- ---- values that are computed
 
-abbrev pub computed : Result → Computed
-computed (results.Yields v) = Yields v
-computed (results.Misused status) = Misused status
+abbrev pub computation_of : Result → Computation
+computation_of (results.Yields v) = Yields v
+computation_of (results.Misused status) = Misused status
 
 -- ---- what names mean
 
-abbrev pub joined : {X : Type 0} → Option (Option X) → Option X
-joined None = None
-joined (Some o) = o
+abbrev pub flatten_option : {X : Type 0} → Option (Option X) → Option X
+flatten_option None = None
+flatten_option (Some o) = o
 
 abbrev pub open_at : ℕ → SlotProcess → Option OpenFile
-open_at slot r = joined (slice_get r.files slot)
+open_at slot r = flatten_option (slice_get r.files slot)
 
 abbrev pub cursor_of : ℕ → SlotProcess → Option SlotCursor
-cursor_of slot r = joined (slice_get r.cursors slot)
+cursor_of slot r = flatten_option (slice_get r.cursors slot)
 
 abbrev pub child_at : ℕ → SlotProcess → Option ℕ
-child_at slot r = joined (slice_get r.children slot)
+child_at slot r = flatten_option (slice_get r.children slot)
 
 -- ---- what becomes of a process
 
@@ -104,7 +104,7 @@ slot_went_to place r = record r { place = place }
 abbrev pub slot_with_variable : ℕ → Value → SlotProcess → SlotProcess
 slot_with_variable slot v r = record r { variables = slice_set r.variables slot v }
 
-abbrev pub slot_assign : ℕ → Computed → SlotProcess → SlotProcess
+abbrev pub slot_assign : ℕ → Computation → SlotProcess → SlotProcess
 slot_assign slot (Yields v) r = slot_went_on (slot_with_variable slot v r)
 slot_assign slot (Misused status) r = slot_ended status r
 

@@ -47,5 +47,5 @@ abbrev pub HasStartScript : List (List ℕ) → FileState → Type 0
 HasStartScript start files = (script : List Instr) × IsStartScript start files script
 
 -- a tracer that keeps events noted these
-abbrev pub Told : Bool → List Event → List Event → List Event → Type 0
-Told keeps old new events = IsTrue keeps → new ≡ old ++ events
+abbrev pub AppendsEvents : Bool → List Event → List Event → List Event → Type 0
+AppendsEvents keeps old new events = IsTrue keeps → new ≡ old ++ events

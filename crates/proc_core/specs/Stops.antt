@@ -5,10 +5,10 @@ use Rattle.run_model.specs.State.{State}
 use Rattle.run_model.specs.declared.database.Asker.{Asker}
 use Rattle.proc_core.specs.declared.machine.Machine.{Machine}
 use Rattle.proc_core.specs.declared.process.SlotProcess.{SlotProcess}
-use Rattle.proc_core.specs.declared.stop.RunStop.{RunStop}
-use Rattle.proc_core.specs.declared.stop.RunStop.TheVariants as run_stop
-use Rattle.proc_core.specs.declared.stop.Stopped.{Stopped}
-use Rattle.proc_core.specs.declared.stop.Stopped.TheVariants.{Diverged, NoMemory}
+use Rattle.proc_core.specs.declared.error.RunStop.{RunStop}
+use Rattle.proc_core.specs.declared.error.RunStop.TheVariants as run_stop
+use Rattle.proc_core.specs.declared.error.Stopped.{Stopped}
+use Rattle.proc_core.specs.declared.error.Stopped.TheVariants.{Diverged, NoMemory}
 use Rattle.proc_core.specs.declared.tell.Who.{Who}
 
 abbrev pub asker_held : SlotProcess → Who → Machine → Asker

@@ -53,7 +53,7 @@ fn statement_of(cursor: usize, text: Value, params: Values) -> Option<Statement>
     }
 }
 
-fn ask_by(
+fn statement_of_instr(
     alloc: Global,
     instr: Option<&SlotInstr>,
     process: &SlotProcess,
@@ -90,7 +90,7 @@ fn ask_by(
     }
 }
 
-fn ask_in(
+fn statement_of_process(
     alloc: Global,
     codes: &Codes,
     process: &SlotProcess,
@@ -98,18 +98,18 @@ fn ask_in(
     ensures asked { IfOk result (λ asked. asked ≡ slot_ask_in codes.now (Some process.now)) }
     ensures room { IfOk result (λ asked. OnSome asked (process.now.place + 1 < 2 ^ 64)) }
 {
-    ask_by(alloc, next_in(codes, process), process)
+    statement_of_instr(alloc, next_in(codes, process), process)
 }
 
 /// What the next step of a process asks.
-pub(crate) fn ask_at(machine: &Machine, number: usize) -> Result<Option<Statement>, AllocError>
+pub(crate) fn statement_at(machine: &Machine, number: usize) -> Result<Option<Statement>, AllocError>
     ensures asked { IfOk result (λ asked. asked ≡ slot_ask_at machine.now number) }
     ensures room { IfOk result (λ asked. OnSome asked
         (HasRoom (slice_get machine.now.processes.items number))) }
 {
     match machine.processes.get(number) {
         None => Ok(None),
-        Some(process) => ask_in(machine.alloc, &machine.codes, process),
+        Some(process) => statement_of_process(machine.alloc, &machine.codes, process),
     }
 }
 

@@ -3,12 +3,12 @@
 ghost use Rattle.std.specs.Int.{w64};
 ghost use Rattle.std.specs.Option.{SomeIff};
 ghost use Rattle.std.specs.Prelude.{◌≡◌, ◌++◌, ℤ, FitsSigned, IfOk, OnOk};
-ghost use Rattle.ldv_value.specs.Shown.{shown};
+ghost use Rattle.ldv_value.specs.Shown.{value_text};
 ghost use Rattle.sql_model.specs.Meaning.{is_null};
 ghost use Rattle.run_model.specs.StepBase.{number_within};
-ghost use Rattle.run_model.specs.StepVariables.{calculated, glued, text_within, to_number, result_of};
+ghost use Rattle.run_model.specs.StepVariables.{calculation, concatenation, text_within, to_number, result_of};
 ghost use Rattle.run_model.specs.StepVariables.{number_or_misuse};
-ghost use Rattle.proc_core.specs.Slots.{computed};
+ghost use Rattle.proc_core.specs.Slots.{computation_of};
 
 use itoa::Buffer;
 use ldv_value::{TEXT_LIMIT, Utf8, Value};
@@ -34,8 +34,8 @@ pub(crate) enum Computed {
 }
 
 /// `v + w`, `v - w` or `v * w`.
-pub(crate) fn calculated(op: CalcOp, left: &Value, right: &Value) -> Computed
-    ensures { computed result ≡ calculated op left.now right.now }
+pub(crate) fn calculate_values(op: CalcOp, left: &Value, right: &Value) -> Computed
+    ensures { computation_of result ≡ calculation op left.now right.now }
 {
     match (left, right) {
         (Value::Null, _) => Computed::Misused(WRONG_KIND),
@@ -47,7 +47,7 @@ pub(crate) fn calculated(op: CalcOp, left: &Value, right: &Value) -> Computed
 }
 
 fn number(op: CalcOp, m: i64, n: i64) -> Computed
-    ensures { computed result ≡ number_within (result_of op m n) }
+    ensures { computation_of result ≡ number_within (result_of op m n) }
 {
     match op {
         CalcOp::Add => within(m.checked_add(n)),
@@ -59,7 +59,7 @@ fn number(op: CalcOp, m: i64, n: i64) -> Computed
 // A number that fits, as which a sum or a product is checked.
 #[tactic(auto, using(crate::proofs::Numbers::within_some, crate::proofs::Numbers::within_none))]
 fn within(number: Option<i64>) -> Computed
-    ensures { (z : ℤ) → SomeIff number (FitsSigned w64 z) z → computed result ≡ number_within z }
+    ensures { (z : ℤ) → SomeIff number (FitsSigned w64 z) z → computation_of result ≡ number_within z }
 {
     match number {
         Some(number) => Computed::Yields(Value::Int(number)),
@@ -79,7 +79,7 @@ fn is_null(value: &Value) -> bool
 
 // Appends a value as text.
 fn push_shown(text: &mut Utf8, value: &Value) -> Result<(), AllocError>
-    ensures { OnOk result (text.new ≡ text.old ++ shown value.now) }
+    ensures { OnOk result (text.new ≡ text.old ++ value_text value.now) }
 {
     match value {
         Value::Null => text.push_str("NULL"),
@@ -92,8 +92,8 @@ fn push_shown(text: &mut Utf8, value: &Value) -> Result<(), AllocError>
 }
 
 /// `v ++ w`.
-pub(crate) fn glued(alloc: Global, left: &Value, right: &Value) -> Result<Computed, AllocError>
-    ensures { IfOk result (λ c. computed c ≡ glued left.now right.now) }
+pub(crate) fn concatenate(alloc: Global, left: &Value, right: &Value) -> Result<Computed, AllocError>
+    ensures { IfOk result (λ c. computation_of c ≡ concatenation left.now right.now) }
 {
     if is_null(left) || is_null(right) {
         return Ok(Computed::Misused(WRONG_KIND));
@@ -105,7 +105,7 @@ pub(crate) fn glued(alloc: Global, left: &Value, right: &Value) -> Result<Comput
 }
 
 fn text_within(text: Utf8) -> Computed
-    ensures { computed result ≡ text_within text }
+    ensures { computation_of result ≡ text_within text }
 {
     if text.len() > TEXT_LIMIT {
         Computed::Misused(TOO_LONG)
@@ -116,7 +116,7 @@ fn text_within(text: Utf8) -> Computed
 
 /// `int v`.
 pub(crate) fn to_number(value: &Value) -> Computed
-    ensures { computed result ≡ to_number value.now }
+    ensures { computation_of result ≡ to_number value.now }
 {
     match value {
         Value::Null => Computed::Misused(WRONG_KIND),
@@ -126,7 +126,7 @@ pub(crate) fn to_number(value: &Value) -> Computed
 }
 
 fn read(number: Option<i64>) -> Computed
-    ensures { computed result ≡ number_or_misuse number }
+    ensures { computation_of result ≡ number_or_misuse number }
 {
     match number {
         None => Computed::Misused(WRONG_KIND),

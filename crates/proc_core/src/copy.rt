@@ -10,7 +10,7 @@ ghost use Rattle.run_model.specs.StepBase.{wrong_kind};
 ghost use Rattle.proc_core.specs.Slots.{open_at, slot_ended};
 ghost use Rattle.proc_core.specs.SlotCopy.{CopiesTo, CopiesAt, copy_acts, slot_copied};
 ghost use Rattle.proc_core.specs.SlotFiles.{Leaves, slot_copy_between, slot_open_for};
-ghost use Rattle.proc_core.specs.Stands.{Told};
+ghost use Rattle.proc_core.specs.Stands.{AppendsEvents};
 
 use crate::computed::{TOO_LONG, WRONG_KIND};
 use crate::file_slots::SlotFile;
@@ -40,7 +40,7 @@ fn tell_copy<T: Tracer>(
     who: Who,
     tracer: &mut T,
 ) -> Result<(), AllocError>
-    ensures { OnOk result (Told T.KEEPS (T.events tracer.old) (T.events tracer.new)
+    ensures { OnOk result (AppendsEvents T.KEEPS (T.events tracer.old) (T.events tracer.new)
         (map (event_at who.step who.number) (Read source.now ∷ Wrote target.now ∷ []))) }
 {
     tell_path(who, PathAct::Read, source, tracer)?;
@@ -56,7 +56,7 @@ fn copy_between<T: Tracer>(
     tracer: &mut T,
 ) -> Result<Option<u32>, AllocError>
     ensures copied { IfOk result (CopiesTo source.now target.now tree.old tree.new) }
-    ensures told { IfOk result (λ next. Told T.KEEPS (T.events tracer.old) (T.events tracer.new)
+    ensures told { IfOk result (λ next. AppendsEvents T.KEEPS (T.events tracer.old) (T.events tracer.new)
         (map (event_at who.step who.number) (copy_acts source.now target.now next))) }
 {
     let read = source.path();
@@ -94,7 +94,7 @@ fn copy_at<T: Tracer>(
 ) -> Result<Copying, AllocError>
     ensures copied { IfOk result (λ copying. CopiesAt (slot_open_for allows_read source process.now)
         (slot_open_for allows_write target process.now) tree.old copying tree.new) }
-    ensures told { OnOk result (Told T.KEEPS (T.events tracer.old) (T.events tracer.new)
+    ensures told { OnOk result (AppendsEvents T.KEEPS (T.events tracer.old) (T.events tracer.new)
         (map (event_at who.step who.number) (slot_copy_between source
         (slot_open_for allows_read source process.now) (slot_open_for allows_write target process.now)
         process.now tree.old).acts)) }
@@ -139,7 +139,7 @@ pub(crate) fn copy<T: Tracer>(
     ensures left { OnOk result (Leaves (slot_copy_between source
         (slot_open_for allows_read source process.old) (slot_open_for allows_write target process.old)
         process.old tree.old) process.new tree.new) }
-    ensures told { OnOk result (Told T.KEEPS (T.events tracer.old) (T.events tracer.new)
+    ensures told { OnOk result (AppendsEvents T.KEEPS (T.events tracer.old) (T.events tracer.new)
         (map (event_at who.step who.number) (slot_copy_between source
         (slot_open_for allows_read source process.old) (slot_open_for allows_write target process.old)
         process.old tree.old).acts)) }

@@ -5,7 +5,7 @@ ghost use Rattle.std.specs.Str.{IsCharBoundary};
 ghost use Rattle.sql_model.specs.Meaning.{or_null};
 ghost use Rattle.proc_core.specs.Types.{Text};
 ghost use Rattle.run_model.specs.StepVariables.{begins_with, first_place};
-ghost use Rattle.proc_core.specs.SlotVariables.{parts_at, parts_of, slot_cut, slot_cut_parts};
+ghost use Rattle.proc_core.specs.SlotVariables.{split_at_place, split_value, slot_cut, slot_cut_parts};
 ghost use Rattle.proc_core.specs.Slots.{slot_value};
 
 use crate::computed::WRONG_KIND;
@@ -61,7 +61,7 @@ fn first_place(by: &[u8], text: &[u8]) -> Option<usize>
 }
 
 // The parts around a text at a place, before and after which the whole text may be cut.
-fn parts_at(
+fn split_at_place(
     alloc: Global,
     place: Option<usize>,
     by: &str,
@@ -69,7 +69,7 @@ fn parts_at(
 ) -> Result<CutParts, AllocError>
     requires before { IfSome place (IsCharBoundary text.now) }
     requires after { IfSome place (λ n. IsCharBoundary text.now (n + length by.now)) }
-    ensures { IfOk result (λ parts. parts ≡ parts_at place by.now text.now) }
+    ensures { IfOk result (λ parts. parts ≡ split_at_place place by.now text.now) }
 {
     match place {
         None => Ok(CutParts {
@@ -84,18 +84,18 @@ fn parts_at(
 }
 
 // The parts of a text around another; none where it's misuse.
-fn parts_of(alloc: Global, by: &Value, text: &Value) -> Result<Option<CutParts>, AllocError>
-    ensures { IfOk result (λ parts. parts ≡ parts_of by.now text.now) }
+fn split_value(alloc: Global, by: &Value, text: &Value) -> Result<Option<CutParts>, AllocError>
+    ensures { IfOk result (λ parts. parts ≡ split_value by.now text.now) }
 {
     match by {
         Value::Null => Ok(None),
         Value::Int(_) => Ok(None),
-        Value::Text(by) => parts_by(alloc, by.as_str(), text),
+        Value::Text(by) => split_text_value(alloc, by.as_str(), text),
     }
 }
 
-fn parts_by(alloc: Global, by: &str, text: &Value) -> Result<Option<CutParts>, AllocError>
-    ensures { IfOk result (λ parts. parts ≡ parts_of (Text by.now) text.now) }
+fn split_text_value(alloc: Global, by: &str, text: &Value) -> Result<Option<CutParts>, AllocError>
+    ensures { IfOk result (λ parts. parts ≡ split_value (Text by.now) text.now) }
 {
     if by.is_empty() {
         return Ok(None);
@@ -103,17 +103,17 @@ fn parts_by(alloc: Global, by: &str, text: &Value) -> Result<Option<CutParts>, A
     match text {
         Value::Null => Ok(None),
         Value::Int(_) => Ok(None),
-        Value::Text(text) => Ok(Some(parts_in(alloc, by, text.as_str())?)),
+        Value::Text(text) => Ok(Some(split_text(alloc, by, text.as_str())?)),
     }
 }
 
 // The parts of a text around another, which isn't empty.
-fn parts_in(alloc: Global, by: &str, text: &str) -> Result<CutParts, AllocError>
+fn split_text(alloc: Global, by: &str, text: &str) -> Result<CutParts, AllocError>
     requires { 0 < length by.now }
-    ensures { IfOk result (λ parts. parts ≡ parts_at (first_place 0 by.now text.now) by.now text.now) }
+    ensures { IfOk result (λ parts. parts ≡ split_at_place (first_place 0 by.now text.now) by.now text.now) }
 {
     let place = first_place(by.as_bytes(), text.as_bytes());
-    parts_at(alloc, place, by, text)
+    split_at_place(alloc, place, by, text)
 }
 
 fn cut_parts(before: usize, after: usize, parts: Option<CutParts>, process: &mut SlotProcess)
@@ -138,10 +138,10 @@ fn parts_around(
     process: &SlotProcess,
 ) -> Result<Option<CutParts>, AllocError>
     ensures { IfOk result (λ parts. parts
-        ≡ parts_of (slot_value process.now by.now) (or_null (slice_get process.now.variables text))) }
+        ≡ split_value (slot_value process.now by.now) (or_null (slice_get process.now.variables text))) }
 {
     let null = Value::Null;
-    parts_of(
+    split_value(
         alloc,
         value_at(process, by, &null),
         variable_at(process, text, &null),

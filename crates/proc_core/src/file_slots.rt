@@ -4,7 +4,7 @@ ghost use Rattle.std.specs.Prelude.{◌≡◌, IsTrue, Some, None, IfOk, replica
 ghost use Rattle.std.specs.Prelude.{option_map};
 ghost use Rattle.ldv_value.specs.Names.{path_test};
 ghost use Rattle.run_model.specs.Core.{OpenFile};
-ghost use Rattle.proc_core.specs.Slots.{joined};
+ghost use Rattle.proc_core.specs.Slots.{flatten_option};
 
 use ldv_value::{OpenMode, Utf8};
 use std::alloc::{AllocError, Global};
@@ -32,7 +32,7 @@ impl Model for SlotFile {
 
 impl SlotFile {
     /// A file that was opened at its start.
-    pub(crate) fn opened(path: Utf8, mode: OpenMode) -> SlotFile
+    pub(crate) fn at_start(path: Utf8, mode: OpenMode) -> SlotFile
         requires { IsTrue (path_test path) }
         ensures { result ≡ record { path = path; mode = mode; place = 0 } }
     {
@@ -89,7 +89,7 @@ impl Model for FileSlots {
 
 impl FileSlots {
     /// So many slots, in which no file is open.
-    pub(crate) fn closed(alloc: Global, count: usize) -> Result<FileSlots, AllocError>
+    pub(crate) fn closed_slots(alloc: Global, count: usize) -> Result<FileSlots, AllocError>
         ensures { IfOk result (λ slots. slots ≡ replicate count None) }
     {
         let mut held = Vec::with_capacity(alloc, count)?;
@@ -101,7 +101,7 @@ impl FileSlots {
 
     /// The open file in a slot.
     pub(crate) fn get(&self, slot: usize) -> Option<&SlotFile>
-        ensures { option_map (λ file. file.now) result ≡ joined (slice_get self.now slot) }
+        ensures { option_map (λ file. file.now) result ≡ flatten_option (slice_get self.now slot) }
     {
         match self.held.get(slot) {
             None => None,
@@ -121,7 +121,7 @@ impl FileSlots {
 
     /// Moves the place of the open file in a slot.
     pub(crate) fn move_to(&mut self, slot: usize, place: u32)
-        ensures { (file : OpenFile) → joined (slice_get self.old slot) ≡ Some file
+        ensures { (file : OpenFile) → flatten_option (slice_get self.old slot) ≡ Some file
             → self.new ≡ slice_set self.old slot (Some (record file { place = place })) }
     {
         if slot < self.held.len() {

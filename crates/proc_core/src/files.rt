@@ -16,9 +16,9 @@ ghost use Rattle.proc_core.specs.Slots.{slot_value, slot_values, slot_went_to, s
 ghost use Rattle.proc_core.specs.Slots.{open_at};
 ghost use Rattle.proc_core.specs.SlotFiles.{Leaves, slot_open_path, slot_open_found, slot_open_for};
 ghost use Rattle.proc_core.specs.SlotFiles.{slot_take_line, IsReadBy, read_acts, slot_read_next, slot_remove};
-ghost use Rattle.proc_core.specs.SlotFiles.{Appended, slot_write_text, slot_on_or_ended, slot_remove_found};
+ghost use Rattle.proc_core.specs.SlotFiles.{LeavesAppended, slot_write_text, slot_on_or_ended, slot_remove_found};
 ghost use Rattle.proc_core.specs.SlotFiles.{slot_exists, slot_on_files};
-ghost use Rattle.proc_core.specs.Stands.{Told};
+ghost use Rattle.proc_core.specs.Stands.{AppendsEvents};
 
 use crate::computed::{BAD_PATH, NOT_UTF8, TOO_LONG, WRONG_KIND};
 use crate::copy::copy;
@@ -75,7 +75,7 @@ fn open_kind(mode: OpenMode, found: bool) -> PathAct
 }
 
 // How an open ends that isn't refused.
-fn opened<T: Tracer>(
+fn finish_open<T: Tracer>(
     found: bool,
     slot: usize,
     mode: OpenMode,
@@ -88,17 +88,17 @@ fn opened<T: Tracer>(
     requires room { process.old.place + 1 < 2 ^ 64 }
     ensures process { OnOk result (process.new
         ≡ slot_went_on (slot_with_file slot (Some (opened_file path mode)) process.old)) }
-    ensures told { OnOk result (Told T.KEEPS (T.events tracer.old) (T.events tracer.new)
+    ensures told { OnOk result (AppendsEvents T.KEEPS (T.events tracer.old) (T.events tracer.new)
         (event_at who.step who.number (open_act mode path found) ∷ [])) }
 {
     tell_path(who, open_kind(mode, found), &path, tracer)?;
-    process.files.set(slot, Some(SlotFile::opened(path, mode)));
+    process.files.set(slot, Some(SlotFile::at_start(path, mode)));
     process.go_on();
     Ok(())
 }
 
 // How an open ends that is refused.
-fn unopened<T: Tracer>(
+fn refuse_open<T: Tracer>(
     found: bool,
     path: &Utf8,
     place: u32,
@@ -107,7 +107,7 @@ fn unopened<T: Tracer>(
     tracer: &mut T,
 ) -> Result<(), AllocError>
     ensures process { OnOk result (process.new ≡ slot_went_to place process.old) }
-    ensures told { OnOk result (Told T.KEEPS (T.events tracer.old) (T.events tracer.new)
+    ensures told { OnOk result (AppendsEvents T.KEEPS (T.events tracer.old) (T.events tracer.new)
         (event_at who.step who.number (Unopened path.now found) ∷ [])) }
 {
     tell_path(who, PathAct::Unopened(found), path, tracer)?;
@@ -129,22 +129,22 @@ fn open_there<T: Tracer>(
     requires room { process.old.place + 1 < 2 ^ 64 }
     ensures left { OnOk result (Leaves (slot_open_found (is_there tree.old path) slot mode path place
         process.old tree.old) process.new tree.new) }
-    ensures told { OnOk result (Told T.KEEPS (T.events tracer.old) (T.events tracer.new)
+    ensures told { OnOk result (AppendsEvents T.KEEPS (T.events tracer.old) (T.events tracer.new)
         (map (event_at who.step who.number) (slot_open_found (is_there tree.old path) slot mode path place
         process.old tree.old).acts)) }
 {
     let found = tree.exists(path.as_str());
     match tree.open_path(mode, path.as_str()) {
         Ok(()) => {
-            opened(found, slot, mode, path, process, who, tracer)?;
+            finish_open(found, slot, mode, path, process, who, tracer)?;
             Ok(())
         }
         Err(TreeStop::Absent) => {
-            unopened(found, &path, place, process, who, tracer)?;
+            refuse_open(found, &path, place, process, who, tracer)?;
             Ok(())
         }
         Err(TreeStop::Taken) => {
-            unopened(found, &path, place, process, who, tracer)?;
+            refuse_open(found, &path, place, process, who, tracer)?;
             Ok(())
         }
         Err(TreeStop::NoMemory) => Err(AllocError),
@@ -166,7 +166,7 @@ fn open<T: Tracer>(
     requires room { process.old.place + 1 < 2 ^ 64 }
     ensures left { OnOk result (Leaves (slot_open_path path slot mode place process.old tree.old)
         process.new tree.new) }
-    ensures told { OnOk result (Told T.KEEPS (T.events tracer.old) (T.events tracer.new)
+    ensures told { OnOk result (AppendsEvents T.KEEPS (T.events tracer.old) (T.events tracer.new)
         (map (event_at who.step who.number)
         (slot_open_path path slot mode place process.old tree.old).acts)) }
 {
@@ -236,7 +236,7 @@ fn read<T: Tracer>(
     tracer: &mut T,
 ) -> Result<Option<LineRead>, AllocError>
     ensures read { IfOk result (λ read. IsReadBy (slot_open_for allows_read slot process.now) tree.now read) }
-    ensures told { OnOk result (Told T.KEEPS (T.events tracer.old) (T.events tracer.new)
+    ensures told { OnOk result (AppendsEvents T.KEEPS (T.events tracer.old) (T.events tracer.new)
         (map (event_at who.step who.number) (read_acts (slot_open_for allows_read slot process.now)))) }
 {
     match open_to_read(process, slot) {
@@ -274,7 +274,7 @@ fn read_line<T: Tracer>(
     requires room { process.old.place + 1 < 2 ^ 64 }
     ensures left { OnOk result (process.new ≡ (slot_read_next (slot_open_for allows_read slot process.old) to
         slot place process.old tree.now).process) }
-    ensures told { OnOk result (Told T.KEEPS (T.events tracer.old) (T.events tracer.new)
+    ensures told { OnOk result (AppendsEvents T.KEEPS (T.events tracer.old) (T.events tracer.new)
         (map (event_at who.step who.number) (slot_read_next (slot_open_for allows_read slot process.old) to
         slot place process.old tree.now).acts)) }
 {
@@ -292,9 +292,10 @@ fn append<T: Tracer>(
     who: Who,
     tracer: &mut T,
 ) -> Result<Option<u8>, AllocError>
-    ensures left { IfOk result (λ misuse. Appended (slot_open_for allows_write slot process.now) line.now
+    ensures left { IfOk result (λ misuse. LeavesAppended
+        (slot_open_for allows_write slot process.now) line.now
         process.now tree.old misuse tree.new) }
-    ensures told { OnOk result (Told T.KEEPS (T.events tracer.old) (T.events tracer.new)
+    ensures told { OnOk result (AppendsEvents T.KEEPS (T.events tracer.old) (T.events tracer.new)
         (map (event_at who.step who.number) (slot_write_text (slot_open_for allows_write slot process.now)
         line.now process.now tree.old).acts)) }
 {
@@ -335,7 +336,7 @@ fn write_line<T: Tracer>(
     requires room { process.old.place + 1 < 2 ^ 64 }
     ensures left { OnOk result (Leaves (slot_write_text (slot_open_for allows_write slot process.old)
         (printed_line (slot_values process.old operands.now)) process.old tree.old) process.new tree.new) }
-    ensures told { OnOk result (Told T.KEEPS (T.events tracer.old) (T.events tracer.new)
+    ensures told { OnOk result (AppendsEvents T.KEEPS (T.events tracer.old) (T.events tracer.new)
         (map (event_at who.step who.number) (slot_write_text (slot_open_for allows_write slot process.old)
         (printed_line (slot_values process.old operands.now)) process.old tree.old).acts)) }
 {
@@ -356,7 +357,7 @@ fn remove<T: Tracer>(
 ) -> Result<(), AllocError>
     requires room { process.old.place + 1 < 2 ^ 64 }
     ensures left { OnOk result (Leaves (slot_remove path place process.old tree.old) process.new tree.new) }
-    ensures told { OnOk result (Told T.KEEPS (T.events tracer.old) (T.events tracer.new)
+    ensures told { OnOk result (AppendsEvents T.KEEPS (T.events tracer.old) (T.events tracer.new)
         (map (event_at who.step who.number) (slot_remove path place process.old tree.old).acts)) }
 {
     match path {
@@ -379,7 +380,7 @@ fn remove_path<T: Tracer>(
     requires room { process.old.place + 1 < 2 ^ 64 }
     ensures left { OnOk result (Leaves (slot_remove_found (is_there tree.old path.now) path.now place
         process.old tree.old) process.new tree.new) }
-    ensures told { OnOk result (Told T.KEEPS (T.events tracer.old) (T.events tracer.new)
+    ensures told { OnOk result (AppendsEvents T.KEEPS (T.events tracer.old) (T.events tracer.new)
         (map (event_at who.step who.number) (slot_remove_found (is_there tree.old path.now) path.now place
         process.old tree.old).acts)) }
 {
@@ -410,7 +411,7 @@ fn exists<T: Tracer>(
 ) -> Result<(), AllocError>
     requires room { process.old.place + 1 < 2 ^ 64 }
     ensures left { OnOk result (process.new ≡ (slot_exists path to process.old tree.now).process) }
-    ensures told { OnOk result (Told T.KEEPS (T.events tracer.old) (T.events tracer.new)
+    ensures told { OnOk result (AppendsEvents T.KEEPS (T.events tracer.old) (T.events tracer.new)
         (map (event_at who.step who.number) (slot_exists path to process.old tree.now).acts)) }
 {
     match path {
@@ -445,7 +446,7 @@ pub(crate) fn execute_on_files<T: Tracer>(
 ) -> Result<(), AllocError>
     requires room { process.old.place + 1 < 2 ^ 64 }
     ensures left { OnOk result (Leaves (slot_on_files instr.now process.old tree.old) process.new tree.new) }
-    ensures told { OnOk result (Told T.KEEPS (T.events tracer.old) (T.events tracer.new)
+    ensures told { OnOk result (AppendsEvents T.KEEPS (T.events tracer.old) (T.events tracer.new)
         (map (event_at who.step who.number) (slot_on_files instr.now process.old tree.old).acts)) }
 {
     match instr {

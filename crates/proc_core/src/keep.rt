@@ -5,16 +5,16 @@ ghost use Rattle.std.specs.Prelude.{ℕ, OnOk, OnSome};
 ghost use Rattle.std.specs.Option.{option_map};
 ghost use Rattle.run_model.specs.Core.{Core};
 ghost use Rattle.run_model.specs.Events.{event_at};
-ghost use Rattle.run_model.specs.Step.{quiet};
+ghost use Rattle.run_model.specs.Step.{local_step};
 ghost use Rattle.proc_core.specs.SlotOwn.{slot_own};
 ghost use Rattle.proc_core.specs.Counts.{CountsBelow};
 ghost use Rattle.proc_core.specs.SlotReady.{Grows};
-ghost use Rattle.proc_core.specs.SlotStep.{HasRoom, IsKept, next_slotted, slot_effect, slot_is_kept};
+ghost use Rattle.proc_core.specs.SlotStep.{HasRoom, IsKept, next_slot_instr, slot_effect, slot_is_kept};
 ghost use Rattle.ldv_value.specs.FileState.{FileState};
 ghost use Rattle.proc_core.specs.Slots.{child_at, slot_ended};
 ghost use Rattle.proc_core.specs.SlotFiles.{slot_on_files};
 ghost use Rattle.proc_core.specs.SlotStep.{slot_child_status, slot_status_in, slot_wait_for, slot_wait_with};
-ghost use Rattle.proc_core.specs.Stands.{IsCore, Told};
+ghost use Rattle.proc_core.specs.Stands.{IsCore, AppendsEvents};
 ghost use Rattle.proc_core.specs.declared.process.SlotProcess.{SlotProcess};
 
 use crate::computed::WRONG_KIND;
@@ -71,7 +71,8 @@ fn files_at<T: Tracer>(
     ensures files { OnOk result ((r : SlotProcess) → slice_get processes.old.items who.number ≡ Some r
         → tree.new ≡ (slot_on_files instr.now r tree.old).files) }
     ensures told { OnOk result ((r : SlotProcess) → slice_get processes.old.items who.number ≡ Some r
-        → Told T.KEEPS (T.events tracer.old) (T.events tracer.new) (map (event_at who.step who.number)
+        → AppendsEvents T.KEEPS (T.events tracer.old)
+        (T.events tracer.new) (map (event_at who.step who.number)
         (slot_on_files instr.now r tree.old).acts)) }
 {
     let process = &mut processes[who.number];
@@ -91,7 +92,8 @@ fn wait_with<T: Tracer>(
     ensures process { OnOk result ((st : FileState)
         → process.new ≡ (slot_wait_with child status to process.old st).process) }
     ensures told { OnOk result ((st : FileState)
-        → Told T.KEEPS (T.events tracer.old) (T.events tracer.new) (map (event_at who.step who.number)
+        → AppendsEvents T.KEEPS (T.events tracer.old)
+        (T.events tracer.new) (map (event_at who.step who.number)
         (slot_wait_with child status to process.old st).acts)) }
 {
     match child {
@@ -154,7 +156,8 @@ fn wait_at<T: Tracer>(
         (slot_wait_for (child_at slot r) to processes.old.items r st).process) }
     ensures told { OnOk result ((r : SlotProcess) (st : FileState)
         → slice_get processes.old.items who.number ≡ Some r
-        → Told T.KEEPS (T.events tracer.old) (T.events tracer.new) (map (event_at who.step who.number)
+        → AppendsEvents T.KEEPS (T.events tracer.old)
+        (T.events tracer.new) (map (event_at who.step who.number)
         (slot_wait_for (child_at slot r) to processes.old.items r st).acts)) }
 {
     let child = child_at(processes, who.number, slot);
@@ -164,7 +167,7 @@ fn wait_at<T: Tracer>(
 }
 
 // The step of an instruction; none is after the last one.
-fn keep_by<T: Tracer>(
+fn execute_local_instr<T: Tracer>(
     alloc: Global,
     instr: Option<&SlotInstr>,
     who: Who,
@@ -182,7 +185,8 @@ fn keep_by<T: Tracer>(
         → tree.new
         ≡ (slot_effect (option_map (λ i. i.now) instr.entry) processes.old.items r tree.old).files) }
     ensures told { OnOk result ((r : SlotProcess) → slice_get processes.old.items who.number ≡ Some r
-        → Told T.KEEPS (T.events tracer.old) (T.events tracer.new) (map (event_at who.step who.number)
+        → AppendsEvents T.KEEPS (T.events tracer.old)
+        (T.events tracer.new) (map (event_at who.step who.number)
         (slot_effect (option_map (λ i. i.now) instr.entry) processes.old.items r tree.old).acts)) }
 {
     match instr {
@@ -245,25 +249,26 @@ fn is_kept(instr: Option<&SlotInstr>) -> bool
 /// Whether the next step of a process asks nothing and makes no process.
 #[inline(always)]
 pub(crate) fn is_kept_at(machine: &Machine, number: usize) -> bool
-    ensures { result ≡ slot_is_kept (next_slotted machine.now.codes
+    ensures { result ≡ slot_is_kept (next_slot_instr machine.now.codes
         (slice_get machine.now.processes.items number)) }
 {
     is_kept(next_of(&machine.codes, &machine.processes, number))
 }
 
 /// The next step of a process, which asks nothing and makes no process.
-pub(crate) fn keep<T: Tracer>(
+pub(crate) fn execute_local<T: Tracer>(
     machine: &mut Machine,
     who: Who,
     tracer: &mut T,
 ) -> Result<(), AllocError>
-    requires kept { IsKept (next_slotted machine.old.codes
+    requires kept { IsKept (next_slot_instr machine.old.codes
         (slice_get machine.old.processes.items who.number)) }
     ensures core { OnOk result ((c : Core) → IsCore machine.old c
-        → IsCore machine.new (quiet who.number c).core) }
+        → IsCore machine.new (local_step who.number c).core) }
     ensures told { OnOk result ((c : Core) → IsCore machine.old c
-        → Told T.KEEPS (T.events tracer.old) (T.events tracer.new) (map (event_at who.step who.number)
-        (quiet who.number c).acts)) }
+        → AppendsEvents T.KEEPS (T.events tracer.old)
+        (T.events tracer.new) (map (event_at who.step who.number)
+        (local_step who.number c).acts)) }
     ensures grows { OnOk result (Grows machine.old who.number machine.new) }
     ensures counted { OnOk result ((n : ℕ) → CountsBelow n machine.old → CountsBelow n machine.new) }
 {
@@ -272,7 +277,7 @@ pub(crate) fn keep<T: Tracer>(
         return Ok(());
     }
     let instr = next_of(&machine.codes, &machine.processes, who.number);
-    keep_by(
+    execute_local_instr(
         machine.alloc,
         instr,
         who,

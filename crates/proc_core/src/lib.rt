@@ -12,7 +12,7 @@
 #![tactic(auto)]
 
 mod ask;
-mod begin;
+mod process_start;
 mod computed;
 mod copy;
 mod cut;
@@ -20,7 +20,7 @@ mod execute;
 mod file_slots;
 mod files;
 mod keep;
-mod launch;
+mod new_process;
 mod law;
 mod machine;
 mod outcome;
@@ -31,13 +31,13 @@ mod replies;
 mod run;
 mod schedule;
 mod spawn;
-mod spawning;
+mod spawn_request;
 mod start;
 mod step;
-mod stop;
+mod error;
 mod tell;
 mod variables;
 
 pub use law::flags_law;
 pub use run::Run;
-pub use stop::{RunStop, Stopped};
+pub use error::{RunStop, Stopped};

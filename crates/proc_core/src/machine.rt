@@ -2,7 +2,7 @@
 
 ghost use Rattle.std.specs.Prelude.{◌≡◌, ◌+◌, ◌<◌, ◌^◌, OnSome, slice_get};
 ghost use Rattle.std.specs.Option.{option_map};
-ghost use Rattle.proc_core.specs.SlotStep.{next_slotted, HasRoom};
+ghost use Rattle.proc_core.specs.SlotStep.{next_slot_instr, HasRoom};
 
 use crate::process::SlotProcess;
 use file_tree::Tree;
@@ -44,7 +44,7 @@ pub(crate) fn next_of<'a>(
     number: usize,
 ) -> Option<&'a SlotInstr>
     ensures next { option_map (λ instr. instr.now) result
-        ≡ next_slotted codes.now (slice_get processes.now number) }
+        ≡ next_slot_instr codes.now (slice_get processes.now number) }
     ensures room { OnSome result (HasRoom (slice_get processes.now number)) }
 {
     match processes.get(number) {
@@ -56,7 +56,7 @@ pub(crate) fn next_of<'a>(
 /// The next instruction of a process.
 #[inline(always)]
 pub(crate) fn next_in<'a>(codes: &'a Codes, process: &SlotProcess) -> Option<&'a SlotInstr>
-    ensures next { option_map (λ instr. instr.now) result ≡ next_slotted codes.now (Some process.now) }
+    ensures next { option_map (λ instr. instr.now) result ≡ next_slot_instr codes.now (Some process.now) }
     ensures room { OnSome result (process.now.place + 1 < 2 ^ 64) }
 {
     match codes.get(process.code) {

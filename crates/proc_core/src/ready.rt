@@ -28,7 +28,7 @@ fn set_made(number: u32, flag: bool, ready: &mut ReadySet)
 fn set_flag(number: usize, flag: bool, ready: &mut ReadySet)
     ensures { ready.new.flags ≡ slice_set ready.old.flags number flag }
 {
-    if number < ready.made() as usize {
+    if number < ready.made_count() as usize {
         set_made(number as u32, flag, ready);
     }
 }

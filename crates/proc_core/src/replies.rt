@@ -4,8 +4,8 @@ ghost use Rattle.std.specs.Prelude.{◌≡◌, ◌+◌, ◌<◌, ◌^◌, ℕ, p
 ghost use Rattle.std.specs.Prelude.{slice_get};
 ghost use Rattle.std.specs.Option.{option_map, option_and_then};
 ghost use Rattle.run_model.specs.StepBase.{number_within};
-ghost use Rattle.run_model.specs.StepReplies.{counted, status_value, count_in, code_in, rows_in};
-ghost use Rattle.proc_core.specs.Slots.{computed, cursor_of, cursor_at};
+ghost use Rattle.run_model.specs.StepReplies.{row_count, status_value, count_in, code_in, rows_in};
+ghost use Rattle.proc_core.specs.Slots.{computation_of, cursor_of, cursor_at};
 ghost use Rattle.proc_core.specs.SlotReplies.{slot_close, slot_fetch, slot_fetch_from, slot_take_row};
 ghost use Rattle.proc_core.specs.SlotReplies.{slot_next_row, slot_with_values, slot_one_more, slot_count};
 ghost use Rattle.proc_core.specs.SlotReplies.{slot_status};
@@ -152,7 +152,7 @@ pub(crate) fn fetch(
 
 // The number of all rows of a reply, or of changed rows, or 0.
 fn count_in(reply: &Reply) -> Computed
-    ensures { computed result ≡ number_within (pos (count_in reply.now)) }
+    ensures { computation_of result ≡ number_within (pos (count_in reply.now)) }
 {
     match reply {
         Reply::Rows(rows) => number(rows.len() as u64),
@@ -162,7 +162,7 @@ fn count_in(reply: &Reply) -> Computed
 }
 
 fn number(count: u64) -> Computed
-    ensures { computed result ≡ number_within (pos count) }
+    ensures { computation_of result ≡ number_within (pos count) }
 {
     match i64::try_from(count) {
         Ok(number) => Computed::Yields(Value::Int(number)),
@@ -199,11 +199,11 @@ pub(crate) fn count(to: usize, slot: usize, process: &mut SlotProcess)
     requires { process.old.place + 1 < 2 ^ 64 }
     ensures { process.new ≡ slot_count to slot process.old }
 {
-    assign(to, counted(process, slot), process);
+    assign(to, row_count(process, slot), process);
 }
 
-fn counted(process: &SlotProcess, slot: usize) -> Computed
-    ensures { computed result ≡ counted (option_and_then (cursor_at process.now.replies)
+fn row_count(process: &SlotProcess, slot: usize) -> Computed
+    ensures { computation_of result ≡ row_count (option_and_then (cursor_at process.now.replies)
         (cursor_of slot process.now)) }
 {
     match reply_of(process, slot) {
@@ -221,7 +221,7 @@ pub(crate) fn status(to: usize, slot: usize, process: &mut SlotProcess)
 }
 
 fn status_value(process: &SlotProcess, slot: usize) -> Computed
-    ensures { computed result ≡ status_value (option_and_then (cursor_at process.now.replies)
+    ensures { computation_of result ≡ status_value (option_and_then (cursor_at process.now.replies)
         (cursor_of slot process.now)) }
 {
     match reply_of(process, slot) {

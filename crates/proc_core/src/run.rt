@@ -3,18 +3,18 @@
 ghost use Rattle.std.specs.Prelude.{◌≡◌, ◌+◌, ◌<◌, ◌≤◌, ℕ, List as Items, None, [], false, true, length};
 ghost use Rattle.std.specs.Prelude.{slice_get};
 ghost use Rattle.std.specs.Prelude.{IfOk, IfErr, OnOk};
-ghost use Rattle.ldv_value.specs.FileState.{untouched};
+ghost use Rattle.ldv_value.specs.FileState.{initial_files};
 ghost use Rattle.proc_core.specs.Types.{Instr, File};
-ghost use Rattle.run_model.specs.Core.{all_ended, is_over};
+ghost use Rattle.run_model.specs.Core.{have_all_ended, is_over};
 ghost use Rattle.run_model.specs.Outcome.{outcome_of};
 ghost use Rattle.run_model.specs.Events.{events as events_within, events_of_step, start_events};
 ghost use Rattle.run_model.specs.Run.{move, run as state_after, steps as steps_made};
-ghost use Rattle.run_model.specs.RunLaw.{MayRun, started};
+ghost use Rattle.run_model.specs.RunLaw.{MayRun, start_state_of};
 ghost use Rattle.run_model.specs.Schedule.{choose};
 ghost use Rattle.run_model.specs.State.{State};
 ghost use Rattle.proc_core.specs.Counts.{CountsBelow};
 ghost use Rattle.proc_core.specs.Running.{Stands, has_ended};
-ghost use Rattle.proc_core.specs.Stands.{HasStartScript, IsStartScript, Told};
+ghost use Rattle.proc_core.specs.Stands.{HasStartScript, IsStartScript, AppendsEvents};
 ghost use Rattle.proc_core.specs.Stops.{HasStopped, HasRunStopped};
 
 use crate::machine::Machine;
@@ -23,7 +23,7 @@ use crate::ready::{has_ended, refresh};
 use crate::schedule::{choose, schedule};
 use crate::start::machine_at;
 use crate::step::move_on;
-use crate::stop::{RunStop, Stopped};
+use crate::error::{RunStop, Stopped};
 use crate::tell::{PathAct, Who, tell_path};
 use file_tree::Tree;
 use ldv_value::Words;
@@ -46,7 +46,7 @@ fn make_step<D: Database, T: Tracer>(
         → Stands machine.new (D.seen db.new) (move D.base None s).state) }
     ensures told { OnOk result ((s : State D.Db)
         → Stands machine.old (D.seen db.old) s
-        → Told T.KEEPS (T.events tracer.old) (T.events tracer.new)
+        → AppendsEvents T.KEEPS (T.events tracer.old) (T.events tracer.new)
         (events_of_step (steps + 1) (move D.base None s))) }
     ensures diverged { IfErr result (λ stop. (s : State D.Db)
         → Stands machine.old (D.seen db.old) s → HasStopped stop (move D.base None s).state) }
@@ -93,10 +93,11 @@ impl<D: Database, T: Tracer> Run<D, T> {
         requires script { HasStartScript start.now tree }
         requires fresh { D.latest db ≡ 0 }
         ensures state { IfOk result (λ begun. (script : Items Instr) (files : Items File)
-            → tree ≡ untouched files
+            → tree ≡ initial_files files
             → IsStartScript start.now tree script
-            → Stands begun.machine (D.seen begun.db) (started start.now seed files script (D.seen db))) }
-        ensures told { IfOk result (λ begun. Told T.KEEPS (T.events tracer) (T.events begun.tracer)
+            → Stands begun.machine (D.seen begun.db)
+            (start_state_of start.now seed files script (D.seen db))) }
+        ensures told { IfOk result (λ begun. AppendsEvents T.KEEPS (T.events tracer) (T.events begun.tracer)
             (start_events (slice_get start.now 0))) }
         ensures steps { IfOk result (λ begun. begun.steps ≡ 0) }
     {
@@ -122,9 +123,9 @@ impl<D: Database, T: Tracer> Run<D, T> {
     }
 
     /// Whether all processes have ended.
-    pub fn ended(&self) -> bool
+    pub fn is_over(&self) -> bool
         ensures ended { (s : State D.Db) → Stands self.now.machine (D.seen self.now.db) s
-            → result ≡ all_ended s.core }
+            → result ≡ have_all_ended s.core }
         ensures slots { result ≡ has_ended self.now.machine }
     {
         has_ended(&self.machine)
@@ -149,7 +150,7 @@ impl<D: Database, T: Tracer> Run<D, T> {
             → Stands after.machine (D.seen after.db) (move D.base None s).state) }
         ensures told { IfOk result (λ after. (s : State D.Db)
             → Stands self.machine (D.seen self.db) s
-            → Told T.KEEPS (T.events self.tracer) (T.events after.tracer)
+            → AppendsEvents T.KEEPS (T.events self.tracer) (T.events after.tracer)
             (events_of_step (self.steps + 1) (move D.base None s))) }
         ensures steps { IfOk result (λ after. after.steps ≡ self.steps + 1) }
         ensures diverged { IfErr result (λ stop. (s : State D.Db)
@@ -180,11 +181,11 @@ impl<D: Database, T: Tracer> Run<D, T> {
             → Stands self.machine (D.seen self.db) s
             → Stands after.machine (D.seen after.db) (state_after D.base budget [] s)) }
         ensures ended { OnOk result ((s : State D.Db) → Stands self.machine (D.seen self.db) s
-            → all_ended (state_after D.base budget [] s).core ≡ true) }
+            → have_all_ended (state_after D.base budget [] s).core ≡ true) }
         ensures over { IfOk result (λ after. has_ended after.machine ≡ true) }
         ensures told { IfOk result (λ after. (s : State D.Db)
             → Stands self.machine (D.seen self.db) s
-            → Told T.KEEPS (T.events self.tracer) (T.events after.tracer)
+            → AppendsEvents T.KEEPS (T.events self.tracer) (T.events after.tracer)
             (events_within D.base budget 1 [] s)) }
         ensures steps { IfOk result (λ after. (s : State D.Db)
             → Stands self.machine (D.seen self.db) s → after.steps ≡ steps_made D.base budget [] s) }

@@ -6,7 +6,7 @@ ghost use Rattle.std.specs.Option.{option_map};
 ghost use Rattle.run_model.specs.Core.{Core};
 ghost use Rattle.proc_core.specs.Flags.{runnable_flags};
 ghost use Rattle.ready_set.specs.Ready.{next_round, numbers};
-ghost use Rattle.run_model.specs.Schedule.{choose, scheduled, moved_x, at_random, pick_of};
+ghost use Rattle.run_model.specs.Schedule.{choose, core_after_choice, moved_x, at_random, pick_of};
 ghost use Rattle.proc_core.specs.SlotStep.{slot_is_runnable, slot_waits_at, slot_waits_for};
 ghost use Rattle.proc_core.specs.SlotStep.{slot_still_runs};
 ghost use Rattle.proc_core.specs.Slots.{child_at};
@@ -103,7 +103,7 @@ fn has_next(ready: &ReadySet, last: u32) -> bool
     ensures few { result ≡ true → last < 2 ^ 30 }
     ensures there { result ≡ true → slice_index_or ready.now.flags (last + 1) false ≡ true }
 {
-    if last < ready.made() {
+    if last < ready.made_count() {
         ready.contains(last + 1)
     } else {
         false
@@ -157,7 +157,7 @@ pub(crate) fn choose(machine: &Machine) -> u32
 
 /// Notes that a process was chosen.
 pub(crate) fn schedule(machine: &mut Machine, number: u32)
-    ensures core { (c : Core) → IsCore machine.old c → IsCore machine.new (scheduled number c) }
+    ensures core { (c : Core) → IsCore machine.old c → IsCore machine.new (core_after_choice number c) }
     ensures ready { machine.new.ready ≡ machine.old.ready }
     ensures parents { machine.new.parents ≡ machine.old.parents }
     ensures processes { machine.new.processes ≡ machine.old.processes }

@@ -13,7 +13,7 @@ ghost use Rattle.proc_core.specs.SlotStep.{HasRoom};
 ghost use Rattle.proc_core.specs.Slots.{Holds, slot_with_child};
 ghost use Rattle.proc_core.specs.declared.process.SlotProcess.{SlotProcess};
 
-use crate::begin::begin;
+use crate::process_start::begin;
 use crate::machine::{Codes, Machine};
 use crate::process::SlotProcess;
 use ldv_value::Values;

@@ -2,7 +2,7 @@
 
 ghost use Rattle.std.specs.Prelude.{◌≡◌, ◌∷◌, Some, List as Items, [], map, true, IfOk, IsSome};
 ghost use Rattle.std.specs.Option.{option_and_then};
-ghost use Rattle.ldv_value.specs.FileState.{content_at, untouched};
+ghost use Rattle.ldv_value.specs.FileState.{content_at, initial_files};
 ghost use Rattle.script_parse.specs.Script.{script_of};
 ghost use Rattle.proc_core.specs.Types.{Instr, File, Text};
 ghost use Rattle.run_model.specs.Core.{new_process, start_core};
@@ -12,7 +12,7 @@ ghost use Rattle.proc_core.specs.SlotReady.{IsReady};
 ghost use Rattle.proc_core.specs.Slots.{Holds};
 ghost use Rattle.proc_core.specs.Stands.{IsCore};
 
-use crate::begin::begin;
+use crate::process_start::begin;
 use crate::machine::{Codes, Machine};
 use crate::process::SlotProcess;
 use file_tree::Tree;
@@ -47,7 +47,7 @@ fn code_at(alloc: Global, tree: &Tree, path: &Utf8) -> Result<Code, AllocError>
 }
 
 // The set in which the first process may run.
-fn first_ready(alloc: Global) -> Result<ReadySet, AllocError>
+fn first_ready_set(alloc: Global) -> Result<ReadySet, AllocError>
     ensures { IfOk result (λ ready. ready.flags ≡ true ∷ []) }
 {
     let mut ready = ReadySet::new(alloc)?;
@@ -86,7 +86,7 @@ pub(crate) fn machine_at(
     tree: Tree,
 ) -> Result<Machine, AllocError>
     requires { IsSome (option_and_then script_of (content_at tree path.now)) }
-    ensures core { IfOk result (λ m. (script : Items Instr) (files : Items File) → tree ≡ untouched files
+    ensures core { IfOk result (λ m. (script : Items Instr) (files : Items File) → tree ≡ initial_files files
         → option_and_then script_of (content_at tree path.now) ≡ Some script
         → IsCore m (start_core (path.now ∷ words.now) seed files script)) }
     ensures ready { IfOk result (λ m. (script : Items Instr) (files : Items File)
@@ -95,7 +95,7 @@ pub(crate) fn machine_at(
 {
     let code = code_at(alloc, &tree, path)?;
     let process = first_process(alloc, &code, words)?;
-    let ready = first_ready(alloc)?;
+    let ready = first_ready_set(alloc)?;
     let mut codes = Codes::new(alloc);
     codes.push(code)?;
     let mut processes = Vec::new(alloc);

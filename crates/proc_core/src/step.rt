@@ -5,43 +5,44 @@ ghost use Rattle.std.specs.Prelude.{IfOk, IfErr, OnOk, OnSome};
 ghost use Rattle.run_model.specs.Core.{Core};
 ghost use Rattle.run_model.specs.Events.{event_at, events_of_step};
 ghost use Rattle.run_model.specs.State.{State};
-ghost use Rattle.run_model.specs.Step.{Ask, ask_at, ends_at, quiet, status_acts, step as next_step, took};
+ghost use Rattle.run_model.specs.Step.{Ask, next_ask, ends_at, local_step, status_acts, step as next_step, took};
 ghost use Rattle.proc_core.specs.Counts.{CountsBelow};
 ghost use Rattle.proc_core.specs.SlotAsk.{slot_ask_at};
 ghost use Rattle.proc_core.specs.SlotReady.{Grows};
 ghost use Rattle.proc_core.specs.SlotSpawn.{slot_spawning_at};
-ghost use Rattle.proc_core.specs.SlotStep.{HasRoom, IsKept, next_slotted, slot_status_in};
-ghost use Rattle.proc_core.specs.Stands.{IsCore, IsState, Told};
+ghost use Rattle.proc_core.specs.SlotStep.{HasRoom, IsKept, next_slot_instr, slot_status_in};
+ghost use Rattle.proc_core.specs.Stands.{IsCore, IsState, AppendsEvents};
 ghost use Rattle.proc_core.specs.Stops.{asker_held, IsStop, HasStopped};
 ghost use Rattle.proc_core.specs.declared.ask.Statement.{Statement};
 ghost use Rattle.proc_core.specs.declared.process.SlotProcess.{SlotProcess};
 
-use crate::ask::{Statement, ask_at, take_at};
-use crate::keep::{is_kept_at, keep, status_in};
-use crate::launch::spawn;
+use crate::ask::{Statement, statement_at, take_at};
+use crate::keep::{is_kept_at, execute_local, status_in};
+use crate::new_process::spawn;
 use crate::machine::Machine;
 use crate::process::SlotProcess;
-use crate::spawning::{Spawning, spawning_at};
-use crate::stop::Stopped;
+use crate::spawn_request::{Spawning, spawning_at};
+use crate::error::Stopped;
 use crate::tell::{Who, tell_status};
 use run_model::{Asker, Database, ProcName, Stop, Tracer};
 use sql_model::Reply;
 use std::alloc::AllocError;
 
 // The step of a process that asks nothing and makes no process, with the end of the process.
-fn keep_on<T: Tracer>(machine: &mut Machine, who: Who, tracer: &mut T) -> Result<(), AllocError>
-    requires kept { IsKept (next_slotted machine.old.codes
+fn step_local<T: Tracer>(machine: &mut Machine, who: Who, tracer: &mut T) -> Result<(), AllocError>
+    requires kept { IsKept (next_slot_instr machine.old.codes
         (slice_get machine.old.processes.items who.number)) }
     requires counted { CountsBelow who.step machine.old }
     ensures core { OnOk result ((c : Core) → IsCore machine.old c
-        → IsCore machine.new (quiet who.number c).core) }
+        → IsCore machine.new (local_step who.number c).core) }
     ensures told { OnOk result ((c : Core) → IsCore machine.old c
-        → Told T.KEEPS (T.events tracer.old) (T.events tracer.new) (map (event_at who.step who.number)
-        ((quiet who.number c).acts ++ ends_at who.number (quiet who.number c).core))) }
+        → AppendsEvents T.KEEPS (T.events tracer.old)
+        (T.events tracer.new) (map (event_at who.step who.number)
+        ((local_step who.number c).acts ++ ends_at who.number (local_step who.number c).core))) }
     ensures grows { OnOk result (Grows machine.old who.number machine.new) }
     ensures counted { OnOk result (CountsBelow (who.step + 1) machine.new) }
 {
-    keep(machine, who, tracer)?;
+    execute_local(machine, who, tracer)?;
     tell_status(who, status_in(&machine.processes, who.number), tracer)?;
     Ok(())
 }
@@ -58,10 +59,11 @@ fn spawn_on<T: Tracer>(
     requires room { HasRoom (slice_get machine.old.processes.items who.number) }
     requires counted { CountsBelow who.step machine.old }
     ensures core { OnOk result ((c : Core) → IsCore machine.old c
-        → IsCore machine.new (quiet who.number c).core) }
+        → IsCore machine.new (local_step who.number c).core) }
     ensures told { OnOk result ((c : Core) → IsCore machine.old c
-        → Told T.KEEPS (T.events tracer.old) (T.events tracer.new) (map (event_at who.step who.number)
-        ((quiet who.number c).acts ++ ends_at who.number (quiet who.number c).core))) }
+        → AppendsEvents T.KEEPS (T.events tracer.old)
+        (T.events tracer.new) (map (event_at who.step who.number)
+        ((local_step who.number c).acts ++ ends_at who.number (local_step who.number c).core))) }
     ensures grows { OnOk result (Grows machine.old who.number machine.new) }
     ensures counted { OnOk result (CountsBelow (who.step + 1) machine.new) }
 {
@@ -74,15 +76,16 @@ fn spawn_on<T: Tracer>(
 fn quiet_on<T: Tracer>(machine: &mut Machine, who: Who, tracer: &mut T) -> Result<(), AllocError>
     requires { CountsBelow who.step machine.old }
     ensures core { OnOk result ((c : Core) → IsCore machine.old c
-        → IsCore machine.new (quiet who.number c).core) }
+        → IsCore machine.new (local_step who.number c).core) }
     ensures told { OnOk result ((c : Core) → IsCore machine.old c
-        → Told T.KEEPS (T.events tracer.old) (T.events tracer.new) (map (event_at who.step who.number)
-        ((quiet who.number c).acts ++ ends_at who.number (quiet who.number c).core))) }
+        → AppendsEvents T.KEEPS (T.events tracer.old)
+        (T.events tracer.new) (map (event_at who.step who.number)
+        ((local_step who.number c).acts ++ ends_at who.number (local_step who.number c).core))) }
     ensures grows { OnOk result (Grows machine.old who.number machine.new) }
     ensures counted { OnOk result (CountsBelow (who.step + 1) machine.new) }
 {
     match spawning_at(machine, who.number)? {
-        None => keep_on(machine, who, tracer),
+        None => step_local(machine, who, tracer),
         Some(spawning) => spawn_on(machine, who, spawning, tracer),
     }
 }
@@ -116,7 +119,7 @@ fn asker_by(machine: &Machine, process: &SlotProcess, who: Who) -> Result<Asker,
 }
 
 // Where the database has no reply.
-fn stopped(machine: &Machine, number: usize) -> Stopped
+fn stop_without_reply(machine: &Machine, number: usize) -> Stopped
     requires within { number < length machine.now.processes.items }
     requires few { (r : SlotProcess) → slice_get machine.now.processes.items number ≡ Some r
         → length r.replies < 2 ^ 32 }
@@ -161,7 +164,7 @@ fn take(machine: &mut Machine, number: usize, cursor: usize, reply: Reply) -> Re
     requires room { HasRoom (slice_get machine.old.processes.items number) }
     ensures core { OnOk result ((c : Core) (t : Statement) → IsCore machine.old c
         → slot_ask_at machine.old number ≡ Some t → t.cursor ≡ cursor
-        → (a : Ask) → ask_at number c ≡ Some a → IsCore machine.new (took number a reply c)) }
+        → (a : Ask) → next_ask number c ≡ Some a → IsCore machine.new (took number a reply c)) }
     ensures grows { OnOk result (Grows machine.old number machine.new) }
     ensures counted { OnOk result ((n : ℕ) → CountsBelow n machine.old
         → CountsBelow (n + 1) machine.new) }
@@ -184,8 +187,8 @@ fn take_on<T: Tracer>(
     requires room { HasRoom (slice_get machine.old.processes.items who.number) }
     ensures core { OnOk result ((c : Core) (t : Statement) → IsCore machine.old c
         → slot_ask_at machine.old who.number ≡ Some t → t.cursor ≡ cursor
-        → (a : Ask) → ask_at who.number c ≡ Some a → IsCore machine.new (took who.number a reply c)) }
-    ensures told { OnOk result (Told T.KEEPS (T.events tracer.old) (T.events tracer.new)
+        → (a : Ask) → next_ask who.number c ≡ Some a → IsCore machine.new (took who.number a reply c)) }
+    ensures told { OnOk result (AppendsEvents T.KEEPS (T.events tracer.old) (T.events tracer.new)
         (map (event_at who.step who.number)
         (status_acts (slot_status_in machine.new.processes.items who.number)))) }
     ensures grows { OnOk result (Grows machine.old who.number machine.new) }
@@ -197,7 +200,7 @@ fn take_on<T: Tracer>(
 }
 
 // The step of a process that asks, by who it is.
-fn ask_as<D: Database, T: Tracer>(
+fn answer_statement<D: Database, T: Tracer>(
     machine: &mut Machine,
     who: Who,
     asker: Asker,
@@ -216,7 +219,7 @@ fn ask_as<D: Database, T: Tracer>(
     ensures state { OnOk result ((s : State D.Db) → IsState machine.old (D.seen db.old) s
         → IsState machine.new (D.seen db.new) (next_step D.base who.number s).state) }
     ensures told { OnOk result ((s : State D.Db) → IsState machine.old (D.seen db.old) s
-        → Told T.KEEPS (T.events tracer.old) (T.events tracer.new)
+        → AppendsEvents T.KEEPS (T.events tracer.old) (T.events tracer.new)
         (events_of_step who.step (next_step D.base who.number s))) }
     ensures diverged { IfErr result (λ stop. (s : State D.Db) → IsState machine.old (D.seen db.old) s
         → HasStopped stop (next_step D.base who.number s).state) }
@@ -229,14 +232,14 @@ fn ask_as<D: Database, T: Tracer>(
             Ok(()) => Ok(()),
             Err(AllocError) => Err(Stopped::NoMemory),
         },
-        Err(Stop::Diverged) => Err(stopped(machine, who.number)),
+        Err(Stop::Diverged) => Err(stop_without_reply(machine, who.number)),
         Err(Stop::NoMemory) => Err(Stopped::NoMemory),
     }
 }
 
 // The step of a process that asks.
 #[tactic(auto, using(crate::proofs::Stepping::asked_within))]
-fn ask_on<D: Database, T: Tracer>(
+fn step_statement<D: Database, T: Tracer>(
     machine: &mut Machine,
     who: Who,
     statement: Statement,
@@ -250,7 +253,7 @@ fn ask_on<D: Database, T: Tracer>(
     ensures state { OnOk result ((s : State D.Db) → IsState machine.old (D.seen db.old) s
         → IsState machine.new (D.seen db.new) (next_step D.base who.number s).state) }
     ensures told { OnOk result ((s : State D.Db) → IsState machine.old (D.seen db.old) s
-        → Told T.KEEPS (T.events tracer.old) (T.events tracer.new)
+        → AppendsEvents T.KEEPS (T.events tracer.old) (T.events tracer.new)
         (events_of_step who.step (next_step D.base who.number s))) }
     ensures diverged { IfErr result (λ stop. (s : State D.Db) → IsState machine.old (D.seen db.old) s
         → HasStopped stop (next_step D.base who.number s).state) }
@@ -259,7 +262,7 @@ fn ask_on<D: Database, T: Tracer>(
     ensures counted { OnOk result (CountsBelow (who.step + 1) machine.new) }
 {
     match asker_of(machine, who) {
-        Ok(asker) => ask_as(machine, who, asker, statement, db, tracer),
+        Ok(asker) => answer_statement(machine, who, asker, statement, db, tracer),
         Err(AllocError) => Err(Stopped::NoMemory),
     }
 }
@@ -279,7 +282,7 @@ fn move_by<D: Database, T: Tracer>(
     ensures state { OnOk result ((s : State D.Db) → IsState machine.old (D.seen db.old) s
         → IsState machine.new (D.seen db.new) (next_step D.base who.number s).state) }
     ensures told { OnOk result ((s : State D.Db) → IsState machine.old (D.seen db.old) s
-        → Told T.KEEPS (T.events tracer.old) (T.events tracer.new)
+        → AppendsEvents T.KEEPS (T.events tracer.old) (T.events tracer.new)
         (events_of_step who.step (next_step D.base who.number s))) }
     ensures diverged { IfErr result (λ stop. (s : State D.Db) → IsState machine.old (D.seen db.old) s
         → HasStopped stop (next_step D.base who.number s).state) }
@@ -292,7 +295,7 @@ fn move_by<D: Database, T: Tracer>(
             Ok(()) => Ok(()),
             Err(AllocError) => Err(Stopped::NoMemory),
         },
-        Some(statement) => ask_on(machine, who, statement, db, tracer),
+        Some(statement) => step_statement(machine, who, statement, db, tracer),
     }
 }
 
@@ -308,7 +311,7 @@ pub(crate) fn move_on<D: Database, T: Tracer>(
     ensures state { OnOk result ((s : State D.Db) → IsState machine.old (D.seen db.old) s
         → IsState machine.new (D.seen db.new) (next_step D.base who.number s).state) }
     ensures told { OnOk result ((s : State D.Db) → IsState machine.old (D.seen db.old) s
-        → Told T.KEEPS (T.events tracer.old) (T.events tracer.new)
+        → AppendsEvents T.KEEPS (T.events tracer.old) (T.events tracer.new)
         (events_of_step who.step (next_step D.base who.number s))) }
     ensures diverged { IfErr result (λ stop. (s : State D.Db) → IsState machine.old (D.seen db.old) s
         → HasStopped stop (next_step D.base who.number s).state) }
@@ -317,12 +320,12 @@ pub(crate) fn move_on<D: Database, T: Tracer>(
     ensures counted { OnOk result (CountsBelow (who.step + 1) machine.new) }
 {
     if is_kept_at(machine, who.number) {
-        match keep_on(machine, who, tracer) {
+        match step_local(machine, who, tracer) {
             Ok(()) => Ok(()),
             Err(AllocError) => Err(Stopped::NoMemory),
         }
     } else {
-        match ask_at(machine, who.number) {
+        match statement_at(machine, who.number) {
             Ok(asked) => move_by(machine, who, asked, db, tracer),
             Err(AllocError) => Err(Stopped::NoMemory),
         }

@@ -4,7 +4,7 @@ ghost use Rattle.std.specs.Prelude.{◌≡◌, ◌<◌, ◌^◌, ◌∷◌, [], 
 ghost use Rattle.run_model.specs.Events.{event_at};
 ghost use Rattle.run_model.specs.Step.{status_acts};
 ghost use Rattle.proc_core.specs.Acts.{path_act};
-ghost use Rattle.proc_core.specs.Stands.{Told};
+ghost use Rattle.proc_core.specs.Stands.{AppendsEvents};
 
 use ldv_value::Utf8;
 use run_model::{Act, Event, Tracer};
@@ -56,7 +56,7 @@ fn act_of(kind: PathAct, path: Utf8) -> Act
 
 /// Reports an act.
 pub(crate) fn tell<T: Tracer>(who: Who, act: Act, tracer: &mut T) -> Result<(), AllocError>
-    ensures { OnOk result (Told T.KEEPS (T.events tracer.old) (T.events tracer.new)
+    ensures { OnOk result (AppendsEvents T.KEEPS (T.events tracer.old) (T.events tracer.new)
         (event_at who.step who.number act ∷ [])) }
 {
     if T::KEEPS {
@@ -77,7 +77,7 @@ pub(crate) fn tell_path<T: Tracer>(
     path: &Utf8,
     tracer: &mut T,
 ) -> Result<(), AllocError>
-    ensures { OnOk result (Told T.KEEPS (T.events tracer.old) (T.events tracer.new)
+    ensures { OnOk result (AppendsEvents T.KEEPS (T.events tracer.old) (T.events tracer.new)
         (event_at who.step who.number (path_act kind path.now) ∷ [])) }
 {
     if T::KEEPS {
@@ -93,7 +93,7 @@ pub(crate) fn tell_status<T: Tracer>(
     status: Option<u8>,
     tracer: &mut T,
 ) -> Result<(), AllocError>
-    ensures { OnOk result (Told T.KEEPS (T.events tracer.old) (T.events tracer.new)
+    ensures { OnOk result (AppendsEvents T.KEEPS (T.events tracer.old) (T.events tracer.new)
         (map (event_at who.step who.number) (status_acts status))) }
 {
     match status {

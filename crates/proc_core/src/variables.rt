@@ -4,16 +4,16 @@ ghost use Rattle.std.specs.Prelude.{◌≡◌, ◌+◌, ◌++◌, ◌^◌, ◌<�
 ghost use Rattle.std.specs.List.{flat_map};
 ghost use Rattle.ldv_value.specs.Limits.{printed_limit};
 ghost use Rattle.ldv_value.specs.Order.{order, meets};
-ghost use Rattle.ldv_value.specs.Shown.{shown};
+ghost use Rattle.ldv_value.specs.Shown.{value_text};
 ghost use Rattle.sql_model.specs.Meaning.{or_null};
 ghost use Rattle.proc_core.specs.Types.{Int};
-ghost use Rattle.run_model.specs.StepVariables.{calculated, glued, to_number, printed_line, exit_status};
-ghost use Rattle.proc_core.specs.Slots.{slot_value, slot_values, slot_assign, computed};
+ghost use Rattle.run_model.specs.StepVariables.{calculation, concatenation, to_number, printed_line, exit_status};
+ghost use Rattle.proc_core.specs.Slots.{slot_value, slot_values, slot_assign, computation_of};
 ghost use Rattle.proc_core.specs.SlotVariables.{slot_let, slot_calculate, slot_glue, slot_let_number};
 ghost use Rattle.proc_core.specs.SlotVariables.{slot_jump_if, slot_jump_where, slot_print, slot_print_line};
 ghost use Rattle.proc_core.specs.SlotVariables.{slot_exit};
 
-use crate::computed::{Computed, TOO_LONG, WRONG_KIND, calculated, glued, to_number};
+use crate::computed::{Computed, TOO_LONG, WRONG_KIND, calculate_values, concatenate, to_number};
 use crate::process::SlotProcess;
 use ldv_value::{Bytes, Cmp, CopyItem, PRINTED_LIMIT, Value, append_text, holds};
 use script_code::{SlotOperand, SlotOperands};
@@ -67,7 +67,7 @@ pub(crate) fn value_of(
 #[inline(always)]
 pub(crate) fn assign(to: usize, value: Computed, process: &mut SlotProcess)
     requires { process.old.place + 1 < 2 ^ 64 }
-    ensures { process.new ≡ slot_assign to (computed value) process.old }
+    ensures { process.new ≡ slot_assign to (computation_of value) process.old }
 {
     match value {
         Computed::Yields(value) => {
@@ -100,11 +100,11 @@ fn calculation_of(
     right: &SlotOperand,
     process: &SlotProcess,
 ) -> Computed
-    ensures { computed result
-        ≡ calculated op (slot_value process.now left.now) (slot_value process.now right.now) }
+    ensures { computation_of result
+        ≡ calculation op (slot_value process.now left.now) (slot_value process.now right.now) }
 {
     let null = Value::Null;
-    calculated(
+    calculate_values(
         op,
         value_at(process, left, &null),
         value_at(process, right, &null),
@@ -133,11 +133,11 @@ fn text_of(
     right: &SlotOperand,
     process: &SlotProcess,
 ) -> Result<Computed, AllocError>
-    ensures { IfOk result (λ c. computed c
-        ≡ glued (slot_value process.now left.now) (slot_value process.now right.now)) }
+    ensures { IfOk result (λ c. computation_of c
+        ≡ concatenation (slot_value process.now left.now) (slot_value process.now right.now)) }
 {
     let null = Value::Null;
-    glued(
+    concatenate(
         alloc,
         value_at(process, left, &null),
         value_at(process, right, &null),
@@ -162,7 +162,7 @@ pub(crate) fn glue(
 
 // What `int` gives.
 fn number_of(value: &SlotOperand, process: &SlotProcess) -> Computed
-    ensures { computed result ≡ to_number (slot_value process.now value.now) }
+    ensures { computation_of result ≡ to_number (slot_value process.now value.now) }
 {
     let null = Value::Null;
     to_number(value_at(process, value, &null))
@@ -223,7 +223,7 @@ fn append_operand(
     operand: &SlotOperand,
     to: &mut Bytes,
 ) -> Result<(), AllocError>
-    ensures { OnOk result (to.new ≡ to.old ++ shown (slot_value process.now operand.now)) }
+    ensures { OnOk result (to.new ≡ to.old ++ value_text (slot_value process.now operand.now)) }
 {
     let null = Value::Null;
     append_text(value_at(process, operand, &null), to)
@@ -234,7 +234,7 @@ fn append_operands(
     operands: &SlotOperands,
     to: &mut Bytes,
 ) -> Result<(), AllocError>
-    ensures { OnOk result (to.new ≡ to.old ++ flat_map shown (slot_values process.now operands.now)) }
+    ensures { OnOk result (to.new ≡ to.old ++ flat_map value_text (slot_values process.now operands.now)) }
 {
     for operand in operands.items() {
         append_operand(process, operand, to)?;

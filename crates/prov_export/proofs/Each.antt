@@ -3,8 +3,8 @@ use Rattle.std.proofs.Common.{◌≡◌, ◌∙◌, ap, refl, arith, ℕ, zero, 
 use Rattle.std.specs.Prelude.{Option, Some, None, option_and_then}
 use Rattle.prov_export.specs.Reading.{each_from}
 use Rattle.prov_export.specs.Stopping.{Stops}
-use Rattle.prov_export.specs.declared.stop.ProvStop.{ProvStop}
-use Rattle.prov_export.specs.declared.stop.ProvStop.TheVariants.{NotProv, NoMemory}
+use Rattle.prov_export.specs.declared.error.ProvStop.{ProvStop}
+use Rattle.prov_export.specs.declared.error.ProvStop.TheVariants.{NotProv, NoMemory}
 
 module _ {X : Type 0} (f : ℕ → Option X) where
   abbrev then_rest : Option (List X) → X → Option (List X)

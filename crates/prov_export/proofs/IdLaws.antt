@@ -36,20 +36,20 @@ one_digit n d m small same within =
     let fits : nat_le (n * 10 + (48 + d - 48)) 4294967295 ≡ true = le-leb (n * 10 + (48 + d - 48)) 4294967295 (omega arith) in
     rw (low, high, fits) (ap Some value)
 
-abbrev Reads : ℕ → List ℕ → Type 0
-Reads n ds = n ≤ 4294967295 → with_digits 0 ds ≡ Some n
+abbrev ReadsDigits : ℕ → List ℕ → Type 0
+ReadsDigits n ds = n ≤ 4294967295 → with_digits 0 ds ≡ Some n
 
-reads_one : (n : ℕ) → n < 10 → Reads n ((48 + n) ∷ [])
+reads_one : (n : ℕ) → n < 10 → ReadsDigits n ((48 + n) ∷ [])
 reads_one n small within = ap (option_and_then (λ (k : ℕ). with_digits k [])) (one_digit 0 n n small (omega arith) within)
 
-reads_more : (n : ℕ) (ds : List ℕ) → 10 ≤ n → Reads (n / 10) ds → Reads n (ds ++ ((48 + n % 10) ∷ []))
+reads_more : (n : ℕ) (ds : List ℕ) → 10 ≤ n → ReadsDigits (n / 10) ds → ReadsDigits n (ds ++ ((48 + n % 10) ∷ []))
 reads_more n ds large front within =
     let first : with_digits 0 ds ≡ Some (n / 10) = front (omega arith) in
     more_digits 0 ds ((48 + n % 10) ∷ []) (n / 10) first
     ∙ ap (option_and_then (λ (k : ℕ). with_digits k [])) (one_digit (n / 10) (n % 10) n (omega arith) (omega arith) within)
 
 pub number_back : (n : ℕ) → n < 2 ^ 32 → number_in (decimal n) ≡ Some n
-number_back n small = decimal_by_steps Reads reads_one reads_more n (omega arith) (omega arith)
+number_back n small = decimal_by_steps ReadsDigits reads_one reads_more n (omega arith) (omega arith)
 
 -- ---- digits and names have no slash
 

@@ -14,7 +14,7 @@ use Rattle.serde_json.specs.Written.{comma_if, compact_text, members_text}
 use Rattle.serde_json.proofs.Views.{get_member-put_other}
 use Rattle.sql_model.specs.Keys.{repeats}
 use Rattle.trace_graph.specs.Graph.{Parts, same_node}
-use Rattle.trace_graph.specs.WellFormed.{WellFormed}
+use Rattle.trace_graph.specs.WellFormed.{IsWellFormed}
 use Rattle.trace_graph.proofs.WellFormedParts.{nodes_differ, nodes_ruled}
 use Rattle.prov_export.specs.Types.{Node, Edge, Relation, Used, Generated, Derived, Informed}
 use Rattle.prov_export.specs.Document.{nodes_value, with_nodes, is_relation, edge_relation, edge_name, edge_value, with_edges, edges_value, prov_text}
@@ -95,7 +95,7 @@ module _ (graph : Parts) where
 
 -- ---- nodes
 
-module _ (graph : Parts) (formed : WellFormed graph) (typed : AllByRecursion TypedNode graph.nodes) where
+module _ (graph : Parts) (formed : IsWellFormed graph) (typed : AllByRecursion TypedNode graph.nodes) where
   apart : AreApart graph.nodes
   apart = apart_from graph.nodes (not-true (repeats same_node graph.nodes) (nodes_differ graph formed))
 

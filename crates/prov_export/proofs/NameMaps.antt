@@ -81,8 +81,8 @@ left_noted old now next name d rest all so_far step q =
     ap (λ (o : Option (List ℕ)). option_or o (named_at q rest)) (step q)
     ∙ or_assoc (now q) (name_if q name d) (named_at q rest) ∙ so_far q
 
-pub none_left : (now : Option (List ℕ)) (due : Option (List ℕ)) → option_or now None ≡ due → now ≡ due
-none_left now due is = or_none now ∙ is
+pub option_or-None : (now : Option (List ℕ)) (due : Option (List ℕ)) → option_or now None ≡ due → now ≡ due
+option_or-None now due is = or_none now ∙ is
 
 pub both_noted : (none first second : ℕ → Option (List ℕ)) (a b : Members) → ((q : ℕ) → none q ≡ None)
     → ((q : ℕ) → first q ≡ option_or (none q) (named_at q a)) → ((q : ℕ) → second q ≡ option_or (first q) (named_at q b))

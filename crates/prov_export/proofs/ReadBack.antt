@@ -7,7 +7,7 @@ use Rattle.ldv_value.proofs.Booleans.{and-first, and-second, and-from}
 use Rattle.serde_json.specs.Data.{Data}
 use Rattle.serde_json.specs.Read.{read}
 use Rattle.trace_graph.specs.Graph.{Parts}
-use Rattle.trace_graph.specs.WellFormed.{well_formed, WellFormed}
+use Rattle.trace_graph.specs.WellFormed.{is_well_formed, IsWellFormed}
 use Rattle.prov_export.specs.Document.{document, prov_text}
 use Rattle.prov_export.specs.Laws.{IsTypedGraph, RoundTripLaw, ReadingLaw, UniqueLaw}
 use Rattle.prov_export.specs.Reading.{json_of, parts_in, written_as, kept_as, prov_reading}
@@ -16,7 +16,7 @@ use Rattle.prov_export.proofs.PlainDocuments.{document_plain, document_shallow}
 use Rattle.prov_export.proofs.Texts.{text_law}
 use Rattle.prov_export.proofs.Written.{written}
 
-module _ (graph : Parts) (typed : IsTypedGraph graph) (formed : WellFormed graph) where
+module _ (graph : Parts) (typed : IsTypedGraph graph) (formed : IsWellFormed graph) where
   -- the document is read of the text
   document_read : json_of (prov_text graph) ≡ Some (document graph)
   document_read =
@@ -26,7 +26,7 @@ module _ (graph : Parts) (typed : IsTypedGraph graph) (formed : WellFormed graph
 
   graph_written : written_as (prov_text graph) graph ≡ true
   graph_written =
-      and-from (well_formed graph) (bytes_eq (prov_text graph) (prov_text graph)) formed ((bytes_eq-Decides (prov_text graph) (prov_text graph)).1 refl)
+      and-from (is_well_formed graph) (bytes_eq (prov_text graph) (prov_text graph)) formed ((bytes_eq-Decides (prov_text graph) (prov_text graph)).1 refl)
 
   pub graph_read : prov_reading (prov_text graph) ≡ Some graph
   graph_read =
@@ -39,22 +39,22 @@ pub round_trip_law : RoundTripLaw
 round_trip_law graph typed formed = graph_read graph typed formed
 
 -- what is kept is written as the bytes
-kept_is : (bytes : List ℕ) (g graph : Parts) → kept_as bytes g ≡ Some graph → WellFormed graph × (prov_text graph ≡ bytes)
+kept_is : (bytes : List ℕ) (g graph : Parts) → kept_as bytes g ≡ Some graph → IsWellFormed graph × (prov_text graph ≡ bytes)
 kept_is bytes g graph is = by (written_as bytes g) refl is
   where
-    by : (b : Bool) → written_as bytes g ≡ b → cond b (Some g) None ≡ Some graph → WellFormed graph × (prov_text graph ≡ bytes)
+    by : (b : Bool) → written_as bytes g ≡ b → cond b (Some g) None ≡ Some graph → IsWellFormed graph × (prov_text graph ≡ bytes)
     by true hit some =
         let same : g ≡ graph = cc in
         let kept : written_as bytes graph ≡ true = ap (written_as bytes) (sym same) ∙ hit in (
-          and-first (well_formed graph) (bytes_eq (prov_text graph) bytes) kept,
-          (bytes_eq-Decides (prov_text graph) bytes).0 (and-second (well_formed graph) (bytes_eq (prov_text graph) bytes) kept),
+          and-first (is_well_formed graph) (bytes_eq (prov_text graph) bytes) kept,
+          (bytes_eq-Decides (prov_text graph) bytes).0 (and-second (is_well_formed graph) (bytes_eq (prov_text graph) bytes) kept),
         )
     by false miss none = let never : None ≡ Some graph = none in cc
 
 pub reading_law : ReadingLaw
 reading_law bytes graph is = by (option_and_then parts_in (json_of bytes)) is
   where
-    by : (o : Option Parts) → option_and_then (kept_as bytes) o ≡ Some graph → WellFormed graph × (prov_text graph ≡ bytes)
+    by : (o : Option Parts) → option_and_then (kept_as bytes) o ≡ Some graph → IsWellFormed graph × (prov_text graph ≡ bytes)
     by None none = let never : None ≡ Some graph = none in cc
     by (Some g) some = kept_is bytes g graph some
 

@@ -11,7 +11,7 @@ use Rattle.run_model.specs.ValidTrace.{ValidTrace}
 use Rattle.reach.specs.Depends.{depends_of}
 use Rattle.reach.proofs.Members.{in_nil, in_cons}
 use Rattle.trace_graph.specs.Graph.{same_node, graph_of}
-use Rattle.trace_graph.specs.WellFormed.{WellFormed}
+use Rattle.trace_graph.specs.WellFormed.{IsWellFormed}
 use Rattle.trace_graph.proofs.WellFormedParts.{edges_between}
 use Rattle.trace_graph.proofs.WellFormedTraces as traces
 use Rattle.prov_export.specs.Types.{Node, Path, Edge}
@@ -32,7 +32,7 @@ edge_ends limit (x ∷ xs) all e is = by (in_cons x xs e is) (edge_ends limit xs
     by (inr more) rest = rest more
 
 module _ (start : List ℕ) (steps : ℕ) (events : List Event) (met : IsTrue (path_test start)) (valid : ValidTrace start steps events) (low : steps ≤ max_steps) where
-  formed : WellFormed (graph_of events)
+  formed : IsWellFormed (graph_of events)
   formed = traces.well_formed_law start steps events met valid low
 
   depends_at_end : (path : List ℕ) → depends_report (graph_of events) path ≡ depends_by events steps path

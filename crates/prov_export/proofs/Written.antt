@@ -11,7 +11,7 @@ use Rattle.sql_model.specs.Keys.{repeats}
 use Rattle.sql_model.specs.SqlNames.{sql_name_test}
 use Rattle.run_model.specs.Between.{IsIn}
 use Rattle.trace_graph.specs.Graph.{Parts, same_node, are_between}
-use Rattle.trace_graph.specs.WellFormed.{node_rule, times_rule, WellFormed}
+use Rattle.trace_graph.specs.WellFormed.{node_rule, times_rule, IsWellFormed}
 use Rattle.trace_graph.proofs.NodeLaws.{node_itself}
 use Rattle.trace_graph.proofs.WellFormedParts.{nodes_differ, nodes_ruled, edges_between, edges_timed}
 use Rattle.prov_export.specs.Types.{Node, Path, Process, Row, Ask, Reply, Edge}
@@ -116,7 +116,7 @@ all_times (e ∷ es) rules = (
   all_times es (and-second (times_rule e) (list_all times_rule es) rules),
 )
 
-pub written : (graph : Parts) → IsTypedGraph graph → WellFormed graph → IsWritten graph
+pub written : (graph : Parts) → IsTypedGraph graph → IsWellFormed graph → IsWritten graph
 written graph typed formed = record {
   apart = apart_from graph.nodes (not-true (repeats same_node graph.nodes) (nodes_differ graph formed));
   named = all_named graph.nodes (nodes_ruled graph formed) typed.nodes;

@@ -8,7 +8,7 @@ use Rattle.run_model.specs.declared.event.Event.{Event}
 use Rattle.run_model.specs.TypedPackage.{TypedEvent}
 use Rattle.run_model.specs.ValidTrace.{ValidTrace}
 use Rattle.trace_graph.specs.Graph.{Parts, graph_of}
-use Rattle.trace_graph.specs.WellFormed.{WellFormed}
+use Rattle.trace_graph.specs.WellFormed.{IsWellFormed}
 use Rattle.reach.specs.Depends.{depends_of}
 use Rattle.prov_export.specs.Types.{Node, Path, Process, Row, Ask, Reply}
 use Rattle.prov_export.specs.Dependence.{nodes_report, place_of, depends_report}
@@ -31,17 +31,17 @@ pub record IsTypedGraph (graph : Parts) : Type 0 where
 
 -- a well-formed graph is what is read of its document
 abbrev pub RoundTripLaw : Type 0
-RoundTripLaw = (graph : Parts) → IsTypedGraph graph → WellFormed graph
+RoundTripLaw = (graph : Parts) → IsTypedGraph graph → IsWellFormed graph
     → prov_reading (prov_text graph) ≡ Some graph
 
 -- nothing else is read as a graph
 abbrev pub ReadingLaw : Type 0
 ReadingLaw = (bytes : List ℕ) (graph : Parts) → prov_reading bytes ≡ Some graph
-    → WellFormed graph × (prov_text graph ≡ bytes)
+    → IsWellFormed graph × (prov_text graph ≡ bytes)
 
 -- two graphs with one document are equal
 abbrev pub UniqueLaw : Type 0
-UniqueLaw = (g h : Parts) → IsTypedGraph g → IsTypedGraph h → WellFormed g → WellFormed h
+UniqueLaw = (g h : Parts) → IsTypedGraph g → IsTypedGraph h → IsWellFormed g → IsWellFormed h
     → prov_text g ≡ prov_text h → g ≡ h
 
 -- What a path depends on by the last step of a run, in the lines of documents.

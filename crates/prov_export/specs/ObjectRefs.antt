@@ -3,8 +3,8 @@ use Rattle.serde_json.specs.View.{members_view}
 use Rattle.prov_export.specs.declared.objects.ObjectRefs.{ObjectRefs}
 use Rattle.prov_export.specs.Reading.{Objects}
 
-abbrev pub seen : ObjectRefs → Objects
-seen o = record {
+abbrev pub objects_seen : ObjectRefs → Objects
+objects_seen o = record {
   entities = members_view o.entities.now.entries;
   activities = members_view o.activities.now.entries;
   used = members_view o.used.now.entries;

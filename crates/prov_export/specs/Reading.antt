@@ -9,7 +9,7 @@ use Rattle.serde_json.specs.Events.{members_len}
 use Rattle.serde_json.specs.Find.{get, get_member, as_object, as_number, as_str, as_u64}
 use Rattle.serde_json.specs.Read.{read}
 use Rattle.trace_graph.specs.Graph.{Parts}
-use Rattle.trace_graph.specs.WellFormed.{well_formed}
+use Rattle.trace_graph.specs.WellFormed.{is_well_formed}
 use Rattle.prov_export.specs.Types.{Node, Edge, Relation, Used, Generated, Derived, Informed}
 use Rattle.prov_export.specs.Document.{relation_name, source_name, target_name, edge_name, prov_text}
 use Rattle.prov_export.specs.Ids.{node_in}
@@ -154,7 +154,7 @@ taken_from bytes = json_of bytes >>= parts_in
 
 -- a well-formed graph whose document has that text
 abbrev pub written_as : List ℕ → Parts → Bool
-written_as bytes graph = well_formed graph && bytes_eq (prov_text graph) bytes
+written_as bytes graph = is_well_formed graph && bytes_eq (prov_text graph) bytes
 
 abbrev pub kept_as : List ℕ → Parts → Option Parts
 kept_as bytes graph = if written_as bytes graph then Some graph else None

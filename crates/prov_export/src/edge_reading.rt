@@ -4,7 +4,7 @@ ghost use Rattle.std.specs.Prelude.{◌≡◌, string_bytes};
 ghost use Rattle.ldv_value.specs.Gives.{Gives};
 ghost use Rattle.serde_json.specs.View.{view, members_view};
 ghost use Rattle.prov_export.specs.Reading.{place_of, place_at, edge_in, edge_named, edge_by_name, edge_of};
-ghost use Rattle.prov_export.specs.ObjectRefs.{seen};
+ghost use Rattle.prov_export.specs.ObjectRefs.{objects_seen};
 ghost use Rattle.prov_export.specs.Reading.{each_from, edges_in};
 ghost use Rattle.prov_export.specs.Stopping.{Stops};
 
@@ -12,7 +12,7 @@ use crate::ids::edge_name;
 use crate::members::{Members, member_of, number_at, text_at, time_at};
 use crate::objects::ObjectRefs;
 use crate::relation::{Relation, source_name, target_name};
-use crate::stop::ProvStop;
+use crate::error::ProvStop;
 use serde_json::Value;
 use std::alloc::Global;
 use trace_graph::{Edge, Edges};
@@ -71,7 +71,7 @@ fn edge_named(
 
 // The edge of a name, of whichever relation.
 fn edge_by_name(objects: &ObjectRefs<'_>, name: &str) -> Option<Edge>
-    ensures { result ≡ edge_by_name (seen objects.now) name.now }
+    ensures { result ≡ edge_by_name (objects_seen objects.now) name.now }
 {
     let entities = objects.entities;
     let activities = objects.activities;
@@ -100,7 +100,7 @@ fn edge_by_name(objects: &ObjectRefs<'_>, name: &str) -> Option<Edge>
 }
 
 // What needs no memory.
-fn known(edge: Option<Edge>) -> Result<Edge, ProvStop>
+fn known_edge(edge: Option<Edge>) -> Result<Edge, ProvStop>
     ensures { Gives Stops result edge }
 {
     match edge {
@@ -110,22 +110,22 @@ fn known(edge: Option<Edge>) -> Result<Edge, ProvStop>
 }
 
 fn edge_of(alloc: Global, objects: &ObjectRefs<'_>, number: u128) -> Result<Edge, ProvStop>
-    ensures { Gives Stops result (edge_of (seen objects.now) number) }
+    ensures { Gives Stops result (edge_of (objects_seen objects.now) number) }
 {
     let name = edge_name(alloc, number)?;
-    known(edge_by_name(objects, name.as_str()))
+    known_edge(edge_by_name(objects, name.as_str()))
 }
 
 /// The edges, in the order of their numbers.
 pub(crate) fn edges_in(alloc: Global, objects: &ObjectRefs<'_>) -> Result<Edges, ProvStop>
-    ensures { Gives Stops result (edges_in (seen objects.now)) }
+    ensures { Gives Stops result (edges_in (objects_seen objects.now)) }
 {
     edges_by(alloc, objects, objects.edge_count())
 }
 
 #[tactic(auto, using(crate::proofs::Each::each_rules))]
 fn edges_by(alloc: Global, objects: &ObjectRefs<'_>, count: u128) -> Result<Edges, ProvStop>
-    ensures { Gives Stops result (each_from (edge_of (seen objects.now)) 0 count) }
+    ensures { Gives Stops result (each_from (edge_of (objects_seen objects.now)) 0 count) }
 {
     let mut edges = Edges::new(alloc);
     for number in 0..count {

@@ -8,7 +8,7 @@ ghost use Rattle.prov_export.specs.Ids.{path_in};
 ghost use Rattle.prov_export.specs.Ids.{reply_in, statement_in, numbered_in, other_in, node_in};
 ghost use Rattle.prov_export.specs.Stopping.{Stops};
 
-use crate::stop::ProvStop;
+use crate::error::ProvStop;
 use ldv_value::Utf8;
 use sql_model::Member;
 use std::alloc::Global;
@@ -186,7 +186,7 @@ fn numbered_in(text: &[u8]) -> Option<Node>
 }
 
 // What needs no memory.
-fn known(node: Option<Node>) -> Result<Node, ProvStop>
+fn known_node(node: Option<Node>) -> Result<Node, ProvStop>
     ensures { Gives Stops result node }
 {
     match node {
@@ -199,7 +199,7 @@ fn other_in(alloc: Global, text: &[u8]) -> Result<Node, ProvStop>
     ensures { Gives Stops result (other_in text.now) }
 {
     match after(b"ldv:row/", text) {
-        None => known(numbered_in(text)),
+        None => known_node(numbered_in(text)),
         Some(rest) => row_in(alloc, rest),
     }
 }

@@ -34,7 +34,7 @@ pub(crate) fn is_kind(entity: bool, node: &Node) -> bool
 }
 
 // Two texts, one after the other.
-fn joined(alloc: Global, head: &str, tail: &str) -> Result<String, AllocError>
+fn concatenate(alloc: Global, head: &str, tail: &str) -> Result<String, AllocError>
     ensures { IfOk result (λ text. string_bytes text ≡ head.now ++ tail.now) }
 {
     let mut text = String::from_str(alloc, head)?;
@@ -43,11 +43,11 @@ fn joined(alloc: Global, head: &str, tail: &str) -> Result<String, AllocError>
 }
 
 // A text and a number.
-fn numbered(alloc: Global, head: &str, number: u128) -> Result<String, AllocError>
+fn text_with_number(alloc: Global, head: &str, number: u128) -> Result<String, AllocError>
     ensures { IfOk result (λ text. string_bytes text ≡ head.now ++ decimal number) }
 {
     let mut buffer = Buffer::new();
-    joined(alloc, head, buffer.format(number))
+    concatenate(alloc, head, buffer.format(number))
 }
 
 // A slash and a number, at the end of a text.
@@ -63,7 +63,7 @@ fn push_slashed(to: &mut String, number: u32) -> Result<(), AllocError>
 fn member_id(alloc: Global, head: &str, member: &Member) -> Result<String, AllocError>
     ensures { IfOk result (λ text. string_bytes text ≡ head.now ++ member_id member.now) }
 {
-    let mut text = joined(alloc, head, member.table.as_str())?;
+    let mut text = concatenate(alloc, head, member.table.as_str())?;
     push_slashed(&mut text, member.row)?;
     push_slashed(&mut text, member.version)?;
     Ok(text)
@@ -74,11 +74,11 @@ pub(crate) fn node_id(alloc: Global, node: &Node) -> Result<String, AllocError>
     ensures { IfOk result (λ id. string_bytes id ≡ node_id node.now) }
 {
     match node {
-        Node::Path(path) => joined(alloc, "ldv:path/", path.as_str()),
-        Node::Process(process) => numbered(alloc, "ldv:process/", *process as u128),
+        Node::Path(path) => concatenate(alloc, "ldv:path/", path.as_str()),
+        Node::Process(process) => text_with_number(alloc, "ldv:process/", *process as u128),
         Node::Row(member) => member_id(alloc, "ldv:row/", member),
-        Node::Ask(statement) => numbered(alloc, "ldv:ask/", *statement as u128),
-        Node::Reply(statement) => numbered(alloc, "ldv:reply/", *statement as u128),
+        Node::Ask(statement) => text_with_number(alloc, "ldv:ask/", *statement as u128),
+        Node::Reply(statement) => text_with_number(alloc, "ldv:reply/", *statement as u128),
     }
 }
 
@@ -86,5 +86,5 @@ pub(crate) fn node_id(alloc: Global, node: &Node) -> Result<String, AllocError>
 pub(crate) fn edge_name(alloc: Global, number: u128) -> Result<String, AllocError>
     ensures { IfOk result (λ name. string_bytes name ≡ edge_name number) }
 {
-    numbered(alloc, "ldv:e", number)
+    text_with_number(alloc, "ldv:e", number)
 }

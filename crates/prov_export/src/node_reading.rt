@@ -3,14 +3,14 @@
 ghost use Rattle.std.specs.Prelude.{◌≡◌, ℕ, Some, None, option_map, IfOk};
 ghost use Rattle.ldv_value.specs.Gives.{Gives};
 ghost use Rattle.prov_export.specs.Names.{names_of};
-ghost use Rattle.prov_export.specs.ObjectRefs.{seen};
+ghost use Rattle.prov_export.specs.ObjectRefs.{objects_seen};
 ghost use Rattle.prov_export.specs.Reading.{each_from, node_by, nodes_in};
 ghost use Rattle.prov_export.specs.Stopping.{Stops};
 
 use crate::id_reading::node_in;
-use crate::names::{Names, name_of, names_in};
+use crate::name_map::{Names, name_of, names_in};
 use crate::objects::ObjectRefs;
-use crate::stop::ProvStop;
+use crate::error::ProvStop;
 use std::alloc::Global;
 use trace_graph::{Node, Nodes};
 
@@ -40,7 +40,7 @@ fn nodes_by(alloc: Global, names: &Names<'_>, count: u128) -> Result<Nodes, Prov
 
 /// The nodes, in the order of their places.
 pub(crate) fn nodes_in(alloc: Global, objects: &ObjectRefs<'_>) -> Result<Nodes, ProvStop>
-    ensures { Gives Stops result (nodes_in (seen objects.now)) }
+    ensures { Gives Stops result (nodes_in (objects_seen objects.now)) }
 {
     let names = names_in(alloc, objects.entities, objects.activities)?;
     nodes_by(alloc, &names, objects.node_count())

@@ -2,7 +2,7 @@
 
 ghost use Rattle.std.specs.Prelude.{◌≡◌, ◌<◌, ◌^◌, option_map};
 ghost use Rattle.serde_json.specs.View.{view, members_view};
-ghost use Rattle.prov_export.specs.ObjectRefs.{seen};
+ghost use Rattle.prov_export.specs.ObjectRefs.{objects_seen};
 ghost use Rattle.prov_export.specs.Reading.{count, objects_of, node_count, edge_count};
 
 use crate::members::{Members, members_at};
@@ -21,7 +21,7 @@ pub(crate) struct ObjectRefs<'a> {
 
 /// The objects of a document, if it has them all.
 pub(crate) fn objects_of(document: &Value) -> Option<ObjectRefs<'_>>
-    ensures { option_map seen result ≡ objects_of (view document.now) }
+    ensures { option_map objects_seen result ≡ objects_of (view document.now) }
 {
     Some(ObjectRefs {
         entities: members_at(document, "entity")?,
@@ -43,14 +43,14 @@ fn count(members: &Members) -> u128
 impl<'a> ObjectRefs<'a> {
     /// How many nodes there are.
     pub(crate) fn node_count(&self) -> u128
-        ensures { result ≡ node_count (seen self.now) }
+        ensures { result ≡ node_count (objects_seen self.now) }
     {
         count(self.entities) + count(self.activities)
     }
 
     /// How many edges there are.
     pub(crate) fn edge_count(&self) -> u128
-        ensures { result ≡ edge_count (seen self.now) }
+        ensures { result ≡ edge_count (objects_seen self.now) }
     {
         count(self.used) + (count(self.generated) + (count(self.derived) + count(self.informed)))
     }

@@ -4,10 +4,10 @@ ghost use Rattle.std.specs.Prelude.{◌≡◌, IfOk, Some, None, bytes_eq};
 ghost use Rattle.ldv_value.specs.Gives.{Gives};
 ghost use Rattle.serde_json.specs.View.{view};
 ghost use Rattle.trace_graph.specs.Graph.{Parts};
-ghost use Rattle.trace_graph.specs.WellFormed.{WellFormed, well_formed};
+ghost use Rattle.trace_graph.specs.WellFormed.{IsWellFormed, is_well_formed};
 ghost use Rattle.prov_export.specs.Document.{prov_text};
 ghost use Rattle.prov_export.specs.Laws.{IsTypedGraph};
-ghost use Rattle.prov_export.specs.ObjectRefs.{seen};
+ghost use Rattle.prov_export.specs.ObjectRefs.{objects_seen};
 ghost use Rattle.prov_export.specs.Reading.{json_of, parts_with, parts_in, taken_from, kept_as};
 ghost use Rattle.prov_export.specs.Reading.{prov_reading};
 ghost use Rattle.prov_export.specs.Stopping.{Stops};
@@ -15,7 +15,7 @@ ghost use Rattle.prov_export.specs.Stopping.{Stops};
 use crate::edge_reading::edges_in;
 use crate::node_reading::nodes_in;
 use crate::objects::{ObjectRefs, objects_of};
-use crate::stop::ProvStop;
+use crate::error::ProvStop;
 use crate::writing::write_prov;
 use serde_json::{Category, Value};
 use std::alloc::{AllocError, Global};
@@ -52,7 +52,7 @@ fn read_json(alloc: Global, bytes: &[u8]) -> Result<Value, ProvStop>
 }
 
 fn draft_with(alloc: Global, objects: &ObjectRefs<'_>) -> Result<Draft, ProvStop>
-    ensures { Gives Stops result (parts_with (seen objects.now)) }
+    ensures { Gives Stops result (parts_with (objects_seen objects.now)) }
 {
     let nodes = match nodes_in(alloc, objects) {
         Ok(nodes) => nodes,
@@ -91,8 +91,8 @@ fn is_text_of(alloc: Global, graph: &Graph, bytes: &[u8]) -> Result<bool, AllocE
 }
 
 // A well-formed graph, if its document has that text.
-fn kept_written(alloc: Global, bytes: &[u8], graph: Graph) -> Result<Graph, ProvStop>
-    requires { WellFormed graph }
+fn graph_if_written(alloc: Global, bytes: &[u8], graph: Graph) -> Result<Graph, ProvStop>
+    requires { IsWellFormed graph }
     ensures { Gives Stops result (kept_as bytes.now graph) }
 {
     let same = is_text_of(alloc, &graph, bytes)?;
@@ -103,13 +103,13 @@ fn kept_written(alloc: Global, bytes: &[u8], graph: Graph) -> Result<Graph, Prov
     }
 }
 
-fn kept(alloc: Global, bytes: &[u8], draft: Draft) -> Result<Graph, ProvStop>
+fn graph_of_draft(alloc: Global, bytes: &[u8], draft: Draft) -> Result<Graph, ProvStop>
     ensures { Gives Stops result (kept_as bytes.now draft) }
 {
     let Draft { nodes, edges } = draft;
     let formed = is_well_formed(alloc, nodes.items(), edges.items())?;
     if formed {
-        kept_written(alloc, bytes, Graph::of_parts(nodes, edges))
+        graph_if_written(alloc, bytes, Graph::of_parts(nodes, edges))
     } else {
         Err(ProvStop::NotProv)
     }
@@ -119,7 +119,7 @@ fn graph_of(alloc: Global, bytes: &[u8]) -> Result<Graph, ProvStop>
     ensures { Gives Stops result (prov_reading bytes.now) }
 {
     match draft_of(alloc, bytes) {
-        Ok(draft) => kept(alloc, bytes, draft),
+        Ok(draft) => graph_of_draft(alloc, bytes, draft),
         Err(stop) => Err(stop),
     }
 }
@@ -127,9 +127,9 @@ fn graph_of(alloc: Global, bytes: &[u8]) -> Result<Graph, ProvStop>
 /// The graph whose document the bytes are. `NotProv` exactly where they are that of no well-formed graph.
 pub fn read_prov(alloc: Global, bytes: &[u8]) -> Result<Graph, ProvStop>
     ensures reading { Gives Stops result (prov_reading bytes.now) }
-    ensures ok { IfOk result (λ graph. WellFormed graph × (prov_text graph ≡ bytes.now)) }
+    ensures ok { IfOk result (λ graph. IsWellFormed graph × (prov_text graph ≡ bytes.now)) }
     ensures not_prov { result ≡ Err ProvStop.NotProv → (graph : Parts) → IsTypedGraph graph
-        → WellFormed graph → prov_text graph ≡ bytes.now → ⊥ }
+        → IsWellFormed graph → prov_text graph ≡ bytes.now → ⊥ }
 {
     graph_of(alloc, bytes)
 }

@@ -16,8 +16,8 @@ use Rattle.core_parts.proofs.Lists.{both_filters, kept_twice, all_kept}
 use Rattle.core_parts.proofs.SameValues.{tied, all_exact}
 use Rattle.sql_model.specs.KeyOrder.{values_order, values_total}
 use Rattle.sql_model.specs.Keys.{same_values}
-use Rattle.sql_model.specs.QueryAnswer.{distinct}
-use Rattle.query_eval.specs.Merging.{united, own_values, with_values, merged, place_of, with_more, absorbed, merged_onto, IsIndex}
+use Rattle.sql_model.specs.QueryAnswer.{distinct_values}
+use Rattle.query_eval.specs.Merging.{lineage_of_answers, own_values, with_values, merged_answer, place_of, with_more, with_answer, merged_onto, IsIndex}
 use Rattle.query_eval.specs.Types.{Value}
 
 -- ---- the same values
@@ -77,10 +77,10 @@ place_within (m ∷ ms) v (suc i) is = elim (cases_Bool (same_values m.values v)
 ]
 
 -- an answer that is there takes the lineage
-pub absorbed_again : (ms : List Answer) (a d : Answer) (i : ℕ) → place_of a.values ms ≡ Some i → absorbed ms a ≡ set ms i (with_more (get_or ms i d) a)
+pub absorbed_again : (ms : List Answer) (a d : Answer) (i : ℕ) → place_of a.values ms ≡ Some i → with_answer ms a ≡ set ms i (with_more (get_or ms i d) a)
 absorbed_again [] a d i is = cc
 absorbed_again (m ∷ ms) a d zero is = elim (cases_Bool (same_values m.values a.values)) [
-  | inl hit ↦ ap (λ b. cond b (with_more m a ∷ ms) (m ∷ absorbed ms a)) hit
+  | inl hit ↦ ap (λ b. cond b (with_more m a ∷ ms) (m ∷ with_answer ms a)) hit
   | inr miss ↦ absurd (none_zero (place_of a.values ms) (sym (ap (λ b. cond b (Some zero) (option_map suc (place_of a.values ms))) miss) ∙ is))
 ]
 absorbed_again (m ∷ ms) a d (suc i) is = elim (cases_Bool (same_values m.values a.values)) [
@@ -89,7 +89,7 @@ absorbed_again (m ∷ ms) a d (suc i) is = elim (cases_Bool (same_values m.value
       let same : zero ≡ suc i = cc in
       absurd (omega (arith, same))
   | inr miss ↦
-      ap (λ b. cond b (with_more m a ∷ ms) (m ∷ absorbed ms a)) miss
+      ap (λ b. cond b (with_more m a ∷ ms) (m ∷ with_answer ms a)) miss
       ∙ ap (λ l. m ∷ l) (absorbed_again ms a d i (some_more (place_of a.values ms) i (sym (ap (λ b. cond b (Some zero) (option_map suc (place_of a.values ms))) miss) ∙ is)))
 ]
 
@@ -98,19 +98,19 @@ later_place None P there i is = cc
 later_place (Some k) P there i is = there k refl
 
 -- and stays where it is
-pub places_again : (ms : List Answer) (a : Answer) (i : ℕ) → place_of a.values ms ≡ Some i → (v : List Value) → place_of v (absorbed ms a) ≡ place_of v ms
+pub places_again : (ms : List Answer) (a : Answer) (i : ℕ) → place_of a.values ms ≡ Some i → (v : List Value) → place_of v (with_answer ms a) ≡ place_of v ms
 places_again [] a i is v = cc
 places_again (m ∷ ms) a i is v = elim (cases_Bool (same_values m.values a.values)) [
-  | inl hit ↦ ap (λ b. place_of v (cond b (with_more m a ∷ ms) (m ∷ absorbed ms a))) hit
+  | inl hit ↦ ap (λ b. place_of v (cond b (with_more m a ∷ ms) (m ∷ with_answer ms a))) hit
   | inr miss ↦
-      ap (λ b. place_of v (cond b (with_more m a ∷ ms) (m ∷ absorbed ms a))) miss
+      ap (λ b. place_of v (cond b (with_more m a ∷ ms) (m ∷ with_answer ms a))) miss
       ∙ ap (λ (o : Option ℕ). cond (same_values m.values v) (Some zero) (option_map suc o))
-      (later_place (place_of a.values ms) (place_of v (absorbed ms a) ≡ place_of v ms) (λ k at. places_again ms a k at v) i
+      (later_place (place_of a.values ms) (place_of v (with_answer ms a) ≡ place_of v ms) (λ k at. places_again ms a k at v) i
       (sym (ap (λ b. cond b (Some zero) (option_map suc (place_of a.values ms))) miss) ∙ is))
 ]
 
 pub set_again : (ms : List Answer) (a found more : Answer) (i : ℕ) → place_of a.values ms ≡ Some i → found ≡ get_or ms i found
-    → more ≡ with_more found a → set ms i more ≡ absorbed ms a
+    → more ≡ with_more found a → set ms i more ≡ with_answer ms a
 set_again ms a found more i is here grown = ap (set ms i) (grown ∙ ap (λ (m : Answer). with_more m a) here) ∙ sym (absorbed_again ms a found i is)
 
 pub places_set : (ms : List Answer) (a found more : Answer) (i : ℕ) → place_of a.values ms ≡ Some i → found ≡ get_or ms i found
@@ -118,10 +118,10 @@ pub places_set : (ms : List Answer) (a found more : Answer) (i : ℕ) → place_
 places_set ms a found more i is here grown v = ap (place_of v) (set_again ms a found more i is here grown) ∙ places_again ms a i is v
 
 -- one that isn't comes last
-pub absorbed_first : (ms : List Answer) (a : Answer) → place_of a.values ms ≡ None → absorbed ms a ≡ ms ++ a ∷ []
+pub absorbed_first : (ms : List Answer) (a : Answer) → place_of a.values ms ≡ None → with_answer ms a ≡ ms ++ a ∷ []
 absorbed_first [] a none = refl
 absorbed_first (m ∷ ms) a none =
-    ap (λ b. cond b (with_more m a ∷ ms) (m ∷ absorbed ms a)) (missed m ms a.values none)
+    ap (λ b. cond b (with_more m a ∷ ms) (m ∷ with_answer ms a)) (missed m ms a.values none)
     ∙ ap (λ l. m ∷ l) (absorbed_first ms a (missed_rest m ms a.values none))
 
 pub places_first : (ms : List Answer) (a : Answer) → place_of a.values ms ≡ None → (v : List Value)
@@ -150,7 +150,7 @@ answer_of values lineage = record { values = values; lineage = lineage }
 
 -- an answer with the lineages of those of its values
 abbrev grown : List Answer → Answer → Answer
-grown rest m = answer_of m.values (union_of m.lineage (united (filter (with_values m.values) rest)))
+grown rest m = answer_of m.values (union_of m.lineage (lineage_of_answers (filter (with_values m.values) rest)))
 
 abbrev differs : List Value → Answer → Bool
 differs v a = not (same_values a.values v)
@@ -160,22 +160,22 @@ first_grows m [] ms = ap (λ l. answer_of m.values l ∷ ms) (sym (none_union m.
 first_grows m (a ∷ rest) ms = elim (cases_Bool (same_values m.values a.values)) [
   | inl hit ↦
       let back : same_values a.values m.values ≡ true = turned a.values m.values ∙ hit in
-      ap (λ b. merged_onto (cond b (with_more m a ∷ ms) (m ∷ absorbed ms a)) rest) hit
+      ap (λ b. merged_onto (cond b (with_more m a ∷ ms) (m ∷ with_answer ms a)) rest) hit
       ∙ first_grows (with_more m a) rest ms
       ∙ ap (λ l. answer_of m.values l ∷ merged_onto ms (filter (differs m.values) rest))
-      (union_assoc m.lineage a.lineage (united (filter (with_values m.values) rest)))
-      ∙ sym (ap (λ b. answer_of m.values (union_of m.lineage (united (cond b (a ∷ filter (with_values m.values) rest) (filter (with_values m.values) rest))))
+      (union_assoc m.lineage a.lineage (lineage_of_answers (filter (with_values m.values) rest)))
+      ∙ sym (ap (λ b. answer_of m.values (union_of m.lineage (lineage_of_answers (cond b (a ∷ filter (with_values m.values) rest) (filter (with_values m.values) rest))))
       ∷ merged_onto ms (cond (not b) (a ∷ filter (differs m.values) rest) (filter (differs m.values) rest))) back)
   | inr miss ↦
       let back : same_values a.values m.values ≡ false = turned a.values m.values ∙ miss in
-      ap (λ b. merged_onto (cond b (with_more m a ∷ ms) (m ∷ absorbed ms a)) rest) miss
-      ∙ first_grows m rest (absorbed ms a)
-      ∙ sym (ap (λ b. answer_of m.values (union_of m.lineage (united (cond b (a ∷ filter (with_values m.values) rest) (filter (with_values m.values) rest))))
+      ap (λ b. merged_onto (cond b (with_more m a ∷ ms) (m ∷ with_answer ms a)) rest) miss
+      ∙ first_grows m rest (with_answer ms a)
+      ∙ sym (ap (λ b. answer_of m.values (union_of m.lineage (lineage_of_answers (cond b (a ∷ filter (with_values m.values) rest) (filter (with_values m.values) rest))))
       ∷ merged_onto ms (cond (not b) (a ∷ filter (differs m.values) rest) (filter (differs m.values) rest))) back)
 ]
 
-twice : {X : Type 0} (p q : X → Bool) → ((x : X) → p x ≡ true → q x ≡ true) → (xs : List X) → filter p (filter q xs) ≡ filter p xs
-twice {X} p q implied xs = kept_twice p q xs (each xs)
+filter-of-implied : {X : Type 0} (p q : X → Bool) → ((x : X) → p x ≡ true → q x ≡ true) → (xs : List X) → filter p (filter q xs) ≡ filter p xs
+filter-of-implied {X} p q implied xs = kept_twice p q xs (each xs)
   where
     each : (ys : List X) → AllByRecursion (λ y. p y ≡ true → q y ≡ true) ys
     each [] = tt
@@ -189,8 +189,8 @@ map_kept p f g same (x ∷ xs) = elim (cases_Bool (p x)) [
 ]
 
 -- an answer of other values makes no difference
-merged_past : (a : Answer) (rest : List Answer) (v : List Value) → same_values a.values v ≡ false → merged rest v ≡ merged (a ∷ rest) v
-merged_past a rest v miss = sym (ap (λ b. answer_of v (united (cond b (a ∷ filter (with_values v) rest) (filter (with_values v) rest)))) miss)
+merged_past : (a : Answer) (rest : List Answer) (v : List Value) → same_values a.values v ≡ false → merged_answer rest v ≡ merged_answer (a ∷ rest) v
+merged_past a rest v miss = sym (ap (λ b. answer_of v (lineage_of_answers (cond b (a ∷ filter (with_values v) rest) (filter (with_values v) rest)))) miss)
 
 apart_from : (p : List Value → Bool) (a : Answer) (v : List Value) → p a.values ≡ false → p v ≡ true → same_values a.values v ≡ false
 apart_from p a v none some = elim (cases_Bool (same_values a.values v)) [
@@ -216,10 +216,10 @@ swapped true false = refl
 swapped false true = refl
 swapped false false = refl
 
-merges_kept : (answers : List Answer) (p : List Value → Bool) → merged_onto [] (filter (λ a. p a.values) answers) ≡ map (merged answers) (filter p (distinct (map own_values answers)))
+merges_kept : (answers : List Answer) (p : List Value → Bool) → merged_onto [] (filter (λ a. p a.values) answers) ≡ map (merged_answer answers) (filter p (distinct_values (map own_values answers)))
 merges_kept [] p = refl
 merges_kept (a ∷ rest) p =
-    let values : List (List Value) = distinct (map own_values rest) in
+    let values : List (List Value) = distinct_values (map own_values rest) in
     let other : List Value → Bool = λ o. not (same_values o a.values) in
     elim (cases_Bool (p a.values)) [
       | inl hit ↦
@@ -227,25 +227,25 @@ merges_kept (a ∷ rest) p =
           let kept : List Answer = filter (λ b. p b.values) rest in
           ap (λ b. merged_onto [] (cond b (a ∷ kept) kept)) hit
           ∙ first_grows a kept []
-          ∙ (λ j. answer_of a.values (union_of a.lineage (united (twice (with_values a.values) (λ b. p b.values) (λ b same. ap p (same_is b.values a.values same) ∙ hit) rest j)))
+          ∙ (λ j. answer_of a.values (union_of a.lineage (lineage_of_answers (filter-of-implied (with_values a.values) (λ b. p b.values) (λ b same. ap p (same_is b.values a.values same) ∙ hit) rest j)))
           ∷ merged_onto [] (both_filters (differs a.values) (λ b. p b.values) (λ b. both b.values) (λ b. swapped (other b.values) (p b.values)) rest j))
-          ∙ ap (λ l. answer_of a.values (union_of a.lineage (united (filter (with_values a.values) rest))) ∷ l)
+          ∙ ap (λ l. answer_of a.values (union_of a.lineage (lineage_of_answers (filter (with_values a.values) rest))) ∷ l)
           (merges_kept rest both
-          ∙ map_kept both (merged rest) (merged (a ∷ rest)) (λ v is. merged_past a rest v (turned a.values v ∙ not_is (same_values v a.values) (and_first (other v) (p v) is))) values
-          ∙ ap (map (merged (a ∷ rest))) (sym (both_filters p other both (λ v. refl) values)))
-          ∙ ap (λ b. answer_of a.values (united (cond b (a ∷ filter (with_values a.values) rest) (filter (with_values a.values) rest))) ∷ map (merged (a ∷ rest)) (filter p (filter other values)))
+          ∙ map_kept both (merged_answer rest) (merged_answer (a ∷ rest)) (λ v is. merged_past a rest v (turned a.values v ∙ not_is (same_values v a.values) (and_first (other v) (p v) is))) values
+          ∙ ap (map (merged_answer (a ∷ rest))) (sym (both_filters p other both (λ v. refl) values)))
+          ∙ ap (λ b. answer_of a.values (lineage_of_answers (cond b (a ∷ filter (with_values a.values) rest) (filter (with_values a.values) rest))) ∷ map (merged_answer (a ∷ rest)) (filter p (filter other values)))
           (sym (is_same a.values a.values refl))
-          ∙ ap (λ b. map (merged (a ∷ rest)) (cond b (a.values ∷ filter p (filter other values)) (filter p (filter other values)))) (sym hit)
+          ∙ ap (λ b. map (merged_answer (a ∷ rest)) (cond b (a.values ∷ filter p (filter other values)) (filter p (filter other values)))) (sym hit)
       | inr miss ↦
           ap (λ b. merged_onto [] (cond b (a ∷ filter (λ b. p b.values) rest) (filter (λ b. p b.values) rest))) miss
           ∙ merges_kept rest p
-          ∙ map_kept p (merged rest) (merged (a ∷ rest)) (λ v is. merged_past a rest v (apart_from p a v miss is)) values
-          ∙ ap (map (merged (a ∷ rest))) (sym (twice p other (λ v is. ap not (turned v a.values ∙ apart_from p a v miss is)) values))
-          ∙ ap (λ b. map (merged (a ∷ rest)) (cond b (a.values ∷ filter p (filter other values)) (filter p (filter other values)))) (sym miss)
+          ∙ map_kept p (merged_answer rest) (merged_answer (a ∷ rest)) (λ v is. merged_past a rest v (apart_from p a v miss is)) values
+          ∙ ap (map (merged_answer (a ∷ rest))) (sym (filter-of-implied p other (λ v is. ap not (turned v a.values ∙ apart_from p a v miss is)) values))
+          ∙ ap (λ b. map (merged_answer (a ∷ rest)) (cond b (a.values ∷ filter p (filter other values)) (filter p (filter other values)))) (sym miss)
     ]
 
-pub merges : (answers : List Answer) → merged_onto [] answers ≡ map (merged answers) (distinct (map own_values answers))
+pub merges : (answers : List Answer) → merged_onto [] answers ≡ map (merged_answer answers) (distinct_values (map own_values answers))
 merges answers =
     ap (merged_onto []) (sym (all_kept (λ (a : Answer). true) (λ a. refl) answers))
     ∙ merges_kept answers (λ v. true)
-    ∙ ap (map (merged answers)) (all_kept (λ (v : List Value). true) (λ v. refl) (distinct (map own_values answers)))
+    ∙ ap (map (merged_answer answers)) (all_kept (λ (v : List Value). true) (λ v. refl) (distinct_values (map own_values answers)))

@@ -5,14 +5,14 @@ use Rattle.std.specs.declared.cmp.Ordering.{Ordering}
 use Rattle.std.specs.Ordering.{is_gt}
 use Rattle.ldv_value.proofs.Cases.{cases-bool}
 use Rattle.lineage.specs.Lineage.{Lineage}
-use Rattle.lineage.specs.Rows.{kept, IsRow, AnswersStandFor}
+use Rattle.lineage.specs.Rows.{kept_origins, IsRow, AnswersStandFor}
 use Rattle.lineage.specs.StandsFor.{StandsFor}
 use Rattle.lineage.specs.declared.answer.Answer.{Answer}
-use Rattle.query_eval.proofs.Merges.{united-stands}
+use Rattle.query_eval.proofs.Merges.{lineage_of_answers-stands}
 use Rattle.query_eval.proofs.Projections.{statement-is}
 use Rattle.core_parts.specs.Checking.{places_at}
-use Rattle.query_eval.specs.Finishing.{as_key, sort_columns, by_columns, IsLimited, IsFinished, ordered}
-use Rattle.query_eval.specs.Merging.{united}
+use Rattle.query_eval.specs.Finishing.{as_key, sort_columns, by_columns, IsLimited, IsFinished, rows_in_order}
+use Rattle.query_eval.specs.Merging.{lineage_of_answers}
 use Rattle.query_eval.specs.Types.{Checked, Order, Query, TheQuery}
 use Rattle.query_eval.specs.declared.finishing.Finished.{Finished}
 use Rattle.query_eval.specs.declared.sort.SortColumn.{SortColumn}
@@ -100,17 +100,17 @@ finished-is checked own answers columns finished statement by limited query cata
     let keys : map as_key columns ≡ map (sort_key titles) query.order =
     ap (map as_key) (by ∙ ap (λ (q : Query). sort_columns (places_at checked (length q.cores)) q.order) same ∙ ap (λ (ps : List ℕ). sort_columns ps query.order) places)
     ∙ columns-are titles query.order in
-    let sorted : AnswersStandFor names versions keep (sorted_by (by_columns columns) answers) (ordered query catalog rows) =
+    let sorted : AnswersStandFor names versions keep (sorted_by (by_columns columns) answers) (rows_in_order query catalog rows) =
     subst (λ (ks : List SortKey). AnswersStandFor names versions keep (sorted_by (by_columns columns) answers) (sort_rows ks rows)) keys
     (sort-stands names versions keep columns answers rows stand) in
     let limit : limit_of own.limit ≡ limit_of query.limit = ap (λ (q : Query). limit_of q.limit) same in
     let first : finished.answers ≡ first_rows (limit_of query.limit) (sorted_by (by_columns columns) answers) =
     limited.first ∙ ap (λ (l : Option ℕ). first_rows l (sorted_by (by_columns columns) answers)) limit in
-    let cut : finished.cut ≡ united (other_rows (limit_of query.limit) (sorted_by (by_columns columns) answers)) =
-    limited.cut ∙ ap (λ (l : Option ℕ). united (other_rows l (sorted_by (by_columns columns) answers))) limit in (
-      subst (λ (made : List Answer). AnswersStandFor names versions keep made (first_rows (limit_of query.limit) (ordered query catalog rows))) (sym first)
-          (first-stands names versions keep (limit_of query.limit) (sorted_by (by_columns columns) answers) (ordered query catalog rows) sorted),
-      subst (λ (set : Lineage). StandsFor names versions set (kept keep (lineage_of (other_rows (limit_of query.limit) (ordered query catalog rows))))) (sym cut)
-          (united-stands names versions keep (other_rows (limit_of query.limit) (sorted_by (by_columns columns) answers)) (other_rows (limit_of query.limit) (ordered query catalog rows))
-          (others-stand names versions keep (limit_of query.limit) (sorted_by (by_columns columns) answers) (ordered query catalog rows) sorted)),
+    let cut : finished.cut ≡ lineage_of_answers (other_rows (limit_of query.limit) (sorted_by (by_columns columns) answers)) =
+    limited.cut ∙ ap (λ (l : Option ℕ). lineage_of_answers (other_rows l (sorted_by (by_columns columns) answers))) limit in (
+      subst (λ (made : List Answer). AnswersStandFor names versions keep made (first_rows (limit_of query.limit) (rows_in_order query catalog rows))) (sym first)
+          (first-stands names versions keep (limit_of query.limit) (sorted_by (by_columns columns) answers) (rows_in_order query catalog rows) sorted),
+      subst (λ (set : Lineage). StandsFor names versions set (kept_origins keep (lineage_of (other_rows (limit_of query.limit) (rows_in_order query catalog rows))))) (sym cut)
+          (lineage_of_answers-stands names versions keep (other_rows (limit_of query.limit) (sorted_by (by_columns columns) answers)) (other_rows (limit_of query.limit) (rows_in_order query catalog rows))
+          (others-stand names versions keep (limit_of query.limit) (sorted_by (by_columns columns) answers) (rows_in_order query catalog rows) sorted)),
     )

@@ -4,7 +4,7 @@ use Rattle.std.specs.Ordering.{is_eq, int_cmp}
 use Rattle.std.specs.Cmp.{eq_by_cmp_equiv}
 use Rattle.ldv_value.specs.declared.value.Value.{Value}
 use Rattle.ldv_value.specs.declared.value.Value.TheVariants.{Null, Int, Text}
-use Rattle.ldv_value.specs.Order.{order, known}
+use Rattle.ldv_value.specs.Order.{order, truth_of_bool}
 use Rattle.sql_model.specs.KeyOrder.{order_total}
 use Rattle.core_parts.proofs.Listings.{moved}
 use Rattle.core_parts.specs.declared.refs_by.RefsBy.{RefsBy}
@@ -14,7 +14,7 @@ use Rattle.query_eval.specs.declared.source.SourceRow.{SourceRow}
 use Rattle.sql_model.specs.Meaning.{is_true, is_null}
 use Rattle.sql_model.specs.Scope.{value_at}
 
-true_of : (b : Bool) → is_true (known b) ≡ b
+true_of : (b : Bool) → is_true (truth_of_bool b) ≡ b
 true_of true = refl
 true_of false = refl
 

@@ -9,10 +9,10 @@ use Rattle.ldv_value.proofs.Booleans.{true≢false}
 use Rattle.lanes.proofs.SetLaws.{no_member}
 use Rattle.lanes.specs.Sets.{member, IsNext}
 use Rattle.core_parts.specs.Masking.{passes, passes_all, suits}
-use Rattle.core_parts.specs.declared.masking.Mask.{Mask}
-use Rattle.core_parts.specs.declared.masking.MaskTest.{MaskTest}
-use Rattle.core_parts.specs.declared.masking.MaskTest.TheVariants.{Compares, IsNull, IsNotNull}
-use Rattle.query_eval.specs.Leaving.{AllFit, cell_test, column_tests, row_passes, slot_passes, chosen, with_version, source_row, rows_in}
+use Rattle.core_parts.specs.declared.mask.Mask.{Mask}
+use Rattle.core_parts.specs.declared.mask.MaskTest.{MaskTest}
+use Rattle.core_parts.specs.declared.mask.MaskTest.TheVariants.{Compares, IsNull, IsNotNull}
+use Rattle.query_eval.specs.Leaving.{AllFit, cell_test, column_tests, row_passes, slot_passes, rows_at_slots, with_version, source_row, rows_in}
 use Rattle.query_eval.specs.Sourcing.{table_row}
 use Rattle.query_eval.specs.Stored.{HasVersion}
 use Rattle.query_eval.specs.declared.source.SourceRow.{SourceRow}
@@ -23,7 +23,7 @@ use Rattle.table_store.specs.CellTests.{AllFitColumns, cell_passes, passes_colum
 use Rattle.table_store.specs.declared.cell_test.ColumnTest.{ColumnTest}
 use Rattle.table_store.specs.Histories.{RowHistory, TableHistory, no_history, row_now, rows_now, numbered_row, history_of_row, version_now}
 use Rattle.table_store.specs.RowOrder.{AreInOrder}
-use Rattle.row_version.specs.History.{current, version}
+use Rattle.row_version.specs.History.{current_values, version}
 
 -- ---- masks, as a table makes them
 
@@ -95,18 +95,18 @@ rows-left masks all slots =
 
 -- ---- slots that are chosen by bits
 
-chosen-is : (words : List ℕ) (p : RowHistory → Bool) (at : ℕ) (slots : List RowHistory) → ((n : ℕ) → member words (at + n) ≡ p (get_or slots n no_history)) → chosen words at slots ≡ filter p slots
-chosen-is words p at [] same = refl
-chosen-is words p at (slot ∷ slots) same =
+rows_at_slots-is : (words : List ℕ) (p : RowHistory → Bool) (at : ℕ) (slots : List RowHistory) → ((n : ℕ) → member words (at + n) ≡ p (get_or slots n no_history)) → rows_at_slots words at slots ≡ filter p slots
+rows_at_slots-is words p at [] same = refl
+rows_at_slots-is words p at (slot ∷ slots) same =
     let first : at ≡ at + 0 = omega arith in
     let here : member words at ≡ p slot = ap (member words) first ∙ same 0 in
-    let rest : chosen words (suc at) slots ≡ filter p slots =
-    chosen-is words p (suc at) slots (λ n. let next : suc at + n ≡ at + suc n = omega arith in ap (member words) next ∙ same (suc n)) in
+    let rest : rows_at_slots words (suc at) slots ≡ filter p slots =
+    rows_at_slots-is words p (suc at) slots (λ n. let next : suc at + n ≡ at + suc n = omega arith in ap (member words) next ∙ same (suc n)) in
     λ j. cond (here j) (slot ∷ rest j) (rest j)
 
-pub chosen-left : (masks : List Mask) (words : List ℕ) (slots : List RowHistory) → ((n : ℕ) → member words n ≡ slot_passes masks (get_or slots n no_history))
-    → chosen words 0 slots ≡ filter (slot_passes masks) slots
-chosen-left masks words slots same = chosen-is words (slot_passes masks) 0 slots (λ n. let whole : 0 + n ≡ n = omega arith in ap (member words) whole ∙ same n)
+pub rows_at_slots-left : (masks : List Mask) (words : List ℕ) (slots : List RowHistory) → ((n : ℕ) → member words n ≡ slot_passes masks (get_or slots n no_history))
+    → rows_at_slots words 0 slots ≡ filter (slot_passes masks) slots
+rows_at_slots-left masks words slots same = rows_at_slots-is words (slot_passes masks) 0 slots (λ n. let whole : 0 + n ≡ n = omega arith in ap (member words) whole ∙ same n)
 
 -- a slot that is set has its word
 pub slot_within : (words : List ℕ) (slot : ℕ) → member words slot ≡ true → slot < 64 * length words
@@ -116,30 +116,30 @@ slot_within words slot set = elim (cases_lt (slot / 64) (length words)) [
 ]
 
 -- slots that aren't set are passed over
-passed-over : (words : List ℕ) (at n : ℕ) (slots : List RowHistory) → ((m : ℕ) → at ≤ m → m < at + n → member words m ≡ false) → chosen words at slots ≡ chosen words (at + n) (drop n slots)
-passed-over words at zero slots none = let same : at ≡ at + zero = omega arith in ap (λ (k : ℕ). chosen words k slots) same
+passed-over : (words : List ℕ) (at n : ℕ) (slots : List RowHistory) → ((m : ℕ) → at ≤ m → m < at + n → member words m ≡ false) → rows_at_slots words at slots ≡ rows_at_slots words (at + n) (drop n slots)
+passed-over words at zero slots none = let same : at ≡ at + zero = omega arith in ap (λ (k : ℕ). rows_at_slots words k slots) same
 passed-over words at (suc n) [] none = refl
 passed-over words at (suc n) (slot ∷ slots) none =
     let here : member words at ≡ false = none at (omega arith) (omega arith) in
     let next : suc at + n ≡ at + suc n = omega arith in
-    ap (λ (b : Bool). cond b (slot ∷ chosen words (suc at) slots) (chosen words (suc at) slots)) here
+    ap (λ (b : Bool). cond b (slot ∷ rows_at_slots words (suc at) slots) (rows_at_slots words (suc at) slots)) here
     ∙ passed-over words (suc at) n slots (λ m low high. none m (omega (arith, low)) (omega (arith, high)))
-    ∙ ap (λ (k : ℕ). chosen words k (drop n slots)) next
+    ∙ ap (λ (k : ℕ). rows_at_slots words k (drop n slots)) next
 
-none-chosen : (words : List ℕ) (at : ℕ) (slots : List RowHistory) → ((m : ℕ) → at ≤ m → member words m ≡ false) → chosen words at slots ≡ []
-none-chosen words at [] none = refl
-none-chosen words at (slot ∷ slots) none =
-    ap (λ (b : Bool). cond b (slot ∷ chosen words (suc at) slots) (chosen words (suc at) slots)) (none at (omega arith))
-    ∙ none-chosen words (suc at) slots (λ m low. none m (omega (arith, low)))
+rows_at_slots-none : (words : List ℕ) (at : ℕ) (slots : List RowHistory) → ((m : ℕ) → at ≤ m → member words m ≡ false) → rows_at_slots words at slots ≡ []
+rows_at_slots-none words at [] none = refl
+rows_at_slots-none words at (slot ∷ slots) none =
+    ap (λ (b : Bool). cond b (slot ∷ rows_at_slots words (suc at) slots) (rows_at_slots words (suc at) slots)) (none at (omega arith))
+    ∙ rows_at_slots-none words (suc at) slots (λ m low. none m (omega (arith, low)))
 
 module _ (all : List RowHistory) where
   -- the rows of the slot at an index, and of those after it
   first-row : (words : List ℕ) (at : ℕ) (slots : List RowHistory) → member words at ≡ true
-      → rows_in all (chosen words at slots) ≡ option_to_list (source_row all (get_or slots 0 no_history)) ++ rows_in all (chosen words (suc at) (drop 1 slots))
+      → rows_in all (rows_at_slots words at slots) ≡ option_to_list (source_row all (get_or slots 0 no_history)) ++ rows_in all (rows_at_slots words (suc at) (drop 1 slots))
   first-row words at [] set = refl
   first-row words at (slot ∷ slots) set =
-      ap (λ (b : Bool). rows_in all (cond b (slot ∷ chosen words (suc at) slots) (chosen words (suc at) slots))) set
-      ∙ joined (source_row all slot) (rows_in all (chosen words (suc at) slots))
+      ap (λ (b : Bool). rows_in all (cond b (slot ∷ rows_at_slots words (suc at) slots) (rows_at_slots words (suc at) slots))) set
+      ∙ joined (source_row all slot) (rows_in all (rows_at_slots words (suc at) slots))
     where
       joined : (o : Option SourceRow) (rest : List SourceRow) → cons_option o rest ≡ option_to_list o ++ rest
       joined None rest = refl
@@ -147,17 +147,17 @@ module _ (all : List RowHistory) where
 
   -- those of the next slot that is set, and of those after it
   pub next-row : (words : List ℕ) (slots : List RowHistory) (at slot : ℕ) → IsNext words at (Some slot)
-      → rows_in all (chosen words at (drop at slots)) ≡ option_to_list (source_row all (get_or slots slot no_history)) ++ rows_in all (chosen words (slot + 1) (drop (slot + 1) slots))
+      → rows_in all (rows_at_slots words at (drop at slots)) ≡ option_to_list (source_row all (get_or slots slot no_history)) ++ rows_in all (rows_at_slots words (slot + 1) (drop (slot + 1) slots))
   next-row words slots at slot next =
       let n : ℕ = slot - at in
       let reach : at + n ≡ slot = omega (arith, next.0) in
-      let over : chosen words at (drop at slots) ≡ chosen words (at + n) (drop n (drop at slots)) =
+      let over : rows_at_slots words at (drop at slots) ≡ rows_at_slots words (at + n) (drop n (drop at slots)) =
       passed-over words at n (drop at slots) (λ m low high. next.2 m low (omega (arith, high, reach))) in
-      let there : chosen words at (drop at slots) ≡ chosen words slot (drop slot slots) =
-      over ∙ ap (chosen words (at + n)) (drop-drop n at slots) ∙ ap (λ (k : ℕ). chosen words k (drop k slots)) reach in
+      let there : rows_at_slots words at (drop at slots) ≡ rows_at_slots words slot (drop slot slots) =
+      over ∙ ap (rows_at_slots words (at + n)) (drop-drop n at slots) ∙ ap (λ (k : ℕ). rows_at_slots words k (drop k slots)) reach in
       ap (rows_in all) there
       ∙ first-row words slot (drop slot slots) next.1
-      ∙ (λ j. option_to_list (source_row all (here j)) ++ rows_in all (chosen words (after j) (rest j)))
+      ∙ (λ j. option_to_list (source_row all (here j)) ++ rows_in all (rows_at_slots words (after j) (rest j)))
     where
       here : get_or (drop slot slots) 0 no_history ≡ get_or slots slot no_history
       here = let same : slot + 0 ≡ slot = omega arith in get_or-drop slot slots 0 no_history ∙ ap (λ (k : ℕ). get_or slots k no_history) same
@@ -168,8 +168,8 @@ module _ (all : List RowHistory) where
       rest : drop 1 (drop slot slots) ≡ drop (slot + 1) slots
       rest = drop-drop 1 slot slots
 
-  pub no-row : (words : List ℕ) (slots : List RowHistory) (at : ℕ) → IsNext words at None → rows_in all (chosen words at (drop at slots)) ≡ []
-  no-row words slots at none = ap (rows_in all) (none-chosen words at (drop at slots) none)
+  pub no-row : (words : List ℕ) (slots : List RowHistory) (at : ℕ) → IsNext words at None → rows_in all (rows_at_slots words at (drop at slots)) ≡ []
+  no-row words slots at none = ap (rows_in all) (rows_at_slots-none words at (drop at slots) none)
 
 -- ---- versions
 
@@ -178,7 +178,7 @@ module _ (table : TableHistory) (next : ℕ) (order : AreInOrder table.slots nex
   abbrev Known : RowHistory → Type 0
   Known slot = IfSome (source_row table.slots slot) (HasVersion (Some table))
 
-  told : (slot : RowHistory) (o : Option (List Value)) → current slot.changes ≡ o → history_of_row slot.number table.slots ≡ Some slot → Known slot
+  told : (slot : RowHistory) (o : Option (List Value)) → current_values slot.changes ≡ o → history_of_row slot.number table.slots ≡ Some slot → Known slot
   told slot None is found = subst (λ (o : Option (List Value)). IfSome (option_map (with_version table.slots) (option_map (numbered_row slot.number) o)) (HasVersion (Some table))) (sym is) tt
   told slot (Some values) is found =
       let own : version_now (history_of_row slot.number table.slots) ≡ Some (version slot.changes) =
@@ -189,7 +189,7 @@ module _ (table : TableHistory) (next : ℕ) (order : AreInOrder table.slots nex
   known-at : (i : ℕ) → i < length table.slots → Known (get_or table.slots i no_history)
   known-at i below =
       let slot : RowHistory = get_or table.slots i no_history in
-      told slot (current slot.changes) refl (history_here table.slots next order slot.number i below refl)
+      told slot (current_values slot.changes) refl (history_here table.slots next order slot.number i below refl)
 
   one-known : (o : Option SourceRow) (rows : List SourceRow) → IfSome o (HasVersion (Some table)) → AllByRecursion (HasVersion (Some table)) rows → AllByRecursion (HasVersion (Some table)) (cons_option o rows)
   one-known None rows here rest = rest
@@ -222,8 +222,8 @@ module _ (table : TableHistory) (next : ℕ) (order : AreInOrder table.slots nex
       subst (AllByRecursion (HasVersion (Some table))) (sym is) (rows-known (slot_passes masks) table.slots (each-known table.slots known-at))
 
 -- a slot with a row that stands has values
-pub stands-row : (slot : RowHistory) (number : ℕ) → option_map (λ (row : TableRow). row.number) (row_now slot) ≡ Some number → IsSome (current slot.changes)
-stands-row slot number is = by_values (current slot.changes) is
+pub stands-row : (slot : RowHistory) (number : ℕ) → option_map (λ (row : TableRow). row.number) (row_now slot) ≡ Some number → IsSome (current_values slot.changes)
+stands-row slot number is = by_values (current_values slot.changes) is
   where
     by_values : (o : Option (List Value)) → option_map (λ (row : TableRow). row.number) (option_map (numbered_row slot.number) o) ≡ Some number → IsSome o
     by_values None is = cc
@@ -234,7 +234,7 @@ pub version-told : (slots : List RowHistory) (next : ℕ) → AreInOrder slots n
     → option_map (λ (row : TableRow). row.number) (row_now (get_or slots slot no_history)) ≡ Some number
     → v ≡ version (get_or slots slot no_history).changes → v ≡ unwrap_or (version_now (history_of_row number slots)) 0
 version-told slots next order slot number v is own = elim (cases_lt slot (length slots)) [
-  | inl below ↦ by_values below (current here.changes) refl is
+  | inl below ↦ by_values below (current_values here.changes) refl is
   | inr past ↦ past-none (sym (ap (λ (h : RowHistory). option_map (λ (row : TableRow). row.number) (row_now h)) (get_or_past slots slot no_history past)) ∙ is)
 ]
   where
@@ -247,7 +247,7 @@ version-told slots next order slot number v is own = elim (cases_lt slot (length
     past-none : None ≡ Some number → v ≡ unwrap_or (version_now (history_of_row number slots)) 0
     past-none is = cc
 
-    by_values : slot < length slots → (o : Option (List Value)) → current here.changes ≡ o
+    by_values : slot < length slots → (o : Option (List Value)) → current_values here.changes ≡ o
         → option_map (λ (row : TableRow). row.number) (option_map (numbered_row here.number) o) ≡ Some number
         → v ≡ unwrap_or (version_now (history_of_row number slots)) 0
     by_values below None at stands = cc
@@ -258,7 +258,7 @@ version-told slots next order slot number v is own = elim (cases_lt slot (length
         ∙ ap (λ (o : Option (List Value)). unwrap_or (cond (is_some o) (Some (version here.changes)) None) 0) at)
 
 pub row-made : (all : List RowHistory) (slot : RowHistory) (number version : ℕ) (values : List Value)
-    → option_map (λ (row : TableRow). row.number) (row_now slot) ≡ Some number → Some values ≡ current slot.changes
+    → option_map (λ (row : TableRow). row.number) (row_now slot) ≡ Some number → Some values ≡ current_values slot.changes
     → version ≡ unwrap_or (version_now (history_of_row number all)) 0
     → ◌≡◌ {A = List SourceRow} (record { number = number; version = version; values = values } ∷ []) (option_to_list (source_row all slot))
 row-made all slot number version values is has told =
@@ -281,23 +281,23 @@ no-row-made all slot is = by_row (row_now slot) is
 -- the row of the next slot that is set is added
 pub chosen_next : (all : List RowHistory) (words : List ℕ) (slots : List RowHistory) (rows new total : List SourceRow) (at slot next : ℕ) → IsNext words at (Some slot)
     → new ≡ rows ++ option_to_list (source_row all (get_or slots slot no_history)) → next ≡ slot + 1
-    → rows ++ rows_in all (chosen words at (drop at slots)) ≡ total → new ++ rows_in all (chosen words next (drop next slots)) ≡ total
+    → rows ++ rows_in all (rows_at_slots words at (drop at slots)) ≡ total → new ++ rows_in all (rows_at_slots words next (drop next slots)) ≡ total
 chosen_next all words slots rows new total at slot next found is after same =
-    ap (λ (l : List SourceRow). l ++ rows_in all (chosen words next (drop next slots))) is
-    ∙ append_assoc rows (option_to_list (source_row all (get_or slots slot no_history))) (rows_in all (chosen words next (drop next slots)))
-    ∙ ap (λ (n : ℕ). rows ++ (option_to_list (source_row all (get_or slots slot no_history)) ++ rows_in all (chosen words n (drop n slots)))) after
+    ap (λ (l : List SourceRow). l ++ rows_in all (rows_at_slots words next (drop next slots))) is
+    ∙ append_assoc rows (option_to_list (source_row all (get_or slots slot no_history))) (rows_in all (rows_at_slots words next (drop next slots)))
+    ∙ ap (λ (n : ℕ). rows ++ (option_to_list (source_row all (get_or slots slot no_history)) ++ rows_in all (rows_at_slots words n (drop n slots)))) after
     ∙ ap (λ (l : List SourceRow). rows ++ l) (sym (next-row all words slots at slot found))
     ∙ same
 
 pub chosen_end : (all : List RowHistory) (words : List ℕ) (slots : List RowHistory) (rows total : List SourceRow) (at : ℕ) → IsNext words at None
-    → rows ++ rows_in all (chosen words at (drop at slots)) ≡ total → rows ≡ total
+    → rows ++ rows_in all (rows_at_slots words at (drop at slots)) ≡ total → rows ≡ total
 chosen_end all words slots rows total at none same = sym (append-nil rows) ∙ ap (λ (l : List SourceRow). rows ++ l) (sym (no-row all words slots at none)) ∙ same
 
 -- the rows that are left are those of the slots that are set
 pub left_chosen : (all slots : List RowHistory) (masks : List Mask) (words : List ℕ) (rows : List SourceRow)
-    → ((n : ℕ) → member words n ≡ slot_passes masks (get_or slots n no_history)) → rows ≡ rows_in all (chosen words 0 slots)
+    → ((n : ℕ) → member words n ≡ slot_passes masks (get_or slots n no_history)) → rows ≡ rows_in all (rows_at_slots words 0 slots)
     → rows ≡ rows_in all (filter (slot_passes masks) slots)
-left_chosen all slots masks words rows same is = is ∙ ap (rows_in all) (chosen-left masks words slots same)
+left_chosen all slots masks words rows same is = is ∙ ap (rows_in all) (rows_at_slots-left masks words slots same)
 
 -- a slot whose row stands is one for which no mask fails
 none-fails : (o : Option TableRow) → is_some o ≡ option_map_or (λ (row : TableRow). passes_all [] row.values) o false
@@ -305,7 +305,7 @@ none-fails None = refl
 none-fails (Some row) = refl
 
 pub left_standing : (all slots : List RowHistory) (words : List ℕ) (rows : List SourceRow)
-    → ((n : ℕ) → member words n ≡ is_some (row_now (get_or slots n no_history))) → rows ≡ rows_in all (chosen words 0 slots)
+    → ((n : ℕ) → member words n ≡ is_some (row_now (get_or slots n no_history))) → rows ≡ rows_in all (rows_at_slots words 0 slots)
     → rows ≡ rows_in all (filter (slot_passes []) slots)
 left_standing all slots words rows same is = left_chosen all slots [] words rows (λ n. same n ∙ none-fails (row_now (get_or slots n no_history))) is
 

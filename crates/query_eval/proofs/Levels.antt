@@ -4,25 +4,25 @@ use Rattle.std.proofs.lemmas.Bool.{cases_Bool}
 use Rattle.std.specs.Prelude.{filter, nat_lt}
 use Rattle.std.specs.List.{list_all, remove, AllByRecursion}
 use Rattle.query_eval.proofs.Agree.{first_rows_tell}
-use Rattle.query_eval.proofs.Product.{extensions, filter_joined, flat_map_joined, goes_on, pushed, EachSplits, all_of, all_there}
+use Rattle.query_eval.proofs.Product.{extensions, filter_joined, flat_map_joined, products-more, pushed, EachSplits, all_of, all_there}
 use Rattle.core_parts.specs.Conditions.{meets}
 use Rattle.core_parts.specs.Equality.{equals}
-use Rattle.query_eval.specs.Joining.{combos, tests, is_ready, ready, later, remaining, extended, all_extended, EachHas, HasProbe, looked_up}
-use Rattle.core_parts.specs.Placing.{IsPlaced, AllPlaced}
-use Rattle.query_eval.specs.Sourcing.{joined, AreWide}
+use Rattle.query_eval.specs.Joining.{combos, tests, is_ready, ready_conditions, later_conditions, extensions_left, extensions_of, extensions_of_all, EachHas, HasProbe, extensions_by_probe}
+use Rattle.core_parts.specs.Placing.{IsPlaced, AreAllPlaced}
+use Rattle.query_eval.specs.Sourcing.{joined_row_values, AreWide}
 use Rattle.query_eval.specs.Types.{ColumnName, Value}
-use Rattle.core_parts.specs.declared.placed.Placed.{Placed}
+use Rattle.core_parts.specs.declared.placed.BoundExpr.{BoundExpr}
 use Rattle.query_eval.specs.declared.probe.Probe.{Probe}
 use Rattle.query_eval.specs.declared.source.SourceRow.{SourceRow}
 use Rattle.sql_model.specs.Kinds.{names_in}
 use Rattle.sql_model.specs.Meaning.{is_true, truth}
 use Rattle.sql_model.specs.Scope.{InScope, environment, place_of, places_in, value_at}
 
-pub joined-append : (p others : List SourceRow) → joined (p ++ others) ≡ joined p ++ joined others
-joined-append p others = flat_map_joined (λ (row : SourceRow). row.values) p others
+pub joined_row_values-append : (p others : List SourceRow) → joined_row_values (p ++ others) ≡ joined_row_values p ++ joined_row_values others
+joined_row_values-append p others = flat_map_joined (λ (row : SourceRow). row.values) p others
 
-pub joined-one : (p : List SourceRow) (row : SourceRow) → joined (p ++ row ∷ []) ≡ joined p ++ row.values
-joined-one p row = joined-append p (row ∷ []) ∙ ap (λ l. joined p ++ l) (append-nil row.values)
+pub joined_row_values-one : (p : List SourceRow) (row : SourceRow) → joined_row_values (p ++ row ∷ []) ≡ joined_row_values p ++ row.values
+joined_row_values-one p row = joined_row_values-append p (row ∷ []) ∙ ap (λ l. joined_row_values p ++ l) (append-nil row.values)
 
 lt-true : (a b : ℕ) → nat_lt a b ≡ true → a < b
 lt-true a b is = grind (arith, is)
@@ -51,68 +51,68 @@ module _ (scope : List InScope) (n : ℕ) where
       let two = both-of (nat_lt (place_of scope c) n) (list_all (λ place. nat_lt place n) (places_in scope names)) is in
       (omega (arith, lt-true (place_of scope c) n two.0, long), all-within first long names two.1)
 
-  one-first : (p others : List SourceRow) (c : Placed) → IsPlaced scope c → is_ready n c ≡ true → length (joined p) ≡ n
-      → truth c.expr (environment scope (joined (p ++ others))) ≡ truth c.expr (environment scope (joined p))
+  one-first : (p others : List SourceRow) (c : BoundExpr) → IsPlaced scope c → is_ready n c ≡ true → length (joined_row_values p) ≡ n
+      → truth c.expr (environment scope (joined_row_values (p ++ others))) ≡ truth c.expr (environment scope (joined_row_values p))
   one-first p others c placed is long =
-      ap (λ (l : List Value). truth c.expr (environment scope l)) (joined-append p others)
-      ∙ first_rows_tell scope c.expr (joined p) (joined others)
-      (all-within (joined p) long (names_in c.expr) (ap (list_all (λ place. nat_lt place n)) placed ∙ is))
+      ap (λ (l : List Value). truth c.expr (environment scope l)) (joined_row_values-append p others)
+      ∙ first_rows_tell scope c.expr (joined_row_values p) (joined_row_values others)
+      (all-within (joined_row_values p) long (names_in c.expr) (ap (list_all (λ place. nat_lt place n)) placed ∙ is))
 
-  ready-first : (p others : List SourceRow) (conds : List Placed) → AllPlaced scope conds → length (joined p) ≡ n
-      → tests scope (ready n conds) (p ++ others) ≡ tests scope (ready n conds) p
-  ready-first p others [] all long = refl
-  ready-first p others (c ∷ conds) all long = elim (cases_Bool (is_ready n c)) [
-    | inl hit ↦ rw hit (λ j. is_true (one-first p others c all.0 hit long j) && ready-first p others conds all.1 long j)
-    | inr miss ↦ rw miss (ready-first p others conds all.1 long)
+  ready_conditions-first : (p others : List SourceRow) (conds : List BoundExpr) → AreAllPlaced scope conds → length (joined_row_values p) ≡ n
+      → tests scope (ready_conditions n conds) (p ++ others) ≡ tests scope (ready_conditions n conds) p
+  ready_conditions-first p others [] all long = refl
+  ready_conditions-first p others (c ∷ conds) all long = elim (cases_Bool (is_ready n c)) [
+    | inl hit ↦ rw hit (λ j. is_true (one-first p others c all.0 hit long j) && ready_conditions-first p others conds all.1 long j)
+    | inr miss ↦ rw miss (ready_conditions-first p others conds all.1 long)
   ]
 
-  parted : (rows : List SourceRow) (conds : List Placed) → tests scope conds rows ≡ (tests scope (ready n conds) rows && tests scope (later n conds) rows)
+  parted : (rows : List SourceRow) (conds : List BoundExpr) → tests scope conds rows ≡ (tests scope (ready_conditions n conds) rows && tests scope (later_conditions n conds) rows)
   parted rows [] = refl
   parted rows (c ∷ conds) =
-      let t = is_true (truth c.expr (environment scope (joined rows))) in
+      let t = is_true (truth c.expr (environment scope (joined_row_values rows))) in
       elim (cases_Bool (is_ready n c)) [
-        | inl hit ↦ rw hit (ap (λ b. t && b) (parted rows conds) ∙ sym (and-assoc t (tests scope (ready n conds) rows) (tests scope (later n conds) rows)))
-        | inr miss ↦ rw miss (ap (λ b. t && b) (parted rows conds) ∙ swapped t (tests scope (ready n conds) rows) (tests scope (later n conds) rows))
+        | inl hit ↦ rw hit (ap (λ b. t && b) (parted rows conds) ∙ sym (and-assoc t (tests scope (ready_conditions n conds) rows) (tests scope (later_conditions n conds) rows)))
+        | inr miss ↦ rw miss (ap (λ b. t && b) (parted rows conds) ∙ swapped t (tests scope (ready_conditions n conds) rows) (tests scope (later_conditions n conds) rows))
       ]
 
-  each-splits : (conds : List Placed) → AllPlaced scope conds → (ps : List (List SourceRow)) → EachHas n ps
-      → EachSplits (tests scope conds) (tests scope (ready n conds)) (tests scope (later n conds)) ps
+  each-splits : (conds : List BoundExpr) → AreAllPlaced scope conds → (ps : List (List SourceRow)) → EachHas n ps
+      → EachSplits (tests scope conds) (tests scope (ready_conditions n conds)) (tests scope (later_conditions n conds)) ps
   each-splits conds all [] long = tt
   each-splits conds all (p ∷ ps) long =
-      (λ others. parted (p ++ others) conds ∙ ap (λ b. b && tests scope (later n conds) (p ++ others)) (ready-first p others conds all long.0), each-splits conds all ps long.1)
+      (λ others. parted (p ++ others) conds ∙ ap (λ b. b && tests scope (later_conditions n conds) (p ++ others)) (ready_conditions-first p others conds all long.0), each-splits conds all ps long.1)
 
-  pub ready-placed : (conds : List Placed) → AllPlaced scope conds → AllPlaced scope (ready n conds)
-  ready-placed [] all = tt
-  ready-placed (c ∷ conds) all = elim (cases_Bool (is_ready n c)) [
-    | inl hit ↦ rw hit (all.0, ready-placed conds all.1)
-    | inr miss ↦ rw miss (ready-placed conds all.1)
+  pub ready_conditions-placed : (conds : List BoundExpr) → AreAllPlaced scope conds → AreAllPlaced scope (ready_conditions n conds)
+  ready_conditions-placed [] all = tt
+  ready_conditions-placed (c ∷ conds) all = elim (cases_Bool (is_ready n c)) [
+    | inl hit ↦ rw hit (all.0, ready_conditions-placed conds all.1)
+    | inr miss ↦ rw miss (ready_conditions-placed conds all.1)
   ]
 
-  pub later-placed : (conds : List Placed) → AllPlaced scope conds → AllPlaced scope (later n conds)
-  later-placed [] all = tt
-  later-placed (c ∷ conds) all = elim (cases_Bool (is_ready n c)) [
-    | inl hit ↦ rw hit (later-placed conds all.1)
-    | inr miss ↦ rw miss (all.0, later-placed conds all.1)
+  pub later_conditions-placed : (conds : List BoundExpr) → AreAllPlaced scope conds → AreAllPlaced scope (later_conditions n conds)
+  later_conditions-placed [] all = tt
+  later_conditions-placed (c ∷ conds) all = elim (cases_Bool (is_ready n c)) [
+    | inl hit ↦ rw hit (later_conditions-placed conds all.1)
+    | inr miss ↦ rw miss (all.0, later_conditions-placed conds all.1)
   ]
 
 -- ---- one source more
 
 module _ (scope : List InScope) where
   -- a filter of what all prefixes give
-  all-together : (conds : List Placed) (ps : List (List SourceRow)) (rows : List SourceRow) → filter (tests scope conds) (extensions ps rows) ≡ all_extended scope conds ps rows
+  all-together : (conds : List BoundExpr) (ps : List (List SourceRow)) (rows : List SourceRow) → filter (tests scope conds) (extensions ps rows) ≡ extensions_of_all scope conds ps rows
   all-together conds [] rows = refl
   all-together conds (p ∷ ps) rows =
       filter_joined (tests scope conds) (map (λ row. p ++ row ∷ []) rows) (extensions ps rows)
-      ∙ ap (λ l. extended scope conds p rows ++ l) (all-together conds ps rows)
+      ∙ ap (λ l. extensions_of scope conds p rows ++ l) (all-together conds ps rows)
 
   joined-long : (n : ℕ) (ps qs : List (List SourceRow)) → EachHas n ps → EachHas n qs → EachHas n (ps ++ qs)
   joined-long n [] qs a b = b
   joined-long n (p ∷ ps) qs a b = (a.0, joined-long n ps qs a.1 b)
 
-  longer-one : (n w : ℕ) (p : List SourceRow) (row : SourceRow) → length (joined p) ≡ n → length row.values ≡ w → length (joined (p ++ row ∷ [])) ≡ n + w
-  longer-one n w p row long wide = ap length (joined-one p row) ∙ length-append (joined p) row.values ∙ (λ j. long j + wide j)
+  longer-one : (n w : ℕ) (p : List SourceRow) (row : SourceRow) → length (joined_row_values p) ≡ n → length row.values ≡ w → length (joined_row_values (p ++ row ∷ [])) ≡ n + w
+  longer-one n w p row long wide = ap length (joined_row_values-one p row) ∙ length-append (joined_row_values p) row.values ∙ (λ j. long j + wide j)
 
-  all-longer : (n w : ℕ) (p : List SourceRow) (rows : List SourceRow) → length (joined p) ≡ n → AreWide w rows → EachHas (n + w) (map (λ row. p ++ row ∷ []) rows)
+  all-longer : (n w : ℕ) (p : List SourceRow) (rows : List SourceRow) → length (joined_row_values p) ≡ n → AreWide w rows → EachHas (n + w) (map (λ row. p ++ row ∷ []) rows)
   all-longer n w p [] long wide = tt
   all-longer n w p (row ∷ rows) long wide = (longer-one n w p row long wide.0, all-longer n w p rows long wide.1)
 
@@ -128,28 +128,28 @@ module _ (scope : List InScope) where
     | inr miss ↦ rw miss (kept-long n test ps long.1)
   ]
 
-  pub step-long : (n w : ℕ) (conds : List Placed) (ps : List (List SourceRow)) (rows : List SourceRow) → EachHas n ps → AreWide w rows → EachHas (n + w) (all_extended scope conds ps rows)
+  pub step-long : (n w : ℕ) (conds : List BoundExpr) (ps : List (List SourceRow)) (rows : List SourceRow) → EachHas n ps → AreWide w rows → EachHas (n + w) (extensions_of_all scope conds ps rows)
   step-long n w conds ps rows long wide = subst (EachHas (n + w)) (all-together conds ps rows) (kept-long (n + w) (tests scope conds) (extensions ps rows) (longer n w ps rows long wide))
 
-  pub step-same : (n w : ℕ) (conds : List Placed) → AllPlaced scope conds → (ps : List (List SourceRow)) (rows : List SourceRow) (rest : List (List SourceRow)) → EachHas n ps → AreWide w rows
-      → remaining scope (later (n + w) conds) (all_extended scope (ready (n + w) conds) ps rows) rest ≡ remaining scope conds ps (rows ∷ rest)
+  pub step-same : (n w : ℕ) (conds : List BoundExpr) → AreAllPlaced scope conds → (ps : List (List SourceRow)) (rows : List SourceRow) (rest : List (List SourceRow)) → EachHas n ps → AreWide w rows
+      → extensions_left scope (later_conditions (n + w) conds) (extensions_of_all scope (ready_conditions (n + w) conds) ps rows) rest ≡ extensions_left scope conds ps (rows ∷ rest)
   step-same n w conds all ps rows rest long wide = sym (
-      ap (filter (tests scope conds)) (goes_on ps rows rest)
-      ∙ pushed (tests scope conds) (tests scope (ready (n + w) conds)) (tests scope (later (n + w) conds)) (extensions ps rows) rest
+      ap (filter (tests scope conds)) (products-more ps rows rest)
+      ∙ pushed (tests scope conds) (tests scope (ready_conditions (n + w) conds)) (tests scope (later_conditions (n + w) conds)) (extensions ps rows) rest
       (each-splits scope (n + w) conds all (extensions ps rows) (longer n w ps rows long wide))
-      ∙ ap (λ qs. remaining scope (later (n + w) conds) qs rest) (all-together (ready (n + w) conds) ps rows))
+      ∙ ap (λ qs. extensions_left scope (later_conditions (n + w) conds) qs rest) (all-together (ready_conditions (n + w) conds) ps rows))
 
-  pub first-step : (conds : List Placed) (tables : List (List SourceRow)) → remaining scope conds ([] ∷ []) tables ≡ filter (tests scope conds) (combos tables)
+  pub first-step : (conds : List BoundExpr) (tables : List (List SourceRow)) → extensions_left scope conds ([] ∷ []) tables ≡ filter (tests scope conds) (combos tables)
   first-step conds tables = ap (filter (tests scope conds)) (all_of tables)
 
-  pub last-step : (conds : List Placed) (ps : List (List SourceRow)) → remaining scope conds ps [] ≡ filter (tests scope conds) ps
+  pub last-step : (conds : List BoundExpr) (ps : List (List SourceRow)) → extensions_left scope conds ps [] ≡ filter (tests scope conds) ps
   last-step conds ps = ap (filter (tests scope conds)) (all_there ps)
 
   -- without a condition all stay
-  pub no-conditions : (conds : List Placed) → conds ≡ [] → (ps : List (List SourceRow)) → ps ≡ filter (tests scope conds) ps
+  pub no-conditions : (conds : List BoundExpr) → conds ≡ [] → (ps : List (List SourceRow)) → ps ≡ filter (tests scope conds) ps
   no-conditions conds none [] = refl
   no-conditions conds none (p ∷ ps) =
-      let passes : tests scope conds p ≡ true = ap (λ (cs : List Placed). tests scope cs p) none in
+      let passes : tests scope conds p ≡ true = ap (λ (cs : List BoundExpr). tests scope cs p) none in
       ap (λ l. p ∷ l) (no-conditions conds none ps) ∙ sym (ap (λ b. cond b (p ∷ filter (tests scope conds) ps) (filter (tests scope conds) ps)) passes)
 
 -- ---- rows that are looked up
@@ -168,44 +168,44 @@ found-exact test rest f kept same (x ∷ xs) = elim (cases_Bool (kept x)) [
 ]
 
 -- one condition of several, and the others
-apart : (scope : List InScope) (values : List Value) (conds : List Placed) (i : ℕ) (x : Placed) (rest : List Placed) → drop i conds ≡ x ∷ rest
+apart : (scope : List InScope) (values : List Value) (conds : List BoundExpr) (i : ℕ) (x : BoundExpr) (rest : List BoundExpr) → drop i conds ≡ x ∷ rest
     → meets scope conds values ≡ (is_true (truth x.expr (environment scope values)) && meets scope (remove conds i) values)
 apart scope values [] zero x rest is = cc
 apart scope values [] (suc i) x rest is = cc
 apart scope values (c ∷ conds) zero x rest is =
     let same : c ≡ x = cc in
-    ap (λ (y : Placed). is_true (truth y.expr (environment scope values)) && meets scope conds values) same
+    ap (λ (y : BoundExpr). is_true (truth y.expr (environment scope values)) && meets scope conds values) same
 apart scope values (c ∷ conds) (suc i) x rest is =
     ap (λ b. is_true (truth c.expr (environment scope values)) && b) (apart scope values conds i x rest is)
     ∙ swapped (is_true (truth c.expr (environment scope values))) (is_true (truth x.expr (environment scope values))) (meets scope (remove conds i) values)
 
-one-placed : (scope : List InScope) (conds : List Placed) (i : ℕ) (x : Placed) (rest : List Placed) → drop i conds ≡ x ∷ rest → AllPlaced scope conds → IsPlaced scope x
+one-placed : (scope : List InScope) (conds : List BoundExpr) (i : ℕ) (x : BoundExpr) (rest : List BoundExpr) → drop i conds ≡ x ∷ rest → AreAllPlaced scope conds → IsPlaced scope x
 one-placed scope [] zero x rest is all = cc
 one-placed scope [] (suc i) x rest is all = cc
 one-placed scope (c ∷ conds) zero x rest is all = let same : c ≡ x = cc in subst (IsPlaced scope) same all.0
 one-placed scope (c ∷ conds) (suc i) x rest is all = one-placed scope conds i x rest is all.1
 
-pub others-placed : (scope : List InScope) (conds : List Placed) (i : ℕ) → AllPlaced scope conds → AllPlaced scope (remove conds i)
+pub others-placed : (scope : List InScope) (conds : List BoundExpr) (i : ℕ) → AreAllPlaced scope conds → AreAllPlaced scope (remove conds i)
 others-placed scope [] zero all = tt
 others-placed scope [] (suc i) all = tt
 others-placed scope (c ∷ conds) zero all = all.1
 others-placed scope (c ∷ conds) (suc i) all = (all.0, others-placed scope conds i all.1)
 
-pub probe-within : (conds : List Placed) (n i : ℕ) (probe : Probe) → HasProbe conds n i probe → i < length conds
+pub probe-within : (conds : List BoundExpr) (n i : ℕ) (probe : Probe) → HasProbe conds n i probe → i < length conds
 probe-within conds n i probe has = within conds i has.placed (drop (i + 1) conds) has.at
   where
-    within : (cs : List Placed) (i : ℕ) (x : Placed) (rest : List Placed) → drop i cs ≡ x ∷ rest → i < length cs
+    within : (cs : List BoundExpr) (i : ℕ) (x : BoundExpr) (rest : List BoundExpr) → drop i cs ≡ x ∷ rest → i < length cs
     within [] zero x rest is = cc
     within [] (suc i) x rest is = cc
     within (c ∷ cs) zero x rest is = omega arith
     within (c ∷ cs) (suc i) x rest is = omega (arith, within cs i x rest is)
 
 -- the rows that are looked up are those that meet the equality
-pub tied-level : (scope : List InScope) (conds : List Placed) → AllPlaced scope conds → (n i : ℕ) (probe : Probe) → HasProbe conds n i probe
-    → (ps : List (List SourceRow)) (rows : List SourceRow) → EachHas n ps → looked_up scope (remove conds i) probe ps rows ≡ all_extended scope conds ps rows
+pub tied-level : (scope : List InScope) (conds : List BoundExpr) → AreAllPlaced scope conds → (n i : ℕ) (probe : Probe) → HasProbe conds n i probe
+    → (ps : List (List SourceRow)) (rows : List SourceRow) → EachHas n ps → extensions_by_probe scope (remove conds i) probe ps rows ≡ extensions_of_all scope conds ps rows
 tied-level scope conds all n i probe has [] rows long = refl
 tied-level scope conds all n i probe has (p ∷ ps) rows long = λ j.
-    found-exact (tests scope conds) (tests scope (remove conds i)) (λ row. p ++ row ∷ []) (λ row. equals (value_at (joined p) probe.from) (value_at row.values probe.place))
-    (λ row. apart scope (joined (p ++ row ∷ [])) conds i has.placed (drop (i + 1) conds) has.at
-    ∙ ap (λ b. b && meets scope (remove conds i) (joined (p ++ row ∷ []))) (sym (has.is scope (one-placed scope conds i has.placed (drop (i + 1) conds) has.at all) p row long.0))) rows j
+    found-exact (tests scope conds) (tests scope (remove conds i)) (λ row. p ++ row ∷ []) (λ row. equals (value_at (joined_row_values p) probe.from) (value_at row.values probe.place))
+    (λ row. apart scope (joined_row_values (p ++ row ∷ [])) conds i has.placed (drop (i + 1) conds) has.at
+    ∙ ap (λ b. b && meets scope (remove conds i) (joined_row_values (p ++ row ∷ []))) (sym (has.is scope (one-placed scope conds i has.placed (drop (i + 1) conds) has.at all) p row long.0))) rows j
     ++ tied-level scope conds all n i probe has ps rows long.1 j

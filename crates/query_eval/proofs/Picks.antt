@@ -8,19 +8,19 @@ use Rattle.std.specs.List.Sorted.{IsStrictlySortedBy}
 use Rattle.std.specs.Ordering.{nat_cmp}
 use Rattle.std.proofs.lemmas.Bool.{cases_Bool}
 use Rattle.std.proofs.lemmas.List.{map-append}
-use Rattle.lineage.specs.Lineage.{Row, Lineage, name_at, added}
-use Rattle.lineage.specs.Rows.{kept, PicksStandFor, joined_row}
+use Rattle.lineage.specs.Lineage.{Row, Lineage, name_at, with_version}
+use Rattle.lineage.specs.Rows.{kept_origins, PicksStandFor, joined_row}
 use Rattle.lineage.specs.StandsFor.{StandsFor, origin_at}
 use Rattle.lineage.specs.declared.answer.Pick.{Pick}
-use Rattle.lineage.proofs.Origins.{AreDistinct, distinct-sorted, stands-empty, stands-added}
+use Rattle.lineage.proofs.Origins.{AreDistinct, distinct-sorted, stands-empty, stands-with_version}
 use Rattle.core_parts.proofs.Lists.{kept_twice}
 use Rattle.query_eval.proofs.Product.{filter_joined}
 use Rattle.core_parts.specs.Conditions.{AreConditions}
 use Rattle.query_eval.specs.Joining.{combos, tests}
 use Rattle.query_eval.specs.Picking.{rows_added, kept_rows, pick_of}
-use Rattle.query_eval.specs.Sourcing.{table_row, source_rows, joined, AreSources, all_kept, LeavesPicked}
+use Rattle.query_eval.specs.Sourcing.{table_row, source_rows, joined_row_values, AreSources, are_kept, LeavesPicked}
 use Rattle.query_eval.specs.Types.{Core, FromItem, Table, TableRow, Value}
-use Rattle.core_parts.specs.declared.placed.Placed.{Placed}
+use Rattle.core_parts.specs.declared.placed.BoundExpr.{BoundExpr}
 use Rattle.query_eval.specs.declared.source.Source.{Source}
 use Rattle.query_eval.specs.declared.source.SourceRow.{SourceRow}
 use Rattle.sql_model.specs.Needs.{Versions}
@@ -31,9 +31,9 @@ use Rattle.sql_model.specs.Scope.{InScope, catalog_of, environment, rows_of, sco
 abbrev pub table_rows : List SourceRow → Combination
 table_rows rows = map table_row rows
 
-joined-rows : (rows : List SourceRow) → joined rows ≡ joined_values (table_rows rows)
-joined-rows [] = refl
-joined-rows (row ∷ rows) = ap (λ l. row.values ++ l) (joined-rows rows)
+joined_row_values-rows : (rows : List SourceRow) → joined_row_values rows ≡ joined_values (table_rows rows)
+joined_row_values-rows [] = refl
+joined_row_values-rows (row ∷ rows) = ap (λ l. row.values ++ l) (joined_row_values-rows rows)
 
 -- ---- combinations
 
@@ -62,34 +62,34 @@ none-pass f q fails (x ∷ xs) = none-pass f q fails xs ∙ sym (ap (λ b. cond 
 
 -- the product of the rows that are kept
 kept-product : (stays : TableRow → Bool) (keeps : List (TableRow → Bool)) (ds : List Combination) (rows : List TableRow)
-    → flat_map (λ row. map (λ others. row ∷ others) (filter (all_kept keeps) ds)) (filter stays rows) ≡ filter (all_kept (stays ∷ keeps)) (flat_map (λ row. map (λ others. row ∷ others) ds) rows)
+    → flat_map (λ row. map (λ others. row ∷ others) (filter (are_kept keeps) ds)) (filter stays rows) ≡ filter (are_kept (stays ∷ keeps)) (flat_map (λ row. map (λ others. row ∷ others) ds) rows)
 kept-product stays keeps ds [] = refl
 kept-product stays keeps ds (row ∷ rows) =
     let more = flat_map (λ row. map (λ others. row ∷ others) ds) rows in
     elim (cases_Bool (stays row)) [
       | inl hit ↦
-          rw hit (λ j. filter-through (λ others. row ∷ others) (all_kept keeps) (all_kept (stays ∷ keeps)) (λ others. sym (ap (λ b. b && all_kept keeps others) hit)) ds j ++ kept-product stays keeps ds rows j)
-          ∙ sym (filter_joined (all_kept (stays ∷ keeps)) (map (λ others. row ∷ others) ds) more)
+          rw hit (λ j. filter-through (λ others. row ∷ others) (are_kept keeps) (are_kept (stays ∷ keeps)) (λ others. sym (ap (λ b. b && are_kept keeps others) hit)) ds j ++ kept-product stays keeps ds rows j)
+          ∙ sym (filter_joined (are_kept (stays ∷ keeps)) (map (λ others. row ∷ others) ds) more)
       | inr miss ↦
           rw miss (kept-product stays keeps ds rows)
-          ∙ (λ j. none-pass (λ others. row ∷ others) (all_kept (stays ∷ keeps)) (λ others. ap (λ b. b && all_kept keeps others) miss) ds j ++ filter (all_kept (stays ∷ keeps)) more)
-          ∙ sym (filter_joined (all_kept (stays ∷ keeps)) (map (λ others. row ∷ others) ds) more)
+          ∙ (λ j. none-pass (λ others. row ∷ others) (are_kept (stays ∷ keeps)) (λ others. ap (λ b. b && are_kept keeps others) miss) ds j ++ filter (are_kept (stays ∷ keeps)) more)
+          ∙ sym (filter_joined (are_kept (stays ∷ keeps)) (map (λ others. row ∷ others) ds) more)
     ]
 
 pub combos-are : (names : List (List ℕ)) (versions : Versions) (db : List Table) (from : List FromItem) (keeps : List (TableRow → Bool)) (sources : List Source)
-    → AreSources names versions db from keeps sources → map table_rows (combos (map source_rows sources)) ≡ filter (all_kept keeps) (combinations from db)
+    → AreSources names versions db from keeps sources → map table_rows (combos (map source_rows sources)) ≡ filter (are_kept keeps) (combinations from db)
 combos-are names versions db [] [] [] are = refl
 combos-are names versions db [] (stays ∷ keeps) [] are = refl
 combos-are names versions db [] keeps (source ∷ sources) are = absurd are
 combos-are names versions db (item ∷ from) [] sources are = absurd are
 combos-are names versions db (item ∷ from) (stays ∷ keeps) [] are = absurd are
 combos-are names versions db (item ∷ from) (stays ∷ keeps) (source ∷ sources) are =
-    one-source (combos (map source_rows sources)) (filter (all_kept keeps) (combinations from db)) (combos-are names versions db from keeps sources are.1) source.rows
-    ∙ ap (flat_map (λ row. map (λ others. row ∷ others) (filter (all_kept keeps) (combinations from db)))) are.0.rows
+    one-source (combos (map source_rows sources)) (filter (are_kept keeps) (combinations from db)) (combos-are names versions db from keeps sources are.1) source.rows
+    ∙ ap (flat_map (λ row. map (λ others. row ∷ others) (filter (are_kept keeps) (combinations from db)))) are.0.rows
     ∙ kept-product stays keeps (combinations from db) (rows_of (table_at item.table db))
 
 -- those that are kept are the picked ones
-pub picked-are : (names : List (List ℕ)) (versions : Versions) (db : List Table) (core : Core) (keeps : List (TableRow → Bool)) (sources : List Source) (conds : List Placed)
+pub picked-are : (names : List (List ℕ)) (versions : Versions) (db : List Table) (core : Core) (keeps : List (TableRow → Bool)) (sources : List Source) (conds : List BoundExpr)
     → AreSources names versions db core.from keeps sources
     → LeavesPicked core db keeps
     → AreConditions (scope_of core.from (catalog_of db)) core.picks conds
@@ -98,10 +98,10 @@ picked-are names versions db core keeps sources conds are leaves same =
     let scope : List InScope = scope_of core.from (catalog_of db) in
     let test : Combination → Bool = λ rows. meets_all core.picks (row_environment scope rows) in
     filter-through table_rows (tests scope conds) test
-    (λ rows. same.same (joined rows) ∙ ap (λ (vs : List Value). meets_all core.picks (environment scope vs)) (joined-rows rows))
+    (λ rows. same.same (joined_row_values rows) ∙ ap (λ (vs : List Value). meets_all core.picks (environment scope vs)) (joined_row_values-rows rows))
     (combos (map source_rows sources))
     ∙ ap (filter test) (combos-are names versions db core.from keeps sources are)
-    ∙ kept_twice test (all_kept keeps) (combinations core.from db) leaves
+    ∙ kept_twice test (are_kept keeps) (combinations core.from db) leaves
 
 -- ---- versions
 
@@ -160,26 +160,26 @@ module _ (names : List (List ℕ)) (versions : Versions) where
       let origin : Origin = record { table = item.table; row = row.number } in
       let version : row.version ≡ versions (name_at names source.table) row.number = at.0 ∙ ap (λ (n : List ℕ). versions n row.number) (sym are.0.named) in
       let same : origin_at names place ≡ origin = ap (λ (n : List ℕ). record { table = n; row = row.number }) are.0.named in
-      let one : StandsFor names versions (added set place row.version) (before ++ origin ∷ []) =
-      subst (λ (v : ℕ). StandsFor names versions (added set place v) (before ++ origin ∷ [])) (sym version)
-      (subst (λ (o : Origin). StandsFor names versions (added set place (versions (name_at names source.table) row.number)) (before ++ o ∷ [])) same
-      (stands-added names versions distinct set before place are.0.within stands)) in
-      subst (StandsFor names versions (rows_added (added set place row.version) sources rows)) (append_assoc before (origin ∷ []) (combination_rows from (table_rows rows)))
-      (added-stands distinct db from keeps sources are.1 rows at.1 (added set place row.version) (before ++ origin ∷ []) one)
+      let one : StandsFor names versions (with_version set place row.version) (before ++ origin ∷ []) =
+      subst (λ (v : ℕ). StandsFor names versions (with_version set place v) (before ++ origin ∷ [])) (sym version)
+      (subst (λ (o : Origin). StandsFor names versions (with_version set place (versions (name_at names source.table) row.number)) (before ++ o ∷ [])) same
+      (stands-with_version names versions distinct set before place are.0.within stands)) in
+      subst (StandsFor names versions (rows_added (with_version set place row.version) sources rows)) (append_assoc before (origin ∷ []) (combination_rows from (table_rows rows)))
+      (added-stands distinct db from keeps sources are.1 rows at.1 (with_version set place row.version) (before ++ origin ∷ []) one)
 
-  kept-stands : AreDistinct names → (keep : Bool) (db : List Table) (from : List FromItem) (keeps : List (TableRow → Bool)) (sources : List Source) → AreSources names versions db from keeps sources
-      → (rows : List SourceRow) → HasVersions from rows → StandsFor names versions (kept_rows keep sources rows) (kept keep (combination_rows from (table_rows rows)))
-  kept-stands distinct true db from keeps sources are rows at = added-stands distinct db from keeps sources are rows at empty [] (stands-empty names versions)
-  kept-stands distinct false db from keeps sources are rows at = stands-empty names versions
+  kept_origins-stands : AreDistinct names → (keep : Bool) (db : List Table) (from : List FromItem) (keeps : List (TableRow → Bool)) (sources : List Source) → AreSources names versions db from keeps sources
+      → (rows : List SourceRow) → HasVersions from rows → StandsFor names versions (kept_rows keep sources rows) (kept_origins keep (combination_rows from (table_rows rows)))
+  kept_origins-stands distinct true db from keeps sources are rows at = added-stands distinct db from keeps sources are rows at empty [] (stands-empty names versions)
+  kept_origins-stands distinct false db from keeps sources are rows at = stands-empty names versions
 
   picks-stand : AreDistinct names → (keep : Bool) (db : List Table) (from : List FromItem) (keeps : List (TableRow → Bool)) (sources : List Source) → AreSources names versions db from keeps sources
       → (cs : List (List SourceRow)) → AllByRecursion (HasVersions from) cs
       → PicksStandFor names versions keep (map (pick_of keep sources) cs) (map (joined_row from) (map table_rows cs))
   picks-stand distinct keep db from keeps sources are [] all = tt
   picks-stand distinct keep db from keeps sources are (rows ∷ cs) all =
-      (record { same = joined-rows rows; stands = kept-stands distinct keep db from keeps sources are rows all.0 }, picks-stand distinct keep db from keeps sources are cs all.1)
+      (record { same = joined_row_values-rows rows; stands = kept_origins-stands distinct keep db from keeps sources are rows all.0 }, picks-stand distinct keep db from keeps sources are cs all.1)
 
-  pub all-stand : IsStrictlySortedBy (slice_cmp nat_cmp) names → (keep : Bool) (db : List Table) (core : Core) (keeps : List (TableRow → Bool)) (sources : List Source) (conds : List Placed) (picks : List Pick)
+  pub all-stand : IsStrictlySortedBy (slice_cmp nat_cmp) names → (keep : Bool) (db : List Table) (core : Core) (keeps : List (TableRow → Bool)) (sources : List Source) (conds : List BoundExpr) (picks : List Pick)
       → AreSources names versions db core.from keeps sources
       → LeavesPicked core db keeps
       → AreConditions (scope_of core.from (catalog_of db)) core.picks conds

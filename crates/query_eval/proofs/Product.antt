@@ -40,10 +40,10 @@ one_more p (row ∷ rows) rest =
     ∙ (λ j. moved p row (combos rest) j ++ one_more p rows rest j)
 
 -- the product goes on from the left
-pub goes_on : (ps : List (List SourceRow)) (rows : List SourceRow) (rest : List (List SourceRow)) → products ps (rows ∷ rest) ≡ products (extensions ps rows) rest
-goes_on [] rows rest = refl
-goes_on (p ∷ ps) rows rest =
-    (λ j. one_more p rows rest j ++ goes_on ps rows rest j)
+pub products-more : (ps : List (List SourceRow)) (rows : List SourceRow) (rest : List (List SourceRow)) → products ps (rows ∷ rest) ≡ products (extensions ps rows) rest
+products-more [] rows rest = refl
+products-more (p ∷ ps) rows rest =
+    (λ j. one_more p rows rest j ++ products-more ps rows rest j)
     ∙ sym (flat_map_joined (λ q. map (λ others. q ++ others) (combos rest)) (map (λ row. p ++ row ∷ []) rows) (extensions ps rows))
 
 prefixed_none : (cs : List (List SourceRow)) → map (λ others. [] ++ others) cs ≡ cs
@@ -91,12 +91,12 @@ module _ (whole first rest : List SourceRow → Bool) where
 
 -- ---- a filter before a filter: those that are left out would not pass
 
-pub found : {X A : Type 0} (test : A → Bool) (f : X → A) (kept : X → Bool) → ((x : X) → test (f x) ≡ true → kept x ≡ true) → (xs : List X) → filter test (map f (filter kept xs)) ≡ filter test (map f xs)
-found test f kept sound [] = refl
-found test f kept sound (x ∷ xs) = elim (cases_Bool (kept x)) [
-  | inl hit ↦ rw hit (ap (λ l. cond (test (f x)) (f x ∷ l) l) (found test f kept sound xs))
+pub filter-of-kept : {X A : Type 0} (test : A → Bool) (f : X → A) (kept : X → Bool) → ((x : X) → test (f x) ≡ true → kept x ≡ true) → (xs : List X) → filter test (map f (filter kept xs)) ≡ filter test (map f xs)
+filter-of-kept test f kept sound [] = refl
+filter-of-kept test f kept sound (x ∷ xs) = elim (cases_Bool (kept x)) [
+  | inl hit ↦ rw hit (ap (λ l. cond (test (f x)) (f x ∷ l) l) (filter-of-kept test f kept sound xs))
   | inr miss ↦ elim (cases_Bool (test (f x))) [
     | inl passes ↦ let no : false ≡ true = sym miss ∙ sound x passes in cc
-    | inr fails ↦ rw (miss, fails) (found test f kept sound xs)
+    | inr fails ↦ rw (miss, fails) (filter-of-kept test f kept sound xs)
   ]
 ]

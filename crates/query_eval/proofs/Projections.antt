@@ -3,22 +3,22 @@ use Rattle.std.proofs.Common.{◌≡◌, ◌∙◌, sym, ap, subst, refl, ℕ, z
 use Rattle.std.specs.Prelude.{filter, slice_get, unwrap_or, if◌then◌else◌, option_to_list}
 use Rattle.std.specs.List.{flat_map}
 use Rattle.std.proofs.lemmas.List.{map-append}
-use Rattle.lineage.specs.Rows.{kept, IsRow, AnswersStandFor, PicksStandFor, joined_row}
+use Rattle.lineage.specs.Rows.{kept_origins, IsRow, AnswersStandFor, PicksStandFor, joined_row}
 use Rattle.lineage.specs.StandsFor.{StandsFor}
 use Rattle.lineage.specs.declared.answer.Answer.{Answer}
 use Rattle.lineage.specs.declared.answer.Pick.{Pick}
 use Rattle.core_parts.specs.Checking.{core_at, places_at, IsChecked}
-use Rattle.core_parts.specs.Placing.{AllPlaced}
+use Rattle.core_parts.specs.Placing.{AreAllPlaced}
 use Rattle.query_eval.specs.Projecting.{values_over}
-use Rattle.query_eval.specs.Projecting.{projected, whole, IsProjected}
+use Rattle.query_eval.specs.Projecting.{projected_answer, answer_of_all_columns, IsProjected}
 use Rattle.query_eval.specs.Types.{Catalog, Checked, Core, Item, Query, Statement, TheQuery, Value}
-use Rattle.core_parts.specs.declared.placed.Placed.{Placed}
+use Rattle.core_parts.specs.declared.placed.BoundExpr.{BoundExpr}
 use Rattle.sql_model.specs.Kinds.{names_in}
 use Rattle.sql_model.specs.Meaning.{eval}
 use Rattle.sql_model.specs.Needs.{Versions}
 use Rattle.core_parts.proofs.Lists.{got-mapped}
 use Rattle.sql_model.specs.Places.{core_places, order_places}
-use Rattle.sql_model.specs.QueryAnswer.{Origin, Combination, combination_rows, joined_values, item_values, group_row, single, rows_in_scope, is_kept, groups_of}
+use Rattle.sql_model.specs.QueryAnswer.{Origin, Combination, combination_rows, joined_values, item_values, group_row, one_combination, rows_in_scope, is_kept, groups_of}
 use Rattle.sql_model.specs.Refusals.{answer_titles, core_names, cores_of, groups, names_of_items}
 use Rattle.sql_model.specs.Scope.{InScope, environment, places_in, place_of, scope_of}
 
@@ -37,76 +37,76 @@ module _ (checked : Checked) (query : Query) (catalog : Catalog) (is : IsChecked
 -- ---- rows
 
 module _ (names : List (List ℕ)) (versions : Versions) (keep : Bool) (scope : List InScope) (core : Core) where
-  alone : (rows : Combination) → combination_rows core.from rows ≡ (group_row scope core (single rows)).lineage
+  alone : (rows : Combination) → combination_rows core.from rows ≡ (group_row scope core (one_combination rows)).lineage
   alone rows = sym (append-nil (combination_rows core.from rows))
 
   lineage-stands : (pick : Pick) (rows : Combination) → IsRow names versions keep pick.values pick.lineage (joined_row core.from rows)
-      → StandsFor names versions pick.lineage (kept keep (group_row scope core (single rows)).lineage)
-  lineage-stands pick rows row = subst (λ (origins : List Origin). StandsFor names versions pick.lineage (kept keep origins)) (alone rows) row.stands
+      → StandsFor names versions pick.lineage (kept_origins keep (group_row scope core (one_combination rows)).lineage)
+  lineage-stands pick rows row = subst (λ (origins : List Origin). StandsFor names versions pick.lineage (kept_origins keep origins)) (alone rows) row.stands
 
-  whole-stands : core.items ≡ None → (picks : List Pick) (all : List Combination) → PicksStandFor names versions keep picks (map (joined_row core.from) all)
-      → AnswersStandFor names versions keep (map whole picks) (map (λ rows. group_row scope core (single rows)) all)
-  whole-stands is [] [] stand = stand
-  whole-stands is [] (rows ∷ all) stand = absurd stand
-  whole-stands is (pick ∷ picks) [] stand = absurd stand
-  whole-stands is (pick ∷ picks) (rows ∷ all) stand = (
+  answer_of_all_columns-stands : core.items ≡ None → (picks : List Pick) (all : List Combination) → PicksStandFor names versions keep picks (map (joined_row core.from) all)
+      → AnswersStandFor names versions keep (map answer_of_all_columns picks) (map (λ rows. group_row scope core (one_combination rows)) all)
+  answer_of_all_columns-stands is [] [] stand = stand
+  answer_of_all_columns-stands is [] (rows ∷ all) stand = absurd stand
+  answer_of_all_columns-stands is (pick ∷ picks) [] stand = absurd stand
+  answer_of_all_columns-stands is (pick ∷ picks) (rows ∷ all) stand = (
     record {
-      same = stand.0.same ∙ ap (λ (items : Option (List Item)). item_values scope items (single rows)) (sym is);
+      same = stand.0.same ∙ ap (λ (items : Option (List Item)). item_values scope items (one_combination rows)) (sym is);
       stands = lineage-stands pick rows stand.0;
     },
-    whole-stands is picks all stand.1,
+    answer_of_all_columns-stands is picks all stand.1,
   )
 
-  values-are : (placed : List Placed) (items : List Item) → map (λ p. p.expr) placed ≡ map (λ item. item.expr) items → (rows : Combination) (values : List Value) → values ≡ joined_values rows
-      → values_over scope values placed ≡ item_values scope (Some items) (single rows)
+  values-are : (placed : List BoundExpr) (items : List Item) → map (λ p. p.expr) placed ≡ map (λ item. item.expr) items → (rows : Combination) (values : List Value) → values ≡ joined_values rows
+      → values_over scope values placed ≡ item_values scope (Some items) (one_combination rows)
   values-are placed items exprs rows values is =
       ap (λ (vs : List Value). values_over scope vs placed) is
       ∙ through placed
       ∙ ap (map (λ e. (eval e (environment scope (joined_values rows) ∷ [])).value)) exprs
       ∙ back items
     where
-      through : (ps : List Placed) → values_over scope (joined_values rows) ps ≡ map (λ e. (eval e (environment scope (joined_values rows) ∷ [])).value) (map (λ p. p.expr) ps)
+      through : (ps : List BoundExpr) → values_over scope (joined_values rows) ps ≡ map (λ e. (eval e (environment scope (joined_values rows) ∷ [])).value) (map (λ p. p.expr) ps)
       through [] = refl
       through (p ∷ ps) = ap (λ vs. (eval p.expr (environment scope (joined_values rows) ∷ [])).value ∷ vs) (through ps)
 
-      back : (xs : List Item) → map (λ e. (eval e (environment scope (joined_values rows) ∷ [])).value) (map (λ item. item.expr) xs) ≡ item_values scope (Some xs) (single rows)
+      back : (xs : List Item) → map (λ e. (eval e (environment scope (joined_values rows) ∷ [])).value) (map (λ item. item.expr) xs) ≡ item_values scope (Some xs) (one_combination rows)
       back [] = refl
       back (x ∷ xs) = ap (λ vs. (eval x.expr (environment scope (joined_values rows) ∷ [])).value ∷ vs) (back xs)
 
-  projected-stands : (items : List Item) → core.items ≡ Some items → (placed : List Placed) → map (λ p. p.expr) placed ≡ map (λ item. item.expr) items
+  projected_answer-stands : (items : List Item) → core.items ≡ Some items → (placed : List BoundExpr) → map (λ p. p.expr) placed ≡ map (λ item. item.expr) items
       → (picks : List Pick) (all : List Combination) → PicksStandFor names versions keep picks (map (joined_row core.from) all)
-      → AnswersStandFor names versions keep (map (projected scope placed) picks) (map (λ rows. group_row scope core (single rows)) all)
-  projected-stands items is placed exprs [] [] stand = stand
-  projected-stands items is placed exprs [] (rows ∷ all) stand = absurd stand
-  projected-stands items is placed exprs (pick ∷ picks) [] stand = absurd stand
-  projected-stands items is placed exprs (pick ∷ picks) (rows ∷ all) stand = (
+      → AnswersStandFor names versions keep (map (projected_answer scope placed) picks) (map (λ rows. group_row scope core (one_combination rows)) all)
+  projected_answer-stands items is placed exprs [] [] stand = stand
+  projected_answer-stands items is placed exprs [] (rows ∷ all) stand = absurd stand
+  projected_answer-stands items is placed exprs (pick ∷ picks) [] stand = absurd stand
+  projected_answer-stands items is placed exprs (pick ∷ picks) (rows ∷ all) stand = (
     record {
-      same = values-are placed items exprs rows pick.values stand.0.same ∙ ap (λ (items : Option (List Item)). item_values scope items (single rows)) (sym is);
+      same = values-are placed items exprs rows pick.values stand.0.same ∙ ap (λ (items : Option (List Item)). item_values scope items (one_combination rows)) (sym is);
       stands = lineage-stands pick rows stand.0;
     },
-    projected-stands items is placed exprs picks all stand.1,
+    projected_answer-stands items is placed exprs picks all stand.1,
   )
 
-  ungrouped : groups core ≡ false → (all : List Combination) → map (λ rows. group_row scope core (single rows)) all ≡ rows_in_scope scope core all
+  ungrouped : groups core ≡ false → (all : List Combination) → map (λ rows. group_row scope core (one_combination rows)) all ≡ rows_in_scope scope core all
   ungrouped alone all =
-      sym (ap (λ (b : Bool). if b then map (group_row scope core) (filter (is_kept scope core.having) (groups_of scope core.group all)) else map (λ rows. group_row scope core (single rows)) all) alone)
+      sym (ap (λ (b : Bool). if b then map (group_row scope core) (filter (is_kept scope core.having) (groups_of scope core.group all)) else map (λ rows. group_row scope core (one_combination rows)) all) alone)
 
 pub some-same : (a b : Core) → Some a ≡ Some b → a ≡ b
 some-same a b is = cc
 
 -- ---- the answers of a core
 
-pub whole-projected : (checked : Checked) (place : ℕ) (of : Core) (picks : List Pick) → core_at checked place ≡ Some of → of.items ≡ None → IsProjected checked place picks (map whole picks)
-whole-projected checked place of picks at none query catalog core names versions keep all is got alone stand =
+pub answer_of_all_columns-projected : (checked : Checked) (place : ℕ) (of : Core) (picks : List Pick) → core_at checked place ≡ Some of → of.items ≡ None → IsProjected checked place picks (map answer_of_all_columns picks)
+answer_of_all_columns-projected checked place of picks at none query catalog core names versions keep all is got alone stand =
     let same : of ≡ core = some-same of core (sym at ∙ got) in
-    subst (AnswersStandFor names versions keep (map whole picks)) (ungrouped names versions keep (scope_of core.from catalog) core alone all)
-    (whole-stands names versions keep (scope_of core.from catalog) core (ap (λ (c : Core). c.items) (sym same) ∙ none) picks all stand)
+    subst (AnswersStandFor names versions keep (map answer_of_all_columns picks)) (ungrouped names versions keep (scope_of core.from catalog) core alone all)
+    (answer_of_all_columns-stands names versions keep (scope_of core.from catalog) core (ap (λ (c : Core). c.items) (sym same) ∙ none) picks all stand)
 
-pub items-projected : (checked : Checked) (place : ℕ) (of : Core) (items : List Item) (picks : List Pick) (placed : List Placed) (answers : List Answer)
+pub items-projected : (checked : Checked) (place : ℕ) (of : Core) (items : List Item) (picks : List Pick) (placed : List BoundExpr) (answers : List Answer)
     → core_at checked place ≡ Some of → of.items ≡ Some items
     → map (λ p. p.expr) placed ≡ map (λ item. item.expr) items
-    → ((scope : List InScope) (others : List ℕ) → places_at checked place ≡ places_in scope (names_of_items items) ++ others → AllPlaced scope placed)
-    → ((scope : List InScope) → AllPlaced scope placed → answers ≡ map (projected scope placed) picks)
+    → ((scope : List InScope) (others : List ℕ) → places_at checked place ≡ places_in scope (names_of_items items) ++ others → AreAllPlaced scope placed)
+    → ((scope : List InScope) → AreAllPlaced scope placed → answers ≡ map (projected_answer scope placed) picks)
     → IsProjected checked place picks answers
 items-projected checked place of items picks placed answers at some exprs placing made query catalog core names versions keep all is got alone stand =
     let same : of ≡ core = some-same of core (sym at ∙ got) in
@@ -117,9 +117,9 @@ items-projected checked place of items picks placed answers at some exprs placin
     core-places checked query catalog is place core got
     ∙ ap (λ (o : Option (List Item)). places_in scope (names_of_items (unwrap_or o []) ++ rest)) written
     ∙ map-append (place_of scope) (names_of_items items) rest in
-    let here : answers ≡ map (projected scope placed) picks = made scope (placing scope (places_in scope rest) places) in
+    let here : answers ≡ map (projected_answer scope placed) picks = made scope (placing scope (places_in scope rest) places) in
     subst (λ (made : List Answer). AnswersStandFor names versions keep made (rows_in_scope scope core all)) (sym here)
-    (subst (AnswersStandFor names versions keep (map (projected scope placed) picks)) (ungrouped names versions keep scope core alone all)
-    (projected-stands names versions keep scope core items written placed exprs picks all stand))
+    (subst (AnswersStandFor names versions keep (map (projected_answer scope placed) picks)) (ungrouped names versions keep scope core alone all)
+    (projected_answer-stands names versions keep scope core items written placed exprs picks all stand))
 
-pub ruleset projections = (whole-projected, items-projected)
+pub ruleset projections = (answer_of_all_columns-projected, items-projected)

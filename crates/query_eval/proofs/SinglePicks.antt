@@ -2,7 +2,7 @@
 use Rattle.std.proofs.Common.{◌≡◌, ◌∙◌, sym, ap, refl, suc, Bool, true, false, cond, List, [], ◌∷◌, ◌++◌, map, length, append_assoc, append-nil, arith}
 use Rattle.std.specs.Prelude.{filter}
 use Rattle.core_parts.specs.Conditions.{meets}
-use Rattle.core_parts.specs.declared.placed.Placed.{Placed}
+use Rattle.core_parts.specs.declared.placed.BoundExpr.{BoundExpr}
 use Rattle.query_eval.specs.Joining.{combos, tests}
 use Rattle.query_eval.specs.Picking.{pick_of, meets_row, row_lineage, row_pick, row_picks, source_picks}
 use Rattle.query_eval.specs.declared.source.Source.{Source}
@@ -26,7 +26,7 @@ pub mapped-left : {A B : Type 0} (f : A → B) (p : A → Bool) (made : List B) 
     → made ++ map f (filter p rest) ≡ made ++ map f (filter p (x ∷ rest))
 mapped-left f p made x miss rest = ap (λ b. made ++ map f (cond b (x ∷ filter p rest) (filter p rest))) (sym miss)
 
-module _ (scope : List InScope) (conds : List Placed) (keep : Bool) (source : Source) where
+module _ (scope : List InScope) (conds : List BoundExpr) (keep : Bool) (source : Source) where
   -- the pick of a row is that of the combination of it alone
   same-pick : (row : SourceRow) → row_pick keep source.table row ≡ pick_of keep (source ∷ []) (row ∷ [])
   same-pick row = λ j. record { values = sym (append-nil row.values) j; lineage = row_lineage keep source.table row }

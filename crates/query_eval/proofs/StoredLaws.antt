@@ -12,8 +12,8 @@ use Rattle.std.proofs.lemmas.Bool.{cases_Bool}
 use Rattle.std.proofs.lemmas.List.{drop_all, length-append}
 use Rattle.core_parts.proofs.Checks.{checked-is, tables-there}
 use Rattle.core_parts.specs.Checking.{core_at, IsChecked}
-use Rattle.core_parts.specs.Placing.{AllPlaced}
-use Rattle.core_parts.specs.declared.placed.Placed.{Placed}
+use Rattle.core_parts.specs.Placing.{AreAllPlaced}
+use Rattle.core_parts.specs.declared.placed.BoundExpr.{BoundExpr}
 use Rattle.ldv_value.proofs.Booleans.{and-first, and-parts, and-second, true≢false}
 use Rattle.ldv_value.proofs.Lists.{all-tested, all-weaker, list_all-map}
 use Rattle.ldv_value.proofs.SameBytes.{bytes_eq-true}
@@ -23,7 +23,7 @@ use Rattle.lineage.specs.declared.answer.Pick.{Pick}
 use Rattle.core_parts.proofs.FixingLaws.{fixed-key}
 use Rattle.core_parts.proofs.MaskLaws.{masks-pass}
 use Rattle.core_parts.specs.Masking.{AreMasks}
-use Rattle.core_parts.specs.declared.masking.Mask.{Mask}
+use Rattle.core_parts.specs.declared.mask.Mask.{Mask}
 use Rattle.query_eval.proofs.Agree.{value_first}
 use Rattle.query_eval.proofs.KeyedLaws.{keyed-rows}
 use Rattle.query_eval.proofs.LeavingLaws.{rows-left}
@@ -37,7 +37,7 @@ use Rattle.core_parts.specs.Fixing.{FixesKey}
 use Rattle.core_parts.specs.Conditions.{meets}
 use Rattle.query_eval.specs.Leaving.{row_passes}
 use Rattle.query_eval.specs.Picking.{source_picks, ArePicked}
-use Rattle.query_eval.specs.Sourcing.{table_row, HaveWidths, TablesAreWide, all_kept, AreSources, AreWide, SourcesAreWide, LeavesPicked}
+use Rattle.query_eval.specs.Sourcing.{table_row, HaveWidths, TablesAreWide, are_kept, AreSources, AreWide, SourcesAreWide, LeavesPicked}
 use Rattle.query_eval.specs.Stored.{table_names, TellVersions, HasVersion, AreChosenOf, IsTaken, chosen_rows, columns_in, width_at, is_name, IsPlace, IsStored, AreStored}
 use Rattle.query_eval.specs.declared.source.Source.{Source}
 use Rattle.query_eval.specs.declared.source.SourceRow.{SourceRow}
@@ -78,7 +78,7 @@ abbrev keep_by : List Mask → Option (List Value) → TableHistory → TableRow
 keep_by masks (Some key) table = has_key table.schema.key key
 keep_by masks None table = row_passes masks
 
-module _ (conds : List Placed) (before : ℕ) where
+module _ (conds : List BoundExpr) (before : ℕ) where
   abbrev pub keep_of : (table : Option TableHistory) (rows : List SourceRow) → AreChosenOf conds before table rows → TableRow → Bool
   keep_of None rows chosen = λ row. true
   keep_of (Some table) rows chosen = keep_by chosen.masks chosen.key table
@@ -97,7 +97,7 @@ module _ (conds : List Placed) (before : ℕ) where
 -- ---- only rows are left out that are in no picked combination
 
 -- which rows of each source stay
-module _ (store : StoreHistory) (conds : List Placed) where
+module _ (store : StoreHistory) (conds : List BoundExpr) where
   abbrev pub keeps_of : (from : List FromItem) (before : ℕ) (sources : List Source) → AreStored store conds from before sources → List (TableRow → Bool)
   keeps_of [] before sources are = []
   keeps_of (item ∷ from) before [] are = []
@@ -105,7 +105,7 @@ module _ (store : StoreHistory) (conds : List Placed) where
       keep_of conds before (history_at item.table store) source.rows are.0.taken.rows
       ∷ keeps_of from (before + width_at store item) sources are.1
 
-module _ (scope : List InScope) (conds : List Placed) (placed : AllPlaced scope conds) where
+module _ (scope : List InScope) (conds : List BoundExpr) (placed : AreAllPlaced scope conds) where
   module _ (before : ℕ) (row : TableRow) (front rest : List Value) (long : length front ≡ before) (met : meets scope conds (front ++ (row.values ++ rest)) ≡ true) where
     own_value : (width : ℕ) → length row.values ≡ width → (column : ℕ) → column < width → value_at (front ++ (row.values ++ rest)) (before + column) ≡ value_at row.values column
     own_value width wide column below =
@@ -128,7 +128,7 @@ module _ (scope : List InScope) (conds : List Placed) (placed : AllPlaced scope 
   module _ (store : StoreHistory) where
     pub all-stay : (from : List FromItem) (before : ℕ) (sources : List Source) (are : AreStored store conds from before sources) (rows : Combination) (front : List Value)
         → length front ≡ before → HaveWidths (map (width_at store) from) rows → meets scope conds (front ++ joined_values rows) ≡ true
-        → all_kept (keeps_of store conds from before sources are) rows ≡ true
+        → are_kept (keeps_of store conds from before sources are) rows ≡ true
     all-stay [] before sources are rows front long wide met = refl
     all-stay (item ∷ from) before [] are rows front long wide met = absurd are
     all-stay (item ∷ from) before (source ∷ sources) are [] front long wide met = refl
@@ -139,7 +139,7 @@ module _ (scope : List InScope) (conds : List Placed) (placed : AllPlaced scope 
         length-append front row.values ∙ (λ j. long j + wide.0 j) in
         let next : meets scope conds ((front ++ row.values) ++ joined_values rows) ≡ true =
         ap (meets scope conds) (append_assoc front row.values (joined_values rows)) ∙ met in
-        let there : all_kept (keeps_of store conds from (before + width_at store item) sources are.1) rows ≡ true =
+        let there : are_kept (keeps_of store conds from (before + width_at store item) sources are.1) rows ≡ true =
         all-stay from (before + width_at store item) sources are.1 rows (front ++ row.values) longer wide.1 next in
         λ j. here j && there j
 
@@ -181,7 +181,7 @@ module _ (store : StoreHistory) (database : is_database (tables_now store) ≡ t
   tables-wide [] = tt
   tables-wide (item ∷ from) = (table-wide item, tables-wide from)
 
-  module _ (conds : List Placed) where
+  module _ (conds : List BoundExpr) where
     -- the rows of a source are those of the table now that stay
     stored-rows : (item : FromItem) (before : ℕ) (source : Source) (stored : IsStored store conds item before source)
         → map table_row source.rows ≡ filter (keep_of conds before (history_at item.table store) source.rows stored.taken.rows) (rows_of (table_at item.table (tables_now store)))
@@ -285,7 +285,7 @@ first-false false b is = refl
 
 -- ---- sources
 
-module _ (store : StoreHistory) (database : is_database (tables_now store) ≡ true) (versions : Versions) (tell : TellVersions store versions) (conds : List Placed) where
+module _ (store : StoreHistory) (database : is_database (tables_now store) ≡ true) (versions : Versions) (tell : TellVersions store versions) (conds : List BoundExpr) where
   source-versions : (item : FromItem) (rows : List SourceRow) → AllByRecursion (HasVersion (history_at item.table store)) rows → AllByRecursion (λ row. row.version ≡ versions item.table row.number) rows
   source-versions item rows all =
       all-weaker (HasVersion (history_at item.table store)) (λ row. row.version ≡ versions item.table row.number) (λ row is. sym (tell item.table row.number row.version is)) rows all
@@ -324,7 +324,7 @@ place_none names name n place over same there =
 
 -- ---- sources of the code
 
-pub stored_is : (store : StoreHistory) (conds : List Placed) (item : FromItem) (before table : ℕ) (source : Source) (held : Option TableHistory)
+pub stored_is : (store : StoreHistory) (conds : List BoundExpr) (item : FromItem) (before table : ℕ) (source : Source) (held : Option TableHistory)
     → held ≡ history_at item.table store
     → IsTaken conds before held source → source.table ≡ table → IsPlace (table_names store) item.table table → IsStored store conds item before source
 stored_is store conds item before table source held is taken at there = record {
@@ -333,7 +333,7 @@ stored_is store conds item before table source held is taken at there = record {
 }
 
 -- one source more
-pub sources_step : (store : StoreHistory) (conds : List Placed) (from others : List FromItem) (item : FromItem) (before after : ℕ) (sources new : List Source) (source : Source)
+pub sources_step : (store : StoreHistory) (conds : List BoundExpr) (from others : List FromItem) (item : FromItem) (before after : ℕ) (sources new : List Source) (source : Source)
     → new ≡ sources ++ source ∷ [] → after ≡ before + source.width → IsStored store conds item before source
     → ((rest : List Source) → AreStored store conds (item ∷ others) before rest → AreStored store conds from 0 (sources ++ rest))
     → (rest : List Source) → AreStored store conds others after rest → AreStored store conds from 0 (new ++ rest)
@@ -343,7 +343,7 @@ sources_step store conds from others item before after sources new source made s
     let whole : AreStored store conds from 0 (sources ++ (source ∷ rest)) = all (source ∷ rest) (stored, moved) in
     subst (AreStored store conds from 0) (sym (ap (λ (l : List Source). l ++ rest) made ∙ append_assoc sources (source ∷ []) rest)) whole
 
-pub sources_none : (store : StoreHistory) (conds : List Placed) (from left : List FromItem) (before : ℕ) (sources : List Source) → length left < 1
+pub sources_none : (store : StoreHistory) (conds : List BoundExpr) (from left : List FromItem) (before : ℕ) (sources : List Source) → length left < 1
     → ((rest : List Source) → AreStored store conds left before rest → AreStored store conds from 0 (sources ++ rest)) → AreStored store conds from 0 sources
 sources_none store conds from [] before sources end all = subst (AreStored store conds from 0) (append-nil sources) (all [] tt)
 sources_none store conds from (item ∷ left) before sources end all = absurd (omega (arith, end))
@@ -351,12 +351,12 @@ sources_none store conds from (item ∷ left) before sources end all = absurd (o
 pub ruleset sources_end = (sources_step, sources_none)
 
 -- the picks of a core's sources in a store are those of its tables
-pub stored-picked : (checked : Checked) (place : ℕ) (store : StoreHistory) (keep : Bool) (conds : List Placed) (sources : List Source) (picks : List Pick) (of : Core)
+pub stored-picked : (checked : Checked) (place : ℕ) (store : StoreHistory) (keep : Bool) (conds : List BoundExpr) (sources : List Source) (picks : List Pick) (of : Core)
     → AreWellFormed (tables_now store)
     → core_at checked place ≡ Some of
     → AreOfCore checked place conds
     → AreStored store conds of.from 0 sources
-    → ((scope : List InScope) → AllPlaced scope conds → SourcesAreWide sources → picks ≡ source_picks scope conds keep sources)
+    → ((scope : List InScope) → AreAllPlaced scope conds → SourcesAreWide sources → picks ≡ source_picks scope conds keep sources)
     → ArePicked checked place store keep picks
 stored-picked checked place store keep conds sources picks of formed at conditions stored made query core versions given got tell =
     let database : is_database (tables_now store) ≡ true = formed.database in
@@ -373,7 +373,7 @@ stored-picked checked place store keep conds sources picks of formed at conditio
     (first-false (list_any (is_missing catalog) (flat_map tables_of_core query.cores)) (list_any doubles_source query.cores) (tables-there checked query catalog given))) in
     let keeps : List (TableRow → Bool) = keeps_of store conds core.from 0 sources own in
     let leaves : LeavesPicked core (tables_now store) keeps =
-    all-weaker (HaveWidths widths) (λ rows. meets_all core.picks (row_environment scope rows) ≡ true → all_kept keeps rows ≡ true)
+    all-weaker (HaveWidths widths) (λ rows. meets_all core.picks (row_environment scope rows) ≡ true → are_kept keeps rows ≡ true)
     (λ rows wide holds.
     let met : meets scope conds (joined_values rows) ≡ true = tested.same (joined_values rows) ∙ holds in
     all-stay scope conds tested.placed store core.from 0 sources own rows [] refl wide met)

@@ -2,12 +2,12 @@
 use Rattle.std.specs.Prelude.{◌≡◌, ℕ, List, Some}
 use Rattle.core_parts.specs.Checking.{core_at, IsChecked}
 use Rattle.core_parts.specs.Conditions.{AreConditions}
-use Rattle.core_parts.specs.declared.placed.Placed.{Placed}
+use Rattle.core_parts.specs.declared.placed.BoundExpr.{BoundExpr}
 use Rattle.query_eval.specs.Types.{Catalog, Checked, Core, Query}
 use Rattle.sql_model.specs.Scope.{scope_of}
 
 -- together they mean what ON and WHERE do, of the core at a place of a checked query
-abbrev pub AreOfCore : Checked → ℕ → List Placed → Type 0
+abbrev pub AreOfCore : Checked → ℕ → List BoundExpr → Type 0
 AreOfCore checked place conds = (query : Query) (catalog : Catalog) (core : Core)
     → IsChecked checked query catalog
     → core_at checked place ≡ Some core

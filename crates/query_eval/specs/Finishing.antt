@@ -1,11 +1,11 @@
 -- ORDER BY and LIMIT.
 use Rattle.std.specs.Prelude.{◌≡◌, ℕ, List, [], ◌∷◌, map, Bool, Option}
 use Rattle.std.specs.declared.cmp.Ordering.{Ordering}
-use Rattle.lineage.specs.Rows.{kept, AnswersStandFor}
+use Rattle.lineage.specs.Rows.{kept_origins, AnswersStandFor}
 use Rattle.lineage.specs.StandsFor.{StandsFor}
 use Rattle.lineage.specs.declared.answer.Answer.{Answer}
 use Rattle.core_parts.specs.Checking.{IsChecked}
-use Rattle.query_eval.specs.Merging.{united}
+use Rattle.query_eval.specs.Merging.{lineage_of_answers}
 use Rattle.query_eval.specs.Types.{Catalog, Checked, Order, Query}
 use Rattle.query_eval.specs.declared.finishing.Finished.{Finished}
 use Rattle.query_eval.specs.declared.sort.SortColumn.{SortColumn}
@@ -34,13 +34,14 @@ by_columns columns a b = order_by (map as_key columns) a.values b.values
 -- the first answers, and the union of the lineages of the others
 pub record IsLimited (limit : Option ℕ) (answers : List Answer) (finished : Finished) : Type 0 where
   pub first : finished.answers ≡ first_rows limit answers
-  pub cut : finished.cut ≡ united (other_rows limit answers)
+  pub cut : finished.cut ≡ lineage_of_answers (other_rows limit answers)
 
 -- ---- what is finished
 
 -- the rows of a query's cores, sorted
-abbrev pub ordered : Query → Catalog → List AnswerRow → List AnswerRow
-ordered query catalog rows = sort_rows (map (sort_key (answer_titles catalog query.cores)) query.order) rows
+abbrev pub rows_in_order : Query → Catalog → List AnswerRow → List AnswerRow
+rows_in_order query catalog rows = sort_rows
+    (map (sort_key (answer_titles catalog query.cores)) query.order) rows
 
 -- the answers that LIMIT keeps of the sorted rows, and the lineage of those that it cuts
 abbrev pub IsFinished : Checked → List Answer → Finished → Type 0
@@ -50,6 +51,6 @@ IsFinished checked answers finished =
     → IsChecked checked query catalog
     → AnswersStandFor names versions keep answers rows
     → AnswersStandFor names versions keep finished.answers
-    (first_rows (limit_of query.limit) (ordered query catalog rows))
+    (first_rows (limit_of query.limit) (rows_in_order query catalog rows))
     × StandsFor names versions finished.cut
-    (kept keep (lineage_of (other_rows (limit_of query.limit) (ordered query catalog rows))))
+    (kept_origins keep (lineage_of (other_rows (limit_of query.limit) (rows_in_order query catalog rows))))

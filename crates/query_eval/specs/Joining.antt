@@ -8,11 +8,11 @@ use Rattle.core_parts.specs.Conditions.{meets}
 use Rattle.core_parts.specs.Equality.{equals, is_equal_test}
 use Rattle.core_parts.specs.Listing.{listed, item_added}
 use Rattle.core_parts.specs.Placing.{IsPlaced}
-use Rattle.query_eval.specs.Sourcing.{joined}
+use Rattle.query_eval.specs.Sourcing.{joined_row_values}
 use Rattle.query_eval.specs.Types.{ColumnName, Operator, Add, Subtract, Multiply, Compare, And, Or}
 use Rattle.query_eval.specs.Types.{Expr, Value}
 use Rattle.sql_model.specs.declared.expr.Expr.TheVariants.{Both, Column}
-use Rattle.core_parts.specs.declared.placed.Placed.{Placed}
+use Rattle.core_parts.specs.declared.placed.BoundExpr.{BoundExpr}
 use Rattle.core_parts.specs.declared.refs_by.RefsBy.{RefsBy}
 use Rattle.query_eval.specs.declared.probe.Probe.{Probe}
 use Rattle.query_eval.specs.declared.source.SourceRow.{SourceRow}
@@ -26,18 +26,18 @@ combos (rows ∷ rest) = flat_map (λ row. map (λ others. row ∷ others) (comb
 
 -- ---- conditions
 
-abbrev pub tests : List InScope → List Placed → List SourceRow → Bool
-tests scope conds rows = meets scope conds (joined rows)
+abbrev pub tests : List InScope → List BoundExpr → List SourceRow → Bool
+tests scope conds rows = meets scope conds (joined_row_values rows)
 
 -- all columns are among the first n values
-abbrev pub is_ready : ℕ → Placed → Bool
+abbrev pub is_ready : ℕ → BoundExpr → Bool
 is_ready n placed = list_all (λ place. nat_lt place n) placed.places
 
-abbrev pub ready : ℕ → List Placed → List Placed
-ready n conds = filter (is_ready n) conds
+abbrev pub ready_conditions : ℕ → List BoundExpr → List BoundExpr
+ready_conditions n conds = filter (is_ready n) conds
 
-abbrev pub later : ℕ → List Placed → List Placed
-later n conds = filter (λ c. not (is_ready n c)) conds
+abbrev pub later_conditions : ℕ → List BoundExpr → List BoundExpr
+later_conditions n conds = filter (λ c. not (is_ready n c)) conds
 
 -- ---- prefixes
 
@@ -46,21 +46,22 @@ abbrev pub products : List (List SourceRow) → List (List SourceRow) → List (
 products ps tables = flat_map (λ p. map (λ others. p ++ others) (combos tables)) ps
 
 -- what remains to be had from prefixes
-abbrev pub remaining : List InScope → List Placed → List (List SourceRow) → List (List SourceRow)
+abbrev pub extensions_left : List InScope → List BoundExpr → List (List SourceRow) → List (List SourceRow)
     → List (List SourceRow)
-remaining scope conds ps tables = filter (tests scope conds) (products ps tables)
+extensions_left scope conds ps tables = filter (tests scope conds) (products ps tables)
 
 -- the rows after one prefix that meet the conditions
-abbrev pub extended : List InScope → List Placed → List SourceRow → List SourceRow → List (List SourceRow)
-extended scope conds p rows = filter (tests scope conds) (map (λ row. p ++ row ∷ []) rows)
+abbrev pub extensions_of : List InScope → List BoundExpr → List SourceRow
+    → List SourceRow → List (List SourceRow)
+extensions_of scope conds p rows = filter (tests scope conds) (map (λ row. p ++ row ∷ []) rows)
 
-abbrev pub all_extended : List InScope → List Placed → List (List SourceRow) → List SourceRow
+abbrev pub extensions_of_all : List InScope → List BoundExpr → List (List SourceRow) → List SourceRow
     → List (List SourceRow)
-all_extended scope conds ps rows = flat_map (λ p. extended scope conds p rows) ps
+extensions_of_all scope conds ps rows = flat_map (λ p. extensions_of scope conds p rows) ps
 
 -- each has so many values
 abbrev pub EachHas : ℕ → List (List SourceRow) → Type 0
-EachHas n ps = AllByRecursion (λ p. length (joined p) ≡ n) ps
+EachHas n ps = AllByRecursion (λ p. length (joined_row_values p) ≡ n) ps
 
 -- ---- rows by the value of a column
 
@@ -69,23 +70,25 @@ abbrev pub with_value : ℕ → Value → List SourceRow → List SourceRow
 with_value place v rows = filter (λ row. equals v (value_at row.values place)) rows
 
 -- the condition is that a column of a row after n values equals a column before
-abbrev pub IsProbeOf : Placed → ℕ → Probe → Type 0
+abbrev pub IsProbeOf : BoundExpr → ℕ → Probe → Type 0
 IsProbeOf placed n probe = (scope : List InScope) → IsPlaced scope placed
-    → (p : List SourceRow) (row : SourceRow) → length (joined p) ≡ n
-    → equals (value_at (joined p) probe.from) (value_at row.values probe.place)
-    ≡ is_true (truth placed.expr (environment scope (joined (p ++ row ∷ []))))
+    → (p : List SourceRow) (row : SourceRow) → length (joined_row_values p) ≡ n
+    → equals (value_at (joined_row_values p) probe.from) (value_at row.values probe.place)
+    ≡ is_true (truth placed.expr (environment scope (joined_row_values (p ++ row ∷ []))))
 
 -- the condition at an index is one
-pub record HasProbe (conds : List Placed) (n index : ℕ) (probe : Probe) : Type 0 where
-  pub placed : Placed
+pub record HasProbe (conds : List BoundExpr) (n index : ℕ) (probe : Probe) : Type 0 where
+  pub placed : BoundExpr
   pub at : drop index conds ≡ placed ∷ drop (index + 1) conds
   pub is : IsProbeOf placed n probe
 
 -- each prefix with the rows that are looked up by it, for which the conditions are True
-abbrev pub looked_up : List InScope → List Placed → Probe → List (List SourceRow) → List SourceRow
+abbrev pub extensions_by_probe : List InScope → List BoundExpr → Probe
+    → List (List SourceRow) → List SourceRow
     → List (List SourceRow)
-looked_up scope conds probe ps rows =
-    flat_map (λ p. extended scope conds p (with_value probe.place (value_at (joined p) probe.from) rows)) ps
+extensions_by_probe scope conds probe ps rows =
+    flat_map (λ p. extensions_of scope conds p
+    (with_value probe.place (value_at (joined_row_values p) probe.from) rows)) ps
 
 abbrev pub is_equal_sign : Operator → Bool
 is_equal_sign (Compare test) = is_equal_test test

@@ -4,9 +4,9 @@ use Rattle.std.specs.Prelude.{if◌then◌else◌, slice_index_or, unwrap_or}
 use Rattle.std.specs.List.{filter_map, AllByRecursion}
 use Rattle.std.specs.Option.{option_map, option_map_or}
 use Rattle.core_parts.specs.Masking.{fits, passes_all}
-use Rattle.core_parts.specs.declared.masking.Mask.{Mask}
-use Rattle.core_parts.specs.declared.masking.MaskTest.{MaskTest}
-use Rattle.core_parts.specs.declared.masking.MaskTest.TheVariants.{Compares, IsNull, IsNotNull}
+use Rattle.core_parts.specs.declared.mask.Mask.{Mask}
+use Rattle.core_parts.specs.declared.mask.MaskTest.{MaskTest}
+use Rattle.core_parts.specs.declared.mask.MaskTest.TheVariants.{Compares, IsNull, IsNotNull}
 use Rattle.lanes.specs.Sets.{member}
 use Rattle.query_eval.specs.declared.source.SourceRow.{SourceRow}
 use Rattle.query_eval.specs.Types.{Column, TableRow}
@@ -49,10 +49,10 @@ abbrev pub slot_passes : List Mask → RowHistory → Bool
 slot_passes masks slot = option_map_or (row_passes masks) (row_now slot) false
 
 -- the slots whose numbers, from a number on, are in a set
-abbrev pub chosen : List ℕ → ℕ → List RowHistory → List RowHistory
-chosen words at [] = []
-chosen words at (slot ∷ slots) =
-    if member words at then slot ∷ chosen words (suc at) slots else chosen words (suc at) slots
+abbrev pub rows_at_slots : List ℕ → ℕ → List RowHistory → List RowHistory
+rows_at_slots words at [] = []
+rows_at_slots words at (slot ∷ slots) =
+    if member words at then slot ∷ rows_at_slots words (suc at) slots else rows_at_slots words (suc at) slots
 
 -- ---- rows
 

@@ -11,9 +11,9 @@ use Rattle.query_eval.specs.Types.{Value}
 use Rattle.sql_model.specs.Keys.{same_values}
 
 -- the union of the lineages of answers
-abbrev pub united : List Answer → Lineage
-united [] = empty
-united (answer ∷ answers) = union_of answer.lineage (united answers)
+abbrev pub lineage_of_answers : List Answer → Lineage
+lineage_of_answers [] = empty
+lineage_of_answers (answer ∷ answers) = union_of answer.lineage (lineage_of_answers answers)
 
 abbrev pub own_values : Answer → List Value
 own_values answer = answer.values
@@ -22,8 +22,11 @@ abbrev pub with_values : List Value → Answer → Bool
 with_values values answer = same_values answer.values values
 
 -- the answer of some values, from all answers of these
-abbrev pub merged : List Answer → List Value → Answer
-merged answers values = record { values = values; lineage = united (filter (with_values values) answers) }
+abbrev pub merged_answer : List Answer → List Value → Answer
+merged_answer answers values = record {
+  values = values;
+  lineage = lineage_of_answers (filter (with_values values) answers);
+}
 
 -- ---- steps
 
@@ -39,14 +42,14 @@ with_more answer other =
     record { values = answer.values; lineage = union_of answer.lineage other.lineage }
 
 -- answers of different values, and one more
-abbrev pub absorbed : List Answer → Answer → List Answer
-absorbed [] other = other ∷ []
-absorbed (answer ∷ answers) other = if same_values answer.values other.values
-    then with_more answer other ∷ answers else answer ∷ absorbed answers other
+abbrev pub with_answer : List Answer → Answer → List Answer
+with_answer [] other = other ∷ []
+with_answer (answer ∷ answers) other = if same_values answer.values other.values
+    then with_more answer other ∷ answers else answer ∷ with_answer answers other
 
 abbrev pub merged_onto : List Answer → List Answer → List Answer
 merged_onto made [] = made
-merged_onto made (answer ∷ answers) = merged_onto (absorbed made answer) answers
+merged_onto made (answer ∷ answers) = merged_onto (with_answer made answer) answers
 
 -- a map has the place of each answer, by its values
 abbrev pub IsIndex : BTreeMap (List Value) ℕ → List Answer → Type 0

@@ -1,14 +1,14 @@
 -- The picked combinations of a core.
 use Rattle.std.specs.Prelude.{◌≡◌, ℕ, List, [], ◌∷◌, map, filter, Bool, cond, Some}
 use Rattle.std.specs.FinMap.{empty}
-use Rattle.lineage.specs.Lineage.{Lineage, added}
+use Rattle.lineage.specs.Lineage.{Lineage, with_version}
 use Rattle.lineage.specs.Rows.{joined_row, PicksStandFor}
 use Rattle.lineage.specs.declared.answer.Pick.{Pick}
 use Rattle.core_parts.specs.Checking.{core_at, WasChecked}
 use Rattle.core_parts.specs.Conditions.{meets}
-use Rattle.core_parts.specs.declared.placed.Placed.{Placed}
+use Rattle.core_parts.specs.declared.placed.BoundExpr.{BoundExpr}
 use Rattle.query_eval.specs.Joining.{combos, tests}
-use Rattle.query_eval.specs.Sourcing.{joined, source_rows}
+use Rattle.query_eval.specs.Sourcing.{joined_row_values, source_rows}
 use Rattle.query_eval.specs.Stored.{table_names, TellVersions}
 use Rattle.query_eval.specs.Types.{Checked, Core, Query}
 use Rattle.query_eval.specs.declared.source.Source.{Source}
@@ -23,34 +23,34 @@ abbrev pub rows_added : Lineage → List Source → List SourceRow → Lineage
 rows_added set [] rows = set
 rows_added set (source ∷ sources) [] = set
 rows_added set (source ∷ sources) (row ∷ rows) =
-    rows_added (added set (source.table, row.number) row.version) sources rows
+    rows_added (with_version set (source.table, row.number) row.version) sources rows
 
 abbrev pub kept_rows : Bool → List Source → List SourceRow → Lineage
 kept_rows keep sources rows = cond keep (rows_added empty sources rows) empty
 
 -- the pick of a combination
 abbrev pub pick_of : Bool → List Source → List SourceRow → Pick
-pick_of keep sources rows = record { values = joined rows; lineage = kept_rows keep sources rows }
+pick_of keep sources rows = record { values = joined_row_values rows; lineage = kept_rows keep sources rows }
 
 -- those of the combinations of sources that meet conditions
-abbrev pub source_picks : List InScope → List Placed → Bool → List Source → List Pick
+abbrev pub source_picks : List InScope → List BoundExpr → Bool → List Source → List Pick
 source_picks scope conds keep sources =
     map (pick_of keep sources) (filter (tests scope conds) (combos (map source_rows sources)))
 
 -- ---- one source
 
-abbrev pub meets_row : List InScope → List Placed → SourceRow → Bool
+abbrev pub meets_row : List InScope → List BoundExpr → SourceRow → Bool
 meets_row scope conds row = meets scope conds row.values
 
 abbrev pub row_lineage : Bool → ℕ → SourceRow → Lineage
-row_lineage keep table row = cond keep (added empty (table, row.number) row.version) empty
+row_lineage keep table row = cond keep (with_version empty (table, row.number) row.version) empty
 
 -- the pick of a row alone
 abbrev pub row_pick : Bool → ℕ → SourceRow → Pick
 row_pick keep table row = record { values = row.values; lineage = row_lineage keep table row }
 
 -- those of the rows of a table that meet conditions
-abbrev pub row_picks : List InScope → List Placed → Bool → ℕ → List SourceRow → List Pick
+abbrev pub row_picks : List InScope → List BoundExpr → Bool → ℕ → List SourceRow → List Pick
 row_picks scope conds keep table rows = map (row_pick keep table) (filter (meets_row scope conds) rows)
 
 -- ---- a core

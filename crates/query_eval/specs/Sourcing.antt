@@ -16,8 +16,8 @@ abbrev pub source_rows : Source → List SourceRow
 source_rows source = source.rows
 
 -- the values of a joined row
-abbrev pub joined : List SourceRow → List Value
-joined rows = flat_map (λ row. row.values) rows
+abbrev pub joined_row_values : List SourceRow → List Value
+joined_row_values rows = flat_map (λ row. row.values) rows
 
 -- each row has so many values
 abbrev pub AreWide : ℕ → List SourceRow → Type 0
@@ -61,15 +61,15 @@ AreSources names versions db (item ∷ from) (kept ∷ keeps) (source ∷ source
     IsSource names versions db item kept source × AreSources names versions db from keeps sources
 
 -- none of these rows is left out
-abbrev pub all_kept : List (TableRow → Bool) → Combination → Bool
-all_kept [] rows = true
-all_kept (kept ∷ keeps) [] = true
-all_kept (kept ∷ keeps) (row ∷ rows) = kept row && all_kept keeps rows
+abbrev pub are_kept : List (TableRow → Bool) → Combination → Bool
+are_kept [] rows = true
+are_kept (kept ∷ keeps) [] = true
+are_kept (kept ∷ keeps) (row ∷ rows) = kept row && are_kept keeps rows
 
 -- only such rows are left out as are in no picked combination
 abbrev pub LeavesPicked : Core → List Table → List (TableRow → Bool) → Type 0
 LeavesPicked core db keeps =
     AllByRecursion
     (λ rows. meets_all core.picks (row_environment (scope_of core.from (catalog_of db)) rows) ≡ true
-    → all_kept keeps rows ≡ true)
+    → are_kept keeps rows ≡ true)
     (combinations core.from db)

@@ -3,8 +3,8 @@ use Rattle.std.specs.Prelude.{◌≡◌, ℕ, ◌+◌, ◌<◌, List, [], ◌∷
 use Rattle.std.specs.Prelude.{Option, Some, None, option_and_then, IfSome}
 use Rattle.std.specs.List.{list_any, AllByRecursion}
 use Rattle.core_parts.specs.Masking.{AreMasks}
-use Rattle.core_parts.specs.declared.masking.Mask.{Mask}
-use Rattle.core_parts.specs.declared.placed.Placed.{Placed}
+use Rattle.core_parts.specs.declared.mask.Mask.{Mask}
+use Rattle.core_parts.specs.declared.placed.BoundExpr.{BoundExpr}
 use Rattle.lineage.specs.Lineage.{name_at}
 use Rattle.core_parts.specs.Fixing.{FixesKey}
 use Rattle.query_eval.specs.Keyed.{keyed_rows}
@@ -62,7 +62,7 @@ chosen_rows masks None table = left_rows masks table.slots
 
 -- those of a source whose columns come after so many values of the joined row: by the key that conditions
 -- fix, if they fix one, and else by the masks that they give
-pub record AreChosen (conds : List Placed) (before : ℕ) (table : TableHistory) (rows : List SourceRow)
+pub record AreChosen (conds : List BoundExpr) (before : ℕ) (table : TableHistory) (rows : List SourceRow)
     : Type 0 where
   pub key : Option (List Value)
   pub fixed : IfSome key (FixesKey conds before (length table.schema.columns) table.schema.key)
@@ -71,25 +71,25 @@ pub record AreChosen (conds : List Placed) (before : ℕ) (table : TableHistory)
   pub are : rows ≡ chosen_rows masks key table
 
 -- none, where its table isn't there
-abbrev pub AreChosenOf : List Placed → ℕ → Option TableHistory → List SourceRow → Type 0
+abbrev pub AreChosenOf : List BoundExpr → ℕ → Option TableHistory → List SourceRow → Type 0
 AreChosenOf conds before None rows = rows ≡ []
 AreChosenOf conds before (Some table) rows = AreChosen conds before table rows
 
 -- the source, as its table has it, which may not be there
-pub record IsTaken (conds : List Placed) (before : ℕ) (table : Option TableHistory) (source : Source)
+pub record IsTaken (conds : List BoundExpr) (before : ℕ) (table : Option TableHistory) (source : Source)
     : Type 0 where
   pub rows : AreChosenOf conds before table source.rows
   pub width : source.width ≡ length (columns_in table)
   pub versions : AllByRecursion (HasVersion table) source.rows
 
 -- and as the store has it
-pub record IsStored (store : StoreHistory) (conds : List Placed) (item : FromItem) (before : ℕ)
+pub record IsStored (store : StoreHistory) (conds : List BoundExpr) (item : FromItem) (before : ℕ)
     (source : Source) : Type 0 where
   pub taken : IsTaken conds before (history_at item.table store) source
   pub table : IsPlace (table_names store) item.table source.table
 
 -- one by one, the columns of the first after so many values of the joined row
-abbrev pub AreStored : StoreHistory → List Placed → List FromItem → ℕ → List Source → Type 0
+abbrev pub AreStored : StoreHistory → List BoundExpr → List FromItem → ℕ → List Source → Type 0
 AreStored store conds [] before [] = Unit {0}
 AreStored store conds [] before (source ∷ sources) = ⊥
 AreStored store conds (item ∷ from) before [] = ⊥

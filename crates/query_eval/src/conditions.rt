@@ -9,7 +9,7 @@ ghost use Rattle.sql_model.specs.Kinds.{names_in};
 ghost use Rattle.sql_model.specs.Refusals.{core_names, items_of, names_of_items};
 ghost use Rattle.sql_model.specs.Scope.{InScope, places_in};
 
-use core_parts::{Placed, conjuncts, core_of, places_or, take_places};
+use core_parts::{BoundExpr, conjuncts, core_of, column_indexes, take_places};
 use ldv_value::{List, Places};
 use sql_model::{Checked, Core, Item};
 use std::alloc::{AllocError, Global};
@@ -43,7 +43,7 @@ fn skip_items(
 }
 
 // The conjuncts of ON and WHERE of a core, with their places among those of the core.
-fn conditions_of(alloc: Global, core: &Core, places: &Places) -> Result<List<Placed>, AllocError>
+fn conditions_of(alloc: Global, core: &Core, places: &Places) -> Result<List<BoundExpr>, AllocError>
     ensures { IfOk result (λ conds. (scope : Items InScope)
         → places.now ≡ places_in scope (core_names core.now) → AreConditions scope core.now.picks conds) }
 {
@@ -57,12 +57,12 @@ pub(crate) fn core_conditions(
     alloc: Global,
     checked: &Checked,
     core: usize,
-) -> Result<List<Placed>, AllocError>
+) -> Result<List<BoundExpr>, AllocError>
     requires { HasCore checked.now core }
     ensures { IfOk result (AreOfCore checked.now core) }
 {
     let none = List::new(alloc);
-    let places = places_or(checked, core, &none);
+    let places = column_indexes(checked, core, &none);
     let conds = conditions_of(alloc, core_of(checked, core), places)?;
     Ok(conds)
 }

@@ -7,8 +7,8 @@ ghost use Rattle.query_eval.specs.Types.{Int};
 ghost use Rattle.sql_model.specs.QueryAnswer.{limit_of};
 
 use crate::lineages::united_set;
-use crate::sort::{sort_columns, sorted};
-use core_parts::{places_or, query_of};
+use crate::sort::{sort_columns, sort_answers};
+use core_parts::{column_indexes, query_of};
 use ldv_value::{List, Value};
 use lineage::{Answers, LineageSet};
 use sql_model::Checked;
@@ -30,10 +30,10 @@ pub fn finish(checked: &Checked, answers: Answers) -> Result<Finished, AllocErro
     let alloc = answers.allocator();
     let query = query_of(checked);
     let none = List::new(alloc);
-    let places = places_or(checked, query.cores.len(), &none);
+    let places = column_indexes(checked, query.cores.len(), &none);
     let columns = sort_columns(alloc, places.items(), query.order.items())?;
-    let answers = sorted(columns.as_slice(), answers)?;
-    limited(alloc, limit_of(&query.limit), answers)
+    let answers = sort_answers(columns.as_slice(), answers)?;
+    limit_answers(alloc, limit_of(&query.limit), answers)
 }
 
 // How many rows LIMIT keeps.
@@ -60,7 +60,7 @@ fn count_of(number: i64) -> Option<u64>
     }
 }
 
-fn limited(alloc: Global, limit: Option<u64>, answers: Answers) -> Result<Finished, AllocError>
+fn limit_answers(alloc: Global, limit: Option<u64>, answers: Answers) -> Result<Finished, AllocError>
     ensures { IfOk result (IsLimited limit answers) }
 {
     match limit {

@@ -4,7 +4,7 @@ ghost use Rattle.std.specs.Prelude.{◌≡◌, ◌++◌, ◌∷◌, [], List as 
 ghost use Rattle.std.specs.Prelude.{true, false, None, unwrap_or};
 ghost use Rattle.std.specs.Option.{option_map};
 ghost use Rattle.query_eval.specs.Joining.{rows_listed, row_added, with_value, IsIndex};
-ghost use Rattle.query_eval.specs.Sourcing.{joined};
+ghost use Rattle.query_eval.specs.Sourcing.{joined_row_values};
 ghost use Rattle.query_eval.specs.Types.{Value as Seen, Null};
 ghost use Rattle.query_eval.specs.declared.source.SourceRow.{SourceRow as Given};
 ghost use Rattle.sql_model.specs.Meaning.{is_null};
@@ -90,7 +90,8 @@ fn rows_of<'b, 'a>(index: &'b Index<'a>, value: &'a Value) -> Option<&'b Refs<'a
 
 // The value at a place of a joined row; there is none past its end.
 fn value_of<'a>(prefix: &Refs<'a, SourceRow>, place: usize) -> Option<&'a Value>
-    ensures { unwrap_or (option_map (λ v. v.now) result) Null ≡ value_at (joined prefix.now) place }
+    ensures { unwrap_or (option_map (λ v. v.now) result) Null
+        ≡ value_at (joined_row_values prefix.now) place }
 {
     let mut left = prefix.items();
     let mut place = place;
@@ -120,7 +121,7 @@ pub(crate) fn rows_for<'b, 'a>(
 ) -> Option<&'b Refs<'a, SourceRow>>
     requires { IsIndex index.now.map place rows.now }
     ensures { unwrap_or (option_map (λ r. r.now) result) []
-        ≡ with_value place (value_at (joined prefix.now) from) rows.now }
+        ≡ with_value place (value_at (joined_row_values prefix.now) from) rows.now }
 {
     match value_of(prefix, from) {
         None => None,

@@ -8,18 +8,18 @@ ghost use Rattle.std.specs.Prelude.{◌≡◌, ◌<◌, ◌≤◌, ◌+◌, ◌^
 ghost use Rattle.std.specs.Prelude.{map, not, IfOk, OnOk};
 ghost use Rattle.std.specs.List.{remove};
 ghost use Rattle.core_parts.specs.Conditions.{meets};
-ghost use Rattle.query_eval.specs.Joining.{combos, tests, is_ready, ready, later, remaining, extended};
-ghost use Rattle.query_eval.specs.Joining.{all_extended, EachHas, IsIndex, looked_up};
-ghost use Rattle.core_parts.specs.Placing.{IsPlaced, AllPlaced};
-ghost use Rattle.query_eval.specs.Sourcing.{joined, source_rows, AreWide, SourcesAreWide};
+ghost use Rattle.query_eval.specs.Joining.{combos, tests, is_ready, ready_conditions, later_conditions, extensions_left, extensions_of};
+ghost use Rattle.query_eval.specs.Joining.{extensions_of_all, EachHas, IsIndex, extensions_by_probe};
+ghost use Rattle.core_parts.specs.Placing.{IsPlaced, AreAllPlaced};
+ghost use Rattle.query_eval.specs.Sourcing.{joined_row_values, source_rows, AreWide, SourcesAreWide};
 ghost use Rattle.query_eval.specs.declared.source.SourceRow.{SourceRow as Given};
 ghost use Rattle.sql_model.specs.Meaning.{is_true, truth};
 ghost use Rattle.sql_model.specs.Scope.{InScope, environment};
 
 use crate::index::{Index, index_of, rows_for};
 use crate::probe::{Found, Probe, probe_at};
-use crate::source::{Source, SourceRow, widened};
-use core_parts::{Placed, Refs, is_certain};
+use crate::source::{Source, SourceRow, width_with};
+use core_parts::{BoundExpr, Refs, is_certain};
 use ldv_value::{CopyItem, List, Values};
 use sql_model::truth_of;
 use std::alloc::{AllocError, Global};
@@ -30,7 +30,7 @@ pub(crate) type Combination<'a> = Refs<'a, SourceRow>;
 pub(crate) type Combinations<'a> = List<Refs<'a, SourceRow>>;
 
 // Whether a condition is True over a row.
-fn is_met(alloc: Global, cond: &Placed, values: &Values) -> Result<bool, AllocError>
+fn is_met(alloc: Global, cond: &BoundExpr, values: &Values) -> Result<bool, AllocError>
     ensures { IfOk result (λ met. (scope : Items InScope) → IsPlaced scope cond.now
         → met ≡ is_true (truth cond.now.expr (environment scope values.now))) }
 {
@@ -41,10 +41,10 @@ fn is_met(alloc: Global, cond: &Placed, values: &Values) -> Result<bool, AllocEr
 /// Whether each condition is True over a row.
 pub(crate) fn is_met_all(
     alloc: Global,
-    conds: &[Placed],
+    conds: &[BoundExpr],
     values: &Values,
 ) -> Result<bool, AllocError>
-    ensures { IfOk result (λ met. (scope : Items InScope) → AllPlaced scope conds.now
+    ensures { IfOk result (λ met. (scope : Items InScope) → AreAllPlaced scope conds.now
         → met ≡ meets scope conds.now values.now) }
 {
     for cond in conds {
@@ -77,7 +77,7 @@ fn count_values(rows: &[&SourceRow]) -> usize {
 
 /// The values of a joined row.
 pub(crate) fn joined_values(alloc: Global, rows: &[&SourceRow]) -> Result<Values, AllocError>
-    ensures { IfOk result (λ values. values ≡ joined (map (λ r. r.now) rows.now)) }
+    ensures { IfOk result (λ values. values ≡ joined_row_values (map (λ r. r.now) rows.now)) }
 {
     let mut values = List::with_capacity(alloc, count_values(rows))?;
     for row in rows {
@@ -90,10 +90,10 @@ pub(crate) fn joined_values(alloc: Global, rows: &[&SourceRow]) -> Result<Values
 // Whether each condition is True over some rows, joined.
 fn is_combination_met(
     alloc: Global,
-    conds: &[Placed],
+    conds: &[BoundExpr],
     rows: &Combination,
 ) -> Result<bool, AllocError>
-    ensures { IfOk result (λ met. (scope : Items InScope) → AllPlaced scope conds.now
+    ensures { IfOk result (λ met. (scope : Items InScope) → AreAllPlaced scope conds.now
         → met ≡ tests scope conds.now rows.now) }
 {
     let values = joined_values(alloc, rows.items())?;
@@ -103,11 +103,11 @@ fn is_combination_met(
 // Whether each condition is True over some rows and one row more, joined.
 fn is_extension_met(
     alloc: Global,
-    conds: &[Placed],
+    conds: &[BoundExpr],
     prefix: &Combination,
     row: &SourceRow,
 ) -> Result<bool, AllocError>
-    ensures { IfOk result (λ met. (scope : Items InScope) → AllPlaced scope conds.now
+    ensures { IfOk result (λ met. (scope : Items InScope) → AreAllPlaced scope conds.now
         → met ≡ tests scope conds.now (prefix.now ++ row.now ∷ [])) }
 {
     if conds.is_empty() {
@@ -127,15 +127,15 @@ fn extend_one<'a>(
     made: &mut Combinations<'a>,
     prefix: &Combination<'a>,
     row: &'a SourceRow,
-    conds: &[Placed],
+    conds: &[BoundExpr],
 ) -> Result<(), AllocError>
-    ensures { OnOk result ((scope : Items InScope) → AllPlaced scope conds.now → (rest : Items Given)
-        → made.new ++ extended scope conds.now prefix.now rest
-        ≡ made.old ++ extended scope conds.now prefix.now (row.now ∷ rest)) }
+    ensures { OnOk result ((scope : Items InScope) → AreAllPlaced scope conds.now → (rest : Items Given)
+        → made.new ++ extensions_of scope conds.now prefix.now rest
+        ≡ made.old ++ extensions_of scope conds.now prefix.now (row.now ∷ rest)) }
 {
     let met = is_extension_met(alloc, conds, prefix, row)?;
     if met {
-        made.push(prefix.extended(row)?)?;
+        made.push(prefix.with_item(row)?)?;
     }
     Ok(())
 }
@@ -146,10 +146,10 @@ fn extend_all<'a>(
     made: &mut Combinations<'a>,
     prefix: &Combination<'a>,
     rows: &'a [SourceRow],
-    conds: &[Placed],
+    conds: &[BoundExpr],
 ) -> Result<(), AllocError>
-    ensures { OnOk result ((scope : Items InScope) → AllPlaced scope conds.now
-        → made.new ≡ made.old ++ extended scope conds.now prefix.now rows.now) }
+    ensures { OnOk result ((scope : Items InScope) → AreAllPlaced scope conds.now
+        → made.new ≡ made.old ++ extensions_of scope conds.now prefix.now rows.now) }
 {
     for row in rows {
         extend_one(alloc, made, prefix, row, conds)?;
@@ -163,10 +163,10 @@ fn extend_by<'a>(
     made: &mut Combinations<'a>,
     prefix: &Combination<'a>,
     rows: &[&'a SourceRow],
-    conds: &[Placed],
+    conds: &[BoundExpr],
 ) -> Result<(), AllocError>
-    ensures { OnOk result ((scope : Items InScope) → AllPlaced scope conds.now
-        → made.new ≡ made.old ++ extended scope conds.now prefix.now (map (λ r. r.now) rows.now)) }
+    ensures { OnOk result ((scope : Items InScope) → AreAllPlaced scope conds.now
+        → made.new ≡ made.old ++ extensions_of scope conds.now prefix.now (map (λ r. r.now) rows.now)) }
 {
     for row in rows {
         extend_one(alloc, made, prefix, *row, conds)?;
@@ -179,10 +179,10 @@ fn scan_level<'a>(
     alloc: Global,
     prefixes: &Combinations<'a>,
     rows: &'a [SourceRow],
-    conds: &[Placed],
+    conds: &[BoundExpr],
 ) -> Result<Combinations<'a>, AllocError>
-    ensures { IfOk result (λ made. (scope : Items InScope) → AllPlaced scope conds.now
-        → made ≡ all_extended scope conds.now prefixes.now rows.now) }
+    ensures { IfOk result (λ made. (scope : Items InScope) → AreAllPlaced scope conds.now
+        → made ≡ extensions_of_all scope conds.now prefixes.now rows.now) }
 {
     let mut made = List::new(alloc);
     for prefix in prefixes.items() {
@@ -199,12 +199,12 @@ fn extend_found<'a>(
     rows: &'a [SourceRow],
     index: &Index<'a>,
     probe: Probe,
-    conds: &[Placed],
+    conds: &[BoundExpr],
 ) -> Result<(), AllocError>
     requires { IsIndex index.now.map probe.place rows.now }
-    ensures { OnOk result ((scope : Items InScope) → AllPlaced scope conds.now → (ps : Items (Items Given))
-        → made.new ++ looked_up scope conds.now probe ps rows.now
-        ≡ made.old ++ looked_up scope conds.now probe (prefix.now ∷ ps) rows.now) }
+    ensures { OnOk result ((scope : Items InScope) → AreAllPlaced scope conds.now → (ps : Items (Items Given))
+        → made.new ++ extensions_by_probe scope conds.now probe ps rows.now
+        ≡ made.old ++ extensions_by_probe scope conds.now probe (prefix.now ∷ ps) rows.now) }
 {
     match rows_for(index, rows, probe.place, prefix, probe.from) {
         None => Ok(()),
@@ -222,11 +222,11 @@ fn found_level<'a>(
     rows: &'a [SourceRow],
     index: &Index<'a>,
     probe: Probe,
-    conds: &[Placed],
+    conds: &[BoundExpr],
 ) -> Result<Combinations<'a>, AllocError>
     requires { IsIndex index.now.map probe.place rows.now }
-    ensures { IfOk result (λ made. (scope : Items InScope) → AllPlaced scope conds.now
-        → made ≡ looked_up scope conds.now probe prefixes.now rows.now) }
+    ensures { IfOk result (λ made. (scope : Items InScope) → AreAllPlaced scope conds.now
+        → made ≡ extensions_by_probe scope conds.now probe prefixes.now rows.now) }
 {
     let mut made = List::new(alloc);
     for prefix in prefixes.items() {
@@ -236,7 +236,7 @@ fn found_level<'a>(
 }
 
 // The conditions without the one at an index.
-fn without(conds: List<Placed>, index: usize) -> List<Placed>
+fn without(conds: List<BoundExpr>, index: usize) -> List<BoundExpr>
     requires { index < length conds }
     ensures { result ≡ remove conds index }
 {
@@ -250,12 +250,12 @@ fn tied_level<'a>(
     alloc: Global,
     prefixes: &Combinations<'a>,
     rows: &'a [SourceRow],
-    conds: List<Placed>,
+    conds: List<BoundExpr>,
     found: Found,
 ) -> Result<Combinations<'a>, AllocError>
     requires { found.index < length conds }
-    ensures { IfOk result (λ made. (scope : Items InScope) → AllPlaced scope (remove conds found.index)
-        → made ≡ looked_up scope (remove conds found.index) found.probe prefixes.now rows.now) }
+    ensures { IfOk result (λ made. (scope : Items InScope) → AreAllPlaced scope (remove conds found.index)
+        → made ≡ extensions_by_probe scope (remove conds found.index) found.probe prefixes.now rows.now) }
 {
     let others = without(conds, found.index);
     let index = index_of(alloc, rows, found.probe.place)?;
@@ -269,11 +269,11 @@ fn next_level<'a>(
     prefixes: &Combinations<'a>,
     rows: &'a [SourceRow],
     width: u128,
-    conds: List<Placed>,
+    conds: List<BoundExpr>,
 ) -> Result<Combinations<'a>, AllocError>
-    ensures { IfOk result (λ made. (scope : Items InScope) → AllPlaced scope conds
+    ensures { IfOk result (λ made. (scope : Items InScope) → AreAllPlaced scope conds
         → EachHas width prefixes.now
-        → made ≡ all_extended scope conds prefixes.now rows.now) }
+        → made ≡ extensions_of_all scope conds prefixes.now rows.now) }
 {
     match probe_at(conds.items(), width) {
         None => {
@@ -290,11 +290,11 @@ fn next_level<'a>(
 // The conditions whose columns are among the first values, and the others.
 #[derive(Drop)]
 struct Parted {
-    ready: List<Placed>,
-    later: List<Placed>,
+    ready: List<BoundExpr>,
+    later: List<BoundExpr>,
 }
 
-fn is_ready(cond: &Placed, width: u128) -> bool
+fn is_ready(cond: &BoundExpr, width: u128) -> bool
     ensures { result ≡ is_ready width cond.now }
 {
     cond.places
@@ -303,9 +303,9 @@ fn is_ready(cond: &Placed, width: u128) -> bool
         .all(|place| (*place as u128) < width)
 }
 
-fn part(alloc: Global, conds: List<Placed>, width: u128) -> Result<Parted, AllocError>
-    ensures ready { IfOk result (λ parted. parted.ready ≡ ready width conds) }
-    ensures later { IfOk result (λ parted. parted.later ≡ later width conds) }
+fn part(alloc: Global, conds: List<BoundExpr>, width: u128) -> Result<Parted, AllocError>
+    ensures ready { IfOk result (λ parted. parted.ready ≡ ready_conditions width conds) }
+    ensures later { IfOk result (λ parted. parted.later ≡ later_conditions width conds) }
 {
     let mut ready = List::new(alloc);
     let mut later = List::new(alloc);
@@ -324,26 +324,26 @@ fn part(alloc: Global, conds: List<Placed>, width: u128) -> Result<Parted, Alloc
 struct Walk<'a> {
     prefixes: Combinations<'a>,
     width: u128,
-    left: List<Placed>,
+    left: List<BoundExpr>,
 }
 
 // One source more.
 fn step<'a>(alloc: Global, walk: Walk<'a>, source: &'a Source) -> Result<Walk<'a>, AllocError>
     requires { walk.width + 2 ^ 64 ≤ 2 ^ 128 }
     ensures width { IfOk result (λ new. new.width < walk.entry.width + 2 ^ 64) }
-    ensures rows { IfOk result (λ new. (scope : Items InScope) → AllPlaced scope walk.entry.left
+    ensures rows { IfOk result (λ new. (scope : Items InScope) → AreAllPlaced scope walk.entry.left
         → EachHas walk.entry.width walk.entry.prefixes
         → AreWide source.now.width source.now.rows
-        → AllPlaced scope new.left × EachHas new.width new.prefixes
-        × ((rest : Items (Items Given)) → remaining scope new.left new.prefixes rest
-        ≡ remaining scope walk.entry.left walk.entry.prefixes (source.now.rows ∷ rest))) }
+        → AreAllPlaced scope new.left × EachHas new.width new.prefixes
+        × ((rest : Items (Items Given)) → extensions_left scope new.left new.prefixes rest
+        ≡ extensions_left scope walk.entry.left walk.entry.prefixes (source.now.rows ∷ rest))) }
 {
     let Walk {
         prefixes,
         width,
         left,
     } = walk;
-    let next = widened(width, source.width);
+    let next = width_with(width, source.width);
     let Parted { ready, later } = part(alloc, left, next)?;
     let prefixes = next_level(alloc, &prefixes, source.rows.items(), width, ready)?;
     Ok(Walk {
@@ -354,7 +354,7 @@ fn step<'a>(alloc: Global, walk: Walk<'a>, source: &'a Source) -> Result<Walk<'a
 }
 
 // Before the first source.
-fn start<'a>(alloc: Global, conds: List<Placed>) -> Result<Walk<'a>, AllocError>
+fn start<'a>(alloc: Global, conds: List<BoundExpr>) -> Result<Walk<'a>, AllocError>
     ensures prefixes { IfOk result (λ walk. walk.prefixes ≡ [] ∷ []) }
     ensures width { IfOk result (λ walk. walk.width ≡ 0) }
     ensures left { IfOk result (λ walk. walk.left ≡ conds) }
@@ -370,7 +370,7 @@ fn start<'a>(alloc: Global, conds: List<Placed>) -> Result<Walk<'a>, AllocError>
 
 // After the last source: the prefixes that meet the conditions that are left.
 fn finish<'a>(alloc: Global, walk: Walk<'a>) -> Result<Combinations<'a>, AllocError>
-    ensures { IfOk result (λ rows. (scope : Items InScope) → AllPlaced scope walk.entry.left
+    ensures { IfOk result (λ rows. (scope : Items InScope) → AreAllPlaced scope walk.entry.left
         → rows ≡ filter (tests scope walk.entry.left) walk.entry.prefixes) }
 {
     let Walk {
@@ -381,7 +381,7 @@ fn finish<'a>(alloc: Global, walk: Walk<'a>) -> Result<Combinations<'a>, AllocEr
     if left.is_empty() {
         return Ok(prefixes);
     }
-    kept(alloc, prefixes, left.items())
+    keep_matching(alloc, prefixes, left.items())
 }
 
 // Adds a combination, if it meets the conditions.
@@ -389,9 +389,10 @@ fn keep_one<'a>(
     alloc: Global,
     rows: &mut Combinations<'a>,
     combination: Combination<'a>,
-    conds: &[Placed],
+    conds: &[BoundExpr],
 ) -> Result<(), AllocError>
-    ensures { OnOk result ((scope : Items InScope) → AllPlaced scope conds.now → (rest : Items (Items Given))
+    ensures { OnOk result ((scope : Items InScope)
+        → AreAllPlaced scope conds.now → (rest : Items (Items Given))
         → rows.new ++ filter (tests scope conds.now) rest
         ≡ rows.old ++ filter (tests scope conds.now) (combination.entry ∷ rest)) }
 {
@@ -403,12 +404,12 @@ fn keep_one<'a>(
 }
 
 // The combinations that meet the conditions.
-fn kept<'a>(
+fn keep_matching<'a>(
     alloc: Global,
     combinations: Combinations<'a>,
-    conds: &[Placed],
+    conds: &[BoundExpr],
 ) -> Result<Combinations<'a>, AllocError>
-    ensures { IfOk result (λ rows. (scope : Items InScope) → AllPlaced scope conds.now
+    ensures { IfOk result (λ rows. (scope : Items InScope) → AreAllPlaced scope conds.now
         → rows ≡ filter (tests scope conds.now) combinations.entry) }
 {
     let mut rows = List::new(alloc);
@@ -422,9 +423,9 @@ fn kept<'a>(
 pub(crate) fn join<'a>(
     alloc: Global,
     sources: &'a [Source],
-    conds: List<Placed>,
+    conds: List<BoundExpr>,
 ) -> Result<Combinations<'a>, AllocError>
-    ensures { IfOk result (λ rows. (scope : Items InScope) → AllPlaced scope conds
+    ensures { IfOk result (λ rows. (scope : Items InScope) → AreAllPlaced scope conds
         → SourcesAreWide sources.now
         → rows ≡ filter (tests scope conds) (combos (map source_rows sources.now))) }
 {

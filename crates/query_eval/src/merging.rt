@@ -5,11 +5,11 @@ ghost use Rattle.std.specs.Prelude.{Some, None};
 ghost use Rattle.std.specs.BTreeMap as tree;
 ghost use Rattle.lineage.specs.Lineage.{union_of};
 ghost use Rattle.lineage.specs.Rows.{AnswersStandFor};
-ghost use Rattle.query_eval.specs.Merging.{own_values, merged, place_of, with_more, absorbed, IsIndex};
+ghost use Rattle.query_eval.specs.Merging.{own_values, merged_answer, place_of, with_more, with_answer, IsIndex};
 ghost use Rattle.query_eval.specs.Types.{Value as Seen};
 ghost use Rattle.sql_model.specs.KeyOrder.{values_order};
 ghost use Rattle.sql_model.specs.Needs.{Versions};
-ghost use Rattle.sql_model.specs.QueryAnswer.{AnswerRow, distinct, merge};
+ghost use Rattle.sql_model.specs.QueryAnswer.{AnswerRow, distinct_values, merge};
 
 use core_parts::ByOrder;
 use ldv_value::{List, Values};
@@ -33,7 +33,8 @@ pub fn merge(answers: Answers) -> Result<Answers, AllocError>
 }
 
 fn merged_answers(alloc: Global, answers: &[Answer]) -> Result<Answers, AllocError>
-    ensures { IfOk result (λ made. made ≡ map (merged answers.now) (distinct (map own_values answers.now))) }
+    ensures { IfOk result (λ made. made
+        ≡ map (merged_answer answers.now) (distinct_values (map own_values answers.now))) }
 {
     let mut places = BTreeMap::new(alloc);
     let mut made = Vec::new(alloc);
@@ -52,7 +53,7 @@ fn add_answer<'a>(
 ) -> Result<(), AllocError>
     requires { IsIndex places.old made.old.items }
     ensures index { OnOk result (IsIndex places.new made.new.items) }
-    ensures made { OnOk result (made.new.items ≡ absorbed made.old.items answer.now) }
+    ensures made { OnOk result (made.new.items ≡ with_answer made.old.items answer.now) }
 {
     match place_in(places, &answer.values) {
         Some(place) => add_again(made, place, answer),
@@ -85,7 +86,7 @@ fn take_lineage(answer: &mut Answer, other: &Answer) -> Result<(), AllocError>
 #[tactic(auto, using(crate::proofs::Absorbs::place_within))]
 fn add_again(made: &mut Vec<Answer>, place: usize, answer: &Answer) -> Result<(), AllocError>
     requires { place_of answer.now.values made.old.items ≡ Some place }
-    ensures made { OnOk result (made.new.items ≡ absorbed made.old.items answer.now) }
+    ensures made { OnOk result (made.new.items ≡ with_answer made.old.items answer.now) }
     ensures places { OnOk result ((v : Items Seen)
         → place_of v made.new.items ≡ place_of v made.old.items) }
 {
@@ -129,7 +130,7 @@ fn add_first<'a>(
     requires index { IsIndex places.old made.old.items }
     requires none { place_of answer.now.values made.old.items ≡ None }
     ensures index { OnOk result (IsIndex places.new made.new.items) }
-    ensures made { OnOk result (made.new.items ≡ absorbed made.old.items answer.now) }
+    ensures made { OnOk result (made.new.items ≡ with_answer made.old.items answer.now) }
 {
     let place = made.len();
     push_copy(alloc, made, answer)?;

@@ -3,7 +3,7 @@
 ghost use Rattle.std.specs.Prelude.{◌≡◌, ◌∷◌, [], List as Items, map, IfOk, IfErr};
 ghost use Rattle.std.specs.FinMap.{empty};
 ghost use Rattle.core_parts.specs.Checking.{HasCore};
-ghost use Rattle.core_parts.specs.Placing.{AllPlaced};
+ghost use Rattle.core_parts.specs.Placing.{AreAllPlaced};
 ghost use Rattle.query_eval.specs.Picking.{rows_added, kept_rows, pick_of, source_picks, ArePicked};
 ghost use Rattle.query_eval.specs.Sourcing.{SourcesAreWide};
 ghost use Rattle.sql_model.specs.Scope.{InScope};
@@ -12,8 +12,8 @@ use crate::conditions::core_conditions;
 use crate::joining::{Combination, Combinations, join, joined_values};
 use crate::single::picks_alone;
 use crate::source::{Source, SourceRow, Sources};
-use crate::stored::sources_of;
-use core_parts::{Placed, core_of};
+use crate::sources::sources_of;
+use core_parts::{BoundExpr, core_of};
 use ldv_value::List;
 use lineage::{LineageRows, Pick, Picks};
 use sql_model::Checked;
@@ -47,10 +47,11 @@ pub fn picked(
 fn source_picks(
     alloc: Global,
     sources: Sources,
-    conds: List<Placed>,
+    conds: List<BoundExpr>,
     keep: bool,
 ) -> Result<Picks, AllocError>
-    ensures { IfOk result (λ picks. (scope : Items InScope) → AllPlaced scope conds → SourcesAreWide sources
+    ensures { IfOk result (λ picks. (scope : Items InScope)
+        → AreAllPlaced scope conds → SourcesAreWide sources
         → picks ≡ source_picks scope conds keep sources) }
 {
     match only_of(sources) {
@@ -78,10 +79,10 @@ fn only_of(sources: Sources) -> Result<Source, Sources>
 fn joined_picks(
     alloc: Global,
     sources: &Sources,
-    conds: List<Placed>,
+    conds: List<BoundExpr>,
     keep: bool,
 ) -> Result<Picks, AllocError>
-    ensures { IfOk result (λ picks. (scope : Items InScope) → AllPlaced scope conds
+    ensures { IfOk result (λ picks. (scope : Items InScope) → AreAllPlaced scope conds
         → SourcesAreWide sources.now → picks ≡ source_picks scope conds keep sources.now) }
 {
     let held = sources.items();

@@ -4,7 +4,7 @@ ghost use Rattle.std.specs.Prelude.{◌≡◌, ◌+◌, ◌<◌, IfSome, true};
 ghost use Rattle.query_eval.specs.Joining.{IsBetween, IsEquality, IsProbeOf, HasProbe};
 ghost use Rattle.query_eval.specs.Joining.{is_equal_sign};
 
-use core_parts::{Placed, is_column, is_equal_test};
+use core_parts::{BoundExpr, is_column, is_equal_test};
 use sql_model::{Expr, Operator};
 
 /// Two columns that are equal: one by its place in the joined row of the earlier sources, and one of the
@@ -91,7 +91,7 @@ fn place_after(place: usize, width: u128) -> Option<usize>
 }
 
 // The probe of a condition, after so many values.
-fn probe_of(cond: &Placed, width: u128) -> Option<Probe>
+fn probe_of(cond: &BoundExpr, width: u128) -> Option<Probe>
     ensures { IfSome result (IsProbeOf cond.now width) }
 {
     if !is_equality(&cond.expr) {
@@ -107,7 +107,7 @@ fn probe_of(cond: &Placed, width: u128) -> Option<Probe>
 }
 
 /// The place of the first condition that is such an equality, after so many values.
-pub(crate) fn probe_at(conds: &[Placed], width: u128) -> Option<Found>
+pub(crate) fn probe_at(conds: &[BoundExpr], width: u128) -> Option<Found>
     ensures { IfSome result (λ found. HasProbe conds.now width found.index found.probe) }
 {
     for (index, cond) in conds.iter().enumerate() {

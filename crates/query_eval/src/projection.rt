@@ -1,13 +1,13 @@
 //! The answer rows of a core that doesn't group.
 
 ghost use Rattle.std.specs.Prelude.{◌≡◌, ◌++◌, ℕ, List as Items, map, IfOk};
-ghost use Rattle.core_parts.specs.Placing.{AllPlaced};
+ghost use Rattle.core_parts.specs.Placing.{AreAllPlaced};
 ghost use Rattle.core_parts.specs.Checking.{HasCore};
-ghost use Rattle.query_eval.specs.Projecting.{projected, values_over, whole, IsProjected};
+ghost use Rattle.query_eval.specs.Projecting.{projected_answer, values_over, answer_of_all_columns, IsProjected};
 ghost use Rattle.sql_model.specs.Refusals.{names_of_items};
 ghost use Rattle.sql_model.specs.Scope.{InScope, places_in};
 
-use core_parts::{Placed, core_of, placed_items, places_or};
+use core_parts::{BoundExpr, core_of, placed_items, column_indexes};
 use ldv_value::{List, Places, Values};
 use lineage::{Answer, Answers, Picks};
 use sql_model::{Checked, Item, value_of};
@@ -22,29 +22,29 @@ pub fn project(checked: &Checked, core: usize, picks: Picks) -> Result<Answers, 
 {
     let alloc = picks.allocator();
     let none = List::new(alloc);
-    let places = places_or(checked, core, &none);
+    let places = column_indexes(checked, core, &none);
     match &core_of(checked, core).items {
-        None => whole(alloc, picks),
+        None => project_all(alloc, picks),
         Some(items) => {
             let items = first_items(alloc, items.items(), places)?;
-            projected(alloc, items.items(), picks)
+            project_items(alloc, items.items(), picks)
         }
     }
 }
 
 // The items of a core with the places that they take, which come first.
-fn first_items(alloc: Global, items: &[Item], places: &Places) -> Result<List<Placed>, AllocError>
+fn first_items(alloc: Global, items: &[Item], places: &Places) -> Result<List<BoundExpr>, AllocError>
     ensures exprs { IfOk result (λ placed. map (λ p. p.expr) placed ≡ map (λ item. item.expr) items.now) }
     ensures placed { IfOk result (λ placed. (scope : Items InScope) (others : Items ℕ)
-        → places.now ≡ places_in scope (names_of_items items.now) ++ others → AllPlaced scope placed) }
+        → places.now ≡ places_in scope (names_of_items items.now) ++ others → AreAllPlaced scope placed) }
 {
     let mut at = 0;
     placed_items(alloc, items, places, &mut at)
 }
 
 // The values of expressions over a row.
-fn row_values(alloc: Global, exprs: &[Placed], row: &Values) -> Result<Values, AllocError>
-    ensures { IfOk result (λ values. (scope : Items InScope) → AllPlaced scope exprs.now
+fn row_values(alloc: Global, exprs: &[BoundExpr], row: &Values) -> Result<Values, AllocError>
+    ensures { IfOk result (λ values. (scope : Items InScope) → AreAllPlaced scope exprs.now
         → values ≡ values_over scope row.now exprs.now) }
 {
     let mut values = List::with_capacity(alloc, exprs.len())?;
@@ -56,9 +56,9 @@ fn row_values(alloc: Global, exprs: &[Placed], row: &Values) -> Result<Values, A
 }
 
 // The answers with the values of items.
-fn projected(alloc: Global, items: &[Placed], picks: Picks) -> Result<Answers, AllocError>
-    ensures { IfOk result (λ answers. (scope : Items InScope) → AllPlaced scope items.now
-        → answers ≡ map (projected scope items.now) picks) }
+fn project_items(alloc: Global, items: &[BoundExpr], picks: Picks) -> Result<Answers, AllocError>
+    ensures { IfOk result (λ answers. (scope : Items InScope) → AreAllPlaced scope items.now
+        → answers ≡ map (projected_answer scope items.now) picks) }
 {
     let mut answers = List::with_capacity(alloc, picks.len())?;
     for pick in picks.into_vec() {
@@ -71,8 +71,8 @@ fn projected(alloc: Global, items: &[Placed], picks: Picks) -> Result<Answers, A
 }
 
 // The answers with all columns.
-fn whole(alloc: Global, picks: Picks) -> Result<Answers, AllocError>
-    ensures { IfOk result (λ answers. answers ≡ map whole picks) }
+fn project_all(alloc: Global, picks: Picks) -> Result<Answers, AllocError>
+    ensures { IfOk result (λ answers. answers ≡ map answer_of_all_columns picks) }
 {
     let mut answers = List::with_capacity(alloc, picks.len())?;
     for pick in picks.into_vec() {

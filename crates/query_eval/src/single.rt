@@ -2,15 +2,15 @@
 
 ghost use Rattle.std.specs.Prelude.{◌≡◌, ◌++◌, ◌∷◌, List as Items, IfOk, OnOk};
 ghost use Rattle.std.specs.FinMap.{empty};
-ghost use Rattle.core_parts.specs.Placing.{AllPlaced};
-ghost use Rattle.lineage.specs.Lineage.{added};
+ghost use Rattle.core_parts.specs.Placing.{AreAllPlaced};
+ghost use Rattle.lineage.specs.Lineage.{with_version};
 ghost use Rattle.query_eval.specs.Picking.{row_lineage, row_pick, row_picks};
 ghost use Rattle.query_eval.specs.declared.source.SourceRow.{SourceRow as Given};
 ghost use Rattle.sql_model.specs.Scope.{InScope};
 
 use crate::joining::is_met_all;
 use crate::source::{SourceRow, SourceRows};
-use core_parts::Placed;
+use core_parts::BoundExpr;
 use ldv_value::List;
 use lineage::{LineageRows, Pick, Picks};
 use std::alloc::{AllocError, Global};
@@ -20,10 +20,10 @@ pub(crate) fn picks_alone(
     alloc: Global,
     table: u32,
     rows: SourceRows,
-    conds: &List<Placed>,
+    conds: &List<BoundExpr>,
     keep: bool,
 ) -> Result<Picks, AllocError>
-    ensures { IfOk result (λ picks. (scope : Items InScope) → AllPlaced scope conds.now
+    ensures { IfOk result (λ picks. (scope : Items InScope) → AreAllPlaced scope conds.now
         → picks ≡ row_picks scope conds.now keep table rows) }
 {
     let mut picks = List::with_capacity(alloc, rows.len())?;
@@ -39,10 +39,10 @@ fn pick_row(
     picks: &mut Picks,
     table: u32,
     row: SourceRow,
-    conds: &List<Placed>,
+    conds: &List<BoundExpr>,
     keep: bool,
 ) -> Result<(), AllocError>
-    ensures { OnOk result ((scope : Items InScope) → AllPlaced scope conds.now → (rest : Items Given)
+    ensures { OnOk result ((scope : Items InScope) → AreAllPlaced scope conds.now → (rest : Items Given)
         → picks.new ++ row_picks scope conds.now keep table rest
         ≡ picks.old ++ row_picks scope conds.now keep table (row ∷ rest)) }
 {
@@ -81,7 +81,7 @@ fn row_lineage(
 
 // The set of one row.
 fn row_alone(alloc: Global, table: u32, row: &SourceRow) -> Result<LineageRows, AllocError>
-    ensures { IfOk result (λ lineage. lineage ≡ added empty (table, row.now.number) row.now.version) }
+    ensures { IfOk result (λ lineage. lineage ≡ with_version empty (table, row.now.number) row.now.version) }
 {
     let mut lineage = LineageRows::empty(alloc);
     lineage.add(table, row.number, row.version)?;

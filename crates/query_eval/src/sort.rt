@@ -3,7 +3,7 @@
 ghost use Rattle.std.specs.Prelude.{◌≡◌, [], map, IfOk};
 ghost use Rattle.ldv_value.specs.Order.{order};
 ghost use Rattle.query_eval.specs.Finishing.{as_key, sort_columns, by_columns};
-ghost use Rattle.sql_model.specs.QueryAnswer.{directed, order_by};
+ghost use Rattle.sql_model.specs.QueryAnswer.{order_in_direction, order_by};
 ghost use Rattle.sql_model.specs.Scope.{value_at};
 ghost use Rattle.sql_model.specs.Sorting.{sorted_by};
 
@@ -50,7 +50,7 @@ pub(crate) fn sort_columns(
 }
 
 /// Answers sorted by columns. Where they are the same in all of these, they keep their order.
-pub(crate) fn sorted(columns: &[SortColumn], answers: Answers) -> Result<Answers, AllocError>
+pub(crate) fn sort_answers(columns: &[SortColumn], answers: Answers) -> Result<Answers, AllocError>
     ensures { IfOk result (λ sorted. sorted ≡ sorted_by (by_columns columns.now) answers) }
 {
     let mut items = answers.into_vec();
@@ -78,7 +78,8 @@ fn compare_rows(columns: &[SortColumn], a: &Values, b: &Values) -> Ordering
 
 fn compare_by(column: SortColumn, a: &Values, b: &Values) -> Ordering
     ensures { result
-        ≡ directed column.descending (order (value_at a.now column.place) (value_at b.now column.place)) }
+        ≡ order_in_direction column.descending
+        (order (value_at a.now column.place) (value_at b.now column.place)) }
 {
     let null = Value::Null;
     let between = compare(

@@ -29,7 +29,7 @@ pub type Sources = List<Source>;
 
 /// The number of values of joined rows, with those of one source more. It is a sum of fewer than 2^64 numbers
 /// of columns, each below 2^64.
-pub(crate) fn widened(width: u128, more: usize) -> u128
+pub(crate) fn width_with(width: u128, more: usize) -> u128
     requires { width + 2 ^ 64 ≤ 2 ^ 128 }
     ensures sum { result ≡ width + more }
     ensures bound { result < width + 2 ^ 64 }

@@ -10,7 +10,7 @@ use Rattle.std.proofs.lemmas.Bool.{false≢true}
 use Rattle.std.proofs.lemmas.Map.Lookups.{CmpEqualImpliesEq}
 use Rattle.reach.specs.Types.{Node}
 use Rattle.reach.specs.Order.{node_cmp}
-use Rattle.reach.specs.Found.{placed}
+use Rattle.reach.specs.Found.{with_node}
 
 module _ {X : Type 0} where
   pub in_nil : {P : Type 0} (x : X) → Contains [] x → P
@@ -64,30 +64,30 @@ module _ {X : Type 0} where
 -- ---- nodes in order, each once
 
 module _ (exact : CmpEqualImpliesEq node_cmp) where
-  pub in_put_new : (ns : List Node) (k : Node) → Contains (placed ns k) k
+  pub in_put_new : (ns : List Node) (k : Node) → Contains (with_node ns k) k
   in_put_new [] k = in_head k []
   in_put_new (y ∷ ys) k = by (in_put_new ys k) (node_cmp k y) refl
     where
-      by : Contains (placed ys k) k → (o : Ordering) → node_cmp k y ≡ o
-          → Contains (match_ordering o (k ∷ y ∷ ys) (y ∷ ys) (y ∷ placed ys k)) k
+      by : Contains (with_node ys k) k → (o : Ordering) → node_cmp k y ≡ o
+          → Contains (match_ordering o (k ∷ y ∷ ys) (y ∷ ys) (y ∷ with_node ys k)) k
       by rest Less is = in_head k (y ∷ ys)
       by rest Equal is = in_same y ys k (sym (exact k y is))
-      by rest Greater is = in_tail y (placed ys k) k rest
+      by rest Greater is = in_tail y (with_node ys k) k rest
 
-  pub in_put_old : (ns : List Node) (k n : Node) → Contains ns n → Contains (placed ns k) n
+  pub in_put_old : (ns : List Node) (k n : Node) → Contains ns n → Contains (with_node ns k) n
   in_put_old [] k n at = in_nil n at
   in_put_old (y ∷ ys) k n at = by (in_put_old ys k n) (node_cmp k y)
     where
-      by : (Contains ys n → Contains (placed ys k) n) → (o : Ordering)
-          → Contains (match_ordering o (k ∷ y ∷ ys) (y ∷ ys) (y ∷ placed ys k)) n
+      by : (Contains ys n → Contains (with_node ys k) n) → (o : Ordering)
+          → Contains (match_ordering o (k ∷ y ∷ ys) (y ∷ ys) (y ∷ with_node ys k)) n
       by more Less = in_tail k (y ∷ ys) n at
       by more Equal = at
       by more Greater = elim (in_cons y ys n at) [
-        | inl same ↦ in_same y (placed ys k) n same
-        | inr rest ↦ in_tail y (placed ys k) n (more rest)
+        | inl same ↦ in_same y (with_node ys k) n same
+        | inr rest ↦ in_tail y (with_node ys k) n (more rest)
       ]
 
-  pub from_put : (ns : List Node) (k n : Node) → Contains (placed ns k) n → (k ≡ n) ⊎ Contains ns n
+  pub from_put : (ns : List Node) (k n : Node) → Contains (with_node ns k) n → (k ≡ n) ⊎ Contains ns n
   from_put [] k n at = in_cons k [] n at
   from_put (y ∷ ys) k n at = by (from_put ys k n) (node_cmp k y) at
     where
@@ -95,35 +95,35 @@ module _ (exact : CmpEqualImpliesEq node_cmp) where
       more (inl same) = inl same
       more (inr rest) = inr (in_tail y ys n rest)
 
-      split : (Contains (placed ys k) n → (k ≡ n) ⊎ Contains ys n) → (y ≡ n) ⊎ Contains (placed ys k) n → (k ≡ n) ⊎ Contains (y ∷ ys) n
+      split : (Contains (with_node ys k) n → (k ≡ n) ⊎ Contains ys n) → (y ≡ n) ⊎ Contains (with_node ys k) n → (k ≡ n) ⊎ Contains (y ∷ ys) n
       split before (inl same) = inr (in_same y ys n same)
       split before (inr rest) = more (before rest)
 
-      by : (Contains (placed ys k) n → (k ≡ n) ⊎ Contains ys n) → (o : Ordering)
-          → Contains (match_ordering o (k ∷ y ∷ ys) (y ∷ ys) (y ∷ placed ys k)) n → (k ≡ n) ⊎ Contains (y ∷ ys) n
+      by : (Contains (with_node ys k) n → (k ≡ n) ⊎ Contains ys n) → (o : Ordering)
+          → Contains (match_ordering o (k ∷ y ∷ ys) (y ∷ ys) (y ∷ with_node ys k)) n → (k ≡ n) ⊎ Contains (y ∷ ys) n
       by before Less there = in_cons k (y ∷ ys) n there
       by before Equal there = inr there
-      by before Greater there = split before (in_cons y (placed ys k) n there)
+      by before Greater there = split before (in_cons y (with_node ys k) n there)
 
-  pub in_all : (acc ns : List Node) (n : Node) → Contains acc n ⊎ Contains ns n → Contains (fold placed acc ns) n
+  pub in_all : (acc ns : List Node) (n : Node) → Contains acc n ⊎ Contains ns n → Contains (fold with_node acc ns) n
   in_all acc [] n (inl at) = at
   in_all acc [] n (inr at) = in_nil n at
-  in_all acc (k ∷ ns) n (inl at) = in_all (placed acc k) ns n (inl (in_put_old acc k n at))
+  in_all acc (k ∷ ns) n (inl at) = in_all (with_node acc k) ns n (inl (in_put_old acc k n at))
   in_all acc (k ∷ ns) n (inr at) = elim (in_cons k ns n at) [
-    | inl same ↦ in_all (placed acc k) ns n
-        (inl (subst (λ (m : Node). Contains (placed acc k) m) same (in_put_new acc k)))
-    | inr rest ↦ in_all (placed acc k) ns n (inr rest)
+    | inl same ↦ in_all (with_node acc k) ns n
+        (inl (subst (λ (m : Node). Contains (with_node acc k) m) same (in_put_new acc k)))
+    | inr rest ↦ in_all (with_node acc k) ns n (inr rest)
   ]
 
-  pub from_all : (acc ns : List Node) (n : Node) → Contains (fold placed acc ns) n → Contains acc n ⊎ Contains ns n
+  pub from_all : (acc ns : List Node) (n : Node) → Contains (fold with_node acc ns) n → Contains acc n ⊎ Contains ns n
   from_all acc [] n at = inl at
-  from_all acc (k ∷ ns) n at = by (from_all (placed acc k) ns n at)
+  from_all acc (k ∷ ns) n at = by (from_all (with_node acc k) ns n at)
     where
       split : (k ≡ n) ⊎ Contains acc n → Contains acc n ⊎ Contains (k ∷ ns) n
       split (inl same) = inr (in_same k ns n same)
       split (inr old) = inl old
 
-      by : Contains (placed acc k) n ⊎ Contains ns n → Contains acc n ⊎ Contains (k ∷ ns) n
+      by : Contains (with_node acc k) n ⊎ Contains ns n → Contains acc n ⊎ Contains (k ∷ ns) n
       by (inl put) = split (from_put acc k n put)
       by (inr rest) = inr (in_tail k ns n rest)
 

@@ -11,7 +11,7 @@ use Rattle.std.specs.declared.cmp.Ordering.TheVariants.{Less, Equal, Greater}
 use Rattle.std.proofs.lemmas.Cmp.{nat_cmp_total, nat_list_cmp_total, on_total, then_total}
 use Rattle.reach.specs.Types.{Node, Path, Process, Row, Ask, Reply}
 use Rattle.reach.specs.Order.{node_cmp}
-use Rattle.reach.specs.Found.{placed, in_order}
+use Rattle.reach.specs.Found.{with_node, in_order}
 
 -- ---- a total order
 
@@ -60,12 +60,12 @@ node_total = subst (λ (cmp : Node → Node → Ordering). IsTotalOrder cmp) (λ
 
 -- what is above all nodes and the one that is put in is above all of them
 above_put : (x k : Node) (ns : List Node) → node_cmp x k ≡ Less → AllByRecursion (λ y. node_cmp x y ≡ Less) ns
-    → AllByRecursion (λ y. node_cmp x y ≡ Less) (placed ns k)
+    → AllByRecursion (λ y. node_cmp x y ≡ Less) (with_node ns k)
 above_put x k [] less all = (less, tt)
 above_put x k (y ∷ ys) less all = by (node_cmp k y) (above_put x k ys less all.1)
   where
-    by : (o : Ordering) → AllByRecursion (λ y. node_cmp x y ≡ Less) (placed ys k)
-        → AllByRecursion (λ y. node_cmp x y ≡ Less) (match_ordering o (k ∷ y ∷ ys) (y ∷ ys) (y ∷ placed ys k))
+    by : (o : Ordering) → AllByRecursion (λ y. node_cmp x y ≡ Less) (with_node ys k)
+        → AllByRecursion (λ y. node_cmp x y ≡ Less) (match_ordering o (k ∷ y ∷ ys) (y ∷ ys) (y ∷ with_node ys k))
     by Less rest = (less, all)
     by Equal rest = all
     by Greater rest = (all.0, rest)
@@ -75,20 +75,20 @@ above_all : (x y : Node) (ns : List Node) → node_cmp x y ≡ Less → AllByRec
 above_all x y [] less all = tt
 above_all x y (z ∷ zs) less all = (node_total.trans x y z less all.0, above_all x y zs less all.1)
 
-placed_sorted : (ns : List Node) (k : Node) → IsStrictlySortedBy node_cmp ns → IsStrictlySortedBy node_cmp (placed ns k)
+placed_sorted : (ns : List Node) (k : Node) → IsStrictlySortedBy node_cmp ns → IsStrictlySortedBy node_cmp (with_node ns k)
 unfolding IsStrictlySortedBy
 placed_sorted [] k sorted = (tt, tt)
 placed_sorted (y ∷ ys) k sorted = by (node_cmp k y) refl (placed_sorted ys k sorted.1)
   where
-    by : (o : Ordering) → node_cmp k y ≡ o → IsStrictlySortedBy node_cmp (placed ys k)
-        → IsStrictlySortedBy node_cmp (match_ordering o (k ∷ y ∷ ys) (y ∷ ys) (y ∷ placed ys k))
+    by : (o : Ordering) → node_cmp k y ≡ o → IsStrictlySortedBy node_cmp (with_node ys k)
+        → IsStrictlySortedBy node_cmp (match_ordering o (k ∷ y ∷ ys) (y ∷ ys) (y ∷ with_node ys k))
     by Less is rest = ((is, above_all k y ys is sorted.0), sorted)
     by Equal is rest = sorted
     by Greater is rest = (above_put y k ys (node_total.antisymm y k ∙ ap ordering_reverse is) sorted.0, rest)
 
-all_sorted : (acc ns : List Node) → IsStrictlySortedBy node_cmp acc → IsStrictlySortedBy node_cmp (fold placed acc ns)
+all_sorted : (acc ns : List Node) → IsStrictlySortedBy node_cmp acc → IsStrictlySortedBy node_cmp (fold with_node acc ns)
 all_sorted acc [] sorted = sorted
-all_sorted acc (k ∷ ns) sorted = all_sorted (placed acc k) ns (placed_sorted acc k sorted)
+all_sorted acc (k ∷ ns) sorted = all_sorted (with_node acc k) ns (placed_sorted acc k sorted)
 
 pub in_order_sorted : (ns : List Node) → IsStrictlySortedBy node_cmp (in_order ns)
 unfolding IsStrictlySortedBy

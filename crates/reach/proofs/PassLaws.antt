@@ -10,7 +10,7 @@ use Rattle.trace_graph.specs.Graph.{Parts, are_between}
 use Rattle.reach.specs.Types.{Node, Edge}
 use Rattle.reach.specs.Found.{Times, time_at}
 use Rattle.reach.specs.Search.{last_by, is_later, start_times, AreKnown, AreLatest}
-use Rattle.reach.specs.Depends.{brought_by, brought, passed, room, passes, first_times, latest_of}
+use Rattle.reach.specs.Depends.{brought_by, times_after_edge, times_after_pass, room, passes, first_times, latest_of}
 use Rattle.reach.proofs.Members.{in_nil, in_head, in_tail, in_cons}
 use Rattle.reach.proofs.TimeLaws.{no_time, raised_length}
 use Rattle.reach.proofs.PathLaws.{in_limit}
@@ -18,16 +18,16 @@ use Rattle.reach.proofs.Standing.{start_known, rising_known}
 use Rattle.reach.proofs.WorkLaws.{room_raised}
 use Rattle.reach.proofs.TurnLaws.{all_from}
 
-pub brought_length : (latest : Times) (e : Edge) → length (brought latest e) ≡ length latest
+pub brought_length : (latest : Times) (e : Edge) → length (times_after_edge latest e) ≡ length latest
 brought_length latest e = by (time_at latest e.target)
   where
     by : (o : Option ℕ) → length (brought_by o latest e) ≡ length latest
     by None = refl
     by (Some time) = raised_length latest e time
 
-passed_length : (es : List Edge) (latest : Times) → length (passed latest es) ≡ length latest
+passed_length : (es : List Edge) (latest : Times) → length (times_after_pass latest es) ≡ length latest
 passed_length [] latest = refl
-passed_length (e ∷ es) latest = passed_length es (brought latest e) ∙ brought_length latest e
+passed_length (e ∷ es) latest = passed_length es (times_after_edge latest e) ∙ brought_length latest e
 
 -- an edge brings nothing more
 IsQuiet : Times → Edge → Type 0
@@ -40,7 +40,7 @@ module _ (edges : List Edge) (node limit : ℕ) where
     small : (time : ℕ) → time_at latest e.target ≡ Some time → time ≤ limit
     small time is = let path = known.sound e.target time is in in_limit edges node limit path.0 e.target time path.1
 
-    brought_known : AreKnown edges node limit (brought latest e)
+    brought_known : AreKnown edges node limit (times_after_edge latest e)
     brought_known = by (time_at latest e.target) refl
       where
         some : (time : ℕ) → time_at latest e.target ≡ Some time → (b : Bool) → is_later latest e time ≡ b
@@ -52,7 +52,7 @@ module _ (edges : List Edge) (node limit : ℕ) where
         by None at = known
         by (Some time) at = some time at (is_later latest e time) refl
 
-    brought_cases : (IsQuiet latest e × (brought latest e ≡ latest)) ⊎ (room limit (brought latest e) + 1 ≤ room limit latest)
+    brought_cases : (IsQuiet latest e × (times_after_edge latest e ≡ latest)) ⊎ (room limit (times_after_edge latest e) + 1 ≤ room limit latest)
     unfolding IsQuiet
     brought_cases = by (time_at latest e.target) refl
       where
@@ -75,30 +75,30 @@ module _ (edges : List Edge) (node limit : ℕ) where
     among : (e : Edge) → Contains es e → Contains edges e
     source : (e : Edge) → Contains es e → e.source < count
 
-  taken_rest : (latest : Times) (e : Edge) (es : List Edge) → AreTaken (length latest) (e ∷ es) → AreTaken (length (brought latest e)) es
+  taken_rest : (latest : Times) (e : Edge) (es : List Edge) → AreTaken (length latest) (e ∷ es) → AreTaken (length (times_after_edge latest e)) es
   taken_rest latest e es taken = record {
     among = λ x at. taken.among x (in_tail e es x at);
     source = λ x at. subst (λ (n : ℕ). x.source < n) (sym (brought_length latest e)) (taken.source x (in_tail e es x at));
   }
 
   head_known : (latest : Times) (e : Edge) (es : List Edge) → AreTaken (length latest) (e ∷ es) → AreKnown edges node limit latest
-      → AreKnown edges node limit (brought latest e)
+      → AreKnown edges node limit (times_after_edge latest e)
   head_known latest e es taken known = brought_known latest e (taken.among e (in_head e es)) (taken.source e (in_head e es)) known
 
   passed_known : (es : List Edge) (latest : Times) → AreTaken (length latest) es → AreKnown edges node limit latest
-      → AreKnown edges node limit (passed latest es)
+      → AreKnown edges node limit (times_after_pass latest es)
   passed_known [] latest taken known = known
-  passed_known (e ∷ es) latest taken known = passed_known es (brought latest e) (taken_rest latest e es taken) (head_known latest e es taken known)
+  passed_known (e ∷ es) latest taken known = passed_known es (times_after_edge latest e) (taken_rest latest e es taken) (head_known latest e es taken known)
 
   abbrev PassCases : List Edge → Times → Type 0
   PassCases es latest =
-      (((e : Edge) → Contains es e → IsQuiet latest e) × (passed latest es ≡ latest)) ⊎ (room limit (passed latest es) + 1 ≤ room limit latest)
+      (((e : Edge) → Contains es e → IsQuiet latest e) × (times_after_pass latest es ≡ latest)) ⊎ (room limit (times_after_pass latest es) + 1 ≤ room limit latest)
 
   passed_cases : (es : List Edge) (latest : Times) → AreTaken (length latest) es → AreKnown edges node limit latest → PassCases es latest
   passed_cases [] latest taken known = inl (λ e at. in_nil e at, refl)
   passed_cases (e ∷ es) latest taken known =
       by (brought_cases latest e (taken.among e (in_head e es)) (taken.source e (in_head e es)) known)
-      (passed_cases es (brought latest e) (taken_rest latest e es taken) (head_known latest e es taken known))
+      (passed_cases es (times_after_edge latest e) (taken_rest latest e es taken) (head_known latest e es taken known))
     where
       quiet : IsQuiet latest e → ((x : Edge) → Contains es x → IsQuiet latest x) → (x : Edge) → Contains (e ∷ es) x → IsQuiet latest x
       quiet first others x at = elim (in_cons e es x at) [
@@ -106,11 +106,11 @@ module _ (edges : List Edge) (node limit : ℕ) where
         | inr more ↦ others x more
       ]
 
-      by : (IsQuiet latest e × (brought latest e ≡ latest)) ⊎ (room limit (brought latest e) + 1 ≤ room limit latest)
-          → PassCases es (brought latest e) → PassCases (e ∷ es) latest
+      by : (IsQuiet latest e × (times_after_edge latest e ≡ latest)) ⊎ (room limit (times_after_edge latest e) + 1 ≤ room limit latest)
+          → PassCases es (times_after_edge latest e) → PassCases (e ∷ es) latest
       by (inl first) (inl rest) =
           inl (quiet first.0 (subst (λ (l : Times). (x : Edge) → Contains es x → IsQuiet l x) first.1 rest.0), rest.1 ∙ first.1)
-      by (inl first) (inr less) = inr (subst (λ (l : Times). room limit (passed (brought latest e) es) + 1 ≤ room limit l) first.1 less)
+      by (inl first) (inr less) = inr (subst (λ (l : Times). room limit (times_after_pass (times_after_edge latest e) es) + 1 ≤ room limit l) first.1 less)
       by (inr less) (inl rest) = inr (subst (λ (l : Times). room limit l + 1 ≤ room limit latest) (sym rest.1) less)
       by (inr less) (inr more) = inr (omega (arith, less, more))
 
@@ -133,16 +133,16 @@ module _ (edges : List Edge) (node limit : ℕ) where
         by (inl done) = quiet_latest latest known done.0
         by (inr less) = absurd (omega (arith, less, fuel))
     passes_latest (suc n) latest known long fuel =
-        by (room limit (passed latest edges) == room limit latest) refl (passed_cases edges latest (taken_now latest long) known)
-        (passes_latest n (passed latest edges) (passed_known edges latest (taken_now latest long) known) (passed_length edges latest ∙ long))
+        by (room limit (times_after_pass latest edges) == room limit latest) refl (passed_cases edges latest (taken_now latest long) known)
+        (passes_latest n (times_after_pass latest edges) (passed_known edges latest (taken_now latest long) known) (passed_length edges latest ∙ long))
       where
-        by : (b : Bool) → (room limit (passed latest edges) == room limit latest) ≡ b → PassCases edges latest
-            → (room limit (passed latest edges) ≤ n → AreLatest edges node limit (passes limit n edges (passed latest edges)))
-            → AreLatest edges node limit (if b then latest else passes limit n edges (passed latest edges))
+        by : (b : Bool) → (room limit (times_after_pass latest edges) == room limit latest) ≡ b → PassCases edges latest
+            → (room limit (times_after_pass latest edges) ≤ n → AreLatest edges node limit (passes limit n edges (times_after_pass latest edges)))
+            → AreLatest edges node limit (if b then latest else passes limit n edges (times_after_pass latest edges))
         by true is (inl done) next = quiet_latest latest known done.0
         by true is (inr less) next =
-            absurd (let same : room limit (passed latest edges) ≡ room limit latest = eqb-true (room limit (passed latest edges)) (room limit latest) is in omega (arith, same, less))
-        by false is (inl done) next = absurd (eqb-false (room limit (passed latest edges)) (room limit latest) is (ap (room limit) done.1))
+            absurd (let same : room limit (times_after_pass latest edges) ≡ room limit latest = eqb-true (room limit (times_after_pass latest edges)) (room limit latest) is in omega (arith, same, less))
+        by false is (inl done) next = absurd (eqb-false (room limit (times_after_pass latest edges)) (room limit latest) is (ap (room limit) done.1))
         by false is (inr less) next = next (omega (arith, less, fuel))
 
 -- no node has a time

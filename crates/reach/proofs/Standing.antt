@@ -10,7 +10,7 @@ use Rattle.std.proofs.lemmas.List.Sorted.{Contains-permutation}
 use Rattle.reach.specs.Types.{Edge}
 use Rattle.reach.specs.Reach.{Leg, Leaves}
 use Rattle.reach.specs.Found.{Times, time_at, reaches}
-use Rattle.reach.specs.Search.{Queue, last_by, is_later, raised, queued, raised_all, queued_all, is_time, is_current, visited, visited_queue, start_times, is_into, edges_into, IsDone, HasPath, ArePending, AreKnown, Stands}
+use Rattle.reach.specs.Search.{Queue, last_by, is_later, times_with_source, queue_after_edge, times_with_sources, queue_after_edges, is_time, is_current, times_after_visit, visited_queue, start_times, is_into, edges_into, IsDone, HasPath, ArePending, AreKnown, IsSearch}
 use Rattle.reach.proofs.Members.{in_nil, in_head, in_tail, in_cons, in_same, in_filter, from_filter}
 use Rattle.reach.proofs.TimeLaws.{no_time, time_is, reaches_at, later_parts, later_falls, not_later, set_there, set_elsewhere, set_rises, raised_length}
 use Rattle.reach.proofs.PathLaws.{earlier}
@@ -29,7 +29,7 @@ current_at latest entry is = by (time_at latest entry.1) is
 
 module _ (edges : List Edge) (node limit : ℕ) where
   pub permuted : (latest : Times) (queue other : Queue) (rest : List Edge) (now : ℕ) → IsPermutation queue other
-      → Stands edges node limit latest queue rest now → Stands edges node limit latest other rest now
+      → IsSearch edges node limit latest queue rest now → IsSearch edges node limit latest other rest now
   permuted latest queue other rest now same stands = record {
     known = stands.known;
     pending = λ edge among time is. moved edge time (stands.pending edge among time is);
@@ -42,7 +42,7 @@ module _ (edges : List Edge) (node limit : ℕ) where
       moved edge time (inr (inr more)) = inr (inr more)
 
   pub rested : (latest : Times) (queue : Queue) (now later : ℕ)
-      → Stands edges node limit latest queue [] now → Stands edges node limit latest queue [] later
+      → IsSearch edges node limit latest queue [] now → IsSearch edges node limit latest queue [] later
   rested latest queue now later stands = record {
     known = stands.known;
     pending = λ edge among time is. moved edge time (stands.pending edge among time is);
@@ -81,7 +81,7 @@ module _ (edges : List Edge) (node limit : ℕ) where
       start = reaches_at limit limit (time_at (start_times count node limit) node) (there node refl) (omega arith);
     }
 
-  pub start_stands : (count : ℕ) → node < count → Stands edges node limit (start_times count node limit) ((limit, node) ∷ []) [] 0
+  pub start_stands : (count : ℕ) → node < count → IsSearch edges node limit (start_times count node limit) ((limit, node) ∷ []) [] 0
   start_stands count within = record { known = start_known count within; pending = pending }
     where
       pending : ArePending edges (start_times count node limit) ((limit, node) ∷ []) [] 0
@@ -124,11 +124,11 @@ module _ (edges : List Edge) (node limit : ℕ) where
 
   module _ (latest : Times) (queue : Queue) (edge : Edge) (rest : List Edge) (now : ℕ) (among : Contains edges edge)
       (within : edge.source < length latest) (path : HasPath edges node limit edge.target now)
-      (stands : Stands edges node limit latest queue (edge ∷ rest) now) where
+      (stands : IsSearch edges node limit latest queue (edge ∷ rest) now) where
     abbrev new : ℕ
     new = last_by edge now
 
-    stays : is_later latest edge now ≡ false → Stands edges node limit latest queue rest now
+    stays : is_later latest edge now ≡ false → IsSearch edges node limit latest queue rest now
     stays none = record {
       known = stands.known;
       pending = λ e among time is. moved e time (stands.pending e among time is);
@@ -146,7 +146,7 @@ module _ (edges : List Edge) (node limit : ℕ) where
         moved e time (inr (inr more)) = last e time more.1 (in_cons edge rest e more.0)
 
     rises : is_later latest edge now ≡ true
-        → Stands edges node limit (set latest edge.source (Some new)) ((new, edge.source) ∷ queue) rest now
+        → IsSearch edges node limit (set latest edge.source (Some new)) ((new, edge.source) ∷ queue) rest now
     rises is = record {
       known = rising_known latest edge now among within path stands.known is;
       pending = λ e among time at. elim (cases_eq e.target edge.source) [
@@ -173,11 +173,11 @@ module _ (edges : List Edge) (node limit : ℕ) where
         moved e time (inr (inl at)) = inr (inl (in_tail (new, edge.source) queue (time, e.target) at))
         moved e time (inr (inr more)) = last e time more.1 (in_cons edge rest e more.0)
 
-    pub looked : Stands edges node limit (raised latest edge now) (queued latest edge now queue) rest now
+    pub looked : IsSearch edges node limit (times_with_source latest edge now) (queue_after_edge latest edge now queue) rest now
     looked = by (is_later latest edge now) refl
       where
         by : (b : Bool) → is_later latest edge now ≡ b
-            → Stands edges node limit (if b then set latest edge.source (Some new) else latest) (if b then (new, edge.source) ∷ queue else queue) rest now
+            → IsSearch edges node limit (if b then set latest edge.source (Some new) else latest) (if b then (new, edge.source) ∷ queue else queue) rest now
         by true is = rises is
         by false is = stays is
 
@@ -190,11 +190,11 @@ module _ (edges : List Edge) (node limit : ℕ) where
     pub path : (e : Edge) → Contains es e → HasPath edges node limit e.target now
 
   pub looked_all : (es : List Edge) (latest : Times) (queue : Queue) (now : ℕ) → AreGiven (length latest) now es
-      → Stands edges node limit latest queue es now
-      → Stands edges node limit (raised_all latest es now) (queued_all latest es now queue) [] now
+      → IsSearch edges node limit latest queue es now
+      → IsSearch edges node limit (times_with_sources latest es now) (queue_after_edges latest es now queue) [] now
   looked_all [] latest queue now given stands = stands
   looked_all (e ∷ es) latest queue now given stands =
-      looked_all es (raised latest e now) (queued latest e now queue) now
+      looked_all es (times_with_source latest e now) (queue_after_edge latest e now queue) now
       (record {
         among = λ x at. given.among x (in_tail e es x at);
         source = λ x at. subst (λ (n : ℕ). x.source < n) (sym (raised_length latest e now)) (given.source x (in_tail e es x at));
@@ -206,11 +206,11 @@ module _ (edges : List Edge) (node limit : ℕ) where
 
   module _ (latest : Times) (queue left : Queue) (entry : ℕ × ℕ) (out : IsPermutation queue (entry ∷ left))
       (sources : (e : Edge) → Contains edges e → e.source < length latest)
-      (stands : Stands edges node limit latest queue [] 0) where
-    abbrev ready : Stands edges node limit latest (entry ∷ left) [] 0
+      (stands : IsSearch edges node limit latest queue [] 0) where
+    abbrev ready : IsSearch edges node limit latest (entry ∷ left) [] 0
     ready = permuted latest queue (entry ∷ left) [] 0 out stands
 
-    stale : is_current latest entry.0 entry.1 ≡ false → Stands edges node limit latest left [] 0
+    stale : is_current latest entry.0 entry.1 ≡ false → IsSearch edges node limit latest left [] 0
     stale not' = record {
       known = stands.known;
       pending = λ e among time is. moved e time is (ready.pending e among time is);
@@ -235,7 +235,7 @@ module _ (edges : List Edge) (node limit : ℕ) where
         moved e time is (inr (inl at)) = left-in e time is (in_cons entry left (time, e.target) at)
         moved e time is (inr (inr more)) = in_nil e more.0
 
-    current : time_at latest entry.1 ≡ Some entry.0 → Stands edges node limit latest left (edges_into edges entry.1) entry.0
+    current : time_at latest entry.1 ≡ Some entry.0 → IsSearch edges node limit latest left (edges_into edges entry.1) entry.0
     current at-entry = record {
       known = stands.known;
       pending = λ e among time is. moved e among time (ready.pending e among time is);
@@ -262,15 +262,15 @@ module _ (edges : List Edge) (node limit : ℕ) where
           (sym (eqb-true e.target entry.1 (from_filter (is_into entry.1) edges e at).1)) (stands.known.sound entry.1 entry.0 at-entry);
     }
 
-    pub visited_stands : Stands edges node limit (visited latest (edges_into edges entry.1) entry)
+    pub visited_stands : IsSearch edges node limit (times_after_visit latest (edges_into edges entry.1) entry)
         (visited_queue latest (edges_into edges entry.1) entry left) [] 0
     visited_stands = by (is_current latest entry.0 entry.1) refl
       where
         by : (b : Bool) → is_current latest entry.0 entry.1 ≡ b
-            → Stands edges node limit (if b then raised_all latest (edges_into edges entry.1) entry.0 else latest)
-            (if b then queued_all latest (edges_into edges entry.1) entry.0 left else left) [] 0
+            → IsSearch edges node limit (if b then times_with_sources latest (edges_into edges entry.1) entry.0 else latest)
+            (if b then queue_after_edges latest (edges_into edges entry.1) entry.0 left else left) [] 0
         by true is =
             let at = current_at latest entry is in
-            rested (raised_all latest (edges_into edges entry.1) entry.0) (queued_all latest (edges_into edges entry.1) entry.0 left) entry.0 0
+            rested (times_with_sources latest (edges_into edges entry.1) entry.0) (queue_after_edges latest (edges_into edges entry.1) entry.0 left) entry.0 0
             (looked_all (edges_into edges entry.1) latest left entry.0 (given at) (current at))
         by false is = stale is

@@ -7,7 +7,7 @@ use Rattle.std.proofs.lemmas.List.{get_or-set_same, get_or-set_other, get_or_def
 use Rattle.std.proofs.lemmas.Option.{unwrap_or-slice_get}
 use Rattle.reach.specs.Types.{Edge}
 use Rattle.reach.specs.Found.{Times, time_at, reaches}
-use Rattle.reach.specs.Search.{last_by, is_later, raised}
+use Rattle.reach.specs.Search.{last_by, is_later, times_with_source}
 
 pub reaches_less : (a b : ℕ) (o : Option ℕ) → a ≤ b → reaches b o ≡ true → reaches a o ≡ true
 reaches_less a b None le is = absurd (false≢true is)
@@ -96,7 +96,7 @@ module _ (latest : Times) (source new : ℕ) (within : source < length latest) w
       less None low high = absurd (false≢true high)
       less (Some t) low high = omega (arith, leb-true a t high, leb-false new t low)
 
-pub raised_length : (latest : Times) (edge : Edge) (time : ℕ) → length (raised latest edge time) ≡ length latest
+pub raised_length : (latest : Times) (edge : Edge) (time : ℕ) → length (times_with_source latest edge time) ≡ length latest
 raised_length latest edge time = by (is_later latest edge time)
   where
     by : (b : Bool) → length (if b then set latest edge.source (Some (last_by edge time)) else latest) ≡ length latest

@@ -11,12 +11,12 @@ use Rattle.trace_graph.specs.Graph.{is_between, are_between}
 use Rattle.reach.specs.Types.{Edge}
 use Rattle.reach.specs.Found.{Times}
 use Rattle.reach.specs.Incoming.{edges_to, incoming_of}
-use Rattle.reach.specs.Search.{Queue, is_current, visited, visited_queue, is_into, edges_into, ComeFrom, IsWithin, Stands, AreLatest, start_times, work_left}
+use Rattle.reach.specs.Search.{Queue, is_current, times_after_visit, visited_queue, is_into, edges_into, ComeFrom, IsWithin, IsSearch, AreLatest, start_times, work_left}
 use Rattle.reach.proofs.TimeLaws.{no_time}
 use Rattle.reach.proofs.PathLaws.{in_limit}
 use Rattle.reach.proofs.IncomingLaws.{incoming_length, incoming_is}
 use Rattle.reach.proofs.Standing.{current_at, permuted, start_stands, visited_stands}
-use Rattle.reach.proofs.WorkLaws.{visited-length, visited_within, work_visited}
+use Rattle.reach.proofs.WorkLaws.{times_after_visit-length, visited_within, work_visited}
 
 pub all_from : (count : ℕ) (edges : List Edge) → IsTrue (are_between count edges) → ComeFrom count edges
 all_from count edges between =
@@ -50,10 +50,10 @@ module _ (count : ℕ) (edges : List Edge) (lists : List (List Edge)) (made : li
       subst (λ (n : ℕ). ComeFrom n (edges_to lists entry.1)) (sym long)
       (subst (λ (l : List Edge). ComeFrom count l) (sym list_is) into_from)
 
-  module _ (next : Times) (after : Queue) (next_is : next ≡ visited latest (edges_to lists entry.1) entry)
+  module _ (next : Times) (after : Queue) (next_is : next ≡ times_after_visit latest (edges_to lists entry.1) entry)
       (after_is : IsPermutation (visited_queue latest (edges_to lists entry.1) entry left) after) where
     pub turn_long : length next ≡ count
-    turn_long = ap length next_is ∙ visited-length latest (edges_to lists entry.1) entry ∙ long
+    turn_long = ap length next_is ∙ times_after_visit-length latest (edges_to lists entry.1) entry ∙ long
 
     pub turn_within : IsWithin count after
     turn_within =
@@ -62,33 +62,33 @@ module _ (count : ℕ) (edges : List Edge) (lists : List (List Edge)) (made : li
         (subst (λ (l : List Edge). ComeFrom count l) (sym list_is) into_from)
         (All-tail (λ (x : ℕ × ℕ). x.1 < count) entry left out_within))
 
-    before : (node limit : ℕ) → limit < 2 ^ 32 → Stands edges node limit latest queue [] 0 → is_current latest entry.0 entry.1 ≡ true → entry.0 < 2 ^ 32
+    before : (node limit : ℕ) → limit < 2 ^ 32 → IsSearch edges node limit latest queue [] 0 → is_current latest entry.0 entry.1 ≡ true → entry.0 < 2 ^ 32
     before node limit small stands is =
         let path = stands.known.sound entry.1 entry.0 (current_at latest entry is) in
         let late : entry.0 ≤ limit = in_limit edges node limit path.0 entry.1 entry.0 path.1 in
         omega (arith, late, small)
 
-    pub turn_smaller : (node limit : ℕ) → limit < 2 ^ 32 → Stands edges node limit latest queue [] 0 → work_left next after < work_left latest queue
+    pub turn_smaller : (node limit : ℕ) → limit < 2 ^ 32 → IsSearch edges node limit latest queue [] 0 → work_left next after < work_left latest queue
     turn_smaller node limit small stands =
         let in_time = λ (is : is_current latest entry.0 entry.1 ≡ true). before node limit small stands is in
         let less = work_visited latest (edges_to lists entry.1) entry left turn_from in_time in
         let same : length after ≡ length (visited_queue latest (edges_to lists entry.1) entry left) =
         length_permutation (visited_queue latest (edges_to lists entry.1) entry left) after after_is in
         let all : length (entry ∷ left) ≡ length queue = length_permutation queue (entry ∷ left) out in
-        let now : work_left (visited latest (edges_to lists entry.1) entry) after ≤ work_left latest left = omega (arith, less, same) in
+        let now : work_left (times_after_visit latest (edges_to lists entry.1) entry) after ≤ work_left latest left = omega (arith, less, same) in
         let then : work_left next after ≤ work_left latest left =
         subst (λ (l : Times). work_left l after ≤ work_left latest left) (sym next_is) now in
         omega (arith, then, all)
 
-    pub turn_stands : (node limit : ℕ) → Stands edges node limit latest queue [] 0 → Stands edges node limit next after [] 0
+    pub turn_stands : (node limit : ℕ) → IsSearch edges node limit latest queue [] 0 → IsSearch edges node limit next after [] 0
     turn_stands node limit stands =
         let sources = λ (e : Edge) (at : Contains edges e). subst (λ (n : ℕ). e.source < n) (sym long)
         (All-contains (λ (x : Edge). x.source < count) edges e (all_from count edges between) at) in
-        let gone : Stands edges node limit (visited latest (edges_to lists entry.1) entry) (visited_queue latest (edges_to lists entry.1) entry left) [] 0 =
-        subst (λ (l : List Edge). Stands edges node limit (visited latest l entry) (visited_queue latest l entry left) [] 0) (sym list_is)
+        let gone : IsSearch edges node limit (times_after_visit latest (edges_to lists entry.1) entry) (visited_queue latest (edges_to lists entry.1) entry left) [] 0 =
+        subst (λ (l : List Edge). IsSearch edges node limit (times_after_visit latest l entry) (visited_queue latest l entry left) [] 0) (sym list_is)
         (visited_stands edges node limit latest queue left entry out sources stands) in
-        subst (λ (l : Times). Stands edges node limit l after [] 0) (sym next_is)
-        (permuted edges node limit (visited latest (edges_to lists entry.1) entry) (visited_queue latest (edges_to lists entry.1) entry left) after [] 0 after_is gone)
+        subst (λ (l : Times). IsSearch edges node limit l after [] 0) (sym next_is)
+        (permuted edges node limit (times_after_visit latest (edges_to lists entry.1) entry) (visited_queue latest (edges_to lists entry.1) entry left) after [] 0 after_is gone)
 
 -- ---- at first, and in the end
 
@@ -102,12 +102,12 @@ module _ (edges : List Edge) (node limit count : ℕ) (latest : Times) (queue : 
       All-permutation (λ (x : ℕ × ℕ). x.1 < count) ((limit, node) ∷ []) queue queue_is
       (All-cons (λ (x : ℕ × ℕ). x.1 < count) (limit, node) [] within (All-nil (λ (x : ℕ × ℕ). x.1 < count)))
 
-  pub begin_stands : Stands edges node limit latest queue [] 0
+  pub begin_stands : IsSearch edges node limit latest queue [] 0
   begin_stands =
       permuted edges node limit latest ((limit, node) ∷ []) queue [] 0 queue_is
-      (subst (λ (l : Times). Stands edges node limit l ((limit, node) ∷ []) [] 0) (sym latest_is) (start_stands edges node limit count within))
+      (subst (λ (l : Times). IsSearch edges node limit l ((limit, node) ∷ []) [] 0) (sym latest_is) (start_stands edges node limit count within))
 
 pub end_latest : (edges : List Edge) (node limit : ℕ) (latest : Times) (queue : Queue) → length queue ≡ 0
-    → Stands edges node limit latest queue [] 0 → AreLatest edges node limit latest
+    → IsSearch edges node limit latest queue [] 0 → AreLatest edges node limit latest
 end_latest edges node limit latest queue empty stands =
-    subst (λ (q : Queue). Stands edges node limit latest q [] 0) (nil_from_length queue empty) stands
+    subst (λ (q : Queue). IsSearch edges node limit latest q [] 0) (nil_from_length queue empty) stands

@@ -11,35 +11,35 @@ use Rattle.std.proofs.lemmas.List.Sorted.{IsPermutation-cons, IsPermutation-tran
 use Rattle.std.proofs.lemmas.List.{drop_more}
 use Rattle.reach.specs.Types.{Edge}
 use Rattle.reach.specs.Found.{Times, time_at, reaches}
-use Rattle.reach.specs.Search.{Queue, last_by, is_later, raised, queued, raised_all, queued_all, is_current, visited, visited_queue, ComeFrom, IsWithin, room_of, work_left}
+use Rattle.reach.specs.Search.{Queue, last_by, is_later, times_with_source, queue_after_edge, times_with_sources, queue_after_edges, is_current, times_after_visit, visited_queue, ComeFrom, IsWithin, room_of, work_left}
 use Rattle.reach.proofs.TimeLaws.{time_is, later_parts, raised_length}
 
 -- ---- places
 
-pub raised_all-length : (latest : Times) (es : List Edge) (time : ℕ) → length (raised_all latest es time) ≡ length latest
-raised_all-length latest [] time = refl
-raised_all-length latest (e ∷ es) time = raised_all-length (raised latest e time) es time ∙ raised_length latest e time
+pub times_with_sources-length : (latest : Times) (es : List Edge) (time : ℕ) → length (times_with_sources latest es time) ≡ length latest
+times_with_sources-length latest [] time = refl
+times_with_sources-length latest (e ∷ es) time = times_with_sources-length (times_with_source latest e time) es time ∙ raised_length latest e time
 
-pub visited-length : (latest : Times) (es : List Edge) (entry : ℕ × ℕ) → length (visited latest es entry) ≡ length latest
-visited-length latest es entry = by (is_current latest entry.0 entry.1)
+pub times_after_visit-length : (latest : Times) (es : List Edge) (entry : ℕ × ℕ) → length (times_after_visit latest es entry) ≡ length latest
+times_after_visit-length latest es entry = by (is_current latest entry.0 entry.1)
   where
-    by : (b : Bool) → length (if b then raised_all latest es entry.0 else latest) ≡ length latest
-    by true = raised_all-length latest es entry.0
+    by : (b : Bool) → length (if b then times_with_sources latest es entry.0 else latest) ≡ length latest
+    by true = times_with_sources-length latest es entry.0
     by false = refl
 
 queued_within : (count : ℕ) (latest : Times) (e : Edge) (time : ℕ) (queue : Queue) → e.source < count → IsWithin count queue
-    → IsWithin count (queued latest e time queue)
+    → IsWithin count (queue_after_edge latest e time queue)
 queued_within count latest e time queue source within = by (is_later latest e time)
   where
     by : (b : Bool) → IsWithin count (if b then (last_by e time, e.source) ∷ queue else queue)
     by true = All-cons (λ (entry : ℕ × ℕ). entry.1 < count) (last_by e time, e.source) queue source within
     by false = within
 
-queued_all-within : (count : ℕ) (latest : Times) (es : List Edge) (time : ℕ) (queue : Queue) → ComeFrom count es → IsWithin count queue
-    → IsWithin count (queued_all latest es time queue)
-queued_all-within count latest [] time queue from within = within
-queued_all-within count latest (e ∷ es) time queue from within =
-    queued_all-within count (raised latest e time) es time (queued latest e time queue)
+queue_after_edges-within : (count : ℕ) (latest : Times) (es : List Edge) (time : ℕ) (queue : Queue) → ComeFrom count es → IsWithin count queue
+    → IsWithin count (queue_after_edges latest es time queue)
+queue_after_edges-within count latest [] time queue from within = within
+queue_after_edges-within count latest (e ∷ es) time queue from within =
+    queue_after_edges-within count (times_with_source latest e time) es time (queue_after_edge latest e time queue)
     (All-tail (λ (x : Edge). x.source < count) e es from)
     (queued_within count latest e time queue (All-head (λ (x : Edge). x.source < count) e es from) within)
 
@@ -47,25 +47,25 @@ pub visited_within : (count : ℕ) (latest : Times) (es : List Edge) (entry : �
     → IsWithin count (visited_queue latest es entry queue)
 visited_within count latest es entry queue from within = by (is_current latest entry.0 entry.1)
   where
-    by : (b : Bool) → IsWithin count (if b then queued_all latest es entry.0 queue else queue)
-    by true = queued_all-within count latest es entry.0 queue from within
+    by : (b : Bool) → IsWithin count (if b then queue_after_edges latest es entry.0 queue else queue)
+    by true = queue_after_edges-within count latest es entry.0 queue from within
     by false = within
 
 -- ---- another order
 
 queued_moved : (latest : Times) (e : Edge) (time : ℕ) (queue other : Queue) → IsPermutation queue other
-    → IsPermutation (queued latest e time queue) (queued latest e time other)
+    → IsPermutation (queue_after_edge latest e time queue) (queue_after_edge latest e time other)
 queued_moved latest e time queue other same = by (is_later latest e time)
   where
     by : (b : Bool) → IsPermutation (if b then (last_by e time, e.source) ∷ queue else queue) (if b then (last_by e time, e.source) ∷ other else other)
     by true = IsPermutation-cons (last_by e time, e.source) queue other same
     by false = same
 
-pub queued_all-moved : (latest : Times) (es : List Edge) (time : ℕ) (queue other : Queue) → IsPermutation queue other
-    → IsPermutation (queued_all latest es time queue) (queued_all latest es time other)
-queued_all-moved latest [] time queue other same = same
-queued_all-moved latest (e ∷ es) time queue other same =
-    queued_all-moved (raised latest e time) es time (queued latest e time queue) (queued latest e time other) (queued_moved latest e time queue other same)
+pub queue_after_edges-moved : (latest : Times) (es : List Edge) (time : ℕ) (queue other : Queue) → IsPermutation queue other
+    → IsPermutation (queue_after_edges latest es time queue) (queue_after_edges latest es time other)
+queue_after_edges-moved latest [] time queue other same = same
+queue_after_edges-moved latest (e ∷ es) time queue other same =
+    queue_after_edges-moved (times_with_source latest e time) es time (queue_after_edge latest e time queue) (queue_after_edge latest e time other) (queued_moved latest e time queue other same)
 
 -- ---- work
 
@@ -85,7 +85,7 @@ room_raised limit latest e time within small is =
     omega (arith, falls, total)
 
 work_looked : (latest : Times) (e : Edge) (time : ℕ) (queue : Queue) → e.source < length latest → time < 2 ^ 32
-    → work_left (raised latest e time) (queued latest e time queue) ≤ work_left latest queue
+    → work_left (times_with_source latest e time) (queue_after_edge latest e time queue) ≤ work_left latest queue
 work_looked latest e time queue within small = by (is_later latest e time) refl
   where
     by : (b : Bool) → is_later latest e time ≡ b
@@ -95,45 +95,45 @@ work_looked latest e time queue within small = by (is_later latest e time) refl
     by false is = omega arith
 
 work_all : (latest : Times) (es : List Edge) (time : ℕ) (queue : Queue) → ComeFrom (length latest) es → time < 2 ^ 32
-    → work_left (raised_all latest es time) (queued_all latest es time queue) ≤ work_left latest queue
+    → work_left (times_with_sources latest es time) (queue_after_edges latest es time queue) ≤ work_left latest queue
 work_all latest [] time queue from small = omega arith
 work_all latest (e ∷ es) time queue from small =
-    let first : work_left (raised latest e time) (queued latest e time queue) ≤ work_left latest queue =
+    let first : work_left (times_with_source latest e time) (queue_after_edge latest e time queue) ≤ work_left latest queue =
     work_looked latest e time queue (All-head (λ (x : Edge). x.source < length latest) e es from) small in
-    let others : work_left (raised_all (raised latest e time) es time) (queued_all (raised latest e time) es time (queued latest e time queue))
-    ≤ work_left (raised latest e time) (queued latest e time queue) =
-    work_all (raised latest e time) es time (queued latest e time queue)
+    let others : work_left (times_with_sources (times_with_source latest e time) es time) (queue_after_edges (times_with_source latest e time) es time (queue_after_edge latest e time queue))
+    ≤ work_left (times_with_source latest e time) (queue_after_edge latest e time queue) =
+    work_all (times_with_source latest e time) es time (queue_after_edge latest e time queue)
     (subst (λ (n : ℕ). ComeFrom n es) (sym (raised_length latest e time)) (All-tail (λ (x : Edge). x.source < length latest) e es from)) small in
     omega (arith, first, others)
 
 pub work_visited : (latest : Times) (es : List Edge) (entry : ℕ × ℕ) (queue : Queue) → ComeFrom (length latest) es
-    → (is_current latest entry.0 entry.1 ≡ true → entry.0 < 2 ^ 32) → work_left (visited latest es entry) (visited_queue latest es entry queue) ≤ work_left latest queue
+    → (is_current latest entry.0 entry.1 ≡ true → entry.0 < 2 ^ 32) → work_left (times_after_visit latest es entry) (visited_queue latest es entry queue) ≤ work_left latest queue
 work_visited latest es entry queue from small = by (is_current latest entry.0 entry.1) refl
   where
-    by : (b : Bool) → is_current latest entry.0 entry.1 ≡ b → work_left (if b then raised_all latest es entry.0 else latest) (if b then queued_all latest es entry.0 queue else queue) ≤ work_left latest queue
+    by : (b : Bool) → is_current latest entry.0 entry.1 ≡ b → work_left (if b then times_with_sources latest es entry.0 else latest) (if b then queue_after_edges latest es entry.0 queue else queue) ≤ work_left latest queue
     by true is = work_all latest es entry.0 queue from (small is)
     by false is = omega arith
 
 -- ---- a turn of the loop over edges
 
 pub look_more : (first : Times) (queue : Queue) (edges : List Edge) (time i : ℕ) (d : Edge) (latest : Times) (before : Queue) (next : Times) (after : Queue)
-    → i < length edges → raised_all latest (drop i edges) time ≡ raised_all first edges time
-    → IsPermutation (queued_all first edges time queue) (queued_all latest (drop i edges) time before)
-    → next ≡ raised latest (get_or edges i d) time → IsPermutation (queued latest (get_or edges i d) time before) after
-    → (raised_all next (drop (i + 1) edges) time ≡ raised_all first edges time)
-    × IsPermutation (queued_all first edges time queue) (queued_all next (drop (i + 1) edges) time after)
+    → i < length edges → times_with_sources latest (drop i edges) time ≡ times_with_sources first edges time
+    → IsPermutation (queue_after_edges first edges time queue) (queue_after_edges latest (drop i edges) time before)
+    → next ≡ times_with_source latest (get_or edges i d) time → IsPermutation (queue_after_edge latest (get_or edges i d) time before) after
+    → (times_with_sources next (drop (i + 1) edges) time ≡ times_with_sources first edges time)
+    × IsPermutation (queue_after_edges first edges time queue) (queue_after_edges next (drop (i + 1) edges) time after)
 look_more first queue edges time i d latest before next after within same moved next_is after_is =
     let edge : Edge = get_or edges i d in
     let rest : List Edge = drop (i + 1) edges in
     let split : drop i edges ≡ edge ∷ rest = drop_more edges i d within in
-    let taken : raised_all latest (edge ∷ rest) time ≡ raised_all first edges time =
-    subst (λ (es : List Edge). raised_all latest es time ≡ raised_all first edges time) split same in
-    let put : IsPermutation (queued_all first edges time queue) (queued_all latest (edge ∷ rest) time before) =
-    subst (λ (es : List Edge). IsPermutation (queued_all first edges time queue) (queued_all latest es time before)) split moved in
-    let now : IsPermutation (queued_all (raised latest edge time) rest time (queued latest edge time before)) (queued_all (raised latest edge time) rest time after) =
-    queued_all-moved (raised latest edge time) rest time (queued latest edge time before) after after_is in
-    let joined : IsPermutation (queued_all first edges time queue) (queued_all (raised latest edge time) rest time after) =
-    IsPermutation-trans (queued_all first edges time queue) (queued_all latest (edge ∷ rest) time before) (queued_all (raised latest edge time) rest time after) put now in (
-      ap (λ (l : Times). raised_all l rest time) next_is ∙ taken,
-      subst (λ (l : Times). IsPermutation (queued_all first edges time queue) (queued_all l rest time after)) (sym next_is) joined,
+    let taken : times_with_sources latest (edge ∷ rest) time ≡ times_with_sources first edges time =
+    subst (λ (es : List Edge). times_with_sources latest es time ≡ times_with_sources first edges time) split same in
+    let put : IsPermutation (queue_after_edges first edges time queue) (queue_after_edges latest (edge ∷ rest) time before) =
+    subst (λ (es : List Edge). IsPermutation (queue_after_edges first edges time queue) (queue_after_edges latest es time before)) split moved in
+    let now : IsPermutation (queue_after_edges (times_with_source latest edge time) rest time (queue_after_edge latest edge time before)) (queue_after_edges (times_with_source latest edge time) rest time after) =
+    queue_after_edges-moved (times_with_source latest edge time) rest time (queue_after_edge latest edge time before) after after_is in
+    let joined : IsPermutation (queue_after_edges first edges time queue) (queue_after_edges (times_with_source latest edge time) rest time after) =
+    IsPermutation-trans (queue_after_edges first edges time queue) (queue_after_edges latest (edge ∷ rest) time before) (queue_after_edges (times_with_source latest edge time) rest time after) put now in (
+      ap (λ (l : Times). times_with_sources l rest time) next_is ∙ taken,
+      subst (λ (l : Times). IsPermutation (queue_after_edges first edges time queue) (queue_after_edges l rest time after)) (sym next_is) joined,
     )

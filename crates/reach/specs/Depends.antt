@@ -4,19 +4,19 @@ use Rattle.std.specs.Prelude.{if◌then◌else◌}
 use Rattle.trace_graph.specs.Graph.{Parts}
 use Rattle.reach.specs.Types.{Node, Edge}
 use Rattle.reach.specs.Found.{Times, time_at, open_sources}
-use Rattle.reach.specs.Search.{raised, room_of}
+use Rattle.reach.specs.Search.{times_with_source, room_of}
 
 -- with what an edge brings to its source
 abbrev pub brought_by : Option ℕ → Times → Edge → Times
 brought_by None latest edge = latest
-brought_by (Some time) latest edge = raised latest edge time
+brought_by (Some time) latest edge = times_with_source latest edge time
 
-abbrev pub brought : Times → Edge → Times
-brought latest edge = brought_by (time_at latest edge.target) latest edge
+abbrev pub times_after_edge : Times → Edge → Times
+times_after_edge latest edge = brought_by (time_at latest edge.target) latest edge
 
 -- one pass over all edges
-abbrev pub passed : Times → List Edge → Times
-passed latest edges = fold brought latest edges
+abbrev pub times_after_pass : Times → List Edge → Times
+times_after_pass latest edges = fold times_after_edge latest edges
 
 -- by how much all times may still rise
 abbrev pub room : ℕ → Times → ℕ
@@ -26,8 +26,8 @@ room limit latest = fold (λ total time. total + room_of limit time) 0 latest
 unfoldable pub passes : ℕ → ℕ → List Edge → Times → Times
 passes limit zero edges latest = latest
 passes limit (suc n) edges latest =
-    if room limit (passed latest edges) == room limit latest then latest
-    else passes limit n edges (passed latest edges)
+    if room limit (times_after_pass latest edges) == room limit latest then latest
+    else passes limit n edges (times_after_pass latest edges)
 
 -- at first only the node has a time
 abbrev pub first_times : List Node → ℕ → ℕ → Times

@@ -30,19 +30,19 @@ abbrev pub open_source : List Node → Times → Edge → Option Node
 open_source nodes latest edge = if is_open latest edge then slice_get nodes edge.source else None
 
 -- nodes in the order of the report, with one more at its place, unless it is there
-abbrev pub placed : List Node → Node → List Node
-placed [] node = node ∷ []
-placed (first ∷ nodes) node =
-    match_ordering (node_cmp node first) (node ∷ first ∷ nodes) (first ∷ nodes) (first ∷ placed nodes node)
+abbrev pub with_node : List Node → Node → List Node
+with_node [] node = node ∷ []
+with_node (first ∷ nodes) node =
+    match_ordering (node_cmp node first) (node ∷ first ∷ nodes) (first ∷ nodes) (first ∷ with_node nodes node)
 
 -- nodes in the order of the report, each once
 abbrev pub in_order : List Node → List Node
-in_order nodes = fold placed [] nodes
+in_order nodes = fold with_node [] nodes
 
 -- nodes in that order, with one more if there is one
 abbrev pub with_source : List Node → Option Node → List Node
 with_source nodes None = nodes
-with_source nodes (Some node) = placed nodes node
+with_source nodes (Some node) = with_node nodes node
 
 -- the nodes that open edges come from
 abbrev pub open_sources : Parts → Times → List Node

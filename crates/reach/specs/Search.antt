@@ -18,16 +18,16 @@ is_later latest edge time =
     nat_le edge.first (last_by edge time) && not (reaches (last_by edge time) (time_at latest edge.source))
 
 -- with that time for its source
-abbrev pub raised : Times → Edge → ℕ → Times
-raised latest edge time =
+abbrev pub times_with_source : Times → Edge → ℕ → Times
+times_with_source latest edge time =
     if is_later latest edge time then slice_set latest edge.source (Some (last_by edge time)) else latest
 
 -- places whose edges are to be looked at, each with its latest time
 abbrev pub Queue : Type 0
 Queue = List (ℕ × ℕ)
 
-abbrev pub queued : Times → Edge → ℕ → Queue → Queue
-queued latest edge time queue =
+abbrev pub queue_after_edge : Times → Edge → ℕ → Queue → Queue
+queue_after_edge latest edge time queue =
     if is_later latest edge time then (last_by edge time, edge.source) ∷ queue else queue
 
 abbrev pub is_into : ℕ → Edge → Bool
@@ -39,14 +39,16 @@ edges_into edges place = filter (is_into place) edges
 
 -- ---- the edges to a place
 
-abbrev pub raised_all : Times → List Edge → ℕ → Times
-raised_all latest [] time = latest
-raised_all latest (edge ∷ edges) time = raised_all (raised latest edge time) edges time
+abbrev pub times_with_sources : Times → List Edge → ℕ → Times
+times_with_sources latest [] time = latest
+times_with_sources latest (edge ∷ edges) time = times_with_sources
+    (times_with_source latest edge time) edges time
 
-abbrev pub queued_all : Times → List Edge → ℕ → Queue → Queue
-queued_all latest [] time queue = queue
-queued_all latest (edge ∷ edges) time queue =
-    queued_all (raised latest edge time) edges time (queued latest edge time queue)
+abbrev pub queue_after_edges : Times → List Edge → ℕ → Queue → Queue
+queue_after_edges latest [] time queue = queue
+queue_after_edges latest (edge ∷ edges) time queue =
+    queue_after_edges (times_with_source latest edge time) edges time
+    (queue_after_edge latest edge time queue)
 
 abbrev pub is_time : ℕ → Option ℕ → Bool
 is_time time None = false
@@ -57,13 +59,13 @@ abbrev pub is_current : Times → ℕ → ℕ → Bool
 is_current latest time place = is_time time (time_at latest place)
 
 -- what is left of the queue's first place, its time and the edges to it
-abbrev pub visited : Times → List Edge → ℕ × ℕ → Times
-visited latest edges entry =
-    if is_current latest entry.0 entry.1 then raised_all latest edges entry.0 else latest
+abbrev pub times_after_visit : Times → List Edge → ℕ × ℕ → Times
+times_after_visit latest edges entry =
+    if is_current latest entry.0 entry.1 then times_with_sources latest edges entry.0 else latest
 
 abbrev pub visited_queue : Times → List Edge → ℕ × ℕ → Queue → Queue
 visited_queue latest edges entry queue =
-    if is_current latest entry.0 entry.1 then queued_all latest edges entry.0 queue else queue
+    if is_current latest entry.0 entry.1 then queue_after_edges latest edges entry.0 queue else queue
 
 -- at first only the node has a time
 abbrev pub start_times : ℕ → ℕ → ℕ → Times
@@ -99,14 +101,14 @@ pub record AreKnown (edges : List Edge) (node limit : ℕ) (latest : Times) : Ty
   pub sound : (place time : ℕ) → time_at latest place ≡ Some time → HasPath edges node limit place time
   pub start : reaches limit (time_at latest node) ≡ true
 
-pub record Stands (edges : List Edge) (node limit : ℕ) (latest : Times) (queue : Queue) (rest : List Edge)
+pub record IsSearch (edges : List Edge) (node limit : ℕ) (latest : Times) (queue : Queue) (rest : List Edge)
     (now : ℕ) : Type 0 where
   pub known : AreKnown edges node limit latest
   pub pending : ArePending edges latest queue rest now
 
 -- each time is the latest: nothing is left to look at
 abbrev pub AreLatest : List Edge → ℕ → ℕ → Times → Type 0
-AreLatest edges node limit latest = Stands edges node limit latest [] [] 0
+AreLatest edges node limit latest = IsSearch edges node limit latest [] [] 0
 
 -- ---- how much is left
 

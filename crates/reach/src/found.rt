@@ -57,7 +57,7 @@ fn marked_keys<'a>(alloc: Global, nodes: &'a [Node], marks: &[bool]) -> Result<K
 }
 
 // Keys in the order of the report, each once.
-fn sorted_once(keys: Keys<'_>) -> Result<Keys<'_>, AllocError>
+fn sort_keys_once(keys: Keys<'_>) -> Result<Keys<'_>, AllocError>
     ensures sorted { IfOk result (λ sorted. IsStrictlySortedBy node_cmp (map node_of sorted.items)) }
     ensures nodes { IfOk result (λ sorted. SameNodes (map node_of keys.entry.items)
         (map node_of sorted.items)) }
@@ -83,12 +83,12 @@ fn open_keys<'a>(
 {
     let marks = open_marks(alloc, nodes.len(), edges, latest)?;
     let keys = marked_keys(alloc, nodes, &marks)?;
-    let sorted = sorted_once(keys)?;
+    let sorted = sort_keys_once(keys)?;
     Ok(sorted)
 }
 
 /// The nodes that open edges come from, in the order of the report, each once.
-pub(crate) fn found(
+pub(crate) fn open_nodes(
     alloc: Global,
     nodes: &[Node],
     edges: &[Edge],

@@ -32,7 +32,7 @@ fn empty_lists(alloc: Global, counts: &[usize]) -> Result<Vec<Edges>, AllocError
 }
 
 /// The edges to each of that many places, in their order.
-pub(crate) fn incoming(
+pub(crate) fn incoming_edges(
     alloc: Global,
     count: usize,
     edges: &[Edge],

@@ -5,7 +5,7 @@ ghost use Rattle.trace_graph.specs.Graph.{are_between};
 ghost use Rattle.reach.specs.Found.{time_at, reaches};
 ghost use Rattle.reach.specs.Search.{AreLatest};
 
-use crate::incoming::incoming;
+use crate::incoming::incoming_edges;
 use crate::search::Search;
 use std::alloc::{AllocError, Global};
 use trace_graph::Edge;
@@ -42,7 +42,7 @@ pub(crate) fn latest_times(
     ensures length { IfOk result (λ latest. length latest.items ≡ count) }
     ensures latest { IfOk result (λ latest. AreLatest edges.now node time latest.items) }
 {
-    let lists = incoming(alloc, count, edges)?;
+    let lists = incoming_edges(alloc, count, edges)?;
     let mut search = Search::start(alloc, count, node, time)?;
     while let Some((by, place)) = search.queue.pop() {
         search.visit(&lists, by, place)?;

@@ -4,8 +4,8 @@ ghost use Rattle.std.specs.Prelude.{◌≡◌, ◌<◌, length, IfOk, OnOk, ◌�
 ghost use Rattle.std.specs.List.Sorted.{IsPermutation};
 ghost use Rattle.std.specs.BinaryHeap.{heap_items};
 ghost use Rattle.reach.specs.Incoming.{edges_to};
-ghost use Rattle.reach.specs.Search.{is_later, raised, queued, raised_all, queued_all};
-ghost use Rattle.reach.specs.Search.{is_current, visited, visited_queue, start_times, ComeFrom};
+ghost use Rattle.reach.specs.Search.{is_later, times_with_source, queue_after_edge, times_with_sources, queue_after_edges};
+ghost use Rattle.reach.specs.Search.{is_current, times_after_visit, visited_queue, start_times, ComeFrom};
 
 use crate::latest::{reaches, time_at};
 use std::alloc::{AllocError, Global};
@@ -64,9 +64,9 @@ impl Search {
     fn look_at(&mut self, edge: &Edge, time: u32) -> Result<(), AllocError>
         requires { edge.now.source < length self.old.latest.items }
         ensures latest { OnOk result (self.new.latest.items
-            ≡ raised self.old.latest.items edge.now time) }
+            ≡ times_with_source self.old.latest.items edge.now time) }
         ensures queue { OnOk result (IsPermutation
-            (queued self.old.latest.items edge.now time (heap_items self.old.queue))
+            (queue_after_edge self.old.latest.items edge.now time (heap_items self.old.queue))
             (heap_items self.new.queue)) }
     {
         if !is_later(&self.latest, edge, time) {
@@ -82,9 +82,9 @@ impl Search {
     fn look_at_all(&mut self, edges: &[Edge], time: u32) -> Result<(), AllocError>
         requires { ComeFrom (length self.old.latest.items) edges.now }
         ensures latest { OnOk result (self.new.latest.items
-            ≡ raised_all self.old.latest.items edges.now time) }
+            ≡ times_with_sources self.old.latest.items edges.now time) }
         ensures queue { OnOk result (IsPermutation
-            (queued_all self.old.latest.items edges.now time (heap_items self.old.queue))
+            (queue_after_edges self.old.latest.items edges.now time (heap_items self.old.queue))
             (heap_items self.new.queue)) }
     {
         for edge in edges {
@@ -104,7 +104,7 @@ impl Search {
         requires lists { length lists.now ≡ length self.old.latest.items }
         requires sources { ComeFrom (length self.old.latest.items) (edges_to lists.now place) }
         ensures latest { OnOk result (self.new.latest.items
-            ≡ visited self.old.latest.items (edges_to lists.now place) (time, place)) }
+            ≡ times_after_visit self.old.latest.items (edges_to lists.now place) (time, place)) }
         ensures queue { OnOk result (IsPermutation
             (visited_queue self.old.latest.items (edges_to lists.now place) (time, place)
             (heap_items self.old.queue))

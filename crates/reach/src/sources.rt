@@ -5,7 +5,7 @@ ghost use Rattle.trace_graph.specs.Graph.{Parts, are_between};
 ghost use Rattle.reach.specs.Reach.{AreSources};
 ghost use Rattle.reach.specs.Depends.{depends_of};
 
-use crate::found::found;
+use crate::found::open_nodes;
 use crate::latest::latest_times;
 use std::alloc::{AllocError, Global};
 use trace_graph::{Edge, Graph, Node, Nodes};
@@ -25,7 +25,7 @@ fn sources(
     ensures sources { IfOk result (AreSources (record { nodes = nodes.now; edges = edges.now }) node time) }
 {
     let latest = latest_times(alloc, nodes.len(), edges, node, time)?;
-    let found = found(alloc, nodes, edges, &latest)?;
+    let found = open_nodes(alloc, nodes, edges, &latest)?;
     Ok(found)
 }
 

@@ -5,7 +5,7 @@ use Rattle.std.proofs.lemmas.Bool.{cases_eq, cases_lt, eq-eqb, ne_eqb}
 use Rattle.std.proofs.lemmas.List.{length-set, ext_get_or, get_or_past, get_or-set_same, get_or-set_other, get_or_append_left, get_or-append_right}
 use Rattle.std.proofs.lemmas.List.FromFn.{length-map-range_with_len, get_or-map-range_with_len}
 use Rattle.std.proofs.Math.Pow.{pow_mono}
-use Rattle.ready_set.specs.Ready.{Ready, numbers, count_below}
+use Rattle.ready_set.specs.Ready.{ReadyView, numbers, count_below}
 use Rattle.ready_set.specs.Tree.{IsTree, SetsLeaf, IsWidened, sum_before, flags_of, IsKept}
 use Rattle.ready_set.proofs.NumberLaws.{number_there, length-numbers_from, count_past_at}
 use Rattle.ready_set.proofs.WayLaws.{twice_one, root_counts, IsFound}
@@ -138,12 +138,12 @@ module _ (room height made : ℕ) (old new : List ℕ) (kept : IsKept old room h
 
 -- ---- what is seen
 
-module _ (counts : List ℕ) (room made : ℕ) (seen : Ready) (is : record { flags = flags_of counts room made; room = room } ≡ seen) where
+module _ (counts : List ℕ) (room made : ℕ) (seen : ReadyView) (is : record { flags = flags_of counts room made; room = room } ≡ seen) where
   pub seen_flags : flags_of counts room made ≡ seen.flags
-  seen_flags = ap (λ (r : Ready). r.flags) is
+  seen_flags = ap (λ (r : ReadyView). r.flags) is
 
   pub seen_room : room ≡ seen.room
-  seen_room = ap (λ (r : Ready). r.room) is
+  seen_room = ap (λ (r : ReadyView). r.room) is
 
   pub seen_made : made ≡ length seen.flags
   seen_made = sym (length-flags_of counts room made) ∙ ap length seen_flags
@@ -154,7 +154,7 @@ module _ (counts : List ℕ) (room made : ℕ) (seen : Ready) (is : record { fla
   pub seen_past : (n : ℕ) → made ≤ n → false ≡ get_or seen.flags n false
   seen_past n past = sym (flag_past counts room made n past) ∙ ap (λ (l : List Bool). get_or l n false) seen_flags
 
-abbrev ready_of : List Bool → ℕ → Ready
+abbrev ready_of : List Bool → ℕ → ReadyView
 ready_of flags room = record { flags = flags; room = room }
 
 -- with other flags

@@ -6,11 +6,11 @@ use Rattle.std.proofs.Math.Nat.{pow-suc}
 use Rattle.std.proofs.Math.Pow.{pow_mono}
 use Rattle.ready_set.specs.Tree.{IsTree, sum_before}
 
-twice : (k : ℕ) → 2 ^ suc k ≡ 2 * 2 ^ k
-twice k = pow-suc 2 k ∙ omega arith
+pow-suc-two : (k : ℕ) → 2 ^ suc k ≡ 2 * 2 ^ k
+pow-suc-two k = pow-suc 2 k ∙ omega arith
 
 pub twice_one : (k : ℕ) → 2 ^ (k + 1) ≡ 2 * 2 ^ k
-twice_one k = let one : k + 1 ≡ suc k = omega arith in ap (λ (n : ℕ). 2 ^ n) one ∙ twice k
+twice_one k = let one : k + 1 ≡ suc k = omega arith in ap (λ (n : ℕ). 2 ^ n) one ∙ pow-suc-two k
 
 -- ---- sums of counts
 
@@ -38,15 +38,15 @@ module _ (height : ℕ) (counts : List ℕ) (tree : IsTree (2 ^ height) counts) 
       ap (λ (k : ℕ). sum_before counts k + get_or counts i 0) here ∙ sym (ap (sum_before counts) next)
   below_node (suc h) d i is from within =
       let deeper : h + suc d ≡ height = omega (arith, is) in
-      let wider : 2 ^ suc d ≡ 2 * 2 ^ d = twice d in
+      let wider : 2 ^ suc d ≡ 2 * 2 ^ d = pow-suc-two d in
       let inside : 2 ^ suc d ≤ 2 ^ height = pow_mono {i = suc d} {j = height} (omega (arith, is)) in
       let some : 0 < i = omega (arith, pow_pos d, from) in
       let left : sum_before counts (2 * i * 2 ^ h) + get_or counts (2 * i) 0 ≡ sum_before counts ((2 * i + 1) * 2 ^ h) =
       below_node h (suc d) (2 * i) deeper (omega (arith, wider, from)) (omega (arith, wider, within)) in
       let right : sum_before counts ((2 * i + 1) * 2 ^ h) + get_or counts (2 * i + 1) 0 ≡ sum_before counts ((2 * i + 1 + 1) * 2 ^ h) =
       below_node h (suc d) (2 * i + 1) deeper (omega (arith, wider, from)) (omega (arith, wider, within)) in
-      let first : i * 2 ^ suc h ≡ 2 * i * 2 ^ h = ap (λ (w : ℕ). i * w) (twice h) ∙ omega arith in
-      let last : (i + 1) * 2 ^ suc h ≡ (2 * i + 1 + 1) * 2 ^ h = ap (λ (w : ℕ). (i + 1) * w) (twice h) ∙ omega arith in
+      let first : i * 2 ^ suc h ≡ 2 * i * 2 ^ h = ap (λ (w : ℕ). i * w) (pow-suc-two h) ∙ omega arith in
+      let last : (i + 1) * 2 ^ suc h ≡ (2 * i + 1 + 1) * 2 ^ h = ap (λ (w : ℕ). (i + 1) * w) (pow-suc-two h) ∙ omega arith in
       omega (arith, left, right, ap (sum_before counts) first, ap (sum_before counts) last, tree.sums i some (omega (arith, wider, inside, within)))
 
   -- the root counts all leaves

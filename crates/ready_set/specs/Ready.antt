@@ -3,7 +3,7 @@ use Rattle.std.specs.Prelude.{ℕ, zero, suc, ◌+◌, ◌%◌, List, [], ◌∷
 use Rattle.std.specs.Prelude.{slice_index, slice_index_or, if◌then◌else◌, Option, Some, None}
 
 -- what contracts see of a set
-pub record Ready : Type 0 where
+pub record ReadyView : Type 0 where
   -- of each number made so far, from 0 on, whether it is in the set
   pub flags : List Bool
   -- how many numbers there may be before more memory is needed

@@ -6,7 +6,7 @@ ghost use Rattle.std.specs.Prelude.{slice_index_or, if◌then◌else◌};
 ghost use Rattle.ready_set.specs.Ready.{numbers, count_below, next_round, at_round};
 ghost use Rattle.ready_set.specs.Tree.{IsTree, SetsLeaf};
 
-use crate::tree::{count_before, leaf_at, set_leaf, widened};
+use crate::tree::{count_before, leaf_at, set_leaf, widen_tree};
 use std::alloc::{AllocError, Global};
 use std::marker::Model;
 
@@ -23,13 +23,13 @@ pub struct ReadySet {
 }
 
 impl Model for ReadySet {
-    ghost use Rattle.ready_set.specs.Ready.{Ready};
+    ghost use Rattle.ready_set.specs.Ready.{ReadyView};
 
-    ghost Value = { Ready };
+    ghost Value = { ReadyView };
 
-    ghost use Rattle.ready_set.specs.Seen.{seen, IsWhole};
+    ghost use Rattle.ready_set.specs.Seen.{view_of, IsWhole};
 
-    ghost view = { seen };
+    ghost view = { view_of };
 
     ghost invariant = { IsWhole };
 }
@@ -57,7 +57,7 @@ impl ReadySet {
         if self.made < self.room {
             return Ok(());
         }
-        let wide = widened(*self.counts.allocator(), &self.counts, self.room)?;
+        let wide = widen_tree(*self.counts.allocator(), &self.counts, self.room)?;
         self.counts = wide;
         self.room *= 2;
         self.height += 1;
@@ -106,7 +106,7 @@ impl ReadySet {
     }
 
     /// How many numbers are made, in the set or not.
-    pub fn made(&self) -> u32
+    pub fn made_count(&self) -> u32
         ensures made { result ≡ length self.now.flags }
         ensures few { length self.now.flags ≤ 2 ^ 30 }
     {

@@ -100,7 +100,7 @@ fn child_of(counts: &[u32], place: Place) -> Place
 }
 
 /// A tree with twice the room, in which the leaves are counted as in another.
-pub(crate) fn widened(alloc: Global, counts: &[u32], room: usize) -> Result<Vec<u32>, AllocError>
+pub(crate) fn widen_tree(alloc: Global, counts: &[u32], room: usize) -> Result<Vec<u32>, AllocError>
     requires tree { IsTree room counts.now }
     requires few { room ≤ 2 ^ 29 }
     ensures { IfOk result (λ wide. IsWidened room counts.now wide.items) }

@@ -11,7 +11,7 @@ use Rattle.run_model.specs.WorldRun.{ends_within, steps_by, events_within}
 use Rattle.ldv_value.specs.Limits.{input_limit}
 use Rattle.package_layout.specs.Counted.{IsCounted}
 use Rattle.package_layout.specs.Plain.{has_no_foreign, has_tables}
-use Rattle.package_layout.specs.Valid.{Valid}
+use Rattle.package_layout.specs.Valid.{IsValidPackage}
 use Rattle.package_layout.specs.declared.version.Version.{Version}
 use Rattle.package_layout.specs.declared.version.Version.TheVariants.{One, Two}
 use Rattle.package_layout.proofs.Package.{fit_tables}
@@ -78,7 +78,7 @@ own_tables Two budget p fits = refl
 
 module _ (valid : ValidPackageLaw) (typed : TypedPackageLaw) (tables : WorldTablesLaw) (own : OwnWorldLaw)
     (counted : (version : Version) (p : Package) → length (spelling_as version p) ≤ input_limit → IsCounted version p)
-    (unique : (version : Version) (p q : Package) → IsTyped p → IsTyped q → Valid p → Valid q → IsTrue (has_tables version p) → IsTrue (has_tables version q) → IsCounted version p → IsCounted version q → spelling_as version p ≡ spelling_as version q → p ≡ q) where
+    (unique : (version : Version) (p q : Package) → IsTyped p → IsTyped q → IsValidPackage p → IsValidPackage q → IsTrue (has_tables version p) → IsTrue (has_tables version q) → IsCounted version p → IsCounted version q → spelling_as version p ≡ spelling_as version q → p ≡ q) where
   pub own_sound_law : OwnSoundLaw
   own_sound_law budget version p is_typed is_valid fits bounded ended short due =
       let tables_fit : has_tables version p ≡ true = fit_tables version p fits in

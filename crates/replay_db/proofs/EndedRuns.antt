@@ -5,11 +5,11 @@ use Rattle.std.specs.List.{list_all}
 use Rattle.ldv_value.proofs.Booleans.{and-first, and-second}
 use Rattle.ldv_value.proofs.Lists.{list_all-weaker}
 use Rattle.script_parse.specs.declared.script.Instr.{Instr}
-use Rattle.proc_core.specs.Stands.{Told}
+use Rattle.proc_core.specs.Stands.{AppendsEvents}
 use Rattle.run_model.specs.declared.event.Event.{Event}
 use Rattle.run_model.specs.declared.outcome.Outcome.{Outcome}
 use Rattle.run_model.specs.declared.world.World.{World}
-use Rattle.run_model.specs.Core.{all_ended}
+use Rattle.run_model.specs.Core.{have_all_ended}
 use Rattle.run_model.specs.Events.{events, start_events}
 use Rattle.run_model.specs.Outcome.{outcome_of, outcome_at}
 use Rattle.run_model.specs.Run.{run, steps}
@@ -23,8 +23,8 @@ use Rattle.sql_model.specs.declared.table.Table.{Table}
 use Rattle.run_laws.proofs.BudgetLaw.{going_outcome}
 use Rattle.replay_db.specs.Recording.{HasNotEnded}
 use Rattle.replay_db.specs.Runs.{Stops}
-use Rattle.replay_db.specs.declared.stop.EndStop.{EndStop}
-use Rattle.replay_db.specs.declared.stop.EndStop.TheVariants.{NotEnded, NoMemory}
+use Rattle.replay_db.specs.declared.error.EndStop.{EndStop}
+use Rattle.replay_db.specs.declared.error.EndStop.TheVariants.{NotEnded, NoMemory}
 
 -- ---- the tables of a world that can be run
 
@@ -46,14 +46,14 @@ module _ (n : ℕ) (w : World) (script : List Instr) (is : start_script w ≡ So
   abbrev start : State SqlDatabase
   start = start_state w script
 
-  pub ends_as : (b : Bool) → all_ended (run sql_base n [] start).core ≡ b → ends_within n w ≡ b
+  pub ends_as : (b : Bool) → have_all_ended (run sql_base n [] start).core ≡ b → ends_within n w ≡ b
   ends_as b all = ap (ends_in n [] w) is ∙ all
 
   pub counts_as : (count : ℕ) → count ≡ steps sql_base n [] start → count ≡ steps_by n [] w
   counts_as count made = made ∙ sym (ap (steps_in n [] w) is)
 
-  pub told_all : (keeps : Bool) (old mid new : List Event) → Told keeps old mid (start_events (slice_get w.start 0))
-      → Told keeps mid new (events sql_base n 1 [] start) → Told keeps old new (events_within n w)
+  pub told_all : (keeps : Bool) (old mid new : List Event) → AppendsEvents keeps old mid (start_events (slice_get w.start 0))
+      → AppendsEvents keeps mid new (events sql_base n 1 [] start) → AppendsEvents keeps old new (events_within n w)
   told_all keeps old mid new first later = λ on.
       later on
       ∙ ap (λ (es : List Event). es ++ events sql_base n 1 [] start) (first on)
@@ -64,7 +64,7 @@ module _ (n : ℕ) (w : World) (script : List Instr) (is : start_script w ≡ So
   pub yields : (outcome : Outcome) → ends_within n w ≡ true → outcome ≡ outcome_of (run sql_base n [] start).core
       → outcome_within n w ≡ Some outcome
   yields outcome ended same =
-      let all : all_ended (core_after n [] w script) ≡ true = sym (ap (ends_in n [] w) is) ∙ ended in
+      let all : have_all_ended (core_after n [] w script) ≡ true = sym (ap (ends_in n [] w) is) ∙ ended in
       let end : outcome_at (core_after n [] w script) ≡ Some outcome = rw all (ap Some (sym same)) in
       ap (outcome_in n [] w) is ∙ end
 

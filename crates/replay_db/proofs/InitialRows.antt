@@ -15,7 +15,7 @@ use Rattle.sql_model.proofs.Databases.{tables_of_database}
 use Rattle.sql_laws.proofs.TableNames.{table-trans, more-differs}
 use Rattle.replay_db.specs.Types.{Instr, Started, Table, TableRow, Event, World}
 use Rattle.run_model.specs.Events.{event_at, events, start_events}
-use Rattle.run_model.specs.SqlDatabase.{SqlDatabase, unchanged, sql_base}
+use Rattle.run_model.specs.SqlDatabase.{SqlDatabase, initial_database, sql_base}
 use Rattle.run_model.specs.Start.{start_script, start_state}
 use Rattle.run_model.specs.State.{State}
 use Rattle.run_model.specs.WorldRun.{events_in, events_by}
@@ -114,9 +114,9 @@ module _ (n : ℕ) (picks : List ℕ) (w : World) (script : List Instr) (is : st
   abbrev all_events : List Event
   all_events = start_events (slice_get w.start 0) ++ events sql_base n 1 picks begun
 
-  rows : (table : List ℕ) (row : ℕ) → RowEvents table row (unchanged w.tables) all_events
+  rows : (table : List ℕ) (row : ℕ) → RowEvents table row (initial_database w.tables) all_events
   rows table row =
-      started_rows table row (slice_get w.start 0) (unchanged w.tables) (events sql_base n 1 picks begun)
+      started_rows table row (slice_get w.start 0) (initial_database w.tables) (events sql_base n 1 picks begun)
       (run_rows table row n 1 picks begun start_list start_ordered valid)
 
   used : (table : List ℕ) (row : ℕ) → is_row_of w.tables table row ≡ true → list_all (is_used table row) w.tables ≡ true

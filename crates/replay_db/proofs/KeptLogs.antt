@@ -15,7 +15,7 @@ use Rattle.sql_model.specs.Sorting.{put_sorted, sorted_by}
 use Rattle.replay_db.specs.Types.{Log}
 use Rattle.run_laws.specs.declared.kept.Kept.{Kept}
 use Rattle.run_laws.specs.KeptReplies.{name_cmp, new_log, with_first, put_where, put_first, logs_kept}
-use Rattle.replay_db.specs.KeptGroups.{kept_cmp, is_of, with_last, joined, with_kept, grouped_onto, grouped}
+use Rattle.replay_db.specs.KeptGroups.{kept_cmp, is_of, with_last, logs_with, with_kept, grouped_onto, logs_of_kept}
 
 pub kept_total : IsTotalOrder kept_cmp
 kept_total = on_total (λ (k : Kept). k.process.parts) nat_list_cmp_total
@@ -93,7 +93,7 @@ onto_runs before (k ∷ after) =
     ∙ onto_runs (before ++ k ∷ []) after
     ∙ ap runs (append_assoc before (k ∷ []) after)
 
-grouped_runs : (kept : List Kept) → grouped kept ≡ runs kept
+grouped_runs : (kept : List Kept) → logs_of_kept kept ≡ runs kept
 grouped_runs kept = onto_runs [] kept
 
 -- ---- one more in its place
@@ -200,12 +200,12 @@ runs_sorted : (kept : List Kept) → runs (sorted_by kept_cmp kept) ≡ logs_kep
 runs_sorted [] = refl
 runs_sorted (k ∷ kept) = runs_put k (sorted_by kept_cmp kept) ∙ ap (put_first k) (runs_sorted kept)
 
-pub grouped_sorted : (kept : List Kept) → grouped (sorted_by kept_cmp kept) ≡ logs_kept kept
+pub grouped_sorted : (kept : List Kept) → logs_of_kept (sorted_by kept_cmp kept) ≡ logs_kept kept
 grouped_sorted kept = grouped_runs (sorted_by kept_cmp kept) ∙ runs_sorted kept
 
 -- ---- the last log
 
-pub last_kept : (front : List Log) (last : Log) (k : Kept) → with_kept k (front ++ last ∷ []) ≡ front ++ joined k last
+pub last_kept : (front : List Log) (last : Log) (k : Kept) → with_kept k (front ++ last ∷ []) ≡ front ++ logs_with k last
 last_kept [] last k = refl
 last_kept (log ∷ []) last k = refl
 last_kept (log ∷ next ∷ front) last k = ap (λ (logs : List Log). log ∷ logs) (last_kept (next ∷ front) last k)

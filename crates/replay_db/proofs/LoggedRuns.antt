@@ -1,17 +1,17 @@
 -- What a run over an engine whose replies are kept says of the run of a world, and the package that it makes.
 use Rattle.std.proofs.Common.{◌≡◌, ℕ, List, [], ◌++◌, refl, sym, ap, ◌∙◌, Bool, true}
 use Rattle.std.specs.Prelude.{Some, slice_get}
-use Rattle.proc_core.specs.Stands.{Told}
-use Rattle.run_model.specs.Core.{Core, Diverged, all_ended}
+use Rattle.proc_core.specs.Stands.{AppendsEvents}
+use Rattle.run_model.specs.Core.{Core, Divergence, have_all_ended}
 use Rattle.run_model.specs.Events.{events, start_events}
 use Rattle.run_model.specs.Package.{package_of}
 use Rattle.run_model.specs.Run.{run, steps}
 use Rattle.run_model.specs.Slice.{files_needed}
-use Rattle.run_model.specs.SqlDatabase.{SqlDatabase, sql_base, unchanged}
+use Rattle.run_model.specs.SqlDatabase.{SqlDatabase, sql_base, initial_database}
 use Rattle.run_model.specs.Start.{start_script, start_state}
 use Rattle.run_model.specs.WorldRun.{ends_within, steps_by, events_within, logs_in, logs_by}
 use Rattle.run_laws.specs.KeptLaw.{KeepsRun}
-use Rattle.run_laws.specs.KeptReplies.{Keeping, keeping_base, logs_kept}
+use Rattle.run_laws.specs.KeptReplies.{KeepingDatabase, keeping_base, logs_kept}
 use Rattle.replay_db.specs.Logging.{kept_start, IsLogged, packed_logs}
 use Rattle.replay_db.specs.Runs.{package_within}
 use Rattle.replay_db.specs.Types.{Excluded, Event, Instr, Log, Package, World}
@@ -23,29 +23,29 @@ use Rattle.run_laws.proofs.SqlAnswers.{never_diverged}
 
 module _ (n : ℕ) (w : World) (script : List Instr) (is : start_script w ≡ Some script) where
   keeps : KeepsRun sql_base n [] (kept_start w script) (start_state w script)
-  keeps = kept_law SqlDatabase sql_base n [] w.start w.seed w.files script (unchanged w.tables)
+  keeps = kept_law SqlDatabase sql_base n [] w.start w.seed w.files script (initial_database w.tables)
 
   abbrev core : Core
   core = (run (keeping_base sql_base) n [] (kept_start w script)).core
 
-  pub kept_ends : (b : Bool) → all_ended core ≡ b → ends_within n w ≡ b
-  kept_ends b all = ends_as n w script is b (ap all_ended (sym keeps.core) ∙ all)
+  pub kept_ends : (b : Bool) → have_all_ended core ≡ b → ends_within n w ≡ b
+  kept_ends b all = ends_as n w script is b (ap have_all_ended (sym keeps.core) ∙ all)
 
   pub kept_counts : (count : ℕ) → count ≡ steps (keeping_base sql_base) n [] (kept_start w script) → count ≡ steps_by n [] w
   kept_counts count made = counts_as n w script is count (made ∙ keeps.count)
 
   pub kept_told : (old new : List Event) → old ≡ start_events (slice_get w.start 0)
-      → Told true old new (events (keeping_base sql_base) n 1 [] (kept_start w script)) → new ≡ events_within n w
+      → AppendsEvents true old new (events (keeping_base sql_base) n 1 [] (kept_start w script)) → new ≡ events_within n w
   kept_told old new first later =
       told_all n w script is true [] old new (λ on. first)
       (λ on. later on ∙ ap (λ (es : List Event). old ++ es) keeps.told) refl
 
-  pub kept_logs : (db : Keeping SqlDatabase) (logs : List Log)
+  pub kept_logs : (db : KeepingDatabase SqlDatabase) (logs : List Log)
       → db ≡ (run (keeping_base sql_base) n [] (kept_start w script)).db → logs ≡ logs_kept db.kept → logs ≡ logs_by n [] w
   kept_logs db logs same made =
-      made ∙ ap (λ (k : Keeping SqlDatabase). logs_kept k.kept) same ∙ keeps.logs ∙ sym (ap (logs_in n [] w) is)
+      made ∙ ap (λ (k : KeepingDatabase SqlDatabase). logs_kept k.kept) same ∙ keeps.logs ∙ sym (ap (logs_in n [] w) is)
 
-  pub kept_never : (d : Diverged) → core.diverged ≡ Some d → ⊥
+  pub kept_never : (d : Divergence) → core.diverged ≡ Some d → ⊥
   kept_never d stopped =
       never_diverged n [] (start_state w script) refl d (ap (λ (c : Core). c.diverged) (sym keeps.core) ∙ stopped)
 

@@ -15,12 +15,12 @@ use Rattle.run_model.specs.Start.{start_script, start_state}
 use Rattle.run_model.specs.WorldRun.{ends_within, steps_by, events_in, events_within, logs_by}
 use Rattle.sql_model.specs.Tables.{tables_test}
 use Rattle.package_layout.specs.Events.{TypedEvent, event_room}
-use Rattle.package_layout.specs.Room.{some_thousands, table_room, log_room}
+use Rattle.package_layout.specs.Room.{fits_u16_count, table_room, log_room}
 use Rattle.package_layout.specs.Runs.{max_events, trace_room}
 use Rattle.run_model.specs.RunLaw.{WorldEventsLaw}
 use Rattle.package_layout.specs.Trace.{asked_count}
 use Rattle.package_layout.specs.Typed.{IsU32, TypedTable, TypedLog}
-use Rattle.package_layout.specs.Valid.{is_short_text, start_rule, files_rule, tables_rule, logs_rule, mode_rule, script_rule, is_script_file, steps_rule, trace_rule, reasons_rule, parts_rule, whole_rule, rules, Valid}
+use Rattle.package_layout.specs.Valid.{is_short_text, start_rule, files_rule, tables_rule, logs_rule, mode_rule, script_rule, is_script_file, steps_rule, trace_rule, reasons_rule, parts_rule, whole_rule, rules, IsValidPackage}
 use Rattle.package_layout.specs.Whole.{IsTyped, tables_room, has_room}
 use Rattle.value_laws.specs.Steps.{GoodLogs, StepsLaw}
 use Rattle.replay_db.specs.Worlds.{all_of_file, all_of_world, TypedWorld, world_rules, ValidWorld, TypedFor, ValidPackageLaw, TypedPackageLaw}
@@ -40,7 +40,7 @@ use Rattle.run_laws.proofs.EndedLaw.{ended_starts}
 one_more : (count : ℕ) → nat_le count 255 ≡ true → nat_lt (suc count) 65536 ≡ true
 one_more count within = grind (arith, nat_tests)
 
-start_room : (start : List (List ℕ)) → start_rule start ≡ true → some_thousands start ≡ true
+start_room : (start : List (List ℕ)) → start_rule start ≡ true → fits_u16_count start ≡ true
 start_room [] met = cc
 start_room (word ∷ words) met =
     let parts = and_parts (path_test word && nat_le (length words) 255) (list_all is_short_text (word ∷ words)) met in
@@ -78,7 +78,7 @@ some_events count n two less = le-leb count max_events (omega (arith, two, less)
 -- what is asked of those of a package, where so many statements were asked
 record Packed (mode : Mode) (asked : ℕ) (tables : List PackedTable) (logs : List Log) : Type 0 where
   ruled : tables_rule tables ≡ true
-  room : (some_thousands tables && list_all table_room tables) ≡ true
+  room : (fits_u16_count tables && list_all table_room tables) ≡ true
   reasons : reasons_rule asked tables ≡ true
   logs_ruled : logs_rule logs ≡ true
   logs_room : list_all log_room logs ≡ true
@@ -112,7 +112,7 @@ module _ (n : ℕ) (w : World) (met : IsTrue (world_rules w)) (valid : tables_te
       let list : RuledList tables = ruled_list tables rule in
       record {
         ruled = rule;
-        room = and_from (some_thousands tables) (list_all table_room tables) (tables_few (length tables) list.few) (rooms_met tables rule);
+        room = and_from (fits_u16_count tables) (list_all table_room tables) (tables_few (length tables) list.few) (rooms_met tables rule);
         reasons = reasons_valid n [] w script is valid met;
         logs_ruled = refl;
         logs_room = refl;
@@ -152,7 +152,7 @@ module _ (n : ℕ) (w : World) (met : IsTrue (world_rules w)) (valid : tables_te
 
     has_room_for : Parts → has_room p ≡ true
     has_room_for parts =
-        and_from (some_thousands p.start) (tables_room p && (list_all log_room p.logs && trace_room p.events)) (start_room p.start ruled.start)
+        and_from (fits_u16_count p.start) (tables_room p && (list_all log_room p.logs && trace_room p.events)) (start_room p.start ruled.start)
         (and_from (tables_room p) (list_all log_room p.logs && trace_room p.events) parts.room
         (and_from (list_all log_room p.logs) (trace_room p.events) parts.logs_room
         (and_from (nat_le (length p.events) max_events) (list_all event_room p.events) few_events (room_is n [] w script is valid met))))
@@ -175,7 +175,7 @@ module _ (n : ℕ) (w : World) (met : IsTrue (world_rules w)) (valid : tables_te
         let starts : script_rule p.start p.files ≡ true = script_still w.start later p.events w.files begins ruled.script in
         and_from (parts_rule p && whole_rule p) (script_rule p.start p.files) (and_from (parts_rule p) (whole_rule p) (parts_met parts) (whole_met parts)) starts
 
-    run_valid : TypedFor mode w → Valid p
+    run_valid : TypedFor mode w → IsValidPackage p
     run_valid typed =
         let parts : Parts = packed mode typed in
         and_from (has_room p) (rules p) (has_room_for parts) (rules_met parts)

@@ -4,11 +4,11 @@ use Rattle.std.specs.Prelude.{Some, None, if◌then◌else◌}
 use Rattle.run_model.specs.Package.{package_of}
 use Rattle.run_model.specs.Slice.{files_needed, tables_needed}
 use Rattle.run_model.specs.WorldRun.{ends_within}
-use Rattle.replay_db.specs.Recording.{HasNotEnded, IsTraced, packed}
+use Rattle.replay_db.specs.Recording.{HasNotEnded, IsTraced, package_of_traced}
 use Rattle.replay_db.specs.Runs.{Stops, package_within}
 use Rattle.replay_db.specs.Types.{Mode, Included, Package, World}
-use Rattle.replay_db.specs.declared.stop.EndStop.{EndStop}
-use Rattle.replay_db.specs.declared.stop.EndStop.TheVariants.{NotEnded, NoMemory}
+use Rattle.replay_db.specs.declared.error.EndStop.{EndStop}
+use Rattle.replay_db.specs.declared.error.EndStop.TheVariants.{NotEnded, NoMemory}
 use Rattle.replay_db.specs.declared.trace.Traced.{Traced}
 
 -- of a run that has ended
@@ -20,7 +20,7 @@ package_is mode n w ended = ap (λ b. if b then Some (package_of mode n w) else 
 pub package_none : (mode : Mode) (n : ℕ) (w : World) → ends_within n w ≡ false → package_within mode n w ≡ None
 package_none mode n w going = ap (λ b. if b then Some (package_of mode n w) else None) going
 
-packed_same : (n : ℕ) (w : World) (t : Traced) → IsTraced n w t → packed w t ≡ package_of Included n w
+packed_same : (n : ℕ) (w : World) (t : Traced) → IsTraced n w t → package_of_traced w t ≡ package_of Included n w
 packed_same n w t traced = λ j. record {
   mode = Included;
   start = w.start;
@@ -32,7 +32,7 @@ packed_same n w t traced = λ j. record {
   events = traced.events j;
 }
 
-pub package_packed : (n : ℕ) (w : World) (t : Traced) (p : Package) → IsTraced n w t → p ≡ packed w t
+pub package_packed : (n : ℕ) (w : World) (t : Traced) (p : Package) → IsTraced n w t → p ≡ package_of_traced w t
     → package_within Included n w ≡ Some p
 package_packed n w t p traced is =
     package_is Included n w traced.ended ∙ ap Some (sym (packed_same n w t traced) ∙ sym is)

@@ -12,7 +12,7 @@ use Rattle.std.proofs.lemmas.Map.Text.{is_eq-slice_cmp}
 use Rattle.ldv_value.proofs.SameBytes.{bytes_eq-true}
 use Rattle.ldv_value.proofs.Booleans.{and-parts}
 use Rattle.sql_model.specs.Scope.{same_text}
-use Rattle.package_layout.specs.Groups.{groups, single, after, add_all}
+use Rattle.package_layout.specs.Groups.{groups, group_of_one, after, add_all}
 use Rattle.package_layout.specs.Order.{rises, is_below, row_after_table}
 use Rattle.package_layout.proofs.Groups.{add_last}
 use Rattle.replay_db.proofs.TraceLists.{below_next, below_itself, filter_most, filter_fewer}
@@ -97,7 +97,7 @@ module _ {X Part : Type 0} (table_of : X → List ℕ) (row_of : X → ℕ) (par
             let whole = next ∙ ap (λ hs. length (add_all table_of part_of (gs ++ hs) xs)) joined in
             omega arith
         | inr miss ↦
-            let new = single table_of part_of x in
+            let new = group_of_one table_of part_of x in
             let split : after table_of part_of (record { table = table; parts = parts }) x ≡ record { table = table; parts = parts } ∷ new ∷ [] = rw miss refl in
             let more : length (add_all table_of part_of ((gs ++ record { table = table; parts = parts } ∷ []) ++ new ∷ []) xs) ≤ length (gs ++ record { table = table; parts = parts } ∷ []) + 1 + above x = groups_after (gs ++ record { table = table; parts = parts } ∷ []) (table_of x) (part_of x ∷ []) x xs refl both.1 named.1 in
             let apart : bytes_eq (table_of last) (table_of x) ≡ false = ap (λ (name : List ℕ). bytes_eq name (table_of x)) (sym is) ∙ miss in

@@ -15,7 +15,7 @@ use Rattle.run_model.specs.Run.{first_pick, later_picks, move}
 use Rattle.run_model.specs.Schedule.{choose}
 use Rattle.run_model.specs.Slice.{Reason, act_reason, first_reason, names_table, is_table_needed}
 use Rattle.run_model.specs.SqlDatabase.{SqlDatabase, db_after, lists_of, sql_base}
-use Rattle.run_model.specs.State.{State, Stepped}
+use Rattle.run_model.specs.State.{State, StepResult}
 use Rattle.run_model.specs.Step.{asked_act}
 use Rattle.run_model.specs.ValidTrace.{made_after}
 use Rattle.run_model.proofs.Equations.{events-zero, events-over, events-suc}
@@ -185,7 +185,7 @@ module _ (table : List ℕ) (row : ℕ) where
   run_rows (suc n) number picks s list ordered valid = elim (cases_Bool (is_over s.core)) [
     | inl over ↦ subst (RowEvents s.db) (sym (events-over sql_base (suc n) number picks s over)) (no_events s.db)
     | inr going ↦
-        let m : Stepped SqlDatabase = move sql_base (first_pick picks) s in
+        let m : StepResult SqlDatabase = move sql_base (first_pick picks) s in
         let of : StepOf s m = move_step (first_pick picks) s list ordered going in
         let rest : List Event = events sql_base n (number + 1) (later_picks picks) m.state in
         let next : Ordered m.state.core = move_ordered sql_base (choose (first_pick picks) s.core) s ordered in

@@ -10,8 +10,8 @@ use Rattle.run_model.specs.WorldRun.{ends_within, outcome_within}
 use Rattle.run_laws.specs.Laws.{SameRun, SettledRun}
 use Rattle.replay_db.specs.Runs.{Stops, package_within, IsNoMemory, RunsAs, RecordsAs}
 use Rattle.replay_db.specs.Types.{Mode, Outcome, Package, World}
-use Rattle.replay_db.specs.declared.stop.EndStop.{EndStop}
-use Rattle.replay_db.specs.declared.stop.EndStop.TheVariants.{NotEnded, NoMemory}
+use Rattle.replay_db.specs.declared.error.EndStop.{EndStop}
+use Rattle.replay_db.specs.declared.error.EndStop.TheVariants.{NotEnded, NoMemory}
 use Rattle.run_laws.proofs.BudgetLaw.{ended_outcome, outcome_ends}
 use Rattle.run_laws.proofs.EndedLaw.{ended_law, ended_starts}
 use Rattle.replay_db.proofs.RecordedRuns.{package_is}

@@ -17,7 +17,7 @@ use Rattle.sql_model.specs.declared.reply.SqlRefusal.TheVariants.{NotNull, Full}
 use Rattle.sql_model.specs.declared.statement.Insert.{Insert}
 use Rattle.sql_model.specs.declared.statement.Statement.TheVariants.{Query as TheQuery, Insert as TheInsert, Update as TheUpdate, Delete as TheDelete}
 use Rattle.sql_model.specs.QueryAnswer.{Origin}
-use Rattle.sql_model.specs.Changes.{numbered, new_values, lacks_value, key_clash, changed, key_refusal, is_full, or_else, refusal_if, change_refusal}
+use Rattle.sql_model.specs.Changes.{numbered_rows, new_values, lacks_value, key_clash, table_after, key_refusal, is_full, or_else, refusal_if, change_refusal}
 use Rattle.sql_model.specs.Needs.{Versions, NeededRow, need_of, asked_names, is_asked, table_name, asked_tables, new_member, made_by, updated_rows, is_row_of, versions_after, read_of}
 use Rattle.sql_model.specs.Refusals.{check_refusal}
 use Rattle.sql_model.specs.Scope.{same_text, is_table, table_at, rows_of, catalog_of}
@@ -34,7 +34,7 @@ use Rattle.run_model.specs.Step.{asked_act}
 use Rattle.package_layout.specs.Events.{need_groups, member_groups, needs_room, members_room, act_room, TypedNeed, TypedMember, TypedAct}
 use Rattle.package_layout.specs.Order.{rises, is_below, need_below, member_below}
 use Rattle.package_layout.specs.Parts.{need_table, need_part, member_table, member_part}
-use Rattle.package_layout.specs.Room.{some_thousands}
+use Rattle.package_layout.specs.Room.{fits_u16_count}
 use Rattle.run_model.specs.ValidTrace.{named_rule}
 use Rattle.package_layout.specs.Trace.{act_rule}
 use Rattle.package_layout.specs.Typed.{IsU32}
@@ -128,7 +128,7 @@ name_meets P (other ∷ names) name all there = elim (cases_Bool (same_text othe
 -- ---- rows that an INSERT makes
 
 numbered_all : (P : ℕ → Type 0) (start : ℕ) (rows : List (List Value)) → ((n : ℕ) → n < start + length rows → P n)
-    → AllByRecursion (λ (row : TableRow). P row.number) (numbered start rows)
+    → AllByRecursion (λ (row : TableRow). P row.number) (numbered_rows start rows)
 numbered_all P start [] each = tt
 numbered_all P start (values ∷ rows) each =
     (each start (omega arith), numbered_all P (start + 1) rows (λ n below. each n (omega (arith, below))))
@@ -136,14 +136,14 @@ numbered_all P start (values ∷ rows) each =
 in_order : (n : ℕ) → nat_lt n (n + 1) ≡ true
 in_order n = grind (arith, nat_tests)
 
-numbered_rise : (t : Table) (start : ℕ) (rows : List (List Value)) → rises member_below (map (new_member t) (numbered start rows)) ≡ true
+numbered_rise : (t : Table) (start : ℕ) (rows : List (List Value)) → rises member_below (map (new_member t) (numbered_rows start rows)) ≡ true
 numbered_rise t start [] = refl
 numbered_rise t start (values ∷ []) = refl
 numbered_rise t start (values ∷ more ∷ rows) =
     let here : member_below (new_member t (record { number = start; values = values })) (new_member t (record { number = start + 1; values = more })) ≡ true =
     rw (equal_itself t.name) (in_order start) in
     and-from (member_below (new_member t (record { number = start; values = values })) (new_member t (record { number = start + 1; values = more })))
-    (rises member_below (map (new_member t) (numbered (start + 1) (more ∷ rows)))) here (numbered_rise t (start + 1) (more ∷ rows))
+    (rises member_below (map (new_member t) (numbered_rows (start + 1) (more ∷ rows)))) here (numbered_rise t (start + 1) (more ∷ rows))
 
 -- ---- an INSERT that isn't refused has numbers for its rows
 
@@ -152,8 +152,8 @@ not_full s db t found none =
     let catalog : Catalog = catalog_of db in
     let own : own_refusal s db ≡ None = (else-parts (own_refusal s db) (reference_refusal s catalog (target s db) db) none).0 in
     let change : change_refusal s (catalog_of db) (Some t) ≡ None = ap (change_refusal s (catalog_of db)) (sym found) ∙ (else-parts (check_refusal s (catalog_of db)) (change_refusal s (catalog_of db) (target s db)) own).1 in
-    let later = (else-parts (refusal_if (lacks_value s (catalog_of db) t) NotNull) (or_else (key_refusal t (key_clash (changed s (catalog_of db) t))) (refusal_if (is_full s t) Full)) change).1 in
-    if-none (is_full s t) Full (else-parts (key_refusal t (key_clash (changed s (catalog_of db) t))) (refusal_if (is_full s t) Full) later).1
+    let later = (else-parts (refusal_if (lacks_value s (catalog_of db) t) NotNull) (or_else (key_refusal t (key_clash (table_after s (catalog_of db) t))) (refusal_if (is_full s t) Full)) change).1 in
+    if-none (is_full s t) Full (else-parts (key_refusal t (key_clash (table_after s (catalog_of db) t))) (refusal_if (is_full s t) Full) later).1
 
 room_left : (n : ℕ) → nat_lt 4294967295 n ≡ false → n ≤ 4294967295
 room_left n not_over = grind (arith, nat_tests)
@@ -220,7 +220,7 @@ module _ (names : List (List ℕ)) (asked : ℕ) (db : SqlDatabase) (good : Good
       let least : t.next + length insert.rows ≤ 4294967295 = room_left (t.next + length insert.rows) room in
       let same : t.name ≡ insert.table = bytes_eq-true t.name insert.table (found-passes (is_table insert.table) db.tables t found) in
       let named : is_name_of names t.name ≡ true = ap (is_name_of names) same ∙ name_there insert.table t found in
-      all_map IsMade (new_member t) (numbered t.next rows)
+      all_map IsMade (new_member t) (numbered_rows t.next rows)
       (numbered_all (λ n. IsMade (record { table = t.name; row = n; version = 0 })) t.next rows (λ n below. ((named, omega (arith, below, count, least)), omega arith)))
 
   insert_of : (insert : Insert) (o : Option Table) → table_at insert.table db.tables ≡ o → refusal_of (Some (TheInsert insert)) db.tables ≡ None
@@ -355,17 +355,17 @@ module _ (names : List (List ℕ)) (asked : ℕ) (db : SqlDatabase) (good : Good
         reads_fit : needs_room reads ≡ true
         reads_fit =
             let few : length (need_groups reads) ≤ length names = groups_few need_table (λ n. n.member.row) need_part names reads (reads_rise db.versions statement db.tables) read_names in
-            and-from (some_thousands (need_groups reads)) (list_all (λ n. sql_name_test (need_table n)) reads) (few_groups (length (need_groups reads)) few) reads_named
+            and-from (fits_u16_count (need_groups reads)) (list_all (λ n. sql_name_test (need_table n)) reads) (few_groups (length (need_groups reads)) few) reads_named
 
         made_fit : members_room made ≡ true
         made_fit =
             let few : length (member_groups made) ≤ length names = groups_few member_table (λ m. m.row) member_part names made (made_sorted statement) made_names in
-            and-from (some_thousands (member_groups made)) (list_all (λ m. sql_name_test (member_table m)) made) (few_groups (length (member_groups made)) few) made_named
+            and-from (fits_u16_count (member_groups made)) (list_all (λ m. sql_name_test (member_table m)) made) (few_groups (length (member_groups made)) few) made_named
 
         -- the format has room for it
         pub asked_room : act_room act ≡ true
         asked_room =
-            and-from (some_thousands tables) (needs_room reads && members_room made) (few_groups (length tables) (asked_few statement))
+            and-from (fits_u16_count tables) (needs_room reads && members_room made) (few_groups (length tables) (asked_few statement))
             (and-from (needs_room reads) (members_room made) reads_fit made_fit)
 
     -- its numbers are those of their types, and its texts are UTF-8

@@ -17,7 +17,7 @@ use Rattle.sql_model.specs.declared.statement.Insert.{Insert}
 use Rattle.sql_model.specs.declared.statement.Update.{Update}
 use Rattle.sql_model.specs.declared.table.Column.{Column}
 use Rattle.sql_model.specs.declared.statement.Statement.TheVariants.{Query as TheQuery, Insert as TheInsert, Update as TheUpdate, Delete as TheDelete}
-use Rattle.sql_model.specs.Changes.{numbered, new_values, inserted, is_matched, update_one, target_of, table_of, changed, changed_in}
+use Rattle.sql_model.specs.Changes.{numbered_rows, new_values, rows_of_insert, is_matched, update_one, target_of, table_of, table_after, changed_in}
 use Rattle.sql_model.specs.Needs.{Versions, NeededRow, need_of, asked_tables, new_member, made_by, updated_rows, versions_after, read_of}
 use Rattle.sql_model.specs.Needs.{is_row_of as is_origin_of}
 use Rattle.sql_model.specs.Scope.{InScope, same_text, is_table, table_at, rows_of, catalog_of, own_scope}
@@ -71,9 +71,9 @@ before_next v =
     let back : (v + 1) - 1 ≡ v = omega arith in
     rw (next_not_zero v) (ap (λ (n : ℕ). Some n) back)
 
-twice : (b : Bool) → (b || (false || b)) ≡ (b || false)
-twice true = refl
-twice false = refl
+or-same : (b : Bool) → (b || (false || b)) ≡ (b || false)
+or-same true = refl
+or-same false = refl
 
 -- of two, the first with the second alone
 fewer : (small whole : Bool) → (small ≡ true → whole ≡ true) → (whole || (false || small)) ≡ (whole || false)
@@ -102,13 +102,13 @@ module _ {X : Type 0} (p : X → Bool) where
   none_of [] none = refl
   none_of (x ∷ xs) none = or-from (p x) (list_any p xs) none.0 (none_of xs none.1)
 
-  none_left : (keep : X → Bool) (xs : List X) → list_any p xs ≡ false → list_any p (filter keep xs) ≡ false
-  none_left keep [] none = refl
-  none_left keep (x ∷ xs) none =
+  list_any-filter : (keep : X → Bool) (xs : List X) → list_any p xs ≡ false → list_any p (filter keep xs) ≡ false
+  list_any-filter keep [] none = refl
+  list_any-filter keep (x ∷ xs) none =
       let parts = or-parts (p x) (list_any p xs) none in
       elim (cases_Bool (keep x)) [
-        | inl stays ↦ rw stays (or-from (p x) (list_any p (filter keep xs)) parts.0 (none_left keep xs parts.1))
-        | inr goes ↦ rw goes (none_left keep xs parts.1)
+        | inl stays ↦ rw stays (or-from (p x) (list_any p (filter keep xs)) parts.0 (list_any-filter keep xs parts.1))
+        | inr goes ↦ rw goes (list_any-filter keep xs parts.1)
       ]
 
 none_changed : (change : Table → Table) (name : List ℕ) (ts : List Table) → find (is_table name) ts ≡ None
@@ -127,16 +127,16 @@ module _ (test : Table → Bool) (db : List Table) (valid : is_database db ≡ t
 
   -- the table of a name passes it when it is changed
   abbrev Passes : Option (List ℕ) → Statement → Type 0
-  Passes name s = (t : Table) → table_of name db ≡ Some t → test t ≡ true → test (changed s (catalog_of db) t) ≡ true
+  Passes name s = (t : Table) → table_of name db ≡ Some t → test t ≡ true → test (table_after s (catalog_of db) t) ≡ true
 
   named_all : (name : List ℕ) (s : Statement) → Passes (Some name) s
-      → list_all test (map (change_named (changed s (catalog_of db)) name) db) ≡ true
+      → list_all test (map (change_named (table_after s (catalog_of db)) name) db) ≡ true
   named_all name s passes = by (table_at name db) refl
     where
-      by : (o : Option Table) → table_at name db ≡ o → list_all test (map (change_named (changed s (catalog_of db)) name) db) ≡ true
-      by None found = ap (list_all test) (none_changed (changed s (catalog_of db)) name db found) ∙ all
+      by : (o : Option Table) → table_at name db ≡ o → list_all test (map (change_named (table_after s (catalog_of db)) name) db) ≡ true
+      by None found = ap (list_all test) (none_changed (table_after s (catalog_of db)) name db found) ∙ all
       by (Some t) found =
-          all-changed (changed s (catalog_of db)) test name t
+          all-changed (table_after s (catalog_of db)) test name t
           (passes t found (found-all (is_table name) test db t all found)) db found sorted all
 
   changed_all : (name : Option (List ℕ)) (s : Statement) → Passes name s
@@ -263,7 +263,7 @@ module _ (table : List ℕ) (row : ℕ) where
       ≡ (list_any (is_first versions) ns || makes (map (next_of versions) ns))
   next_seen versions ns =
       (λ j. list_any (is_first versions) ns || (next_makes versions ns j || next_changes versions ns j))
-      ∙ twice (list_any (is_first versions) ns)
+      ∙ or-same (list_any (is_first versions) ns)
       ∙ sym (λ j. list_any (is_first versions) ns || next_makes versions ns j)
 
   -- so is it where that is only what is needed by rule L
@@ -282,7 +282,7 @@ module _ (table : List ℕ) (row : ℕ) where
   seen_by versions None (TheQuery query) o ns = refl
   seen_by versions None (TheInsert insert) None ns = refl
   seen_by versions None (TheInsert insert) (Some t) ns =
-      let rows : List TableRow = inserted insert t in
+      let rows : List TableRow = rows_of_insert insert t in
       ap (λ (b : Bool). list_any (is_first versions) ns || (makes (map (new_member t) rows) || b)) (new_changes t rows)
       ∙ ap (λ (b : Bool). list_any (is_first versions) ns || b) (or-false (makes (map (new_member t) rows)))
   seen_by versions None (TheUpdate update) o ns = lineage_seen versions ns
@@ -303,10 +303,10 @@ module _ (table : List ℕ) (row : ℕ) where
   ]
 
   fresh : (name : List ℕ) (start : ℕ) (rows : List (List Value)) → (same_text name table ≡ true → row < start)
-      → list_any (λ (r : TableRow). is_it name r.number) (numbered start rows) ≡ false
+      → list_any (λ (r : TableRow). is_it name r.number) (numbered_rows start rows) ≡ false
   fresh name start [] below = refl
   fresh name start (values ∷ rows) below =
-      or-from (is_it name start) (list_any (λ (r : TableRow). is_it name r.number) (numbered (start + 1) rows))
+      or-from (is_it name start) (list_any (λ (r : TableRow). is_it name r.number) (numbered_rows (start + 1) rows))
       (fresh_at name start below)
       (fresh name (start + 1) rows (λ named. let less : row < start = below named in omega (arith, less)))
 
@@ -320,7 +320,7 @@ module _ (table : List ℕ) (row : ℕ) where
   unmade_by versions None (TheQuery query) o ns used = refl
   unmade_by versions None (TheInsert insert) None ns used = refl
   unmade_by versions None (TheInsert insert) (Some t) ns used =
-      new_makes t (inserted insert t)
+      new_makes t (rows_of_insert insert t)
       ∙ fresh t.name t.next (map (new_values insert.columns t.schema.columns) insert.rows) (λ named. used_below t used named)
   unmade_by versions None (TheUpdate update) o ns used = next_makes versions (lineage ns)
   unmade_by versions None (TheDelete delete) o ns used = next_makes versions ns
@@ -341,7 +341,7 @@ module _ (table : List ℕ) (row : ℕ) where
     | inr other ↦ rw other refl
   ]
 
-  used_changed : (s : Statement) (catalog : Catalog) (t : Table) → is_used t ≡ true → is_used (changed s catalog t) ≡ true
+  used_changed : (s : Statement) (catalog : Catalog) (t : Table) → is_used t ≡ true → is_used (table_after s catalog t) ≡ true
   used_changed (TheQuery query) catalog t used = used
   used_changed (TheInsert insert) catalog t used = used_more t (length insert.rows) used
   used_changed (TheUpdate update) catalog t used = used
@@ -415,10 +415,10 @@ module _ (table : List ℕ) (row : ℕ) where
       list_any-map (λ (r : TableRow). r.number == row) (update_one scope update columns) rows
       ∙ (λ j. list_any (λ (r : TableRow). number_kept scope update columns r j == row) rows)
 
-  new_lacks : (insert : Insert) (t : Table) → makes (map (new_member t) (inserted insert t)) ≡ false → lacks t ≡ true
-      → not (same_text t.name table && list_any (λ (r : TableRow). r.number == row) (t.rows ++ inserted insert t)) ≡ true
+  new_lacks : (insert : Insert) (t : Table) → makes (map (new_member t) (rows_of_insert insert t)) ≡ false → lacks t ≡ true
+      → not (same_text t.name table && list_any (λ (r : TableRow). r.number == row) (t.rows ++ rows_of_insert insert t)) ≡ true
   new_lacks insert t unmade lacking =
-      let new : List TableRow = inserted insert t in
+      let new : List TableRow = rows_of_insert insert t in
       let none : list_any (λ (r : TableRow). is_it t.name r.number) new ≡ false = sym (new_makes t new) ∙ unmade in
       elim (cases_Bool (same_text t.name table)) [
         | inl named ↦
@@ -433,7 +433,7 @@ module _ (table : List ℕ) (row : ℕ) where
       ]
 
   lacks_changed : (versions : Versions) (s : Statement) (catalog : Catalog) (t : Table) (ns : List NeededRow)
-      → makes (made_if None versions s (Some t) ns) ≡ false → lacks t ≡ true → lacks (changed s catalog t) ≡ true
+      → makes (made_if None versions s (Some t) ns) ≡ false → lacks t ≡ true → lacks (table_after s catalog t) ≡ true
   lacks_changed versions (TheQuery query) catalog t ns unmade lacking = lacking
   lacks_changed versions (TheInsert insert) catalog t ns unmade lacking = new_lacks insert t unmade lacking
   lacks_changed versions (TheUpdate update) catalog t ns unmade lacking =
@@ -443,7 +443,7 @@ module _ (table : List ℕ) (row : ℕ) where
   lacks_changed versions (TheDelete delete) catalog t ns unmade lacking =
       let stays : TableRow → Bool = λ r. not (is_matched (own_scope delete.table catalog) delete.pick r) in
       lacks_by t.name t.rows (filter stays t.rows)
-      (λ none. none_left (λ (r : TableRow). r.number == row) stays t.rows none) lacking
+      (λ none. list_any-filter (λ (r : TableRow). r.number == row) stays t.rows none) lacking
 
   -- ---- a statement that needs the row names its table
 
@@ -535,7 +535,7 @@ module _ (table : List ℕ) (row : ℕ) where
     updated_by None (TheInsert insert) ns none = refl
     updated_by None (TheUpdate update) ns none =
         list_any-map (is_origin_of table row) origin_of (lineage ns)
-        ∙ none_left (λ (n : NeededRow). is_it n.table n.row) is_lineage ns none
+        ∙ list_any-filter (λ (n : NeededRow). is_it n.table n.row) is_lineage ns none
     updated_by None (TheDelete delete) ns none = refl
 
     unupdated : (statement : Option Statement) → is_needed (needs statement) ≡ false

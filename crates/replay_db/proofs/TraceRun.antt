@@ -9,14 +9,14 @@ use Rattle.ldv_value.proofs.Booleans.{and-from}
 use Rattle.sql_model.specs.Statements.{reply_of}
 use Rattle.sql_model.specs.Texts.{statement_of}
 use Rattle.replay_db.specs.Types.{Reply, Statement, Act, Started, Spawned, Waited, Ended, Asked, Event}
-use Rattle.run_model.specs.Core.{Process, Core, all_ended, is_over}
+use Rattle.run_model.specs.Core.{Process, Core, have_all_ended, is_over}
 use Rattle.run_model.specs.Events.{event_at, events_of_step, events}
 use Rattle.run_model.specs.Run.{first_pick, later_picks, chosen, move_of, move, steps}
 use Rattle.run_model.specs.RunLaw.{MayRun}
 use Rattle.run_model.specs.Schedule.{choose}
 use Rattle.run_model.specs.SqlDatabase.{SqlDatabase, db_after, lists_of, sql_base}
-use Rattle.run_model.specs.State.{State, Stepped}
-use Rattle.run_model.specs.Step.{Ask, Effect, quiet, took, ask_at, ends_at, asked_act, asking}
+use Rattle.run_model.specs.State.{State, StepResult}
+use Rattle.run_model.specs.Step.{Ask, Effect, local_step, took, next_ask, ends_at, asked_act, asking}
 use Rattle.run_model.proofs.Equations.{events-zero, events-over, events-suc, steps-suc}
 use Rattle.run_model.proofs.NeverStuck.{Ordered, found_below, move_ordered, chosen_runs}
 use Rattle.package_layout.specs.Events.{act_room, TypedAct}
@@ -56,7 +56,7 @@ db_then (Asks statement) db = db_after statement db
 abbrev pub made_in : State SqlDatabase → ℕ
 made_in s = length s.core.processes
 
-pub record StepOf (s : State SqlDatabase) (m : Stepped SqlDatabase) : Type 0 where
+pub record StepOf (s : State SqlDatabase) (m : StepResult SqlDatabase) : Type 0 where
   pub kind : Kind
   pub plain : List Act
   pub process : m.process < made_in s
@@ -70,7 +70,7 @@ pub record StepOf (s : State SqlDatabase) (m : Stepped SqlDatabase) : Type 0 whe
 asking_step : (number : ℕ) (p : Process) (s : State SqlDatabase) → slice_get s.core.processes number ≡ Some p
     → GoodList s.core.processes → (o : Option Ask) → StepOf s (asking sql_base number s o)
 asking_step number p s is good None =
-    let e : Effect = quiet number s.core in
+    let e : Effect = local_step number s.core in
     let q : QuietStep s.core e = quiet_step number p s.core is good in
     let ends = ends_plain number e.core q.good in
     let last : PlainActs (made_by (made_in s) e.acts) (ends_at number e.core) =
@@ -113,7 +113,7 @@ chosen_step : (number : ℕ) (p : Process) (s : State SqlDatabase) → slice_get
     → GoodList s.core.processes → StepOf s (move_of sql_base number s)
 chosen_step number p s is good =
     let m : StepOf (chosen number s) (move_of sql_base number s) =
-    asking_step number p (chosen number s) is good (ask_at number (chosen number s).core) in
+    asking_step number p (chosen number s) is good (next_ask number (chosen number s).core) in
     record {
       kind = m.kind;
       plain = m.plain;
@@ -134,13 +134,13 @@ pub move_step : (pick : Option ℕ) (s : State SqlDatabase) → GoodList s.core.
     → StepOf s (move sql_base pick s)
 move_step pick s good ordered going =
     let may : MayRun (choose pick s.core) s.core =
-    chosen_runs pick s.core ordered (going_on (is_some s.core.diverged) (all_ended s.core) going) in
+    chosen_runs pick s.core ordered (going_on (is_some s.core.diverged) (have_all_ended s.core) going) in
     chosen_step (choose pick s.core) may.0 s may.1 good
 
 abbrev pub events_by_kind : Kind → ℕ → ℕ → ℕ → SqlDatabase → List Act → List Event
 events_by_kind kind number process asked db plain = map (event_at number process) (acts_of kind asked db plain)
 
-pub step_events : (number : ℕ) (s : State SqlDatabase) (m : Stepped SqlDatabase) (of : StepOf s m)
+pub step_events : (number : ℕ) (s : State SqlDatabase) (m : StepResult SqlDatabase) (of : StepOf s m)
     → events_of_step number m ≡ events_by_kind of.kind number m.process s.core.asked s.db of.plain
 step_events number s m of = λ j. map (event_at number m.process) (of.acts j)
 
@@ -150,7 +150,7 @@ module _ (names : List (List ℕ)) where
   kind_good (Asks statement) asked db good = good_after names asked db statement good
 
   -- the database after a step
-  pub step_good : (s : State SqlDatabase) (m : Stepped SqlDatabase) → StepOf s m → GoodDatabase names s.core.asked s.db
+  pub step_good : (s : State SqlDatabase) (m : StepResult SqlDatabase) → StepOf s m → GoodDatabase names s.core.asked s.db
       → GoodDatabase names m.state.core.asked m.state.db
   step_good s m of good =
       subst (λ (n : ℕ). GoodDatabase names n m.state.db) (sym of.asked)
@@ -244,7 +244,7 @@ module _ (names : List (List ℕ)) (ruled : RuledNames names) (total : ℕ) wher
     | inl over ↦ ap (follows total (record { made = made_in s; asked = s.core.asked; step = step })) (events-over sql_base (suc n) number picks s over)
     | inr going ↦
         let left = steps_left n number total picks s going enough in
-        let m : Stepped SqlDatabase = move sql_base (first_pick picks) s in
+        let m : StepResult SqlDatabase = move sql_base (first_pick picks) s in
         let of : StepOf s m = move_step (first_pick picks) s list ordered going in
         let rest : List Event = events sql_base n (number + 1) (later_picks picks) m.state in
         let next : Ordered m.state.core = move_ordered sql_base (choose (first_pick picks) s.core) s ordered in
@@ -292,7 +292,7 @@ module _ (names : List (List ℕ)) (P : Event → Type 0) (total : ℕ)
     | inl over ↦ subst (AllByRecursion P) (sym (events-over sql_base (suc n) number picks s over)) tt
     | inr going ↦
         let left = steps_left n number total picks s going enough in
-        let m : Stepped SqlDatabase = move sql_base (first_pick picks) s in
+        let m : StepResult SqlDatabase = move sql_base (first_pick picks) s in
         let of : StepOf s m = move_step (first_pick picks) s list ordered going in
         let rest : List Event = events sql_base n (number + 1) (later_picks picks) m.state in
         let next : Ordered m.state.core = move_ordered sql_base (choose (first_pick picks) s.core) s ordered in

@@ -9,7 +9,7 @@ use Rattle.ldv_value.proofs.Booleans.{and-from}
 use Rattle.sql_model.specs.Needs.{table_name}
 use Rattle.sql_model.specs.Tables.{tables_test}
 use Rattle.replay_db.specs.Types.{Instr, Act, Started, Asked, Event, World}
-use Rattle.run_model.specs.Core.{all_ended}
+use Rattle.run_model.specs.Core.{have_all_ended}
 use Rattle.run_model.specs.Events.{event_at, events, start_events}
 use Rattle.run_model.specs.Run.{run, steps}
 use Rattle.run_model.specs.Slice.{tables_needed}
@@ -43,8 +43,8 @@ module _ (n : ℕ) (picks : List ℕ) (w : World) (script : List Instr) (is : st
   steps_are : steps_by n picks w ≡ steps sql_base n picks start
   steps_are = ap (steps_in n picks w) is
 
-  some_steps : (m : ℕ) → all_ended (run sql_base m picks start).core ≡ true → 1 ≤ steps sql_base m picks start
-  some_steps zero end = let never : false ≡ true = sym (ap (λ (s : State SqlDatabase). all_ended s.core) (run-zero sql_base picks start)) ∙ end in cc
+  some_steps : (m : ℕ) → have_all_ended (run sql_base m picks start).core ≡ true → 1 ≤ steps sql_base m picks start
+  some_steps zero end = let never : false ≡ true = sym (ap (λ (s : State SqlDatabase). have_all_ended s.core) (run-zero sql_base picks start)) ∙ end in cc
   some_steps (suc m) end = omega (arith, steps-suc sql_base m picks start refl)
 
   -- the first process has a step to make

@@ -10,7 +10,7 @@ use Rattle.run_model.specs.Package.{package_of, own_world}
 use Rattle.run_model.specs.Start.{start_script}
 use Rattle.run_model.specs.WorldRun.{ends_within, steps_by}
 use Rattle.package_layout.specs.Plain.{fits_version}
-use Rattle.package_layout.specs.Valid.{Valid}
+use Rattle.package_layout.specs.Valid.{IsValidPackage}
 use Rattle.package_layout.specs.declared.version.Version.{Version}
 use Rattle.package_layout.specs.Whole.{spelling_as, IsTyped}
 use Rattle.replay_db.specs.Types.{Included, Package, World}
@@ -69,7 +69,7 @@ RecordedSoundLaw = (n budget : ℕ) (w : World) (script : List Instr) → start_
 -- And no other: a valid package whose spelling in one version is due is that of its own world's run. So its
 -- spelling in the other version is due too.
 abbrev pub OwnSoundLaw : Type 0
-OwnSoundLaw = (budget : ℕ) (version : Version) (p : Package) → IsTyped p → Valid p
+OwnSoundLaw = (budget : ℕ) (version : Version) (p : Package) → IsTyped p → IsValidPackage p
     → IsTrue (fits_version version p)
     → budget ≤ max_steps
     → ends_within budget (own_world p) ≡ true

@@ -18,17 +18,17 @@ abbrev pub with_last : Kept → Log → Log
 with_last k log = record log { entries = log.entries ++ k.entry ∷ [] }
 
 -- to the last of the logs, where it is of that process
-abbrev pub joined : Kept → Log → List Log
-joined k log = if is_of k log then with_last k log ∷ [] else log ∷ new_log k ∷ []
+abbrev pub logs_with : Kept → Log → List Log
+logs_with k log = if is_of k log then with_last k log ∷ [] else log ∷ new_log k ∷ []
 
 abbrev pub with_kept : Kept → List Log → List Log
 with_kept k [] = new_log k ∷ []
-with_kept k (log ∷ []) = joined k log
+with_kept k (log ∷ []) = logs_with k log
 with_kept k (log ∷ next ∷ logs) = log ∷ with_kept k (next ∷ logs)
 
 abbrev pub grouped_onto : List Log → List Kept → List Log
 grouped_onto logs [] = logs
 grouped_onto logs (k ∷ kept) = grouped_onto (with_kept k logs) kept
 
-abbrev pub grouped : List Kept → List Log
-grouped kept = grouped_onto [] kept
+abbrev pub logs_of_kept : List Kept → List Log
+logs_of_kept kept = grouped_onto [] kept

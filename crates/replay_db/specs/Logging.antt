@@ -1,23 +1,23 @@
 -- What is recorded of a run with its replies, and the excluded package that is made of it.
 use Rattle.std.specs.Prelude.{◌≡◌, ℕ, List, [], true}
-use Rattle.run_model.specs.RunLaw.{started}
+use Rattle.run_model.specs.RunLaw.{start_state_of}
 use Rattle.run_model.specs.Slice.{files_needed}
-use Rattle.run_model.specs.SqlDatabase.{SqlDatabase, unchanged}
+use Rattle.run_model.specs.SqlDatabase.{SqlDatabase, initial_database}
 use Rattle.run_model.specs.State.{State}
 use Rattle.run_model.specs.WorldRun.{ends_within, events_within, steps_by, logs_by}
 use Rattle.run_laws.specs.KeptLaw.{nothing_kept}
-use Rattle.run_laws.specs.KeptReplies.{Keeping}
+use Rattle.run_laws.specs.KeptReplies.{KeepingDatabase}
 use Rattle.replay_db.specs.Types.{Excluded, Instr, Package, World}
 use Rattle.replay_db.specs.declared.logged.Logged.{Logged}
 use Rattle.run_laws.specs.declared.kept.Kept.{Kept}
 
 -- a database with what was kept
-abbrev pub keeping : SqlDatabase → List Kept → Keeping SqlDatabase
-keeping db kept = record { db = db; kept = kept }
+abbrev pub keeping_database : SqlDatabase → List Kept → KeepingDatabase SqlDatabase
+keeping_database db kept = record { db = db; kept = kept }
 
 -- over the world's tables, with nothing kept
-abbrev pub kept_start : World → List Instr → State (Keeping SqlDatabase)
-kept_start w script = started w.start w.seed w.files script (nothing_kept (unchanged w.tables))
+abbrev pub kept_start : World → List Instr → State (KeepingDatabase SqlDatabase)
+kept_start w script = start_state_of w.start w.seed w.files script (nothing_kept (initial_database w.tables))
 
 -- what is recorded of a run that ends within so many steps
 pub record IsLogged (n : ℕ) (w : World) (l : Logged) : Type 0 where

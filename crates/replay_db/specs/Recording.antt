@@ -3,8 +3,8 @@ use Rattle.std.specs.Prelude.{◌≡◌, ℕ, [], true, false}
 use Rattle.run_model.specs.Slice.{files_needed, tables_needed}
 use Rattle.run_model.specs.WorldRun.{ends_within, events_within, steps_by}
 use Rattle.replay_db.specs.Types.{Included, Package, World}
-use Rattle.replay_db.specs.declared.stop.EndStop.{EndStop}
-use Rattle.replay_db.specs.declared.stop.EndStop.TheVariants.{NotEnded, NoMemory}
+use Rattle.replay_db.specs.declared.error.EndStop.{EndStop}
+use Rattle.replay_db.specs.declared.error.EndStop.TheVariants.{NotEnded, NoMemory}
 use Rattle.replay_db.specs.declared.trace.Traced.{Traced}
 
 -- `NotEnded` says that the run hasn't ended after so many steps
@@ -19,8 +19,8 @@ pub record IsTraced (n : ℕ) (w : World) (t : Traced) : Type 0 where
   pub steps : t.steps ≡ steps_by n [] w
 
 -- the included package of a world, with what is recorded of its run
-abbrev pub packed : World → Traced → Package
-packed w t = record {
+abbrev pub package_of_traced : World → Traced → Package
+package_of_traced w t = record {
   mode = Included;
   start = w.start;
   seed = w.seed;

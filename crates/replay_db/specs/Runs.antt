@@ -7,12 +7,12 @@ use Rattle.run_model.specs.Between.{Between}
 use Rattle.run_model.specs.Package.{package_of, own_world}
 pub use Rattle.run_model.specs.ValidWorld.{CanRun}
 use Rattle.run_model.specs.WorldRun.{ends_within, outcome_within}
-use Rattle.package_layout.specs.Valid.{Valid}
+use Rattle.package_layout.specs.Valid.{IsValidPackage}
 use Rattle.package_layout.specs.Whole.{IsTyped}
 use Rattle.replay_db.specs.Types.{Mode, Outcome, Package, World}
 use Rattle.replay_db.specs.Worlds.{ValidWorld}
-use Rattle.replay_db.specs.declared.stop.EndStop.{EndStop}
-use Rattle.replay_db.specs.declared.stop.EndStop.TheVariants.{NotEnded, NoMemory}
+use Rattle.replay_db.specs.declared.error.EndStop.{EndStop}
+use Rattle.replay_db.specs.declared.error.EndStop.TheVariants.{NotEnded, NoMemory}
 
 -- ---- what can be run
 
@@ -21,11 +21,11 @@ abbrev pub WorldRunsLaw : Type 0
 WorldRunsLaw = (w : World) → ValidWorld w → CanRun w
 
 abbrev pub OwnRunsLaw : Type 0
-OwnRunsLaw = (p : Package) → IsTyped p → Valid p → CanRun (own_world p)
+OwnRunsLaw = (p : Package) → IsTyped p → IsValidPackage p → CanRun (own_world p)
 
 -- which is itself a valid world
 abbrev pub OwnWorldLaw : Type 0
-OwnWorldLaw = (p : Package) → IsTyped p → Valid p → ValidWorld (own_world p)
+OwnWorldLaw = (p : Package) → IsTyped p → IsValidPackage p → ValidWorld (own_world p)
 
 -- ---- what comes of a run
 

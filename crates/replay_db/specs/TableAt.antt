@@ -26,21 +26,21 @@ abbrev pub table_after : ℕ → List ℕ → World → Option Table
 table_after step name w = table_at name (tables_after step w (start_script w))
 
 -- no run loses a table
-abbrev pub stored : Option Table → Result Table TableStop
-stored None = Err NoTable
-stored (Some table) = Ok table
+abbrev pub stored_table : Option Table → Result Table TableStop
+stored_table None = Err NoTable
+stored_table (Some table) = Ok table
 
 -- ---- what is due
 
 -- of a run that has ended, or hasn't, and of its number of steps; the last is what stands after the step
-abbrev pub judged : Bool → ℕ → ℕ → Result Table TableStop → Result Table TableStop
-judged ended steps step found =
+abbrev pub table_verdict : Bool → ℕ → ℕ → Result Table TableStop → Result Table TableStop
+table_verdict ended steps step found =
     if ended then (if nat_lt steps step then Err NoStep else found) else Err NotEnded
 
 -- of the run of a world by its seed
 abbrev pub table_of_run : ℕ → ℕ → List ℕ → World → Result Table TableStop
 table_of_run budget step name w =
-    judged (ends_within budget w) (steps_by budget [] w) step (stored (table_after step name w))
+    table_verdict (ends_within budget w) (steps_by budget [] w) step (stored_table (table_after step name w))
 
 abbrev pub table_by_mode : Mode → ℕ → ℕ → List ℕ → Package → Result Table TableStop
 table_by_mode Excluded budget step name p = Err NoTable

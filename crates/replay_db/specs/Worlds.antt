@@ -5,7 +5,7 @@ use Rattle.sql_model.specs.Tables.{tables_test}
 use Rattle.replay_db.specs.Types.{Mode, Included, Excluded, World}
 use Rattle.run_model.specs.Package.{package_of}
 use Rattle.run_model.specs.WorldRun.{ends_within}
-use Rattle.package_layout.specs.Valid.{Valid}
+use Rattle.package_layout.specs.Valid.{IsValidPackage}
 use Rattle.package_layout.specs.Whole.{IsTyped}
 pub use Rattle.run_model.specs.ValidWorld.{all_of_file, all_of_row, all_of_table, all_of_world}
 pub use Rattle.run_model.specs.ValidWorld.{TypedWorld, rules_of_parts, world_rules, ValidWorld}
@@ -27,7 +27,7 @@ ValidPackageLaw = (mode : Mode) (n : ℕ) (w : World) → IsTrue (world_rules w)
     → TypedFor mode w
     → n ≤ max_steps
     → ends_within n w ≡ true
-    → Valid (package_of mode n w)
+    → IsValidPackage (package_of mode n w)
 
 -- of a valid world, its numbers are those of their types and its texts are UTF-8
 abbrev pub TypedPackageLaw : Type 0

@@ -47,7 +47,7 @@ mod replay;
 mod run;
 mod setting;
 mod soundness;
-mod stop;
+mod error;
 mod table;
 mod trace;
 
@@ -58,5 +58,5 @@ pub use recorder::Recorder;
 pub use replay::replay_included;
 pub use run::{run_owned, run_world};
 pub use soundness::{AuditStop, Verdict, audit};
-pub use stop::EndStop;
+pub use error::EndStop;
 pub use table::{TableStop, table_at};

@@ -7,14 +7,14 @@ ghost use Rattle.run_model.specs.Events.{start_events};
 ghost use Rattle.run_model.specs.Start.{start_script};
 ghost use Rattle.sql_engine.specs.Asking.{database};
 ghost use Rattle.run_laws.specs.KeptReplies.{logs_kept};
-ghost use Rattle.replay_db.specs.Logging.{IsLogged, keeping, kept_start};
+ghost use Rattle.replay_db.specs.Logging.{IsLogged, keeping_database, kept_start};
 ghost use Rattle.replay_db.specs.Recording.{HasNotEnded};
 ghost use Rattle.replay_db.specs.Runs.{CanRun};
 ghost use Rattle.replay_db.specs.Types.{Instr};
 
 use crate::recorder::Recorder;
 use crate::setting::{Setting, setting_of};
-use crate::stop::EndStop;
+use crate::error::EndStop;
 use proc_core::{Run, RunStop};
 use run_model::{Events, ListTracer, Logs, World};
 use sql_engine::Engine;
@@ -33,7 +33,7 @@ pub(crate) struct Logged {
 fn begin(alloc: Global, world: World) -> Result<Run<Recorder<Engine>, ListTracer>, AllocError>
     requires { CanRun world }
     ensures state { IfOk result (λ run. (script : Items Instr) → start_script world ≡ Some script
-        → Stands run.machine (keeping (database run.db.db) run.db.kept) (kept_start world script)) }
+        → Stands run.machine (keeping_database (database run.db.db) run.db.kept) (kept_start world script)) }
     ensures told { IfOk result (λ run. run.tracer ≡ start_events (slice_get world.start 0)) }
     ensures steps { IfOk result (λ run. run.steps ≡ 0) }
 {
@@ -50,7 +50,7 @@ fn begin(alloc: Global, world: World) -> Result<Run<Recorder<Engine>, ListTracer
 }
 
 // What is recorded of a run, at its end.
-fn recorded(run: Run<Recorder<Engine>, ListTracer>) -> Result<Logged, AllocError>
+fn recorded_run(run: Run<Recorder<Engine>, ListTracer>) -> Result<Logged, AllocError>
     ensures events { IfOk result (λ logged. logged.events ≡ run.tracer) }
     ensures steps { IfOk result (λ logged. logged.steps ≡ run.steps) }
     ensures logs { IfOk result (λ logged. logged.logs ≡ logs_kept run.db.kept) }
@@ -75,7 +75,7 @@ pub(crate) fn log_world(alloc: Global, world: World, budget: u32) -> Result<Logg
 {
     let begun = begin(alloc, world)?;
     match begun.to_end(budget) {
-        Ok(ended) => Ok(recorded(ended)?),
+        Ok(ended) => Ok(recorded_run(ended)?),
         Err(RunStop::NotEnded) => Err(EndStop::NotEnded),
         Err(
             RunStop::Diverged {

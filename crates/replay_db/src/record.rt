@@ -6,13 +6,13 @@ ghost use Rattle.ldv_value.specs.Limits.{max_steps};
 ghost use Rattle.run_model.specs.ValidTrace.{IsTrace};
 ghost use Rattle.slicer.specs.InitialRows.{ReadsInitialRows};
 ghost use Rattle.replay_db.specs.Logging.{packed_logs};
-ghost use Rattle.replay_db.specs.Recording.{packed};
+ghost use Rattle.replay_db.specs.Recording.{package_of_traced};
 ghost use Rattle.replay_db.specs.Runs.{CanRun, RecordsAs, Stops, package_within};
 ghost use Rattle.replay_db.specs.Types.{Included, Excluded};
 
 use crate::copy::copy_world;
 use crate::logged::{Logged, log_world};
-use crate::stop::EndStop;
+use crate::error::EndStop;
 use crate::trace::{Traced, trace_world};
 use run_model::{Logs, Mode, Package, PackedTables, World};
 use slicer::{Sliced, slice, slice_files};
@@ -23,7 +23,7 @@ use trace_graph::Graph;
 fn pack(alloc: Global, world: &World, traced: Traced) -> Result<Package, AllocError>
     requires trace { IsTrace traced.events }
     requires rows { ReadsInitialRows traced.events world.now.tables }
-    ensures { IfOk result (λ p. p ≡ packed world.now traced) }
+    ensures { IfOk result (λ p. p ≡ package_of_traced world.now traced) }
 {
     let Traced { events, steps } = traced;
     let graph = Graph::of_events(alloc, &events)?;

@@ -4,7 +4,7 @@ ghost use Rattle.std.specs.Prelude.{◌≡◌, ◌++◌, [], IfOk, OnOk};
 ghost use Rattle.sql_model.specs.Sorting.{sorted_by};
 ghost use Rattle.run_model.specs.Database.{asked_by};
 ghost use Rattle.run_laws.specs.KeptReplies.{kept_of, logs_kept, new_log};
-ghost use Rattle.replay_db.specs.KeptGroups.{kept_cmp, grouped, is_of, joined, with_kept, with_last};
+ghost use Rattle.replay_db.specs.KeptGroups.{kept_cmp, logs_of_kept, is_of, logs_with, with_kept, with_last};
 
 use ldv_value::{CopyItem, List, Utf8, Values};
 use run_laws::Kept;
@@ -45,7 +45,7 @@ impl<D: Database> Recorder<D> {
 }
 
 // A question with its reply, to be kept.
-fn keep(
+fn keep_reply(
     alloc: Global,
     who: &Asker,
     text: &Utf8,
@@ -66,9 +66,9 @@ fn keep(
 }
 
 impl<D: Database> Database for Recorder<D> {
-    ghost use Rattle.run_laws.specs.KeptReplies.{Keeping, keeping_base};
+    ghost use Rattle.run_laws.specs.KeptReplies.{KeepingDatabase, keeping_base};
 
-    ghost Db = { Keeping D.Db };
+    ghost Db = { KeepingDatabase D.Db };
 
     ghost seen = { λ r. record { db = D.seen r.db; kept = r.kept } };
 
@@ -84,7 +84,7 @@ impl<D: Database> Database for Recorder<D> {
         tracer: &mut T,
     ) -> Result<Reply, Stop> {
         let reply = self.db.ask(who, text, params, tracer)?;
-        let kept = keep(self.alloc, who, text, params, &reply)?;
+        let kept = keep_reply(self.alloc, who, text, params, &reply)?;
         self.kept.push(kept)?;
         Ok(reply)
     }
@@ -138,7 +138,7 @@ fn is_of(log: &Log, kept: &Kept) -> bool
 
 // Adds to the last log what is of its process, or a log for it after that one.
 fn add_after(alloc: Global, logs: &mut Vec<Log>, last: Log, kept: Kept) -> Result<(), AllocError>
-    ensures { OnOk result (logs.new.items ≡ logs.old.items ++ joined kept last) }
+    ensures { OnOk result (logs.new.items ≡ logs.old.items ++ logs_with kept last) }
 {
     if is_of(&last, &kept) {
         let more = with_last(last, kept)?;
@@ -167,8 +167,8 @@ fn add(alloc: Global, logs: &mut Vec<Log>, kept: Kept) -> Result<(), AllocError>
 }
 
 // Those of a process one after another become its log.
-fn grouped(alloc: Global, sorted: Vec<Kept>) -> Result<Logs, AllocError>
-    ensures { IfOk result (λ logs. logs ≡ grouped sorted.items) }
+fn logs_of_kept(alloc: Global, sorted: Vec<Kept>) -> Result<Logs, AllocError>
+    ensures { IfOk result (λ logs. logs ≡ logs_of_kept sorted.items) }
 {
     let mut logs = Vec::new(alloc);
     for kept in sorted {
@@ -181,5 +181,5 @@ fn logs_of(alloc: Global, kept: List<Kept>) -> Result<Logs, AllocError>
     ensures { IfOk result (λ logs. logs ≡ logs_kept kept) }
 {
     let sorted = sort_by_process(kept)?;
-    grouped(alloc, sorted)
+    logs_of_kept(alloc, sorted)
 }

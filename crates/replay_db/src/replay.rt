@@ -9,7 +9,7 @@ ghost use Rattle.replay_db.specs.Runs.{CanRun, Stops};
 
 use crate::own::own_world;
 use crate::run::run_owned;
-use crate::stop::EndStop;
+use crate::error::EndStop;
 use run_model::{Outcome, Package};
 use std::alloc::Global;
 

@@ -4,7 +4,7 @@ ghost use Rattle.std.specs.Prelude.{◌≡◌, ◌≤◌, List as Items, Some, [
 ghost use Rattle.ldv_value.specs.Gives.{Gives};
 ghost use Rattle.ldv_value.specs.Limits.{max_steps};
 ghost use Rattle.proc_core.specs.Running.{Stands, has_ended};
-ghost use Rattle.proc_core.specs.Stands.{Told};
+ghost use Rattle.proc_core.specs.Stands.{AppendsEvents};
 ghost use Rattle.run_model.specs.Events.{start_events};
 ghost use Rattle.run_model.specs.Run.{run as state_after};
 ghost use Rattle.run_model.specs.SqlDatabase.{sql_base};
@@ -17,7 +17,7 @@ ghost use Rattle.replay_db.specs.Types.{Instr};
 
 use crate::copy::copy_world;
 use crate::setting::{Setting, setting_of};
-use crate::stop::EndStop;
+use crate::error::EndStop;
 use proc_core::{Run, RunStop};
 use run_model::{NullTracer, Outcome, Tracer, World};
 use sql_engine::Engine;
@@ -32,7 +32,7 @@ pub(crate) fn begin<T: Tracer>(
     requires { CanRun world }
     ensures state { IfOk result (λ run. (script : Items Instr) → start_script world ≡ Some script
         → Stands run.machine (database run.db) (start_state world script)) }
-    ensures told { IfOk result (λ run. Told T.KEEPS (T.events tracer) (T.events run.tracer)
+    ensures told { IfOk result (λ run. AppendsEvents T.KEEPS (T.events tracer) (T.events run.tracer)
         (start_events (slice_get world.start 0))) }
     ensures steps { IfOk result (λ run. run.steps ≡ 0) }
 {
@@ -60,7 +60,7 @@ pub(crate) fn run_to_end<T: Tracer>(
         → Stands run.machine (database run.db) (state_after sql_base budget [] (start_state world script))) }
     ensures ended { OnOk result (ends_within budget world ≡ true) }
     ensures over { IfOk result (λ run. has_ended run.machine ≡ true) }
-    ensures told { IfOk result (λ run. Told T.KEEPS (T.events tracer) (T.events run.tracer)
+    ensures told { IfOk result (λ run. AppendsEvents T.KEEPS (T.events tracer) (T.events run.tracer)
         (events_within budget world)) }
     ensures steps { IfOk result (λ run. run.steps ≡ steps_by budget [] world) }
     ensures not_ended { IfErr result (HasNotEnded budget world) }

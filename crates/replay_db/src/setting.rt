@@ -1,8 +1,8 @@
 //! What the run of a world starts on.
 
 ghost use Rattle.std.specs.Prelude.{◌≡◌, true, IfOk};
-ghost use Rattle.ldv_value.specs.FileState.{files_test, untouched};
-ghost use Rattle.run_model.specs.SqlDatabase.{unchanged};
+ghost use Rattle.ldv_value.specs.FileState.{files_test, initial_files};
+ghost use Rattle.run_model.specs.SqlDatabase.{initial_database};
 ghost use Rattle.sql_engine.specs.Asking.{database};
 ghost use Rattle.sql_model.specs.Tables.{tables_test};
 
@@ -23,8 +23,8 @@ pub(crate) struct Setting {
 pub(crate) fn setting_of(alloc: Global, files: Files, tables: Tables) -> Result<Setting, AllocError>
     requires files { files_test files ≡ true }
     requires tables { tables_test tables ≡ true }
-    ensures tree { IfOk result (λ setting. setting.tree ≡ untouched files) }
-    ensures database { IfOk result (λ setting. database setting.engine ≡ unchanged tables) }
+    ensures tree { IfOk result (λ setting. setting.tree ≡ initial_files files) }
+    ensures database { IfOk result (λ setting. database setting.engine ≡ initial_database tables) }
     ensures latest { IfOk result (λ setting. setting.engine.time ≡ 0) }
 {
     let tree = Tree::of_files(alloc, files)?;

@@ -11,7 +11,7 @@ ghost use Rattle.replay_db.specs.Runs.{CanRun};
 
 use crate::own::own_world;
 use crate::record::record_world;
-use crate::stop::EndStop;
+use crate::error::EndStop;
 use package_layout::{SpellStop, Version, spell_as, version_of};
 use run_model::{Mode, Package};
 use std::alloc::Global;

@@ -12,7 +12,7 @@ ghost use Rattle.run_model.specs.State.{State};
 ghost use Rattle.sql_engine.specs.Asking.{database};
 ghost use Rattle.sql_model.specs.Scope.{table_at};
 ghost use Rattle.replay_db.specs.Runs.{CanRun};
-ghost use Rattle.replay_db.specs.TableAt.{IsDueStop, has_table, judged, table_at_of, table_of_run};
+ghost use Rattle.replay_db.specs.TableAt.{IsDueStop, has_table, table_verdict, table_at_of, table_of_run};
 
 use crate::own::own_world;
 use crate::run::begin;
@@ -89,7 +89,7 @@ fn go_on(begun: Run<Engine, NullTracer>, count: u32) -> Result<Run<Engine, NullT
 {
     let mut gone = begun;
     for _made in 0..count {
-        if gone.ended() {
+        if gone.is_over() {
             return Ok(gone);
         }
         gone = step_on(gone)?;
@@ -115,10 +115,10 @@ fn table_now(alloc: Global, engine: &Engine, name: &str, time: u32) -> Result<Ta
 }
 
 // What is due of a run that was gone on with, of which a table was taken after the step.
-fn judged(gone: &Run<Engine, NullTracer>, step: u32, table: Table) -> Result<Table, TableStop>
-    ensures { result ≡ judged (has_ended gone.now.machine) gone.now.steps step (Ok table) }
+fn table_verdict(gone: &Run<Engine, NullTracer>, step: u32, table: Table) -> Result<Table, TableStop>
+    ensures { result ≡ table_verdict (has_ended gone.now.machine) gone.now.steps step (Ok table) }
 {
-    if !gone.ended() {
+    if !gone.is_over() {
         Err(TableStop::NotEnded)
     } else if gone.steps() < step {
         Err(TableStop::NoStep)
@@ -153,7 +153,7 @@ fn table_of_run(
     let there = go_on(begun, early)?;
     let table = table_now(alloc, there.db(), name, there.steps())?;
     let gone = go_on(there, budget - early)?;
-    judged(&gone, step, table)
+    table_verdict(&gone, step, table)
 }
 
 // A table of an included package.

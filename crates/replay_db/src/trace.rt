@@ -6,7 +6,7 @@ ghost use Rattle.replay_db.specs.Recording.{HasNotEnded, IsTraced};
 ghost use Rattle.replay_db.specs.Runs.{CanRun};
 
 use crate::run::run_to_end;
-use crate::stop::EndStop;
+use crate::error::EndStop;
 use run_model::{Events, ListTracer, World};
 use std::alloc::Global;
 

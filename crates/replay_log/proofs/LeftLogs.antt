@@ -12,15 +12,15 @@ use Rattle.replay_log.specs.Places.{no_log, IsAt, IsNowhere}
 
 -- ---- a process that has no log
 
-pub none_left : (process : List ℕ) (logs : List Log) (used : List ℕ) → IsNowhere process logs
+pub entries_left-none : (process : List ℕ) (logs : List Log) (used : List ℕ) → IsNowhere process logs
     → entries_left process (logs_left logs used) ≡ []
-none_left process [] [] none = refl
-none_left process [] (n ∷ used) none = refl
-none_left process (log ∷ logs) [] none =
-    ap (λ (b : Bool). if b then log.entries else entries_left process logs) none.0 ∙ none_left process logs [] none.1
-none_left process (log ∷ logs) (n ∷ used) none =
+entries_left-none process [] [] none = refl
+entries_left-none process [] (n ∷ used) none = refl
+entries_left-none process (log ∷ logs) [] none =
+    ap (λ (b : Bool). if b then log.entries else entries_left process logs) none.0 ∙ entries_left-none process logs [] none.1
+entries_left-none process (log ∷ logs) (n ∷ used) none =
     ap (λ (b : Bool). if b then drop n log.entries else entries_left process (logs_left logs used)) none.0
-    ∙ none_left process logs used none.1
+    ∙ entries_left-none process logs used none.1
 
 -- ---- a process that has one
 
@@ -150,7 +150,7 @@ module _ (process : ProcName) (text : List ℕ) (params : List Value) (logs : Li
   pub diverges_nowhere : IsNowhere process.parts logs → log_base (logs_left logs used) (question process text params) ≡ Diverges
   diverges_nowhere none =
       answer_diverges (logs_left logs used) (question process text params) (entries_left process.parts (logs_left logs used))
-      (ap (λ (es : List Entry). next_reply es text params) (none_left process.parts logs used none))
+      (ap (λ (es : List Entry). next_reply es text params) (entries_left-none process.parts logs used none))
 
   -- one that has: how many of its entries were used, its log, and the log without the next entry
   module _ (i place : ℕ) (old : Log) (at : IsAt process.parts i logs) (within : i < length used)

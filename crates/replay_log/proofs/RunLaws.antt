@@ -5,19 +5,19 @@ use Rattle.std.specs.List.{list_all}
 use Rattle.std.proofs.lemmas.Bool.{cases_Bool}
 use Rattle.ldv_value.proofs.Booleans.{and-parts}
 use Rattle.run_model.proofs.Undiverged.{quiet_goes, took_goes}
-use Rattle.run_model.specs.Core.{Process, Diverged, Core, has_ended, all_ended, is_over}
+use Rattle.run_model.specs.Core.{Process, Divergence, Core, has_ended, have_all_ended, is_over}
 use Rattle.run_model.specs.Database.{Answer, Gives, Diverges, Base}
 use Rattle.run_model.specs.Run.{chosen, move, run}
 use Rattle.run_model.specs.RunLaw.{MayRun}
 use Rattle.run_model.specs.Schedule.{choose, is_waiting}
 use Rattle.run_model.specs.State.{State}
-use Rattle.run_model.specs.Step.{Ask, ask_at, told, asking}
+use Rattle.run_model.specs.Step.{Ask, next_ask, told, asking}
 use Rattle.run_model.proofs.Equations.{run-zero, run-over, run-suc}
 
 -- ---- a step that diverges leaves the processes as they were
 
 module _ {Db : Type 0} (base : Base Db) where
-  told_stops : (number : ℕ) (a : Ask) (s : State Db) (answer : Answer Db) → s.core.diverged ≡ None → (d : Diverged)
+  told_stops : (number : ℕ) (a : Ask) (s : State Db) (answer : Answer Db) → s.core.diverged ≡ None → (d : Divergence)
       → (told number a s answer).state.core.diverged ≡ Some d
       → (told number a s answer).state.core.processes ≡ s.core.processes
   told_stops number a s (Gives reply db lists) none d is =
@@ -25,7 +25,7 @@ module _ {Db : Type 0} (base : Base Db) where
       absurd cc
   told_stops number a s Diverges none d is = refl
 
-  asking_stops : (number : ℕ) (s : State Db) (o : Option Ask) → s.core.diverged ≡ None → (d : Diverged)
+  asking_stops : (number : ℕ) (s : State Db) (o : Option Ask) → s.core.diverged ≡ None → (d : Divergence)
       → (asking base number s o).state.core.diverged ≡ Some d
       → (asking base number s o).state.core.processes ≡ s.core.processes
   asking_stops number s None none d is =
@@ -33,11 +33,11 @@ module _ {Db : Type 0} (base : Base Db) where
       absurd cc
   asking_stops number s (Some a) none d is = told_stops number a s (base s.db a.question) none d is
 
-  move_stops : (s : State Db) → s.core.diverged ≡ None → (d : Diverged) → (move base None s).state.core.diverged ≡ Some d
+  move_stops : (s : State Db) → s.core.diverged ≡ None → (d : Divergence) → (move base None s).state.core.diverged ≡ Some d
       → (move base None s).state.core.processes ≡ s.core.processes
   move_stops s none d is =
       let number : ℕ = choose None s.core in
-      asking_stops number (chosen number s) (ask_at number (chosen number s).core) none d is
+      asking_stops number (chosen number s) (next_ask number (chosen number s).core) none d is
 
 -- ---- runs
 
@@ -57,7 +57,7 @@ one_going (q ∷ ps) (suc k) p is going = elim (cases_Bool (has_ended q)) [
   | inr not_yet ↦ ap (λ b. b && list_all has_ended ps) not_yet
 ]
 
-may_run_going : (number : ℕ) (c : Core) → MayRun number c → all_ended c ≡ false
+may_run_going : (number : ℕ) (c : Core) → MayRun number c → have_all_ended c ≡ false
 may_run_going number c may =
     let runs = and-parts (is_none may.0.status) (not (is_waiting (slice_get may.0.script may.0.place) may.0 c.processes)) may.2 in
     one_going c.processes number may.0 may.1 (none_status may.0.status runs.0)
@@ -81,19 +81,19 @@ module _ {Db : Type 0} (base : Base Db) where
 
   -- the step has diverged, or it hasn't
   stepped_going : (n : ℕ) (s : State Db) → is_over s.core ≡ false → s.core.diverged ≡ None → NeverStuck s
-      → ((move base None s).state.core.diverged ≡ None → all_ended (run base n [] (move base None s).state).core ≡ false)
-      → (o : Option Diverged) → (move base None s).state.core.diverged ≡ o
-      → all_ended (run base n [] (move base None s).state).core ≡ false
+      → ((move base None s).state.core.diverged ≡ None → have_all_ended (run base n [] (move base None s).state).core ≡ false)
+      → (o : Option Divergence) → (move base None s).state.core.diverged ≡ o
+      → have_all_ended (run base n [] (move base None s).state).core ≡ false
   stepped_going n s going none never rest None nothing = rest nothing
   stepped_going n s going none never rest (Some d) stopped =
       let next : State Db = (move base None s).state in
-      let over : is_over next.core ≡ true = ap (λ (o : Option Diverged). is_some o || all_ended next.core) stopped in
-      ap (λ (t : State Db). all_ended t.core) (run-over base n [] next over)
+      let over : is_over next.core ≡ true = ap (λ (o : Option Divergence). is_some o || have_all_ended next.core) stopped in
+      ap (λ (t : State Db). have_all_ended t.core) (run-over base n [] next over)
       ∙ ap (λ (ps : List Process). list_all has_ended ps) (move_stops base s none d stopped)
       ∙ may_run_going (choose None s.core) s.core (at_first s going never)
 
-  pub diverged_going : (n : ℕ) (s : State Db) → s.core.diverged ≡ None → NeverStuck s → (d : Diverged)
-      → (run base n [] s).core.diverged ≡ Some d → all_ended (run base n [] s).core ≡ false
+  pub diverged_going : (n : ℕ) (s : State Db) → s.core.diverged ≡ None → NeverStuck s → (d : Divergence)
+      → (run base n [] s).core.diverged ≡ Some d → have_all_ended (run base n [] s).core ≡ false
   diverged_going zero s none never d is =
       let wrong : None ≡ Some d = sym (ap (λ (t : State Db). t.core.diverged) (run-zero base [] s) ∙ none) ∙ is in
       absurd cc
@@ -105,7 +105,7 @@ module _ {Db : Type 0} (base : Base Db) where
         let next : State Db = (move base None s).state in
         let here : run base (suc n) [] s ≡ run base n [] next = run-suc base n [] s going in
         let at : (run base n [] next).core.diverged ≡ Some d = sym (ap (λ (t : State Db). t.core.diverged) here) ∙ is in
-        ap (λ (t : State Db). all_ended t.core) here
+        ap (λ (t : State Db). have_all_ended t.core) here
         ∙ stepped_going n s going none never
         (λ nothing. diverged_going n next nothing (later_stuck s going never) d at) next.core.diverged refl
   ]

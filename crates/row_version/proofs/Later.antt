@@ -5,14 +5,14 @@ use Rattle.std.specs.List.{last_or}
 use Rattle.std.specs.Option.{option_and_then, option_map_or}
 use Rattle.std.proofs.lemmas.Bool.{cases_Bool, lt-leb}
 use Rattle.std.proofs.lemmas.List.Elements.{filter-append}
-use Rattle.row_version.specs.History.{Change, current, as_of, last_time, version, IsSorted, IsSortedFrom}
+use Rattle.row_version.specs.History.{Change, current_values, as_of, last_time, version, IsSorted, IsSortedFrom}
 
 last-append : (o : Option Change) (changes : List Change) (change : Change) → last_or o (changes ++ change ∷ []) ≡ Some change
 last-append o [] change = refl
 last-append o (first ∷ rest) change = last-append (Some first) rest change
 
 -- the current values are those of the last change
-pub current_after : (changes : List Change) (change : Change) → current (changes ++ change ∷ []) ≡ change.values
+pub current_after : (changes : List Change) (change : Change) → current_values (changes ++ change ∷ []) ≡ change.values
 current_after changes change = ap (option_and_then (λ (c : Change). c.values)) (last-append None changes change)
 
 pub last_time_after : (changes : List Change) (change : Change) → last_time (changes ++ change ∷ []) ≡ change.time
@@ -21,16 +21,16 @@ last_time_after changes change = ap (λ (o : Option Change). option_map_or (λ (
 pub version_after : (changes : List Change) (change : Change) → 0 < length changes → version (changes ++ change ∷ []) ≡ version changes + 1
 version_after changes change begun = omega (arith, length-append changes (change ∷ []))
 
-last_kept : (test : Change → Bool) (changes : List Change) (change : Change) → current (filter test changes ++ cond (test change) (change ∷ []) []) ≡ cond (test change) change.values (current (filter test changes))
+last_kept : (test : Change → Bool) (changes : List Change) (change : Change) → current_values (filter test changes ++ cond (test change) (change ∷ []) []) ≡ cond (test change) change.values (current_values (filter test changes))
 last_kept test changes change = elim (cases_Bool (test change)) [
   | inl hit ↦ rw hit (current_after (filter test changes) change)
-  | inr miss ↦ rw miss (ap current (append-nil (filter test changes)))
+  | inr miss ↦ rw miss (ap current_values (append-nil (filter test changes)))
 ]
 
 -- from a change on the values are its own, and before it those without it
 pub as_of_after : (changes : List Change) (change : Change) (time : ℕ) → as_of (changes ++ change ∷ []) time ≡ (if nat_le change.time time then change.values else as_of changes time)
 as_of_after changes change time =
-    ap current (filter-append (λ (c : Change). nat_le c.time time) changes (change ∷ [])) ∙ last_kept (λ (c : Change). nat_le c.time time) changes change
+    ap current_values (filter-append (λ (c : Change). nat_le c.time time) changes (change ∷ [])) ∙ last_kept (λ (c : Change). nat_le c.time time) changes change
 
 pub as_of_later : (changes : List Change) (change : Change) (time : ℕ) → change.time ≤ time → as_of (changes ++ change ∷ []) time ≡ change.values
 as_of_later changes change time late = as_of_after changes change time ∙ ap (λ (b : Bool). cond b change.values (as_of changes time)) (le-leb change.time time late)
@@ -58,6 +58,6 @@ all_by first (next ∷ rest) time sorted past =
     rw hit (ap (λ (l : List Change). first ∷ l) (all_by next rest time sorted.1 past))
 
 -- from the last change on the values are the current ones
-pub as_of_now : (changes : List Change) (time : ℕ) → IsSorted changes → last_time changes ≤ time → as_of changes time ≡ current changes
+pub as_of_now : (changes : List Change) (time : ℕ) → IsSorted changes → last_time changes ≤ time → as_of changes time ≡ current_values changes
 as_of_now [] time sorted past = refl
-as_of_now (first ∷ rest) time sorted past = ap current (all_by first rest time sorted past)
+as_of_now (first ∷ rest) time sorted past = ap current_values (all_by first rest time sorted past)

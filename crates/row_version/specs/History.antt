@@ -14,22 +14,22 @@ pub record History : Type 0 where
   pub changes : List Change
   pub spare : ℕ
 
-abbrev pub written : ℕ → List Value → Change
-written time values = record { time = time; values = Some values }
+abbrev pub write_at : ℕ → List Value → Change
+write_at time values = record { time = time; values = Some values }
 
-abbrev pub deleted : ℕ → Change
-deleted time = record { time = time; values = None }
+abbrev pub delete_at : ℕ → Change
+delete_at time = record { time = time; values = None }
 
 abbrev pub last_change : List Change → Option Change
 last_change changes = last_or None changes
 
 -- the current values: those of the last change
-abbrev pub current : List Change → Option (List Value)
-current changes = option_and_then (λ change. change.values) (last_change changes)
+abbrev pub current_values : List Change → Option (List Value)
+current_values changes = option_and_then (λ change. change.values) (last_change changes)
 
 -- the values as of a time: those of the last change whose time is at most that time
 abbrev pub as_of : List Change → ℕ → Option (List Value)
-as_of changes time = current (filter (λ change. nat_le change.time time) changes)
+as_of changes time = current_values (filter (λ change. nat_le change.time time) changes)
 
 -- the time of the last change
 abbrev pub last_time : List Change → ℕ

@@ -1,12 +1,12 @@
 -- What the parts of a chain mean.
 use Rattle.std.specs.Prelude.{ℕ, ◌-◌, ◌<◌, ◌≤◌, ◌^◌, List, [], ◌∷◌, ◌++◌, Option, Some, None, length, map}
 use Rattle.std.specs.Prelude.{vec_len, vec_capacity, Bool, false, nat_le}
-use Rattle.row_version.specs.History.{Change, History, written, deleted, IsSorted}
+use Rattle.row_version.specs.History.{Change, History, write_at, delete_at, IsSorted}
 use Rattle.row_version.specs.declared.versions.Version.{Version}
 use Rattle.row_version.specs.declared.chain.Chain.TheInside.{Inside}
 
 abbrev pub change_of : Version → Change
-change_of version = written version.time version.values
+change_of version = write_at version.time version.values
 
 -- the changes that the versions make
 abbrev pub changes_of : List Version → List Change
@@ -15,7 +15,7 @@ changes_of versions = map change_of versions
 -- the change that an end makes, where there is one
 abbrev pub end_of : Option ℕ → List Change
 end_of None = []
-end_of (Some time) = deleted time ∷ []
+end_of (Some time) = delete_at time ∷ []
 
 abbrev pub history_of : Inside → History
 history_of a = record {

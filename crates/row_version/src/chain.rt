@@ -3,10 +3,10 @@
 ghost use Rattle.std.specs.Prelude.{◌≡◌, ◌+◌, ◌-◌, ◌^◌, ◌<◌, ◌≤◌, ◌∷◌, [], ◌++◌};
 ghost use Rattle.std.specs.Prelude.{IfOk, IsOk, IsSome, OnOk, OnErr};
 ghost use Rattle.std.specs.Option.{option_map};
-ghost use Rattle.row_version.specs.History.{written, deleted, as_of, current, version, last_time, IsSorted};
+ghost use Rattle.row_version.specs.History.{write_at, delete_at, as_of, current_values, version, last_time, IsSorted};
 ghost use Rattle.row_version.specs.Versions.{ended_by};
 
-use crate::versions::{Version, latest, latest_by};
+use crate::versions::{Version, last_values, latest_by};
 use ldv_value::Values;
 use std::alloc::{AllocError, Global};
 use std::marker::Model;
@@ -35,7 +35,7 @@ impl Model for Chain {
 impl Chain {
     /// The chain whose first values are written at `time`.
     pub fn new(alloc: Global, time: u32, values: Values) -> Result<Chain, AllocError>
-        ensures { IfOk result (λ chain. chain.changes ≡ written time values ∷ []) }
+        ensures { IfOk result (λ chain. chain.changes ≡ write_at time values ∷ []) }
     {
         let mut held = Vec::with_capacity(alloc, 1)?;
         held.push(Version { time, values })?;
@@ -45,13 +45,13 @@ impl Chain {
     /// The current values; `None` once the chain has ended.
     #[tactic(auto, using(crate::proofs::Parts::current_ended))]
     pub fn current(&self) -> Option<&Values>
-        ensures values { option_map (λ x. x.now) result ≡ current self.now.changes }
+        ensures values { option_map (λ x. x.now) result ≡ current_values self.now.changes }
         ensures sorted { IsSorted self.now.changes }
     {
         if self.ended.is_some() {
             return None;
         }
-        latest(self.held.as_slice())
+        last_values(self.held.as_slice())
     }
 
     /// The values as of `time`; `None` before the first values and from the end's time on.
@@ -91,10 +91,10 @@ impl Chain {
     /// the chain is then as it was.
     #[tactic(auto, using(crate::proofs::Later::sorted_after))]
     pub fn add(&mut self, time: u32, values: Values) -> Result<(), AllocError>
-        requires live { IsSome (current self.old.changes) }
+        requires live { IsSome (current_values self.old.changes) }
         requires few { version self.old.changes < 2 ^ 32 - 1 }
         requires later { last_time self.old.changes < time }
-        ensures ok { OnOk result (self.new.changes ≡ self.old.changes ++ written time values ∷ []) }
+        ensures ok { OnOk result (self.new.changes ≡ self.old.changes ++ write_at time values ∷ []) }
         ensures spare { self.old.spare ≤ self.new.spare + 1 }
         ensures succeeds { 1 ≤ self.old.spare → IsOk result }
         ensures err { OnErr result (self.new ≡ self.old) }
@@ -107,10 +107,10 @@ impl Chain {
     /// Ends the row at `time`: from then on it has no values.
     #[tactic(auto, using(crate::proofs::Later::sorted_after))]
     pub fn end(&mut self, time: u32)
-        requires live { IsSome (current self.old.changes) }
+        requires live { IsSome (current_values self.old.changes) }
         requires few { version self.old.changes < 2 ^ 32 - 1 }
         requires later { last_time self.old.changes < time }
-        ensures changes { self.new.changes ≡ self.old.changes ++ deleted time ∷ [] }
+        ensures changes { self.new.changes ≡ self.old.changes ++ delete_at time ∷ [] }
         ensures spare { self.new.spare ≡ self.old.spare }
     {
         self.ended = Some(time);

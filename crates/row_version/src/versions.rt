@@ -2,7 +2,7 @@
 
 ghost use Rattle.std.specs.Prelude.{◌≡◌};
 ghost use Rattle.std.specs.Option.{option_map};
-ghost use Rattle.row_version.specs.History.{as_of, current, IsSorted};
+ghost use Rattle.row_version.specs.History.{as_of, current_values, IsSorted};
 ghost use Rattle.row_version.specs.Versions.{changes_of};
 
 use ldv_value::Values;
@@ -16,8 +16,8 @@ pub(crate) struct Version {
 
 /// The values of the last version.
 #[tactic(auto, using(crate::proofs::Parts::latest_is))]
-pub(crate) fn latest(versions: &[Version]) -> Option<&Values>
-    ensures { option_map (λ x. x.now) result ≡ current (changes_of versions.now) }
+pub(crate) fn last_values(versions: &[Version]) -> Option<&Values>
+    ensures { option_map (λ x. x.now) result ≡ current_values (changes_of versions.now) }
 {
     match versions.last() {
         None => None,
@@ -31,5 +31,5 @@ pub(crate) fn latest_by(versions: &[Version], time: u32) -> Option<&Values>
     ensures { option_map (λ x. x.now) result ≡ as_of (changes_of versions.now) time }
 {
     let after = versions.partition_point(|version| version.time <= time);
-    latest(&versions[..after])
+    last_values(&versions[..after])
 }

@@ -2,15 +2,15 @@
 use Rattle.std.specs.Prelude.{◌≡◌, refl, ℕ, pos, List, [], ◌∷◌, map, Some, None, codes}
 use Rattle.std.specs.Fmt.{digits}
 use Rattle.run_model.specs.Types.{Value, Int, Text}
-use Rattle.run_model.specs.Core.{Binding, Process, lookup, argument_name, first_process, new_process}
+use Rattle.run_model.specs.Core.{NameBinding, Process, lookup, argument_name, first_process, new_process}
 use Rattle.run_model.specs.Outcome.{by_name}
 
 -- ---- arguments: argc is their count, and arg1, arg2 and so on are the start words after the first, as text
 
-abbrev variables : List (List ℕ) → List (Binding Value)
+abbrev variables : List (List ℕ) → List (NameBinding Value)
 variables start = (first_process start []).variables
 
-abbrev binding : List ℕ → Value → Binding Value
+abbrev binding : List ℕ → Value → NameBinding Value
 binding name bound = record { name = name; bound = bound }
 
 -- the first word is the script's path and no argument

@@ -2,7 +2,7 @@
 use Rattle.std.specs.Prelude.{◌≡◌, refl, ℕ, ◌/◌, ◌^◌, List, [], ◌∷◌, Some, None, codes}
 use Rattle.run_model.specs.Types.{Print, Wait}
 use Rattle.run_model.specs.Core.{Process, Core, new_process, start_core}
-use Rattle.run_model.specs.Schedule.{round_robin, next_x, moved_x, pick_in, at_random, runnable, choose, scheduled}
+use Rattle.run_model.specs.Schedule.{round_robin, next_x, moved_x, pick_in, at_random, runnable_processes, choose, core_after_choice}
 
 -- ---- in turn: the least number above the last one to run, or else the least
 
@@ -119,11 +119,11 @@ two seed = core seed (going (0 ∷ []) ∷ going (0 ∷ 0 ∷ []) ∷ [])
 
 -- 0 waits for 1, which hasn't ended; 2 has ended; 3 is left beside 1
 all_but_waiting_and_ended
-    : runnable (core 0 (waiting ∷ going (0 ∷ 0 ∷ []) ∷ ended (0 ∷ 1 ∷ []) ∷ going (0 ∷ 2 ∷ []) ∷ [])) ≡ 1 ∷ 3 ∷ []
+    : runnable_processes (core 0 (waiting ∷ going (0 ∷ 0 ∷ []) ∷ ended (0 ∷ 1 ∷ []) ∷ going (0 ∷ 2 ∷ []) ∷ [])) ≡ 1 ∷ 3 ∷ []
 all_but_waiting_and_ended = refl
 
 -- 1 has ended, so that 0 may go on
-waited_for_ended : runnable (core 0 (waiting ∷ ended (0 ∷ 0 ∷ []) ∷ [])) ≡ 0 ∷ []
+waited_for_ended : runnable_processes (core 0 (waiting ∷ ended (0 ∷ 0 ∷ []) ∷ [])) ≡ 0 ∷ []
 waited_for_ended = refl
 
 -- ---- the choice
@@ -136,18 +136,18 @@ start_x : (two 7).x ≡ 7
 start_x = refl
 
 -- a choice is noted, and the generator has moved once
-noted_last : (scheduled 1 (two 7)).last ≡ 1
+noted_last : (core_after_choice 1 (two 7)).last ≡ 1
 noted_last = refl
 
-noted_x : (scheduled 1 (two 7)).x ≡ 9098160460397411210
+noted_x : (core_after_choice 1 (two 7)).x ≡ 9098160460397411210
 noted_x = refl
 
-noted_x_under_zero : (scheduled 1 (two 0)).x ≡ 0
+noted_x_under_zero : (core_after_choice 1 (two 0)).x ≡ 0
 noted_x_under_zero = refl
 
 -- seed 0, two processes: they take turns after the first, which made the second one
 abbrev zero_turn_2 : Core
-zero_turn_2 = scheduled 1 (two 0)
+zero_turn_2 = core_after_choice 1 (two 0)
 
 turns_second : choose None (two 0) ≡ 1
 turns_second = refl
@@ -155,20 +155,20 @@ turns_second = refl
 turns_third : choose None zero_turn_2 ≡ 0
 turns_third = refl
 
-turns_fourth : choose None (scheduled 0 zero_turn_2) ≡ 1
+turns_fourth : choose None (core_after_choice 0 zero_turn_2) ≡ 1
 turns_fourth = refl
 
 -- seed 7, two processes: the second one runs three times, after the first step, which was of the only one
 abbrev seven_turn_1 : Core
-seven_turn_1 = scheduled 0 (two 7)
+seven_turn_1 = core_after_choice 0 (two 7)
 
 seven_second : choose None seven_turn_1 ≡ 1
 seven_second = refl
 
-seven_third : choose None (scheduled 1 seven_turn_1) ≡ 1
+seven_third : choose None (core_after_choice 1 seven_turn_1) ≡ 1
 seven_third = refl
 
-seven_fourth : choose None (scheduled 1 (scheduled 1 seven_turn_1)) ≡ 1
+seven_fourth : choose None (core_after_choice 1 (core_after_choice 1 seven_turn_1)) ≡ 1
 seven_fourth = refl
 
 -- a given pick goes before the seed

@@ -7,7 +7,7 @@ use Rattle.run_laws.specs.Types.{Mode, World}
 use Rattle.run_laws.proofs.EndedLaw.{ended_law, ended_over, ended_starts}
 use Rattle.run_laws.proofs.RunSteps.{steps_at_most}
 use Rattle.run_model.specs.declared.outcome.Outcome.{Outcome}
-use Rattle.run_model.specs.Core.{Core, all_ended, is_over}
+use Rattle.run_model.specs.Core.{Core, have_all_ended, is_over}
 use Rattle.run_model.specs.Database.{Base}
 use Rattle.run_model.specs.Outcome.{outcome_of, outcome_at}
 use Rattle.run_model.specs.Package.{package_of}
@@ -40,8 +40,8 @@ module _ {Db : Type 0} (base : Base Db) where
 
 -- ---- outcomes of runs that ended
 
-core_ends : (c : Core) (outcome : Outcome) → outcome_at c ≡ Some outcome → all_ended c ≡ true
-core_ends c outcome is = elim (cases_Bool (all_ended c)) [
+core_ends : (c : Core) (outcome : Outcome) → outcome_at c ≡ Some outcome → have_all_ended c ≡ true
+core_ends c outcome is = elim (cases_Bool (have_all_ended c)) [
   | inl ended ↦ ended
   | inr going ↦
       let never : None ≡ Some outcome = sym (ap (λ (b : Bool). if b then Some (outcome_of c) else None) going) ∙ is in
@@ -60,7 +60,7 @@ module _ (n : ℕ) (w : World) where
   pub ended_outcome : ends_within n w ≡ true → (outcome : Outcome) × (outcome_within n w ≡ Some outcome)
   ended_outcome ended =
       let script = ended_starts n [] w ended in
-      let all : all_ended (core_after n [] w script.0) ≡ true = sym (ap (ends_in n [] w) script.1) ∙ ended in (
+      let all : have_all_ended (core_after n [] w script.0) ≡ true = sym (ap (ends_in n [] w) script.1) ∙ ended in (
         outcome_of (core_after n [] w script.0),
         ap (outcome_in n [] w) script.1
             ∙ ap (λ (b : Bool). if b then Some (outcome_of (core_after n [] w script.0)) else None) all,
@@ -70,7 +70,7 @@ module _ (n : ℕ) (w : World) where
   going_outcome going = elim (cases-option (start_script w)) [
     | inl none ↦ ap (outcome_in n [] w) none
     | inr script ↦
-        let more : all_ended (core_after n [] w script.0) ≡ false = sym (ap (ends_in n [] w) script.1) ∙ going in
+        let more : have_all_ended (core_after n [] w script.0) ≡ false = sym (ap (ends_in n [] w) script.1) ∙ going in
         ap (outcome_in n [] w) script.1
         ∙ ap (λ (b : Bool). if b then Some (outcome_of (core_after n [] w script.0)) else None) more
   ]
@@ -82,12 +82,12 @@ module _ (n : ℕ) (w : World) (ended : ends_within n w ≡ true) where
   ends_at_count =
       let script = ended_starts n [] w ended in
       let start : State SqlDatabase = start_state w script.0 in
-      let all : all_ended (core_after n [] w script.0) ≡ true = sym (ap (ends_in n [] w) script.1) ∙ ended in
+      let all : have_all_ended (core_after n [] w script.0) ≡ true = sym (ap (ends_in n [] w) script.1) ∙ ended in
       let same : run sql_base (steps sql_base n [] start) [] start ≡ run sql_base n [] start =
       at_count sql_base n [] start (ended_over (core_after n [] w script.0) all) in
       ap (λ (k : ℕ). ends_within k w) (ap (steps_in n [] w) script.1)
       ∙ ap (ends_in (steps sql_base n [] start) [] w) script.1
-      ∙ ap (λ (s : State SqlDatabase). all_ended s.core) same
+      ∙ ap (λ (s : State SqlDatabase). have_all_ended s.core) same
       ∙ all
 
   pub enough_outcome : (budget : ℕ) → steps_by n [] w ≤ budget → outcome_within budget w ≡ outcome_within n w

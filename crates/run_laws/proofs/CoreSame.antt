@@ -8,14 +8,14 @@ use Rattle.ldv_value.proofs.SameBytes.{bytes_eq-itself}
 use Rattle.ldv_value.proofs.Lists.{all-weaker}
 use Rattle.script_parse.specs.declared.script.Instr.TheVariants as instr
 use Rattle.run_laws.specs.Types.{Value, Int, Variable, Instr, Act, Spawned, Unspawned, Waited, Ended, Event}
-use Rattle.run_model.specs.Core.{Binding, lookup, OpenFile, Process, Core}
+use Rattle.run_model.specs.Core.{NameBinding, lookup, OpenFile, Process, Core}
 use Rattle.run_model.specs.Events.{event_at}
-use Rattle.run_model.specs.Step.{Effect, own, execute, execute_next, quiet_of, quiet, end_acts, status_acts, ends_at}
-use Rattle.run_model.specs.StepBase.{operand_value, operand_values, ended, went_on, went_to, with_variable, noted, FileEffect, on_files}
+use Rattle.run_model.specs.Step.{Effect, own, execute, execute_next, local_step_of, local_step, end_acts, status_acts, ends_at}
+use Rattle.run_model.specs.StepBase.{operand_value, operand_values, with_exit_status, went_on, went_to, with_variable, process_effect, FileEffect, on_files}
 use Rattle.run_model.specs.StepFiles.{path_at, open_for, allows_read, allows_write, open_path, read_next, write_line, copy_rest, remove_path, test_path}
-use Rattle.run_model.specs.StepProcesses.{Spawning, child_of, parent_of, spawn_script, script_within, spawn_file, spawn_path, spawning_of, status_in, wait_until, wait_for}
-use Rattle.run_model.specs.StepReplies.{counted, status_value}
-use Rattle.run_model.specs.StepVariables.{calculated, to_number, printed_line, exit_status}
+use Rattle.run_model.specs.StepProcesses.{SpawnRequest, child_of, parent_of, spawn_script, script_within, spawn_file, spawn_path, spawning_of, status_in, wait_until, wait_for}
+use Rattle.run_model.specs.StepReplies.{row_count, status_value}
+use Rattle.run_model.specs.StepVariables.{calculation, to_number, printed_line, exit_status}
 use Rattle.run_model.proofs.StepKeeps.{AllFiles, open_holds, Keeps, keeps_place, keeps_variable, keeps_end, keeps_assign, keeps_glue, keeps_cut, keeps_jump, keeps_line, keeps_fetch, keeps_close, calculated_byte, to_number_byte, counted_byte, status_value_byte, exit_byte}
 use Rattle.run_laws.proofs.FilesAgree.{Agrees, SameAt, later_agrees, whole_at, absent_at}
 use Rattle.run_laws.proofs.FilesSame.{FileSame, open_same, read_same, write_same, copy_same, remove_same, test_same}
@@ -43,7 +43,7 @@ found_open a b (q ∷ ps) (suc k) p all is = found_open a b ps k p all.1 is
 module _ (a b c d : FileState) (follows : (path : List ℕ) → SameAt a b path → SameAt c d path) where
   still_open : (p : Process) → OpenSame a b p → OpenSame c d p
   still_open p all =
-      all-weaker (λ (f : Binding OpenFile). SameAt a b f.bound.path) (λ (f : Binding OpenFile). SameAt c d f.bound.path)
+      all-weaker (λ (f : NameBinding OpenFile). SameAt a b f.bound.path) (λ (f : NameBinding OpenFile). SameAt c d f.bound.path)
       (λ f same. follows f.bound.path same) p.files all
 
   still_all : (ps : List Process) → AllOpen a b ps → AllOpen c d ps
@@ -64,7 +64,7 @@ module _ (step number : ℕ) (later : List Event) where
   acted acts = map (event_at step number) acts ++ later
 
   noted_same : (q : Process) (acts : List Act) (a : FileState) (c : Core) → OpenSame a c.files q → AllOpen a c.files c.processes
-      → Agrees later a c.files → EffectSame later (noted number q acts (with_files a c)) (noted number q acts c)
+      → Agrees later a c.files → EffectSame later (process_effect number q acts (with_files a c)) (process_effect number q acts c)
   noted_same q acts a c here all agrees = record {
     files = a;
     core = refl;
@@ -93,7 +93,7 @@ module _ (step number : ℕ) (later : List Event) where
 
   -- ---- spawn
 
-  script_same : (o : Option (List Instr)) (spawning : Spawning) (path : List ℕ) (p : Process) (a : FileState) (c : Core)
+  script_same : (o : Option (List Instr)) (spawning : SpawnRequest) (path : List ℕ) (p : Process) (a : FileState) (c : Core)
       → OpenSame a c.files p → AllOpen a c.files c.processes
       → Agrees (acted (spawn_script o spawning path number p c).acts) a c.files
       → EffectSame later (spawn_script o spawning path number p (with_files a c)) (spawn_script o spawning path number p c)
@@ -112,14 +112,14 @@ module _ (step number : ℕ) (later : List Event) where
   }
 
   -- the file is needed whole
-  script_whole : (o : Option (List Instr)) (spawning : Spawning) (path : List ℕ) (p : Process) (a : FileState) (c : Core)
+  script_whole : (o : Option (List Instr)) (spawning : SpawnRequest) (path : List ℕ) (p : Process) (a : FileState) (c : Core)
       → Agrees (acted (spawn_script o spawning path number p c).acts) a c.files → SameAt a c.files path
   script_whole None spawning path p a c agrees =
       whole_at path (event_at step number (Unspawned path true)) later a c.files (bytes_eq-itself path) agrees
   script_whole (Some script) spawning path p a c agrees =
       whole_at path (event_at step number (Spawned path)) later a c.files (bytes_eq-itself path) agrees
 
-  file_same : (o : Option (List ℕ)) (spawning : Spawning) (path : List ℕ) (p : Process) (a : FileState) (c : Core)
+  file_same : (o : Option (List ℕ)) (spawning : SpawnRequest) (path : List ℕ) (p : Process) (a : FileState) (c : Core)
       → content_at c.files path ≡ o → OpenSame a c.files p → AllOpen a c.files c.processes
       → Agrees (acted (spawn_file o spawning path number p c).acts) a c.files
       → EffectSame later (spawn_file (content_at a path) spawning path number p (with_files a c)) (spawn_file o spawning path number p c)
@@ -138,12 +138,12 @@ module _ (step number : ℕ) (later : List Event) where
       (sym found)
       (script_same (script_within c bytes) spawning path p a c here all agrees)
 
-  spawn_same : (o : Option (List ℕ)) (spawning : Spawning) (p : Process) (a : FileState) (c : Core)
+  spawn_same : (o : Option (List ℕ)) (spawning : SpawnRequest) (p : Process) (a : FileState) (c : Core)
       → OpenSame a c.files p → AllOpen a c.files c.processes
       → Agrees (acted (spawn_path o spawning number p c).acts) a c.files
       → EffectSame later (spawn_path o spawning number p (with_files a c)) (spawn_path o spawning number p c)
   spawn_same None spawning p a c here all agrees =
-      own_same p (ended 243 p) a c (keeps_end (SameAt a c.files) 243 p (omega arith)) here all agrees
+      own_same p (with_exit_status 243 p) a c (keeps_end (SameAt a c.files) 243 p (omega arith)) here all agrees
   spawn_same (Some path) spawning p a c here all agrees =
       file_same (content_at c.files path) spawning path p a c refl here all agrees
 
@@ -163,7 +163,7 @@ module _ (step number : ℕ) (later : List Event) where
       → Agrees (acted (wait_for o to number p c).acts) a c.files
       → EffectSame later (wait_for o to number p (with_files a c)) (wait_for o to number p c)
   wait_same None to p a c here all agrees =
-      own_same p (ended 240 p) a c (keeps_end (SameAt a c.files) 240 p (omega arith)) here all agrees
+      own_same p (with_exit_status 240 p) a c (keeps_end (SameAt a c.files) 240 p (omega arith)) here all agrees
   wait_same (Some child) to p a c here all agrees = until_same (status_in c.processes child) child to p a c here all agrees
 
   -- ---- every instruction
@@ -176,7 +176,7 @@ module _ (step number : ℕ) (later : List Event) where
   executes_same (instr.Calc to op left right) p a c here all agrees =
       let v : Value = operand_value p left in
       let w : Value = operand_value p right in
-      own_same p _ a c (keeps_assign (SameAt a c.files) to (calculated op v w) p (calculated_byte op v w)) here all agrees
+      own_same p _ a c (keeps_assign (SameAt a c.files) to (calculation op v w) p (calculated_byte op v w)) here all agrees
   executes_same (instr.Glue to left right) p a c here all agrees =
       own_same p _ a c (keeps_glue (SameAt a c.files) to (operand_value p left) (operand_value p right) p) here all agrees
   executes_same (instr.ToInt to value) p a c here all agrees =
@@ -226,7 +226,7 @@ module _ (step number : ℕ) (later : List Event) where
       own_same p _ a c (keeps_fetch (SameAt a c.files) (lookup cursor p.cursors) cursor to place p) here all agrees
   executes_same (instr.Count to cursor) p a c here all agrees =
       let o = lookup cursor p.cursors in
-      own_same p _ a c (keeps_assign (SameAt a c.files) to (counted o) p (counted_byte o)) here all agrees
+      own_same p _ a c (keeps_assign (SameAt a c.files) to (row_count o) p (counted_byte o)) here all agrees
   executes_same (instr.Status to cursor) p a c here all agrees =
       let o = lookup cursor p.cursors in
       own_same p _ a c (keeps_assign (SameAt a c.files) to (status_value o) p (status_value_byte o)) here all agrees
@@ -238,15 +238,15 @@ module _ (step number : ℕ) (later : List Event) where
   next_same (Some i) p a c here all agrees = executes_same i p a c here all agrees
 
   quiet_by : (o : Option Process) (a : FileState) (c : Core) → slice_get c.processes number ≡ o → AllOpen a c.files c.processes
-      → Agrees (acted (quiet_of o number c).acts) a c.files
-      → EffectSame later (quiet_of o number (with_files a c)) (quiet_of o number c)
+      → Agrees (acted (local_step_of o number c).acts) a c.files
+      → EffectSame later (local_step_of o number (with_files a c)) (local_step_of o number c)
   quiet_by None a c is all agrees = record { files = a; core = refl; acts = refl; agrees = agrees; opened = all }
   quiet_by (Some p) a c is all agrees =
       next_same (slice_get p.script p.place) p a c (found_open a c.files c.processes number p all is) all agrees
 
   pub quiet_same : (a : FileState) (c : Core) → AllOpen a c.files c.processes
-      → Agrees (acted (quiet number c).acts) a c.files
-      → EffectSame later (quiet number (with_files a c)) (quiet number c)
+      → Agrees (acted (local_step number c).acts) a c.files
+      → EffectSame later (local_step number (with_files a c)) (local_step number c)
   quiet_same a c all agrees = quiet_by (slice_get c.processes number) a c refl all agrees
 
 -- ---- the end of a process changes no file

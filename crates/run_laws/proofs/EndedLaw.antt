@@ -4,7 +4,7 @@ use Rattle.std.specs.Prelude.{Some, slice_get, is_some}
 use Rattle.ldv_value.proofs.Cases.{cases-option}
 use Rattle.ldv_value.proofs.Booleans.{or-right}
 use Rattle.run_laws.specs.Types.{Instr, Event, Mode, Included, Excluded, World}
-use Rattle.run_model.specs.Core.{Core, all_ended, is_over}
+use Rattle.run_model.specs.Core.{Core, have_all_ended, is_over}
 use Rattle.run_model.specs.Events.{events, start_events}
 use Rattle.run_model.specs.Outcome.{outcome_at}
 use Rattle.run_model.specs.Package.{tables_of, logs_of_mode}
@@ -18,11 +18,11 @@ use Rattle.run_model.proofs.Settled.{IsSettled, settled}
 use Rattle.run_laws.specs.Laws.{SettledRun, EndedLaw}
 
 -- an ended run is over
-pub ended_over : (c : Core) → all_ended c ≡ true → is_over c ≡ true
-ended_over c ended = or-right (is_some c.diverged) (all_ended c) ended
+pub ended_over : (c : Core) → have_all_ended c ≡ true → is_over c ≡ true
+ended_over c ended = or-right (is_some c.diverged) (have_all_ended c) ended
 
 module _ (n budget : ℕ) (picks : List ℕ) (w : World) (script : List Instr) (is : start_script w ≡ Some script)
-    (ended : all_ended (core_after n picks w script) ≡ true) (enough : n ≤ budget) where
+    (ended : have_all_ended (core_after n picks w script) ≡ true) (enough : n ≤ budget) where
   abbrev start : State SqlDatabase
   start = start_state w script
 
@@ -81,5 +81,5 @@ ended_starts n picks w ended = elim (cases-option (start_script w)) [
 pub ended_law : EndedLaw
 ended_law n budget picks w ended enough =
     let script = ended_starts n picks w ended in
-    let all : all_ended (core_after n picks w script.0) ≡ true = sym (ap (ends_in n picks w) script.1) ∙ ended in
+    let all : have_all_ended (core_after n picks w script.0) ≡ true = sym (ap (ends_in n picks w) script.1) ∙ ended in
     settles n budget picks w script.0 script.1 all enough

@@ -7,7 +7,7 @@ use Rattle.std.proofs.lemmas.Slice.Eq.{bytes_eq-Decides}
 use Rattle.run_laws.specs.Types.{File, Event}
 use Rattle.run_model.specs.Between.{Cut, FileCut, Gone, Same, Other, kept_file, cut_files, KeepsFile}
 use Rattle.run_model.specs.Slice.{FileNeed, Whole, Present, file_need}
-use Rattle.ldv_value.specs.FileState.{file_at, content_in, untouched}
+use Rattle.ldv_value.specs.FileState.{file_at, content_in, initial_files}
 use Rattle.run_laws.proofs.FilesAgree.{ContentAgrees, Agrees}
 
 abbrev at_path : (List ℕ → Bool) → List File → Option File
@@ -80,7 +80,7 @@ module _ (cut : Cut) where
   content_agrees path None k files is keeps (Some f) found = tt
 
   pub files_agree : (es : List Event) (files : List File) → ((path : List ℕ) → KeepsFile (file_need path es) (cut.file path))
-      → Agrees es (untouched (cut_files cut files)) (untouched files)
+      → Agrees es (initial_files (cut_files cut files)) (initial_files files)
   files_agree es files keeps = record {
     touched = refl;
     paths = λ path. content_agrees path (file_need path es) (cut.file path) files refl (keeps path) (file_at path files) refl;

@@ -6,7 +6,7 @@ use Rattle.std.specs.Prelude.{Option, Some, None, is_some, not, ◌&&◌, ◌≢
 use Rattle.std.specs.List.{list_any}
 use Rattle.std.proofs.lemmas.Bool.{cases_Bool, and_from}
 use Rattle.std.proofs.lemmas.Slice.Eq.{bytes_eq-Decides}
-use Rattle.ldv_value.specs.FileState.{FileState, content_at, is_there, is_touched, put, touch, removed, add_path}
+use Rattle.ldv_value.specs.FileState.{FileState, content_at, is_there, is_touched, put, touch, after_remove, add_path}
 use Rattle.ldv_value.proofs.FileLaws.{content-put_same, content-put_other, content-removed_same, content-removed_other, touched-touch_other, touched-removed_other}
 use Rattle.ldv_value.proofs.Booleans.{or-left, or-right}
 use Rattle.ldv_value.proofs.SameBytes.{bytes_eq-true}
@@ -207,21 +207,21 @@ made_agrees e es a b path bytes changed agrees =
     (content-put_same a path bytes ∙ sym (content-put_same b path bytes))
     (put_agrees (e ∷ es) a b path bytes agrees)
 
-removed_here : (s : FileState) (path q : List ℕ) → q ≡ path → content_at (removed s path) q ≡ None
-removed_here s path q same = ap (content_at (removed s path)) same ∙ content-removed_same s path
+removed_here : (s : FileState) (path q : List ℕ) → q ≡ path → content_at (after_remove s path) q ≡ None
+removed_here s path q same = ap (content_at (after_remove s path)) same ∙ content-removed_same s path
 
 pub removed_agrees : (e : Event) (es : List Event) (a b : FileState) (path : List ℕ) → changed_path e.act ≡ Some path
-    → Agrees (e ∷ es) a b → Agrees es (removed a path) (removed b path)
+    → Agrees (e ∷ es) a b → Agrees es (after_remove a path) (after_remove b path)
 removed_agrees e es a b path changed agrees = record {
   touched = ap (add_path path) agrees.touched;
   paths = λ q. elim (cases_Bool (bytes_eq q path)) [
     | inl hit ↦
         let same : q ≡ path = (bytes_eq-Decides q path).0 hit in
-        same_agrees (is_touched (removed b path) q) (file_need q es) (content_at (removed a path) q) (content_at (removed b path) q)
+        same_agrees (is_touched (after_remove b path) q) (file_need q es) (content_at (after_remove a path) q) (content_at (after_remove b path) q)
         (removed_here a path q same ∙ sym (removed_here b path q same))
     | inr miss ↦
         let still : is_path q (changed_path e.act) ≡ false = ap (is_path q) changed ∙ apart_text q path miss in
-        moved_path (is_touched b q) (is_touched (removed b path) q) (file_need q es) (content_at a q) (content_at (removed a path) q) (content_at b q) (content_at (removed b path) q)
+        moved_path (is_touched b q) (is_touched (after_remove b path) q) (file_need q es) (content_at a q) (content_at (after_remove a path) q) (content_at b q) (content_at (after_remove b path) q)
         (touched-removed_other b path q (apart q path miss)) (content-removed_other a path q (apart q path miss)) (content-removed_other b path q (apart q path miss))
         (later_path q e es (is_touched b q) (content_at a q) (content_at b q) still (agrees.paths q))
   ];
@@ -237,7 +237,7 @@ put_follows a b path bytes q same = elim (cases_Bool (bytes_eq q path)) [
   | inr miss ↦ content-put_other a path bytes q (apart q path miss) ∙ same ∙ sym (content-put_other b path bytes q (apart q path miss))
 ]
 
-pub removed_follows : (a b : FileState) (path q : List ℕ) → SameAt a b q → SameAt (removed a path) (removed b path) q
+pub removed_follows : (a b : FileState) (path q : List ℕ) → SameAt a b q → SameAt (after_remove a path) (after_remove b path) q
 removed_follows a b path q same = elim (cases_Bool (bytes_eq q path)) [
   | inl hit ↦
       let here : q ≡ path = (bytes_eq-Decides q path).0 hit in

@@ -2,7 +2,7 @@
 -- same, and the states agree afterwards.
 use Rattle.std.proofs.Common.{◌≡◌, ℕ, ◌+◌, List, [], ◌∷◌, ◌++◌, length, drop, refl, sym, ap, ◌∙◌, subst, Bool, true, false, arith}
 use Rattle.std.specs.Prelude.{Option, Some, None, is_some, map, nat_le, unwrap_or}
-use Rattle.ldv_value.specs.FileState.{FileState, is_there, bytes_at, rest_at, put, touch, removed, has_room, copy_end, copied, appended, line_read, read_line}
+use Rattle.ldv_value.specs.FileState.{FileState, is_there, bytes_at, rest_at, put, touch, after_remove, has_room, copy_end, after_copy, after_append, line_read, read_line}
 use Rattle.ldv_value.specs.Limits.{file_limit}
 use Rattle.ldv_value.specs.declared.file.OpenMode.TheVariants as modes
 use Rattle.ldv_value.proofs.FileLaws.{content-put_same}
@@ -11,8 +11,8 @@ use Rattle.run_laws.specs.Types.{OpenMode, Act, OpenedRead, OpenedWrite, OpenedA
 use Rattle.run_model.specs.Core.{OpenFile, Process}
 use Rattle.run_model.specs.Events.{event_at}
 use Rattle.run_model.specs.Slice.{changed_path}
-use Rattle.run_model.specs.StepBase.{ended, went_on, FileEffect}
-use Rattle.run_model.specs.StepFiles.{misused, at_place, opened_file, open_found, open_path, take_line, read_next, write_where, write_text, copy_where, copy_between, remove_found, remove_path, exists_where, test_path}
+use Rattle.run_model.specs.StepBase.{with_exit_status, went_on, FileEffect}
+use Rattle.run_model.specs.StepFiles.{misuse_effect, at_place, opened_file, open_found, open_path, take_line, read_next, write_where, write_text, copy_where, copy_between, remove_found, remove_path, exists_where, test_path}
 use Rattle.run_model.proofs.StepKeeps.{Keeps, keeps_place, keeps_next, keeps_end, keeps_bound, keeps_read}
 use Rattle.run_laws.proofs.FilesAgree.{Agrees, SameAt, later_agrees, whole_at, there_at, absent_at, put_agrees, made_agrees, removed_agrees, put_follows, removed_follows}
 
@@ -61,8 +61,8 @@ module _ (step number : ℕ) (later : List Event) where
   abbrev told : List Act → List Event
   told acts = map (event_at step number) acts ++ later
 
-  misused_same : (status : ℕ) (p : Process) (a b : FileState) → Keeps (SameAt a b) p (ended status p) → Agrees later a b
-      → FileSame later p a b (misused status p a) (misused status p b)
+  misused_same : (status : ℕ) (p : Process) (a b : FileState) → Keeps (SameAt a b) p (with_exit_status status p) → Agrees later a b
+      → FileSame later p a b (misuse_effect status p a) (misuse_effect status p b)
   misused_same status p a b keeps agrees = record { process = refl; acts = refl; state = idle_state later a b agrees; keeps = keeps }
 
   -- ---- open
@@ -180,7 +180,7 @@ module _ (step number : ℕ) (later : List Event) where
         put_state later a b file.path (bytes_at a file.path ++ text) (bytes_at b file.path ++ text)
         (ap (λ (x : List ℕ). x ++ text) (bytes_same a b file.path same))
         (later_agrees (ev (Wrote file.path)) later a b refl agrees);
-    keeps = keeps_next (SameAt (appended a file.path text) (appended b file.path text)) p;
+    keeps = keeps_next (SameAt (after_append a file.path text) (after_append b file.path text)) p;
   }
 
   room_same : (a b : FileState) (path : List ℕ) (count : ℕ) → SameAt a b path → has_room a path count ≡ has_room b path count
@@ -213,7 +213,7 @@ module _ (step number : ℕ) (later : List Event) where
       let bytes : bytes_at a target.path ≡ bytes_at b target.path = bytes_same a b target.path to in
       let end : copy_end a source.path source.place ≡ copy_end b source.path source.place =
       ap (λ (x : List ℕ). source.place + length x) rest in
-      let state : StateSame later a b (copied a source.path source.place target.path) (copied b source.path source.place target.path) =
+      let state : StateSame later a b (after_copy a source.path source.place target.path) (after_copy b source.path source.place target.path) =
       put_state later a b target.path (bytes_at a target.path ++ rest_at a source.path source.place)
       (bytes_at b target.path ++ rest_at b source.path source.place) (λ j. bytes j ++ rest j)
       (later_agrees (ev (Wrote target.path)) later a b refl (later_agrees (ev (Read source.path)) (ev (Wrote target.path) ∷ later) a b refl agrees)) in
@@ -222,7 +222,7 @@ module _ (step number : ℕ) (later : List Event) where
         acts = refl;
         state = state;
         keeps =
-            keeps_bound (SameAt (copied a source.path source.place target.path) (copied b source.path source.place target.path)) name
+            keeps_bound (SameAt (after_copy a source.path source.place target.path) (after_copy b source.path source.place target.path)) name
             (record source { place = copy_end b source.path source.place }) p (λ all. state.follows source.path from);
       }
 
@@ -266,7 +266,7 @@ module _ (step number : ℕ) (later : List Event) where
           agrees = removed_agrees (ev (Removed path)) later a b path refl agrees;
           follows = λ q same. removed_follows a b path q same;
         };
-        keeps = keeps_next (SameAt (removed a path) (removed b path)) p;
+        keeps = keeps_next (SameAt (after_remove a path) (after_remove b path)) p;
       })
 
   pub remove_same : (o : Option (List ℕ)) (place : ℕ) (p : Process) (a b : FileState)

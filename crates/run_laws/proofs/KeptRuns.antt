@@ -11,16 +11,16 @@ use Rattle.ldv_value.proofs.SameBytes.{bytes_eq-itself, bytes_eq-other, nat_eq-t
 use Rattle.sql_laws.proofs.ItemLists.{all_append}
 use Rattle.run_laws.specs.Types.{Reply, Entry, Event}
 use Rattle.run_laws.specs.declared.kept.Kept.{Kept}
-use Rattle.run_laws.specs.KeptReplies.{Keeping, keeping_base, with_answer, kept_of, logs_kept}
+use Rattle.run_laws.specs.KeptReplies.{KeepingDatabase, keeping_base, with_answer, kept_of, logs_kept}
 use Rattle.run_laws.specs.KeptLaw.{nothing_kept, KeptLaw}
 use Rattle.run_model.specs.Core.{Process, Core, is_over}
 use Rattle.run_model.specs.Database.{Question, Answer, Gives, Diverges, Base}
 use Rattle.run_model.specs.Events.{events, events_of_step}
 use Rattle.run_model.specs.Run.{first_pick, later_picks, chosen, move, run, steps}
-use Rattle.run_model.specs.RunLaw.{started}
+use Rattle.run_model.specs.RunLaw.{start_state_of}
 use Rattle.run_model.specs.Schedule.{choose}
-use Rattle.run_model.specs.State.{State, Stepped}
-use Rattle.run_model.specs.Step.{Ask, entry_of, replied, quiet, ask_in, ask_at, took_of, told, asking}
+use Rattle.run_model.specs.State.{State, StepResult}
+use Rattle.run_model.specs.Step.{Ask, entry_of, process_with_reply, local_step, ask_of_process, next_ask, took_of, told, asking}
 use Rattle.run_model.specs.WorldRun.{logs_of}
 use Rattle.run_model.proofs.Equations.{run-zero, run-over, run-suc, steps-zero, steps-over, steps-suc, events-zero, events-over, events-suc}
 use Rattle.run_laws.proofs.Askers.{next_named}
@@ -33,61 +33,61 @@ use Rattle.run_laws.proofs.QuietSteps.{entries_in, Quiets, quiet_quiets}
 -- ---- the same run
 
 module _ {Db : Type 0} where
-  abbrev bare : State (Keeping Db) → State Db
+  abbrev bare : State (KeepingDatabase Db) → State Db
   bare s = record { core = s.core; db = s.db.db }
 
-  abbrev bare_step : Stepped (Keeping Db) → Stepped Db
+  abbrev bare_step : StepResult (KeepingDatabase Db) → StepResult Db
   bare_step t = record { process = t.process; state = bare t.state; acts = t.acts }
 
-  told_bare : (number : ℕ) (a : Ask) (s : State (Keeping Db)) (answer : Answer Db)
+  told_bare : (number : ℕ) (a : Ask) (s : State (KeepingDatabase Db)) (answer : Answer Db)
       → bare_step (told number a s (with_answer s.db.kept a.question answer)) ≡ told number a (bare s) answer
   told_bare number a s (Gives reply db lists) = refl
   told_bare number a s Diverges = refl
 
 module _ {Db : Type 0} (base : Base Db) where
-  asking_bare : (number : ℕ) (s : State (Keeping Db)) (o : Option Ask)
+  asking_bare : (number : ℕ) (s : State (KeepingDatabase Db)) (o : Option Ask)
       → bare_step (asking (keeping_base base) number s o) ≡ asking base number (bare s) o
   asking_bare number s None = refl
   asking_bare number s (Some a) = told_bare number a s (base s.db.db a.question)
 
-  move_bare : (pick : Option ℕ) (s : State (Keeping Db)) → bare_step (move (keeping_base base) pick s) ≡ move base pick (bare s)
+  move_bare : (pick : Option ℕ) (s : State (KeepingDatabase Db)) → bare_step (move (keeping_base base) pick s) ≡ move base pick (bare s)
   move_bare pick s =
       let number : ℕ = choose pick s.core in
-      asking_bare number (chosen number s) (ask_at number (chosen number s).core)
+      asking_bare number (chosen number s) (next_ask number (chosen number s).core)
 
-  run_bare : (n : ℕ) (picks : List ℕ) (s : State (Keeping Db)) → bare (run (keeping_base base) n picks s) ≡ run base n picks (bare s)
+  run_bare : (n : ℕ) (picks : List ℕ) (s : State (KeepingDatabase Db)) → bare (run (keeping_base base) n picks s) ≡ run base n picks (bare s)
   run_bare zero picks s = ap bare (run-zero (keeping_base base) picks s) ∙ sym (run-zero base picks (bare s))
   run_bare (suc n) picks s = elim (cases_Bool (is_over s.core)) [
     | inl over ↦ ap bare (run-over (keeping_base base) (suc n) picks s over) ∙ sym (run-over base (suc n) picks (bare s) over)
     | inr going ↦
         ap bare (run-suc (keeping_base base) n picks s going)
         ∙ run_bare n (later_picks picks) (move (keeping_base base) (first_pick picks) s).state
-        ∙ ap (λ (t : Stepped Db). run base n (later_picks picks) t.state) (move_bare (first_pick picks) s)
+        ∙ ap (λ (t : StepResult Db). run base n (later_picks picks) t.state) (move_bare (first_pick picks) s)
         ∙ sym (run-suc base n picks (bare s) going)
   ]
 
-  steps_bare : (n : ℕ) (picks : List ℕ) (s : State (Keeping Db)) → steps (keeping_base base) n picks s ≡ steps base n picks (bare s)
+  steps_bare : (n : ℕ) (picks : List ℕ) (s : State (KeepingDatabase Db)) → steps (keeping_base base) n picks s ≡ steps base n picks (bare s)
   steps_bare zero picks s = steps-zero (keeping_base base) picks s ∙ sym (steps-zero base picks (bare s))
   steps_bare (suc n) picks s = elim (cases_Bool (is_over s.core)) [
     | inl over ↦ steps-over (keeping_base base) (suc n) picks s over ∙ sym (steps-over base (suc n) picks (bare s) over)
     | inr going ↦
         steps-suc (keeping_base base) n picks s going
         ∙ ap (λ (k : ℕ). 1 + k) (steps_bare n (later_picks picks) (move (keeping_base base) (first_pick picks) s).state)
-        ∙ ap (λ (t : Stepped Db). 1 + steps base n (later_picks picks) t.state) (move_bare (first_pick picks) s)
+        ∙ ap (λ (t : StepResult Db). 1 + steps base n (later_picks picks) t.state) (move_bare (first_pick picks) s)
         ∙ sym (steps-suc base n picks (bare s) going)
   ]
 
-  events_bare : (n number : ℕ) (picks : List ℕ) (s : State (Keeping Db))
+  events_bare : (n number : ℕ) (picks : List ℕ) (s : State (KeepingDatabase Db))
       → events (keeping_base base) n number picks s ≡ events base n number picks (bare s)
   events_bare zero number picks s = events-zero (keeping_base base) number picks s ∙ sym (events-zero base number picks (bare s))
   events_bare (suc n) number picks s = elim (cases_Bool (is_over s.core)) [
     | inl over ↦
         events-over (keeping_base base) (suc n) number picks s over ∙ sym (events-over base (suc n) number picks (bare s) over)
     | inr going ↦
-        let one : Stepped (Keeping Db) = move (keeping_base base) (first_pick picks) s in
+        let one : StepResult (KeepingDatabase Db) = move (keeping_base base) (first_pick picks) s in
         events-suc (keeping_base base) n number picks s going
         ∙ ap (λ (es : List Event). events_of_step number one ++ es) (events_bare n (number + 1) (later_picks picks) one.state)
-        ∙ ap (λ (t : Stepped Db). events_of_step number t ++ events base n (number + 1) (later_picks picks) t.state) (move_bare (first_pick picks) s)
+        ∙ ap (λ (t : StepResult Db). events_of_step number t ++ events base n (number + 1) (later_picks picks) t.state) (move_bare (first_pick picks) s)
         ∙ sym (events-suc base n number picks (bare s) going)
   ]
 
@@ -177,7 +177,7 @@ module _ (kept : List Kept) (ps qs : List Process) (all : KeepsAll kept ps) (gro
 module _ (kept : List Kept) (ps : List Process) (all : KeepsAll kept ps) (number : ℕ) (p : Process) (a : Ask) (reply : Reply)
     (is : slice_get ps number ≡ Some p) (by : a.question.process ≡ p.name) where
   abbrev q : Process
-  q = replied a reply p
+  q = process_with_reply a reply p
 
   abbrev after : List Process
   after = slice_set ps number q
@@ -238,11 +238,11 @@ module _ (kept : List Kept) (ps : List Process) (all : KeepsAll kept ps) (number
 
 module _ {Db : Type 0} where
   -- of a run over a database whose replies are kept
-  abbrev Holds : State (Keeping Db) → Type 0
+  abbrev Holds : State (KeepingDatabase Db) → Type 0
   Holds s = KeepsAll s.db.kept s.core.processes
 
-  told_keeps : (number : ℕ) (a : Ask) (s : State (Keeping Db)) (answer : Answer Db) → Holds s
-      → (o : Option Process) → slice_get s.core.processes number ≡ o → ask_in o ≡ Some a
+  told_keeps : (number : ℕ) (a : Ask) (s : State (KeepingDatabase Db)) (answer : Answer Db) → Holds s
+      → (o : Option Process) → slice_get s.core.processes number ≡ o → ask_of_process o ≡ Some a
       → Holds (told number a s (with_answer s.db.kept a.question answer)).state
   told_keeps number a s Diverges all o is asks = all
   told_keeps number a s (Gives reply db lists) all None is asks = absurd cc
@@ -251,20 +251,20 @@ module _ {Db : Type 0} where
       (took_keeps s.db.kept s.core.processes all number p a reply is (next_named (slice_get p.script p.place) p a asks))
 
 module _ {Db : Type 0} (base : Base Db) where
-  asking_keeps : (number : ℕ) (s : State (Keeping Db)) (o : Option Ask) → ask_at number s.core ≡ o → Holds s
+  asking_keeps : (number : ℕ) (s : State (KeepingDatabase Db)) (o : Option Ask) → next_ask number s.core ≡ o → Holds s
       → Holds (asking (keeping_base base) number s o).state
   asking_keeps number s None is all =
-      let quiets : Quiets s.core (quiet number s.core) = quiet_quiets number s.core in
-      quiet_keeps s.db.kept s.core.processes (quiet number s.core).core.processes all quiets.grows (quiets.named all.named) quiets.entries
+      let quiets : Quiets s.core (local_step number s.core) = quiet_quiets number s.core in
+      quiet_keeps s.db.kept s.core.processes (local_step number s.core).core.processes all quiets.grows (quiets.named all.named) quiets.entries
   asking_keeps number s (Some a) is all =
       told_keeps number a s (base s.db.db a.question) all (slice_get s.core.processes number) refl is
 
-  move_keeps : (pick : Option ℕ) (s : State (Keeping Db)) → Holds s → Holds (move (keeping_base base) pick s).state
+  move_keeps : (pick : Option ℕ) (s : State (KeepingDatabase Db)) → Holds s → Holds (move (keeping_base base) pick s).state
   move_keeps pick s all =
       let number : ℕ = choose pick s.core in
-      asking_keeps number (chosen number s) (ask_at number (chosen number s).core) refl all
+      asking_keeps number (chosen number s) (next_ask number (chosen number s).core) refl all
 
-  run_keeps : (n : ℕ) (picks : List ℕ) (s : State (Keeping Db)) → Holds s → Holds (run (keeping_base base) n picks s)
+  run_keeps : (n : ℕ) (picks : List ℕ) (s : State (KeepingDatabase Db)) → Holds s → Holds (run (keeping_base base) n picks s)
   run_keeps zero picks s all = subst Holds (sym (run-zero (keeping_base base) picks s)) all
   run_keeps (suc n) picks s all = elim (cases_Bool (is_over s.core)) [
     | inl over ↦ subst Holds (sym (run-over (keeping_base base) (suc n) picks s over)) all
@@ -306,8 +306,8 @@ starts_kept p named none = record {
 
 pub kept_law : (Db : Type 0) → KeptLaw Db
 kept_law Db base n picks start seed files script db =
-    let k : State (Keeping Db) = started start seed files script (nothing_kept db) in
-    let s : State Db = started start seed files script db in
+    let k : State (KeepingDatabase Db) = start_state_of start seed files script (nothing_kept db) in
+    let s : State Db = start_state_of start seed files script db in
     let same : bare (run (keeping_base base) n picks k) ≡ run base n picks s = run_bare base n picks k in
     let core : (run (keeping_base base) n picks k).core ≡ (run base n picks s).core = ap (λ (t : State Db). t.core) same in
     record {

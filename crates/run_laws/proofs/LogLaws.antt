@@ -9,7 +9,7 @@ use Rattle.sql_model.specs.Tables.{tables_test}
 use Rattle.sql_model.specs.Texts.{statement_of}
 use Rattle.run_laws.specs.Types.{File, Instr, Reply, Event, Entry, Excluded, Package, World}
 use Rattle.run_model.specs.Between.{cut_world, slice_cut}
-use Rattle.run_model.specs.Core.{Core, all_ended, start_core}
+use Rattle.run_model.specs.Core.{Core, have_all_ended, start_core}
 use Rattle.run_model.specs.Database.{Question, Lists}
 use Rattle.run_model.specs.LogDatabase.{entries_left, log_base}
 use Rattle.run_model.specs.LogRun.{log_core, log_outcome_in, log_outcome, log_divergence_in, log_divergence}
@@ -90,7 +90,7 @@ no_outcome : (m : ℕ) (picks : List ℕ) (w : World) (script : List Instr) → 
     → ends_by m picks w ≡ false → outcome_by m picks w ≡ None
 no_outcome m picks w script is going =
     let c : Core = core_after m picks w script in
-    let running : all_ended c ≡ false = sym (ap (ends_in m picks w) is) ∙ going in
+    let running : have_all_ended c ≡ false = sym (ap (ends_in m picks w) is) ∙ going in
     ap (outcome_in m picks w) is
     ∙ ap (λ (b : Bool). if b then Some (outcome_of c) else None) running
 
@@ -169,7 +169,7 @@ module _ (n : ℕ) (picks : List ℕ) (w : World) (script : List Instr) (is : st
       let cores : core_after m picks w script ≡ core_after n picks w script =
       sym (ap (λ (s : State SqlDatabase). s.core) (no_more sql_base m (n - m) picks (start_state w script) few))
       ∙ ap (λ (k : ℕ). core_after k picks w script) split in
-      ap (ends_in m picks w) is ∙ ap all_ended cores ∙ sym (ap (ends_in n picks w) is) ∙ ended
+      ap (ends_in m picks w) is ∙ ap have_all_ended cores ∙ sym (ap (ends_in n picks w) is) ∙ ended
 
   outcome_before : (m : ℕ) → m ≤ n → ends_by n picks w ≡ true → ends_by m picks w ≡ false
       → log_outcome m picks packed ≡ outcome_by m picks w

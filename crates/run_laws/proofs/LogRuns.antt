@@ -19,8 +19,8 @@ use Rattle.run_model.specs.Database.{Question, Lists, Answer, Gives, Diverges, B
 use Rattle.run_model.specs.LogDatabase.{LogDatabase, entries_left, logs_after, no_lists, is_recorded, answer_from, log_base}
 use Rattle.run_model.specs.Run.{first_pick, later_picks, chosen, move, run}
 use Rattle.run_model.specs.Schedule.{choose}
-use Rattle.run_model.specs.State.{State, Stepped}
-use Rattle.run_model.specs.Step.{Ask, entry_of, replied, quiet, ask_at, took_of, took, kept, told, asking}
+use Rattle.run_model.specs.State.{State, StepResult}
+use Rattle.run_model.specs.Step.{Ask, entry_of, process_with_reply, local_step, next_ask, took_of, took, kept, told, asking}
 use Rattle.run_model.proofs.Equations.{run-zero, run-over, run-suc}
 use Rattle.run_laws.proofs.Askers.{asker}
 use Rattle.run_laws.proofs.LogEntries.{left_after, left_other}
@@ -45,7 +45,7 @@ follows_trans a b c first second = record {
   diverged = second.diverged ∙ first.diverged;
 }
 
-replied_later : (a : Ask) (reply : Reply) (p : Process) → Later p (replied a reply p)
+replied_later : (a : Ask) (reply : Reply) (p : Process) → Later p (process_with_reply a reply p)
 replied_later a reply p = record {
   name = refl;
   spawned = omega arith;
@@ -57,7 +57,7 @@ took_follows : (o : Option Process) (number : ℕ) (a : Ask) (reply : Reply) (c 
     → Follows c (took_of o number a reply c)
 took_follows None number a reply c is = follows_itself c
 took_follows (Some p) number a reply c is =
-    let q : Process = replied a reply p in
+    let q : Process = process_with_reply a reply p in
     let grows : Grows c.processes (slice_set c.processes number q) =
     set_grows c.processes number p q is (replied_later a reply p) in
     record {
@@ -95,7 +95,7 @@ module _ {Db : Type 0} (reply : Db → Question → Reply) (next : Db → Questi
 
   asking_follows : (number : ℕ) (s : State Db) (o : Option Ask) → Follows s.core (asking base number s o).state.core
   asking_follows number s None =
-      let quiets : Quiets s.core (quiet number s.core) = quiet_quiets number s.core in
+      let quiets : Quiets s.core (local_step number s.core) = quiet_quiets number s.core in
       record { grows = quiets.grows; named = quiets.named; diverged = quiets.diverged }
   asking_follows number s (Some a) =
       took_follows (slice_get s.core.processes number) number a (reply s.db a.question) s.core refl
@@ -104,7 +104,7 @@ module _ {Db : Type 0} (reply : Db → Question → Reply) (next : Db → Questi
   move_follows pick s =
       let number : ℕ = choose pick s.core in
       let here : Follows (chosen number s).core (move base pick s).state.core =
-      asking_follows number (chosen number s) (ask_at number (chosen number s).core) in
+      asking_follows number (chosen number s) (next_ask number (chosen number s).core) in
       record { grows = here.grows; named = here.named; diverged = here.diverged }
 
   pub run_follows : (n : ℕ) (picks : List ℕ) (s : State Db) → Follows s.core (run base n picks s).core
@@ -114,7 +114,7 @@ module _ {Db : Type 0} (reply : Db → Question → Reply) (next : Db → Questi
     | inl over ↦
         subst (λ (t : State Db). Follows s.core t.core) (sym (run-over base (suc n) picks s over)) (follows_itself s.core)
     | inr going ↦
-        let one : Stepped Db = move base (first_pick picks) s in
+        let one : StepResult Db = move base (first_pick picks) s in
         subst (λ (t : State Db). Follows s.core t.core) (sym (run-suc base n picks s going))
         (follows_trans s.core one.state.core (run base n (later_picks picks) one.state).core
         (move_follows (first_pick picks) s) (run_follows n (later_picks picks) one.state))
@@ -126,7 +126,7 @@ module _ {Db : Type 0} (reply : Db → Question → Reply) (next : Db → Questi
   abbrev pub with_logs : LogDatabase → State Db → State LogDatabase
   with_logs logs s = record { core = s.core; db = logs }
 
-  record LogStep (end : List Process) (small : Stepped LogDatabase) (whole : Stepped Db) : Type 0 where
+  record LogStep (end : List Process) (small : StepResult LogDatabase) (whole : StepResult Db) : Type 0 where
     logs : LogDatabase
     same : small.state ≡ with_logs logs whole.state
     left : Left end whole.state.core.processes logs
@@ -134,7 +134,7 @@ module _ {Db : Type 0} (reply : Db → Question → Reply) (next : Db → Questi
   kept_logs : (end : List Process) (number : ℕ) (logs : LogDatabase) (s : State Db) → Left end s.core.processes logs
       → LogStep end (kept number (with_logs logs s)) (kept number s)
   kept_logs end number logs s left =
-      let quiets : Quiets s.core (quiet number s.core) = quiet_quiets number s.core in
+      let quiets : Quiets s.core (local_step number s.core) = quiet_quiets number s.core in
       record {
         logs = logs;
         same = refl;
@@ -156,17 +156,17 @@ module _ {Db : Type 0} (reply : Db → Question → Reply) (next : Db → Questi
     entry = entry_of a.question given
 
     -- the processes after it
-    new_are : new.processes ≡ slice_set s.core.processes number (replied a given p)
+    new_are : new.processes ≡ slice_set s.core.processes number (process_with_reply a given p)
     new_are = ap (λ (o : Option Process). (took_of o number a given s.core).processes) is
 
-    asked_there : slice_get new.processes number ≡ Some (replied a given p)
+    asked_there : slice_get new.processes number ≡ Some (process_with_reply a given p)
     asked_there =
         ap (λ (ps : List Process). slice_get ps number) new_are
-        ∙ set_there s.core.processes number p (replied a given p) is
+        ∙ set_there s.core.processes number p (process_with_reply a given p) is
 
     -- the process at the end
-    at_end : (q : Process) × (slice_get end number ≡ Some q) × Later (replied a given p) q
-    at_end = found_later new.processes end number (replied a given p) grows asked_there
+    at_end : (q : Process) × (slice_get end number ≡ Some q) × Later (process_with_reply a given p) q
+    at_end = found_later new.processes end number (process_with_reply a given p) grows asked_there
 
     own_name : a.question.process ≡ at_end.0.name
     own_name = named ∙ sym at_end.2.name
@@ -203,7 +203,7 @@ module _ {Db : Type 0} (reply : Db → Question → Reply) (next : Db → Questi
     other_holds k q apart there =
         let unasked : slice_get new.processes k ≡ slice_get s.core.processes k =
         ap (λ (ps : List Process). slice_get ps k) new_are
-        ∙ set_other s.core.processes number k (replied a given p) apart in
+        ∙ set_other s.core.processes number k (process_with_reply a given p) apart in
         let other : q.name ≢ a.question.process =
         λ same. apart (place_of_name end k number q at_end.0 distinct there at_end.1 (same ∙ own_name)) in
         left k q there
@@ -229,7 +229,7 @@ module _ {Db : Type 0} (reply : Db → Question → Reply) (next : Db → Questi
     }
 
   asking_logs : (end : List Process) (number : ℕ) (logs : LogDatabase) (s : State Db) (o : Option Ask)
-      → ask_at number s.core ≡ o → Distinct (names end) → Grows (asking base number s o).state.core.processes end
+      → next_ask number s.core ≡ o → Distinct (names end) → Grows (asking base number s o).state.core.processes end
       → Left end s.core.processes logs
       → LogStep end (asking log_base number (with_logs logs s) o) (asking base number s o)
   asking_logs end number logs s None is distinct grows left = kept_logs end number logs s left
@@ -242,7 +242,7 @@ module _ {Db : Type 0} (reply : Db → Question → Reply) (next : Db → Questi
       → LogStep end (move log_base pick (with_logs logs s)) (move base pick s)
   move_logs end pick logs s distinct grows left =
       let number : ℕ = choose pick s.core in
-      asking_logs end number logs (chosen number s) (ask_at number (chosen number s).core) refl distinct grows left
+      asking_logs end number logs (chosen number s) (next_ask number (chosen number s).core) refl distinct grows left
 
   -- ---- runs
 
@@ -263,7 +263,7 @@ module _ {Db : Type 0} (reply : Db → Question → Reply) (next : Db → Questi
         grows_from (run base (suc n) picks s) s (run base (suc n + more) picks s) s
         (run-over base (suc n) picks s over) (run-over base (suc n + more) picks s over) (grows_itself s.core.processes)
     | inr going ↦
-        let one : Stepped Db = move base (first_pick picks) s in
+        let one : StepResult Db = move base (first_pick picks) s in
         let rest : List ℕ = later_picks picks in
         grows_from (run base (suc n) picks s) (run base n rest one.state)
         (run base (suc n + more) picks s) (run base (n + more) rest one.state)
@@ -286,7 +286,7 @@ module _ {Db : Type 0} (reply : Db → Question → Reply) (next : Db → Questi
     | inr going ↦
         let pick : Option ℕ = first_pick picks in
         let rest : List ℕ = later_picks picks in
-        let one : Stepped Db = move base pick s in
+        let one : StepResult Db = move base pick s in
         let equation : (run base (suc n) picks s).core ≡ (run base n rest one.state).core =
         ap (λ (t : State Db). t.core) (run-suc base n picks s going) in
         let later : Grows (run base n rest one.state).core.processes end =

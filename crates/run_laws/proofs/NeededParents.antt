@@ -10,7 +10,7 @@ use Rattle.ldv_value.proofs.SameBytes.{bytes_eq-true}
 use Rattle.sql_model.specs.declared.catalog.Catalog.{Catalog}
 use Rattle.sql_model.specs.declared.reply.SqlRefusal.{SqlRefusal}
 use Rattle.sql_model.specs.declared.statement.Statement.TheVariants.{Query as TheQuery, Insert as TheInsert, Update as TheUpdate, Delete as TheDelete}
-use Rattle.sql_model.specs.Changes.{changed, changed_in, target_of}
+use Rattle.sql_model.specs.Changes.{table_after, changed_in, target_of}
 use Rattle.sql_model.specs.Needs.{asked_tables}
 use Rattle.sql_model.specs.Scope.{same_text, is_table, catalog_of}
 use Rattle.sql_model.specs.Statements.{refusal_of, after_unless, after}
@@ -26,8 +26,8 @@ use Rattle.run_model.specs.Run.{first_pick, later_picks, chosen, move}
 use Rattle.run_model.specs.Schedule.{choose}
 use Rattle.run_model.specs.Slice.{names_table, is_table_needed}
 use Rattle.run_model.specs.SqlDatabase.{SqlDatabase, lists_of, sql_base}
-use Rattle.run_model.specs.State.{State, Stepped}
-use Rattle.run_model.specs.Step.{Ask, asked_act, quiet, took, ask_at, ends_at, asking}
+use Rattle.run_model.specs.State.{State, StepResult}
+use Rattle.run_model.specs.Step.{Ask, asked_act, local_step, took, next_ask, ends_at, asking}
 use Rattle.sql_model.specs.Statements.{reply_of}
 use Rattle.run_model.proofs.Equations.{events-zero, events-over, events-suc}
 use Rattle.run_laws.proofs.QuietActs.{Unasked, ends_unasked, quiet_unasked}
@@ -48,21 +48,21 @@ module _ (child parent : List ℕ) where
   abbrev is_child : Table → Bool
   is_child t = same_text t.name child && list_any (λ f. same_text f.parent parent) t.schema.foreign
 
-  one_kept : (s : Statement) (catalog : Catalog) (t : Table) → is_child (changed s catalog t) ≡ is_child t
+  one_kept : (s : Statement) (catalog : Catalog) (t : Table) → is_child (table_after s catalog t) ≡ is_child t
   one_kept (TheQuery query) catalog t = refl
   one_kept (TheInsert insert) catalog t = refl
   one_kept (TheUpdate update) catalog t = refl
   one_kept (TheDelete delete) catalog t = refl
 
   either_kept : (name : List ℕ) (s : Statement) (catalog : Catalog) (t : Table)
-      → is_child (if is_table name t then changed s catalog t else t) ≡ is_child t
+      → is_child (if is_table name t then table_after s catalog t else t) ≡ is_child t
   either_kept name s catalog t = elim (cases_Bool (is_table name t)) [
     | inl hit ↦ rw hit (one_kept s catalog t)
     | inr miss ↦ rw miss refl
   ]
 
   each_kept : (name : List ℕ) (s : Statement) (catalog : Catalog) (ts : List Table)
-      → list_any is_child (map (λ (t : Table). if is_table name t then changed s catalog t else t) ts) ≡ list_any is_child ts
+      → list_any is_child (map (λ (t : Table). if is_table name t then table_after s catalog t else t) ts) ≡ list_any is_child ts
   each_kept name s catalog [] = refl
   each_kept name s catalog (t ∷ ts) = λ j. either_kept name s catalog t j || each_kept name s catalog ts j
 
@@ -106,7 +106,7 @@ module _ (child parent : List ℕ) where
   asking_brings : (number : ℕ) (s : State SqlDatabase) (o : Option Ask) → is_database s.db.tables ≡ true
       → refers s.db.tables child parent ≡ true → AllByRecursion Brings (asking sql_base number s o).acts
   asking_brings number s None valid refer =
-      all_unasked ((quiet number s.core).acts ++ ends_at number (quiet number s.core).core) (quiet_unasked number s.core)
+      all_unasked ((local_step number s.core).acts ++ ends_at number (local_step number s.core).core) (quiet_unasked number s.core)
   asking_brings number s (Some a) valid refer =
       let statement : Option Statement = statement_of a.question.text a.question.params in
       let ends : List Act = ends_at number (took number a (reply_of statement s.db.tables) s.core) in (
@@ -118,7 +118,7 @@ module _ (child parent : List ℕ) where
       → refers s.db.tables child parent ≡ true → AllByRecursion Brings (move sql_base pick s).acts
   move_brings pick s valid refer =
       let number : ℕ = choose pick s.core in
-      asking_brings number (chosen number s) (ask_at number (chosen number s).core) valid refer
+      asking_brings number (chosen number s) (next_ask number (chosen number s).core) valid refer
 
   asking_refers : (number : ℕ) (s : State SqlDatabase) (o : Option Ask) → refers s.db.tables child parent ≡ true
       → refers (asking sql_base number s o).state.db.tables child parent ≡ true
@@ -129,7 +129,7 @@ module _ (child parent : List ℕ) where
       → refers (move sql_base pick s).state.db.tables child parent ≡ true
   move_refers pick s refer =
       let number : ℕ = choose pick s.core in
-      asking_refers number (chosen number s) (ask_at number (chosen number s).core) refer
+      asking_refers number (chosen number s) (next_ask number (chosen number s).core) refer
 
   -- ---- events
 
@@ -158,7 +158,7 @@ module _ (child parent : List ℕ) where
   run_brings (suc n) number picks s valid refer = elim (cases_Bool (is_over s.core)) [
     | inl over ↦ subst BringsAll (sym (events-over sql_base (suc n) number picks s over)) no_events
     | inr going ↦
-        let m : Stepped SqlDatabase = move sql_base (first_pick picks) s in
+        let m : StepResult SqlDatabase = move sql_base (first_pick picks) s in
         let later : List Event = events sql_base n (number + 1) (later_picks picks) m.state in
         let rest : BringsAll later =
         run_brings n (number + 1) (later_picks picks) m.state (move_stays (first_pick picks) s valid) (move_refers (first_pick picks) s refer) in

@@ -9,7 +9,7 @@ use Rattle.ldv_value.proofs.Options.{same-some}
 use Rattle.run_model.specs.Types.{Instr}
 use Rattle.run_model.specs.declared.package.Entry.{Entry}
 use Rattle.run_model.specs.Core.{Process}
-use Rattle.run_model.specs.StepProcesses.{Spawning, child_of, parent_of, with_child}
+use Rattle.run_model.specs.StepProcesses.{SpawnRequest, child_of, parent_of, with_child}
 use Rattle.run_laws.proofs.ProcessPlaces.{set_related, one_related, set_there, one_there}
 use Rattle.run_laws.proofs.StepTrails.{Trail, trail}
 use Rattle.sql_laws.proofs.ItemLists.{all_append}
@@ -215,7 +215,7 @@ name_fresh ps number p named is name (inr child) same =
     let count : child.parent.spawned ≡ p.spawned = ap (λ (q : Process). q.spawned) parent in
     absurd (omega (arith, child.made, both.1, count))
 
-module _ (ps : List Process) (number : ℕ) (p : Process) (is : slice_get ps number ≡ Some p) (spawning : Spawning)
+module _ (ps : List Process) (number : ℕ) (p : Process) (is : slice_get ps number ≡ Some p) (spawning : SpawnRequest)
     (script : List Instr) where
   abbrev parent : Process
   parent = parent_of (length ps) spawning.child p

@@ -8,10 +8,10 @@ use Rattle.script_parse.specs.declared.script.Instr.TheVariants as instr
 use Rattle.sql_laws.proofs.ItemLists.{all_append}
 use Rattle.run_laws.specs.Types.{OpenMode, Instr, Act, Asked}
 use Rattle.run_model.specs.Core.{OpenFile, lookup, Process, Core}
-use Rattle.run_model.specs.Step.{Effect, execute, execute_next, quiet_of, quiet, status_acts, end_acts, ends_at}
+use Rattle.run_model.specs.Step.{Effect, execute, execute_next, local_step_of, local_step, status_acts, end_acts, ends_at}
 use Rattle.run_model.specs.StepBase.{operand_values}
 use Rattle.run_model.specs.StepFiles.{path_at, open_for, allows_read, allows_write, open_act, open_unless, open_path, read_next, write_where, write_text, copy_where, copy_between, remove_found, remove_path, test_path}
-use Rattle.run_model.specs.StepProcesses.{Spawning, spawn_script, script_within, spawn_file, spawn_path, spawning_of, status_in, wait_until, wait_for}
+use Rattle.run_model.specs.StepProcesses.{SpawnRequest, spawn_script, script_within, spawn_file, spawn_path, spawning_of, status_in, wait_until, wait_for}
 use Rattle.run_model.specs.StepVariables.{printed_line}
 
 abbrev pub Unasked : Act → Type 0
@@ -81,17 +81,17 @@ test_acts to (Some path) p s = (tt, tt)
 
 -- ---- processes
 
-script_acts : (o : Option (List Instr)) (spawning : Spawning) (path : List ℕ) (number : ℕ) (p : Process) (c : Core)
+script_acts : (o : Option (List Instr)) (spawning : SpawnRequest) (path : List ℕ) (number : ℕ) (p : Process) (c : Core)
     → AllByRecursion Unasked (spawn_script o spawning path number p c).acts
 script_acts None spawning path number p c = (tt, tt)
 script_acts (Some script) spawning path number p c = (tt, tt)
 
-file_acts : (o : Option (List ℕ)) (spawning : Spawning) (path : List ℕ) (number : ℕ) (p : Process) (c : Core)
+file_acts : (o : Option (List ℕ)) (spawning : SpawnRequest) (path : List ℕ) (number : ℕ) (p : Process) (c : Core)
     → AllByRecursion Unasked (spawn_file o spawning path number p c).acts
 file_acts None spawning path number p c = (tt, tt)
 file_acts (Some bytes) spawning path number p c = script_acts (script_within c bytes) spawning path number p c
 
-spawn_acts : (o : Option (List ℕ)) (spawning : Spawning) (number : ℕ) (p : Process) (c : Core)
+spawn_acts : (o : Option (List ℕ)) (spawning : SpawnRequest) (number : ℕ) (p : Process) (c : Core)
     → AllByRecursion Unasked (spawn_path o spawning number p c).acts
 spawn_acts None spawning number p c = tt
 spawn_acts (Some path) spawning number p c = file_acts (content_at c.files path) spawning path number p c
@@ -126,7 +126,7 @@ next_acts : (i : Option Instr) (number : ℕ) (p : Process) (c : Core) → AllBy
 next_acts None number p c = tt
 next_acts (Some i) number p c = executes_acts i number p c
 
-quiet_acts : (o : Option Process) (number : ℕ) (c : Core) → AllByRecursion Unasked (quiet_of o number c).acts
+quiet_acts : (o : Option Process) (number : ℕ) (c : Core) → AllByRecursion Unasked (local_step_of o number c).acts
 quiet_acts None number c = tt
 quiet_acts (Some p) number c = next_acts (slice_get p.script p.place) number p c
 
@@ -144,7 +144,7 @@ pub ends_unasked : (number : ℕ) (c : Core) → AllByRecursion Unasked (ends_at
 ends_unasked number c = end_unasked (slice_get c.processes number)
 
 pub quiet_unasked : (number : ℕ) (c : Core)
-    → AllByRecursion Unasked ((quiet number c).acts ++ ends_at number (quiet number c).core)
+    → AllByRecursion Unasked ((local_step number c).acts ++ ends_at number (local_step number c).core)
 quiet_unasked number c =
-    let e : Effect = quiet number c in
+    let e : Effect = local_step number c in
     all_append Unasked e.acts (ends_at number e.core) (quiet_acts (slice_get c.processes number) number c) (ends_unasked number e.core)

@@ -6,12 +6,12 @@ use Rattle.ldv_value.specs.Order.{order, meets}
 use Rattle.script_parse.specs.declared.script.Instr.TheVariants as instr
 use Rattle.run_laws.specs.Types.{Variable, Instr, Act, Unspawned, Waited, Entry}
 use Rattle.run_model.specs.Core.{lookup, Process, Core}
-use Rattle.run_model.specs.Step.{Effect, own, execute, execute_next, quiet_of, quiet}
-use Rattle.run_model.specs.StepBase.{operand_value, operand_values, noted, FileEffect, on_files}
+use Rattle.run_model.specs.Step.{Effect, own, execute, execute_next, local_step_of, local_step}
+use Rattle.run_model.specs.StepBase.{operand_value, operand_values, process_effect, FileEffect, on_files}
 use Rattle.run_model.specs.StepFiles.{path_at, open_for, allows_read, allows_write, open_path, read_next, write_line, copy_rest, remove_path, test_path}
-use Rattle.run_model.specs.StepProcesses.{Spawning, child_of, parent_of, with_child, spawn_script, script_within, spawn_file, spawn_path, spawning_of, status_in, wait_until, wait_for}
-use Rattle.run_model.specs.StepReplies.{counted, status_value}
-use Rattle.run_model.specs.StepVariables.{calculated, glued, to_number, printed_line}
+use Rattle.run_model.specs.StepProcesses.{SpawnRequest, child_of, parent_of, with_child, spawn_script, script_within, spawn_file, spawn_path, spawning_of, status_in, wait_until, wait_for}
+use Rattle.run_model.specs.StepReplies.{row_count, status_value}
+use Rattle.run_model.specs.StepVariables.{calculation, concatenation, to_number, printed_line}
 use Rattle.run_laws.proofs.ProcessNames.{later_trail, Grows, grows_itself, set_grows, names_set, Named, named_later, child_grows, child_named}
 use Rattle.run_laws.proofs.ProcessPlaces.{set_related, one_related}
 use Rattle.run_laws.proofs.StepTrails.{Trail, trail, trail_assign, trail_cut, trail_jump, trail_line, trail_fetch, trail_close, trail_open, trail_read, trail_write, trail_copy, trail_remove, trail_test}
@@ -51,7 +51,7 @@ module _ (number : ℕ) (p : Process) (c : Core) (is : slice_get c.processes num
       (set_grows c.processes number p q is (later_trail p q same))
       (names_set c.processes number p q is (ap (λ (t : Trail). t.name) same)) named
 
-  noted_quiets : (q : Process) (acts : List Act) → trail q ≡ trail p → Quiets c (noted number q acts c)
+  noted_quiets : (q : Process) (acts : List Act) → trail q ≡ trail p → Quiets c (process_effect number q acts c)
   noted_quiets q acts same = record {
     entries = set_entries q (ap (λ (t : Trail). t.entries) same);
     grows = set_grows c.processes number p q is (later_trail p q same);
@@ -72,14 +72,14 @@ module _ (number : ℕ) (p : Process) (c : Core) (is : slice_get c.processes num
 
   -- ---- spawn
 
-  child_entries : (spawning : Spawning) (script : List Instr) (k : ℕ)
+  child_entries : (spawning : SpawnRequest) (script : List Instr) (k : ℕ)
       → entries_in (slice_get (with_child number spawning script p c.processes) k) ≡ entries_in (slice_get c.processes k)
   child_entries spawning script k =
       let parent : Process = parent_of (length c.processes) spawning.child p in
       one_related SameEntries (λ o. refl) (slice_set c.processes number parent) (child_of p script spawning.arguments) refl k
       ∙ set_entries parent refl k
 
-  script_quiets : (o : Option (List Instr)) (spawning : Spawning) (path : List ℕ)
+  script_quiets : (o : Option (List Instr)) (spawning : SpawnRequest) (path : List ℕ)
       → Quiets c (spawn_script o spawning path number p c)
   script_quiets None spawning path = noted_quiets _ (Unspawned path true ∷ []) refl
   script_quiets (Some script) spawning path = record {
@@ -89,11 +89,11 @@ module _ (number : ℕ) (p : Process) (c : Core) (is : slice_get c.processes num
     diverged = refl;
   }
 
-  file_quiets : (o : Option (List ℕ)) (spawning : Spawning) (path : List ℕ) → Quiets c (spawn_file o spawning path number p c)
+  file_quiets : (o : Option (List ℕ)) (spawning : SpawnRequest) (path : List ℕ) → Quiets c (spawn_file o spawning path number p c)
   file_quiets None spawning path = noted_quiets _ (Unspawned path false ∷ []) refl
   file_quiets (Some bytes) spawning path = script_quiets (script_within c bytes) spawning path
 
-  spawn_quiets : (o : Option (List ℕ)) (spawning : Spawning) → Quiets c (spawn_path o spawning number p c)
+  spawn_quiets : (o : Option (List ℕ)) (spawning : SpawnRequest) → Quiets c (spawn_path o spawning number p c)
   spawn_quiets None spawning = own_quiets _ refl
   spawn_quiets (Some path) spawning = file_quiets (content_at c.files path) spawning path
 
@@ -112,9 +112,9 @@ module _ (number : ℕ) (p : Process) (c : Core) (is : slice_get c.processes num
   executes_quiets : (i : Instr) → Quiets c (execute i number p c)
   executes_quiets (instr.Let to value) = own_quiets _ refl
   executes_quiets (instr.Calc to op left right) =
-      own_quiets _ (trail_assign to (calculated op (operand_value p left) (operand_value p right)) p)
+      own_quiets _ (trail_assign to (calculation op (operand_value p left) (operand_value p right)) p)
   executes_quiets (instr.Glue to left right) =
-      own_quiets _ (trail_assign to (glued (operand_value p left) (operand_value p right)) p)
+      own_quiets _ (trail_assign to (concatenation (operand_value p left) (operand_value p right)) p)
   executes_quiets (instr.ToInt to value) = own_quiets _ (trail_assign to (to_number (operand_value p value)) p)
   executes_quiets (instr.Cut before after by) =
       own_quiets _ (trail_cut before after (operand_value p by) (operand_value p (Variable after)) p)
@@ -144,16 +144,16 @@ module _ (number : ℕ) (p : Process) (c : Core) (is : slice_get c.processes num
   executes_quiets (instr.Wait to child) = wait_quiets (lookup child p.children) to
   executes_quiets (instr.Sql cursor text params) = own_quiets _ refl
   executes_quiets (instr.Fetch cursor to place) = own_quiets _ (trail_fetch (lookup cursor p.cursors) cursor to place p)
-  executes_quiets (instr.Count to cursor) = own_quiets _ (trail_assign to (counted (lookup cursor p.cursors)) p)
+  executes_quiets (instr.Count to cursor) = own_quiets _ (trail_assign to (row_count (lookup cursor p.cursors)) p)
   executes_quiets (instr.Status to cursor) = own_quiets _ (trail_assign to (status_value (lookup cursor p.cursors)) p)
 
   next_quiets : (i : Option Instr) → Quiets c (execute_next i number p c)
   next_quiets None = own_quiets _ refl
   next_quiets (Some i) = executes_quiets i
 
-quiet_by : (o : Option Process) (number : ℕ) (c : Core) → slice_get c.processes number ≡ o → Quiets c (quiet_of o number c)
+quiet_by : (o : Option Process) (number : ℕ) (c : Core) → slice_get c.processes number ≡ o → Quiets c (local_step_of o number c)
 quiet_by None number c is = still_quiets c []
 quiet_by (Some p) number c is = next_quiets number p c is (slice_get p.script p.place)
 
-pub quiet_quiets : (number : ℕ) (c : Core) → Quiets c (quiet number c)
+pub quiet_quiets : (number : ℕ) (c : Core) → Quiets c (local_step number c)
 quiet_quiets number c = quiet_by (slice_get c.processes number) number c refl

@@ -21,8 +21,8 @@ use Rattle.run_model.specs.Events.{event_at, events_of_step, events_after, event
 use Rattle.run_model.specs.Run.{first_pick, later_picks, chosen, move_of, move, run, steps}
 use Rattle.run_model.specs.Schedule.{choose}
 use Rattle.run_model.specs.SqlDatabase.{SqlDatabase, db_after, lists_of, answer_of, sql_base}
-use Rattle.run_model.specs.State.{State, Stepped}
-use Rattle.run_model.specs.Step.{Ask, replied, Effect, quiet, took_of, took, ask_at, kept_by, kept, told, asking, asked_act, ends_at}
+use Rattle.run_model.specs.State.{State, StepResult}
+use Rattle.run_model.specs.Step.{Ask, process_with_reply, Effect, local_step, took_of, took, next_ask, kept_by, kept, told, asking, asked_act, ends_at}
 use Rattle.run_model.proofs.Equations.{run-zero, run-over, run-suc, steps-zero, steps-over, steps-suc, events-zero, events-over, events-suc}
 use Rattle.run_laws.proofs.CoreSame.{with_files, OpenSame, AllOpen, found_open, EffectSame, quiet_same, ends_later}
 use Rattle.run_laws.proofs.FilesAgree.{Agrees, later_agrees}
@@ -39,7 +39,7 @@ database_of tables valid = (and-parts (is_database tables) (list_all is_describe
 abbrev pub small_state : Cut → FileState → State SqlDatabase → State SqlDatabase
 small_state cut files s = record { core = with_files files s.core; db = cut_database cut s.db }
 
-abbrev pub small_step : Cut → FileState → Stepped SqlDatabase → Stepped SqlDatabase
+abbrev pub small_step : Cut → FileState → StepResult SqlDatabase → StepResult SqlDatabase
 small_step cut files m = record { process = m.process; state = small_state cut files m.state; acts = m.acts }
 
 abbrev pub KeepsActs : Cut → List Act → Type 0
@@ -56,7 +56,7 @@ abbrev pub LeftTables : Cut → SqlDatabase → Type 0
 LeftTables cut db = tables_test (cut_tables cut db.tables) ≡ true
 
 -- a step is the same, the files agree afterwards, and such tables are left
-pub record StepSame (later : List Event) (cut : Cut) (small whole : Stepped SqlDatabase) : Type 0 where
+pub record StepSame (later : List Event) (cut : Cut) (small whole : StepResult SqlDatabase) : Type 0 where
   pub left : LeftTables cut whole.state.db
   pub files : FileState
   pub same : small ≡ small_step cut files whole
@@ -75,7 +75,7 @@ took_agrees : (later : List Event) (o : Option Process) (number : ℕ) (a : Ask)
 took_agrees later None number a reply files c is agrees opened = (agrees, opened)
 took_agrees later (Some p) number a reply files c is agrees opened = (
   agrees,
-  set_all (OpenSame files c.files) c.processes number (replied a reply p) (found_open files c.files c.processes number p opened is) opened,
+  set_all (OpenSame files c.files) c.processes number (process_with_reply a reply p) (found_open files c.files c.processes number p opened is) opened,
 )
 
 module _ (step number : ℕ) (later : List Event) (cut : Cut) (files : FileState) (s : State SqlDatabase)
@@ -84,14 +84,14 @@ module _ (step number : ℕ) (later : List Event) (cut : Cut) (files : FileState
   acted acts = map (event_at step number) acts ++ later
 
   kept_same : Agrees (acted (kept number s).acts) files s.core.files
-      → StepSame later cut (kept_by number (cut_database cut s.db) (quiet number (with_files files s.core))) (kept number s)
+      → StepSame later cut (kept_by number (cut_database cut s.db) (local_step number (with_files files s.core))) (kept number s)
   kept_same agrees =
-      let e : Effect = quiet number s.core in
+      let e : Effect = local_step number s.core in
       let ends : List Event = map (event_at step number) (ends_at number e.core) in
       let split : acted (e.acts ++ ends_at number e.core) ≡ map (event_at step number) e.acts ++ (ends ++ later) =
       ap (λ (l : List Event). l ++ later) (map-append (event_at step number) e.acts (ends_at number e.core))
       ∙ append_assoc (map (event_at step number) e.acts) ends later in
-      let q : EffectSame (ends ++ later) (quiet number (with_files files s.core)) e =
+      let q : EffectSame (ends ++ later) (local_step number (with_files files s.core)) e =
       quiet_same step number (ends ++ later) files s.core opened (subst (λ (es : List Event). Agrees es files s.core.files) split agrees) in
       record {
         left = left;
@@ -145,17 +145,17 @@ module _ (step number : ℕ) (later : List Event) (cut : Cut) (files : FileState
 -- ---- a move
 
 abbrev next_cut : Cut → Option ℕ → State SqlDatabase → Cut
-next_cut cut pick s = cut_after cut s.db (ask_at (choose pick s.core) (chosen (choose pick s.core) s).core)
+next_cut cut pick s = cut_after cut s.db (next_ask (choose pick s.core) (chosen (choose pick s.core) s).core)
 
 -- the same process is chosen
 chosen_same : (step number : ℕ) (later : List Event) (cut : Cut) (files : FileState) (s : State SqlDatabase)
     → tables_test s.db.tables ≡ true → LeftTables cut s.db → AllOpen files s.core.files s.core.processes
     → KeepsActs cut (move_of sql_base number s).acts
     → Agrees (map (event_at step number) (move_of sql_base number s).acts ++ later) files s.core.files
-    → StepSame later (cut_after cut s.db (ask_at number (chosen number s).core)) (move_of sql_base number (small_state cut files s))
+    → StepSame later (cut_after cut s.db (next_ask number (chosen number s).core)) (move_of sql_base number (small_state cut files s))
     (move_of sql_base number s)
 chosen_same step number later cut files s valid left opened keeps agrees =
-    asking_same step number later cut files (chosen number s) valid left opened (ask_at number (chosen number s).core) keeps agrees
+    asking_same step number later cut files (chosen number s) valid left opened (next_ask number (chosen number s).core) keeps agrees
 
 move_same : (step : ℕ) (later : List Event) (cut : Cut) (files : FileState) (pick : Option ℕ) (s : State SqlDatabase)
     → tables_test s.db.tables ≡ true → LeftTables cut s.db → AllOpen files s.core.files s.core.processes
@@ -174,7 +174,7 @@ asking_process number s (Some a) = refl
 move_process : (pick : Option ℕ) (s : State SqlDatabase) → (move sql_base pick s).process ≡ choose pick s.core
 move_process pick s =
     let number : ℕ = choose pick s.core in
-    asking_process number (chosen number s) (ask_at number (chosen number s).core)
+    asking_process number (chosen number s) (next_ask number (chosen number s).core)
 
 -- later a cut keeps what it kept
 later_keeps : (cut : Cut) (db : SqlDatabase) (o : Option Ask) (es : List Event) → KeepsEvents cut es → KeepsEvents (cut_after cut db o) es
@@ -196,7 +196,7 @@ pub move_stays : (pick : Option ℕ) (s : State SqlDatabase) → tables_test s.d
     → tables_test (move sql_base pick s).state.db.tables ≡ true
 move_stays pick s valid =
     let number : ℕ = choose pick s.core in
-    asking_stays number (chosen number s) (ask_at number (chosen number s).core) valid
+    asking_stays number (chosen number s) (next_ask number (chosen number s).core) valid
 
 -- ---- runs
 
@@ -250,7 +250,7 @@ run_law (suc n) number picks cut files s valid left opened keeps agrees = elim (
       let pick : Option ℕ = first_pick picks in
       let rest : List ℕ = later_picks picks in
       let small : State SqlDatabase = small_state cut files s in
-      let one : Stepped SqlDatabase = move sql_base pick s in
+      let one : StepResult SqlDatabase = move sql_base pick s in
       let later : List Event = events sql_base n (number + 1) rest one.state in
       let both = keeps_events_split cut (events_of_step number one) later (subst (KeepsEvents cut) (events-suc sql_base n number picks s going) keeps) in
       let acts : KeepsActs cut one.acts = keeps_acts cut number one.process one.acts both.0 in
@@ -260,7 +260,7 @@ run_law (suc n) number picks cut files s valid left opened keeps agrees = elim (
       subst (λ (k : ℕ). Agrees (map (event_at number k) one.acts ++ later) files s.core.files) (move_process pick s) needs in
       let next : Cut = next_cut cut pick s in
       let here : StepSame later next (move sql_base pick small) one = move_same number later cut files pick s valid left opened acts by_number in
-      let kept : KeepsEvents next later = later_keeps cut s.db (ask_at (choose pick s.core) (chosen (choose pick s.core) s).core) later both.1 in
+      let kept : KeepsEvents next later = later_keeps cut s.db (next_ask (choose pick s.core) (chosen (choose pick s.core) s).core) later both.1 in
       let more : SameRuns n (number + 1) rest next here.files one.state =
       run_law n (number + 1) rest next here.files one.state (move_stays pick s valid) here.left here.opened kept here.agrees in
       record {
@@ -268,7 +268,7 @@ run_law (suc n) number picks cut files s valid left opened keeps agrees = elim (
         final = more.final;
         state =
             run-suc sql_base n picks small going
-            ∙ ap (λ (m : Stepped SqlDatabase). run sql_base n rest m.state) here.same
+            ∙ ap (λ (m : StepResult SqlDatabase). run sql_base n rest m.state) here.same
             ∙ more.state
             ∙ sym (ap (small_state more.end more.final) (run-suc sql_base n picks s going));
         told =
@@ -278,7 +278,7 @@ run_law (suc n) number picks cut files s valid left opened keeps agrees = elim (
             ∙ sym (events-suc sql_base n number picks s going);
         count =
             steps-suc sql_base n picks small going
-            ∙ ap (λ (m : Stepped SqlDatabase). 1 + steps sql_base n rest m.state) here.same
+            ∙ ap (λ (m : StepResult SqlDatabase). 1 + steps sql_base n rest m.state) here.same
             ∙ ap (λ (k : ℕ). 1 + k) more.count
             ∙ sym (steps-suc sql_base n picks s going);
         agrees =

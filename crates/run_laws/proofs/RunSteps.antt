@@ -9,7 +9,7 @@ use Rattle.run_model.specs.Database.{Base}
 use Rattle.run_model.specs.Run.{first_pick, later_picks, move, run, steps}
 use Rattle.run_model.specs.SqlDatabase.{sql_base}
 use Rattle.run_model.specs.Start.{start_script, start_state}
-use Rattle.run_model.specs.State.{State, Stepped}
+use Rattle.run_model.specs.State.{State, StepResult}
 use Rattle.run_model.specs.WorldRun.{steps_in, steps_by}
 use Rattle.run_model.proofs.Equations.{run-zero, run-over, run-suc, steps-zero, steps-over, steps-suc}
 
@@ -41,7 +41,7 @@ module _ {Db : Type 0} (base : Base Db) where
   no_more (suc n) more picks s few = elim (cases_Bool (is_over s.core)) [
     | inl over ↦ run-over base (suc n + more) picks s over ∙ sym (run-over base (suc n) picks s over)
     | inr going ↦
-        let one : Stepped Db = move base (first_pick picks) s in
+        let one : StepResult Db = move base (first_pick picks) s in
         let all : suc n + more ≡ suc (n + more) = suc-add n more in
         let enough : steps base (suc (n + more)) picks s ≤ suc n =
         subst (λ (k : ℕ). steps base k picks s ≤ suc n) all few in

@@ -4,7 +4,7 @@ use Rattle.std.specs.Prelude.{Option, Some, None, map, if◌then◌else◌}
 use Rattle.std.proofs.lemmas.Bool.{cases_Bool}
 use Rattle.sql_model.specs.declared.catalog.Catalog.{Catalog}
 use Rattle.sql_model.specs.declared.reply.SqlRefusal.{SqlRefusal}
-use Rattle.sql_model.specs.Changes.{changed, changed_in, target_of}
+use Rattle.sql_model.specs.Changes.{table_after, changed_in, target_of}
 use Rattle.sql_model.specs.Needs.{table_name}
 use Rattle.sql_model.specs.Scope.{is_table, catalog_of}
 use Rattle.sql_model.specs.Statements.{refusal_of, after_unless, after}
@@ -13,14 +13,14 @@ use Rattle.sql_laws.proofs.StatementParts.{after_is}
 use Rattle.run_laws.specs.Types.{Statement, Table}
 
 one_name : (name : List ℕ) (s : Statement) (catalog : Catalog) (t : Table)
-    → (if is_table name t then changed s catalog t else t).name ≡ t.name
+    → (if is_table name t then table_after s catalog t else t).name ≡ t.name
 one_name name s catalog t = elim (cases_Bool (is_table name t)) [
   | inl hit ↦ rw hit (changed_name s catalog t)
   | inr miss ↦ rw miss refl
 ]
 
 each_name : (name : List ℕ) (s : Statement) (catalog : Catalog) (ts : List Table)
-    → map table_name (map (λ (t : Table). if is_table name t then changed s catalog t else t) ts) ≡ map table_name ts
+    → map table_name (map (λ (t : Table). if is_table name t then table_after s catalog t else t) ts) ≡ map table_name ts
 each_name name s catalog [] = refl
 each_name name s catalog (t ∷ ts) = λ j. one_name name s catalog t j ∷ each_name name s catalog ts j
 

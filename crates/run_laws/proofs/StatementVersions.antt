@@ -14,7 +14,7 @@ use Rattle.sql_model.specs.declared.statement.Insert.{Insert}
 use Rattle.sql_model.specs.declared.statement.Update.{Update}
 use Rattle.sql_model.specs.declared.statement.Statement.TheVariants.{Query as TheQuery, Insert as TheInsert, Update as TheUpdate, Delete as TheDelete}
 use Rattle.sql_model.specs.QueryAnswer.{Origin}
-use Rattle.sql_model.specs.Changes.{inserted, matched, is_matched}
+use Rattle.sql_model.specs.Changes.{rows_of_insert, matched, is_matched}
 use Rattle.sql_model.specs.Needs.{Versions, NeededRow, needed_by, matched_row, matched_rows, parent_rows, sorted_needs, needs_by, need_of, asked_tables, new_member, members_made, made_unless, made_by, updated_in, updated_unless, updated_rows}
 use Rattle.sql_model.specs.References.{parents_needed}
 use Rattle.sql_model.specs.Scope.{catalog_of, own_scope, table_at}
@@ -42,7 +42,7 @@ origin_of n = record { table = n.table; row = n.row }
 -- those of an INSERT into a table, from its next number on
 abbrev pub members_from : Insert → Option Table → List Member
 members_from insert None = []
-members_from insert (Some t) = map (new_member t) (inserted insert t)
+members_from insert (Some t) = map (new_member t) (rows_of_insert insert t)
 
 -- what an accepted statement makes and updates
 abbrev pub made_of : Versions → Statement → Option Table → List NeededRow → List Member

@@ -10,7 +10,7 @@ use Rattle.ldv_value.specs.declared.line.LineRead.TheVariants as lines
 use Rattle.run_model.specs.Types.{Value, Null, Int, Text, OpenMode}
 use Rattle.run_model.specs.declared.package.Entry.{Entry}
 use Rattle.run_model.specs.Core.{OpenFile, Cursor, Process}
-use Rattle.run_model.specs.StepBase.{with_variable, Computed, Yields, Misused, assign}
+use Rattle.run_model.specs.StepBase.{with_variable, Computation, Yields, Misused, assign}
 use Rattle.run_model.specs.StepFiles.{open_unless, open_path, take_line, read_next, write_where, write_text, copy_where, copy_between, close_file, remove_found, remove_path, test_path}
 use Rattle.run_model.specs.StepReplies.{with_values, one_more, next_row, fetch_row, fetch_from}
 use Rattle.run_model.specs.StepVariables.{cut_values, jump_where, print_line}
@@ -25,7 +25,7 @@ trail p = record { name = p.name; entries = p.entries; spawned = p.spawned }
 
 -- ---- steps of their own process alone
 
-pub trail_assign : (name : List ℕ) (c : Computed) (p : Process) → trail (assign name c p) ≡ trail p
+pub trail_assign : (name : List ℕ) (c : Computation) (p : Process) → trail (assign name c p) ≡ trail p
 trail_assign name (Yields v) p = refl
 trail_assign name (Misused status) p = refl
 

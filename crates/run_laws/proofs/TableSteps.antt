@@ -7,14 +7,14 @@ use Rattle.std.proofs.lemmas.Bool.{cases_Bool}
 use Rattle.sql_model.specs.Needs.{table_name}
 use Rattle.sql_model.specs.Scope.{is_table, same_text, table_at}
 use Rattle.sql_model.specs.Texts.{statement_of}
-use Rattle.run_model.specs.Core.{Diverged, is_over}
+use Rattle.run_model.specs.Core.{Divergence, is_over}
 use Rattle.run_model.specs.Database.{Base}
 use Rattle.run_model.specs.Package.{own_table}
 use Rattle.run_model.specs.Run.{first_pick, later_picks, chosen, move, run, steps}
 use Rattle.run_model.specs.Schedule.{choose}
 use Rattle.run_model.specs.SqlDatabase.{SqlDatabase, sql_base}
 use Rattle.run_model.specs.State.{State}
-use Rattle.run_model.specs.Step.{Ask, ask_at, asking}
+use Rattle.run_model.specs.Step.{Ask, next_ask, asking}
 use Rattle.run_model.proofs.Equations.{run-zero, run-over, run-suc, steps-zero, steps-over, steps-suc}
 use Rattle.run_laws.specs.Types.{PackedTable, Table}
 use Rattle.run_laws.proofs.SqlAnswers.{never_diverged}
@@ -64,7 +64,7 @@ module _ {Db : Type 0} (base : Base Db) where
   ]
 
 -- no step of a run over SQL stops for want of an answer
-pub step_answered : (s : State SqlDatabase) → s.core.diverged ≡ None → is_over s.core ≡ false → (d : Diverged)
+pub step_answered : (s : State SqlDatabase) → s.core.diverged ≡ None → is_over s.core ≡ false → (d : Divergence)
     → (move sql_base None s).state.core.diverged ≡ Some d → ⊥
 step_answered s none going d is =
     let one : run sql_base 1 [] s ≡ (move sql_base None s).state =
@@ -82,7 +82,7 @@ move_names : (pick : Option ℕ) (s : State SqlDatabase)
     → map table_name (move sql_base pick s).state.db.tables ≡ map table_name s.db.tables
 move_names pick s =
     let number : ℕ = choose pick s.core in
-    asking_names number (chosen number s) (ask_at number (chosen number s).core)
+    asking_names number (chosen number s) (next_ask number (chosen number s).core)
 
 run_names : (n : ℕ) (picks : List ℕ) (s : State SqlDatabase)
     → map table_name (run sql_base n picks s).db.tables ≡ map table_name s.db.tables

@@ -14,13 +14,13 @@ use Rattle.ldv_value.specs.declared.file.OpenMode.TheVariants as modes
 use Rattle.ldv_value.proofs.Lists.{all-weaker}
 use Rattle.script_parse.specs.declared.script.Instr.TheVariants as instr
 use Rattle.run_laws.specs.Types.{Value, Null, Int, Text, Operand, Variable, OpenMode, Instr, Reply, Act, Started, Spawned, Unspawned, OpenedRead, OpenedWrite, OpenedAppend, OpenedNew, Unopened, Read, Wrote, Removed, Tested, Waited, Ended, Asked}
-use Rattle.run_model.specs.Core.{Binding, is_bound, lookup, unbind, OpenFile, Process, Core}
-use Rattle.run_model.specs.Step.{Ask, replied, Effect, own, execute, execute_next, quiet_of, quiet, took_of, took, end_acts, status_acts, ends_at}
-use Rattle.run_model.specs.StepBase.{operand_value, operand_values, noted, FileEffect, on_files}
+use Rattle.run_model.specs.Core.{NameBinding, is_bound, lookup, unbind, OpenFile, Process, Core}
+use Rattle.run_model.specs.Step.{Ask, process_with_reply, Effect, own, execute, execute_next, local_step_of, local_step, took_of, took, end_acts, status_acts, ends_at}
+use Rattle.run_model.specs.StepBase.{operand_value, operand_values, process_effect, FileEffect, on_files}
 use Rattle.run_model.specs.StepFiles.{path_in, path_at, open_for, allows_read, allows_write, open_act, open_unless, open_path, read_next, write_where, write_text, write_line, copy_where, copy_between, copy_rest, remove_found, remove_path, test_path}
-use Rattle.run_model.specs.StepProcesses.{Spawning, child_of, parent_of, spawn_script, script_within, spawn_file, spawn_path, spawning_of, status_in, wait_until, wait_for}
-use Rattle.run_model.specs.StepReplies.{counted, status_value}
-use Rattle.run_model.specs.StepVariables.{calculated, to_number, printed_line, exit_status}
+use Rattle.run_model.specs.StepProcesses.{SpawnRequest, child_of, parent_of, spawn_script, script_within, spawn_file, spawn_path, spawning_of, status_in, wait_until, wait_for}
+use Rattle.run_model.specs.StepReplies.{row_count, status_value}
+use Rattle.run_model.specs.StepVariables.{calculation, to_number, printed_line, exit_status}
 use Rattle.run_model.specs.ValidTrace.{made_after}
 use Rattle.run_model.proofs.StepKeeps.{IsStatus, AllFiles, open_holds, Keeps, keeps_place, keeps_variable, keeps_end, keeps_assign, keeps_glue, keeps_cut, keeps_jump, keeps_line, keeps_fetch, keeps_close, keeps_open, keeps_read, keeps_write, keeps_copy, keeps_remove, keeps_test, calculated_byte, to_number_byte, counted_byte, status_value_byte, exit_byte}
 use Rattle.run_laws.proofs.ProcessPlaces.{set_length, found_all, set_all}
@@ -75,7 +75,7 @@ with_good number q ps here good = record {
 
 kept_good : (made : ℕ) (p q : Process) → Keeps IsGoodPath p q → GoodProcess made p → GoodProcess made q
 kept_good made p q keeps good = record {
-  children = subst (AllByRecursion (λ (b : Binding ℕ). b.bound < made)) (sym keeps.children) good.children;
+  children = subst (AllByRecursion (λ (b : NameBinding ℕ). b.bound < made)) (sym keeps.children) good.children;
   files = keeps.files good.files;
   status = keeps.status good.status;
 }
@@ -154,7 +154,7 @@ pub record QuietStep (c : Core) (e : Effect) : Type 0 where
 
 noted_step : (number : ℕ) (q : Process) (acts : List Act) (c : Core) → GoodProcess (length c.processes) q → GoodList c.processes
     → PlainActs (length c.processes) acts → made_by (length c.processes) acts ≡ length c.processes
-    → QuietStep c (noted number q acts c)
+    → QuietStep c (process_effect number q acts c)
 noted_step number q acts c here good plain same = record {
   good = with_good number q c.processes here good;
   acts = plain;
@@ -245,10 +245,10 @@ test_acts to (Some path) p s here = (here path refl, tt)
 
 -- ---- spawn
 
-more_children : (made : ℕ) (bs : List (Binding ℕ)) → AllByRecursion (λ b. b.bound < made) bs
+more_children : (made : ℕ) (bs : List (NameBinding ℕ)) → AllByRecursion (λ b. b.bound < made) bs
     → AllByRecursion (λ b. b.bound < made + 1) bs
 more_children made bs all =
-    all-weaker (λ (b : Binding ℕ). b.bound < made) (λ (b : Binding ℕ). b.bound < made + 1) (λ b below. omega (arith, below)) bs all
+    all-weaker (λ (b : NameBinding ℕ). b.bound < made) (λ (b : NameBinding ℕ). b.bound < made + 1) (λ b below. omega (arith, below)) bs all
 
 more_process : (made : ℕ) (p : Process) → GoodProcess made p → GoodProcess (made + 1) p
 more_process made p good = record { children = more_children made p.children good.children; files = good.files; status = good.status }
@@ -259,11 +259,11 @@ more_processes made ps all = all-weaker (GoodProcess made) (GoodProcess (made + 
 parent_good : (made : ℕ) (name : List ℕ) (p : Process) → GoodProcess made p → GoodProcess (made + 1) (parent_of made name p)
 parent_good made name p good =
     let own : made < made + 1 = omega arith in
-    let rest : AllByRecursion (λ (b : Binding ℕ). b.bound < made + 1) (unbind name p.children) =
-    all_filter (λ (b : Binding ℕ). b.bound < made + 1) (λ (b : Binding ℕ). not (is_bound name b)) p.children (more_children made p.children good.children) in
+    let rest : AllByRecursion (λ (b : NameBinding ℕ). b.bound < made + 1) (unbind name p.children) =
+    all_filter (λ (b : NameBinding ℕ). b.bound < made + 1) (λ (b : NameBinding ℕ). not (is_bound name b)) p.children (more_children made p.children good.children) in
     record { children = (own, rest); files = good.files; status = good.status }
 
-script_step : (o : Option (List Instr)) (spawning : Spawning) (path : List ℕ) (number : ℕ) (p : Process) (c : Core)
+script_step : (o : Option (List Instr)) (spawning : SpawnRequest) (path : List ℕ) (number : ℕ) (p : Process) (c : Core)
     → ((script : List Instr) → o ≡ Some script → nat_lt (length c.processes) max_processes ≡ true) → IsGoodPath path
     → GoodProcess (length c.processes) p → GoodList c.processes → QuietStep c (spawn_script o spawning path number p c)
 script_step None spawning path number p c room here own good =
@@ -298,7 +298,7 @@ within_room c bytes script is = elim (cases_Bool (nat_lt (length c.processes) ma
   | inr full ↦ let never : None ≡ Some script = rw full at is in absurd cc
 ]
 
-file_step : (o : Option (List ℕ)) (spawning : Spawning) (path : List ℕ) (number : ℕ) (p : Process) (c : Core)
+file_step : (o : Option (List ℕ)) (spawning : SpawnRequest) (path : List ℕ) (number : ℕ) (p : Process) (c : Core)
     → IsGoodPath path → GoodProcess (length c.processes) p → GoodList c.processes
     → QuietStep c (spawn_file o spawning path number p c)
 file_step None spawning path number p c here own good =
@@ -307,7 +307,7 @@ file_step None spawning path number p c here own good =
 file_step (Some bytes) spawning path number p c here own good =
     script_step (script_within c bytes) spawning path number p c (λ script is. within_room c bytes script is) here own good
 
-spawn_step : (o : Option (List ℕ)) (spawning : Spawning) (number : ℕ) (p : Process) (c : Core)
+spawn_step : (o : Option (List ℕ)) (spawning : SpawnRequest) (number : ℕ) (p : Process) (c : Core)
     → ((path : List ℕ) → o ≡ Some path → IsGoodPath path) → GoodProcess (length c.processes) p → GoodList c.processes
     → QuietStep c (spawn_path o spawning number p c)
 spawn_step None spawning number p c here own good = own_step number p _ c (keeps_end IsGoodPath 243 p (omega arith)) own good
@@ -316,7 +316,7 @@ spawn_step (Some path) spawning number p c here own good =
 
 -- ---- wait
 
-lookup_below : (made : ℕ) (name : List ℕ) (bs : List (Binding ℕ)) (child : ℕ) → AllByRecursion (λ b. b.bound < made) bs
+lookup_below : (made : ℕ) (name : List ℕ) (bs : List (NameBinding ℕ)) (child : ℕ) → AllByRecursion (λ b. b.bound < made) bs
     → lookup name bs ≡ Some child → child < made
 lookup_below made name [] child below is = absurd cc
 lookup_below made name (b ∷ bs) child below is = elim (cases_Bool (is_bound name b)) [
@@ -350,7 +350,7 @@ executes_step (instr.Let to value) number p c own good =
 executes_step (instr.Calc to op left right) number p c own good =
     let v : Value = operand_value p left in
     let w : Value = operand_value p right in
-    own_step number p _ c (keeps_assign IsGoodPath to (calculated op v w) p (calculated_byte op v w)) own good
+    own_step number p _ c (keeps_assign IsGoodPath to (calculation op v w) p (calculated_byte op v w)) own good
 executes_step (instr.Glue to left right) number p c own good =
     own_step number p _ c (keeps_glue IsGoodPath to (operand_value p left) (operand_value p right) p) own good
 executes_step (instr.ToInt to value) number p c own good =
@@ -407,7 +407,7 @@ executes_step (instr.Fetch cursor to place) number p c own good =
     own_step number p _ c (keeps_fetch IsGoodPath (lookup cursor p.cursors) cursor to place p) own good
 executes_step (instr.Count to cursor) number p c own good =
     let o = lookup cursor p.cursors in
-    own_step number p _ c (keeps_assign IsGoodPath to (counted o) p (counted_byte o)) own good
+    own_step number p _ c (keeps_assign IsGoodPath to (row_count o) p (counted_byte o)) own good
 executes_step (instr.Status to cursor) number p c own good =
     let o = lookup cursor p.cursors in
     own_step number p _ c (keeps_assign IsGoodPath to (status_value o) p (status_value_byte o)) own good
@@ -418,9 +418,9 @@ next_step None number p c own good = own_step number p _ c (keeps_end IsGoodPath
 next_step (Some i) number p c own good = executes_step i number p c own good
 
 pub quiet_step : (number : ℕ) (p : Process) (c : Core) → slice_get c.processes number ≡ Some p → GoodList c.processes
-    → QuietStep c (quiet number c)
+    → QuietStep c (local_step number c)
 quiet_step number p c is good =
-    subst (λ (o : Option Process). QuietStep c (quiet_of o number c)) (sym is)
+    subst (λ (o : Option Process). QuietStep c (local_step_of o number c)) (sym is)
     (next_step (slice_get p.script p.place) number p c (found_all (GoodProcess (length c.processes)) c.processes number p good.each is) good)
 
 -- ---- steps that ask
@@ -433,11 +433,11 @@ pub record TookStep (c new : Core) : Type 0 where
 took_process : (number : ℕ) (p : Process) (a : Ask) (reply : Reply) (c : Core) → GoodProcess (length c.processes) p
     → GoodList c.processes → TookStep c (took_of (Some p) number a reply c)
 took_process number p a reply c own good =
-    let same : GoodProcess (length c.processes) (replied a reply p) =
+    let same : GoodProcess (length c.processes) (process_with_reply a reply p) =
     record { children = own.children; files = own.files; status = own.status } in
     record {
-      good = with_good number (replied a reply p) c.processes same good;
-      made = set_length c.processes number (replied a reply p);
+      good = with_good number (process_with_reply a reply p) c.processes same good;
+      made = set_length c.processes number (process_with_reply a reply p);
       asked = refl;
     }
 

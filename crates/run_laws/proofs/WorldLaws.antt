@@ -7,13 +7,13 @@ use Rattle.sql_laws.proofs.CutDatabases.{cut_tables_law}
 use Rattle.sql_laws.proofs.OtherRows.{database_same}
 use Rattle.run_laws.specs.Types.{File, Instr, Started, Event, Mode, Included, Excluded, Outcome, World}
 use Rattle.run_model.specs.Between.{HasParents, Cut, FileCut, Gone, Same, Other, cut_world, cut_files, cut_tables, table_stays, KeepsFile, slice_of}
-use Rattle.run_model.specs.Core.{Core, all_ended}
+use Rattle.run_model.specs.Core.{Core, have_all_ended}
 use Rattle.run_model.specs.Events.{event_at, events, start_events}
 use Rattle.run_model.specs.Outcome.{outcome_of_process, outcome_of, outcome_at, by_name}
 use Rattle.run_model.specs.Package.{logs_of_mode, tables_of}
 use Rattle.run_model.specs.Slice.{FileNeed, Whole, file_need, files_needed}
 use Rattle.run_model.specs.SqlDatabase.{SqlDatabase, sql_base}
-use Rattle.ldv_value.specs.FileState.{FileState, file_at, untouched}
+use Rattle.ldv_value.specs.FileState.{FileState, file_at, initial_files}
 use Rattle.ldv_value.proofs.Cases.{cases-option}
 use Rattle.ldv_value.proofs.SameBytes.{bytes_eq-itself}
 use Rattle.run_model.specs.Start.{start_script, start_state}
@@ -67,7 +67,7 @@ outcome_same files c agrees = λ j. record {
 }
 
 outcome_at_same : (files : FileState) (c : Core) → Agrees [] files c.files → outcome_at (with_files files c) ≡ outcome_at c
-outcome_at_same files c agrees = ap (λ (o : Outcome). if all_ended c then Some o else None) (outcome_same files c agrees)
+outcome_at_same files c agrees = ap (λ (o : Outcome). if have_all_ended c then Some o else None) (outcome_same files c agrees)
 
 -- the start changes no file
 start_later : (word : Option (List ℕ)) (es : List Event) (a b : FileState) → Agrees (start_events word ++ es) a b → Agrees es a b
@@ -96,7 +96,7 @@ module _ (n : ℕ) (picks : List ℕ) (w : World) (script : List Instr) (is : st
   keeps_run = (keeps_events_split cut (start_events (slice_get w.start 0)) later (subst (KeepsEvents cut) events_are (keeps_events (events_by n picks w) cut keeps))).1
 
   abbrev small_files : FileState
-  small_files = untouched small.files
+  small_files = initial_files small.files
 
   start_agrees : Agrees later small_files start.core.files
   start_agrees =
@@ -120,7 +120,7 @@ module _ (n : ℕ) (picks : List ℕ) (w : World) (script : List Instr) (is : st
   steps_stay = ap (steps_in n picks small) script_stays ∙ runs.count ∙ sym (ap (steps_in n picks w) is)
 
   ends_stay : ends_by n picks small ≡ ends_by n picks w
-  ends_stay = ap (ends_in n picks small) script_stays ∙ ap all_ended core_same ∙ sym (ap (ends_in n picks w) is)
+  ends_stay = ap (ends_in n picks small) script_stays ∙ ap have_all_ended core_same ∙ sym (ap (ends_in n picks w) is)
 
   outcome_stays : outcome_by n picks small ≡ outcome_by n picks w
   outcome_stays =

@@ -12,7 +12,7 @@ use Rattle.run_model.specs.StepReplies.{entry_of}
 -- ---- a database whose replies are kept
 
 -- the database, and what is kept: a list that is empty at first
-pub record Keeping (Db : Type 0) : Type 0 where
+pub record KeepingDatabase (Db : Type 0) : Type 0 where
   pub db : Db
   pub kept : List Kept
 
@@ -21,13 +21,13 @@ abbrev pub kept_of : Question → Reply → Kept
 kept_of q reply = record { process = record { parts = q.process }; entry = entry_of q reply }
 
 module _ {Db : Type 0} where
-  abbrev pub with_answer : List Kept → Question → Answer Db → Answer (Keeping Db)
+  abbrev pub with_answer : List Kept → Question → Answer Db → Answer (KeepingDatabase Db)
   with_answer kept q (Gives reply db lists) =
       Gives reply (record { db = db; kept = kept ++ kept_of q reply ∷ [] }) lists
   with_answer kept q Diverges = Diverges
 
   -- it replies what the database replies, and keeps the question with the reply
-  abbrev pub keeping_base : Base Db → Base (Keeping Db)
+  abbrev pub keeping_base : Base Db → Base (KeepingDatabase Db)
   keeping_base base k q = with_answer k.kept q (base k.db q)
 
 -- ---- the logs

@@ -7,7 +7,7 @@ use Rattle.run_model.specs.Core.{is_over}
 use Rattle.run_model.specs.Database.{Base}
 use Rattle.run_model.specs.Events.{events, events_after, events_of_step}
 use Rattle.run_model.specs.Run.{first_pick, later_picks, move, run, steps}
-use Rattle.run_model.specs.State.{State, Stepped}
+use Rattle.run_model.specs.State.{State, StepResult}
 
 module _ {Db : Type 0} (base : Base Db) where
   -- ---- runs

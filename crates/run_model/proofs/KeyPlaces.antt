@@ -12,12 +12,12 @@ use Rattle.sql_model.specs.Tables.{key_places_test}
 use Rattle.sql_model.specs.declared.table.Column.{Column}
 
 -- what passes a test somewhere is found
-pub found : {X : Type 0} (p : X → Bool) (xs : List X) → list_any p xs ≡ true
+pub find-of-list_any : {X : Type 0} (p : X → Bool) (xs : List X) → list_any p xs ≡ true
     → (x : X) × (find p xs ≡ Some x) × (p x ≡ true)
-found p [] any = cc
-found p (x ∷ xs) any = elim (cases_Bool (p x)) [
+find-of-list_any p [] any = cc
+find-of-list_any p (x ∷ xs) any = elim (cases_Bool (p x)) [
   | inl hit ↦ (x, rw hit refl, hit)
-  | inr miss ↦ let later = found p xs (rw miss at any) in (later.0, rw miss later.1, later.2)
+  | inr miss ↦ let later = find-of-list_any p xs (rw miss at any) in (later.0, rw miss later.1, later.2)
 ]
 
 none_equal : (n : ℕ) (ns : List ℕ) → list_any (nat_eq n) ns ≡ false
@@ -37,7 +37,7 @@ distinct (n ∷ ns) none =
 each_below : (limit : ℕ) (ns : List ℕ) → list_all (λ n. nat_lt n limit) ns ≡ true
     → (q : ℕ) → list_any (nat_eq q) ns ≡ true → q < limit
 each_below limit ns all q any =
-    let one = found (nat_eq q) ns any in
+    let one = find-of-list_any (nat_eq q) ns any in
     let below : nat_lt one.0 limit ≡ true = found-all (nat_eq q) (λ n. nat_lt n limit) ns one.0 all one.1 in
     let same : q ≡ one.0 = (Decides-eqb q one.0).0 one.2 in
     let less : one.0 < limit = ltb-true one.0 limit below in

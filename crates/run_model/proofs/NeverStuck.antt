@@ -8,24 +8,24 @@ use Rattle.ldv_value.specs.FileState.{content_at}
 use Rattle.ldv_value.specs.Order.{order, meets}
 use Rattle.script_parse.specs.declared.script.Instr.TheVariants as instr
 use Rattle.run_model.specs.Types.{Instr, Reply, Variable}
-use Rattle.run_model.specs.Core.{Binding, is_bound, lookup, unbind, Process, Core, has_ended, all_ended, is_over, with_process}
+use Rattle.run_model.specs.Core.{NameBinding, is_bound, lookup, unbind, Process, Core, has_ended, have_all_ended, is_over, with_process}
 use Rattle.run_model.specs.Database.{Answer, Gives, Diverges, Base}
 use Rattle.run_model.specs.Run.{first_pick, later_picks, chosen, move_of, move, run}
-use Rattle.run_model.specs.RunLaw.{MayRun, started, NeverStuckLaw}
-use Rattle.run_model.specs.Schedule.{still_runs, waits_for, is_waiting, is_runnable, runnable_from, runnable, next_or_least, pick_in, pick_of, moved_x, choose}
+use Rattle.run_model.specs.RunLaw.{MayRun, start_state_of, NeverStuckLaw}
+use Rattle.run_model.specs.Schedule.{still_runs, waits_for, is_waiting, is_runnable, runnable_from, runnable_processes, next_or_least, pick_in, pick_of, moved_x, choose}
 use Rattle.run_model.specs.State.{State}
-use Rattle.run_model.specs.Step.{Ask, replied, execute, execute_next, quiet_of, took_of, ask_at, told, asking}
+use Rattle.run_model.specs.Step.{Ask, process_with_reply, execute, execute_next, local_step_of, took_of, next_ask, told, asking}
 use Rattle.run_model.specs.StepBase.{operand_value, operand_values, FileEffect, on_files}
 use Rattle.run_model.specs.StepFiles.{path_at, open_for, allows_read, allows_write, open_path, read_next, write_line, copy_rest, remove_path, test_path}
-use Rattle.run_model.specs.StepProcesses.{Spawning, child_of, parent_of, spawn_script, script_within, spawn_file, spawn_path, spawning_of, status_in, wait_until, wait_for}
-use Rattle.run_model.specs.StepReplies.{counted, status_value}
-use Rattle.run_model.specs.StepVariables.{calculated, to_number, printed_line}
+use Rattle.run_model.specs.StepProcesses.{SpawnRequest, child_of, parent_of, spawn_script, script_within, spawn_file, spawn_path, spawning_of, status_in, wait_until, wait_for}
+use Rattle.run_model.specs.StepReplies.{row_count, status_value}
+use Rattle.run_model.specs.StepVariables.{calculation, to_number, printed_line}
 use Rattle.run_model.proofs.Equations.{run-zero, run-over, run-suc}
 use Rattle.run_model.proofs.StepKeeps.{Keeps, keeps_assign, keeps_glue, keeps_cut, keeps_jump, keeps_line, keeps_fetch, keeps_close, keeps_open, keeps_read, keeps_write, keeps_copy, keeps_remove, keeps_test, calculated_byte, to_number_byte, counted_byte, status_value_byte}
 
 -- ---- children are made after their process
 
-abbrev pub IsAbove : ℕ → Binding ℕ → Type 0
+abbrev pub IsAbove : ℕ → NameBinding ℕ → Type 0
 IsAbove n b = n < b.bound
 
 -- of processes from a creation number on
@@ -98,7 +98,7 @@ found_below [] (suc k) p is = absurd cc
 found_below (r ∷ ps) zero p is = omega arith
 found_below (r ∷ ps) (suc k) p is = omega (arith, found_below ps k p is)
 
-unbound_above : (m : ℕ) (name : List ℕ) (bs : List (Binding ℕ)) → AllByRecursion (IsAbove m) bs
+unbound_above : (m : ℕ) (name : List ℕ) (bs : List (NameBinding ℕ)) → AllByRecursion (IsAbove m) bs
     → AllByRecursion (IsAbove m) (unbind name bs)
 unbound_above m name [] above = tt
 unbound_above m name (b ∷ bs) above = elim (cases_Bool (is_bound name b)) [
@@ -106,7 +106,7 @@ unbound_above m name (b ∷ bs) above = elim (cases_Bool (is_bound name b)) [
   | inr miss ↦ rw miss (above.0, unbound_above m name bs above.1)
 ]
 
-spawned_ordered : (o : Option (List Instr)) (spawning : Spawning) (path : List ℕ) (number : ℕ) (p : Process) (c : Core)
+spawned_ordered : (o : Option (List Instr)) (spawning : SpawnRequest) (path : List ℕ) (number : ℕ) (p : Process) (c : Core)
     → slice_get c.processes number ≡ Some p → Ordered c → Ordered (spawn_script o spawning path number p c).core
 spawned_ordered None spawning path number p c is ordered = with_ordered number p _ c is refl ordered
 spawned_ordered (Some script) spawning path number p c is ordered =
@@ -117,13 +117,13 @@ spawned_ordered (Some script) spawning path number p c is ordered =
     append_later 0 (slice_set c.processes number parent) (child_of p script spawning.arguments) refl
     (set_later 0 number c.processes parent above ordered)
 
-file_ordered : (o : Option (List ℕ)) (spawning : Spawning) (path : List ℕ) (number : ℕ) (p : Process) (c : Core)
+file_ordered : (o : Option (List ℕ)) (spawning : SpawnRequest) (path : List ℕ) (number : ℕ) (p : Process) (c : Core)
     → slice_get c.processes number ≡ Some p → Ordered c → Ordered (spawn_file o spawning path number p c).core
 file_ordered None spawning path number p c is ordered = with_ordered number p _ c is refl ordered
 file_ordered (Some bytes) spawning path number p c is ordered =
     spawned_ordered (script_within c bytes) spawning path number p c is ordered
 
-path_ordered : (o : Option (List ℕ)) (spawning : Spawning) (number : ℕ) (p : Process) (c : Core)
+path_ordered : (o : Option (List ℕ)) (spawning : SpawnRequest) (number : ℕ) (p : Process) (c : Core)
     → slice_get c.processes number ≡ Some p → Ordered c → Ordered (spawn_path o spawning number p c).core
 path_ordered None spawning number p c is ordered = with_ordered number p _ c is refl ordered
 path_ordered (Some path) spawning number p c is ordered =
@@ -146,7 +146,7 @@ executes_ordered (instr.Let to value) number p c is ordered = with_ordered numbe
 executes_ordered (instr.Calc to op left right) number p c is ordered =
     let v = operand_value p left in
     let w = operand_value p right in
-    kept_ordered number p _ c is (keeps_assign Any to (calculated op v w) p (calculated_byte op v w)) ordered
+    kept_ordered number p _ c is (keeps_assign Any to (calculation op v w) p (calculated_byte op v w)) ordered
 executes_ordered (instr.Glue to left right) number p c is ordered =
     kept_ordered number p _ c is (keeps_glue Any to (operand_value p left) (operand_value p right) p) ordered
 executes_ordered (instr.ToInt to value) number p c is ordered =
@@ -188,7 +188,7 @@ executes_ordered (instr.Fetch cursor to place) number p c is ordered =
     kept_ordered number p _ c is (keeps_fetch Any (lookup cursor p.cursors) cursor to place p) ordered
 executes_ordered (instr.Count to cursor) number p c is ordered =
     let o = lookup cursor p.cursors in
-    kept_ordered number p _ c is (keeps_assign Any to (counted o) p (counted_byte o)) ordered
+    kept_ordered number p _ c is (keeps_assign Any to (row_count o) p (counted_byte o)) ordered
 executes_ordered (instr.Status to cursor) number p c is ordered =
     let o = lookup cursor p.cursors in
     kept_ordered number p _ c is (keeps_assign Any to (status_value o) p (status_value_byte o)) ordered
@@ -198,14 +198,14 @@ next_ordered : (i : Option Instr) (number : ℕ) (p : Process) (c : Core) → sl
 next_ordered None number p c is ordered = with_ordered number p _ c is refl ordered
 next_ordered (Some i) number p c is ordered = executes_ordered i number p c is ordered
 
-quiet_ordered : (o : Option Process) (number : ℕ) (c : Core) → slice_get c.processes number ≡ o → Ordered c → Ordered (quiet_of o number c).core
+quiet_ordered : (o : Option Process) (number : ℕ) (c : Core) → slice_get c.processes number ≡ o → Ordered c → Ordered (local_step_of o number c).core
 quiet_ordered None number c is ordered = ordered
 quiet_ordered (Some p) number c is ordered = next_ordered (slice_get p.script p.place) number p c is ordered
 
 took_ordered : (o : Option Process) (number : ℕ) (a : Ask) (reply : Reply) (c : Core) → slice_get c.processes number ≡ o → Ordered c
     → Ordered (took_of o number a reply c)
 took_ordered None number a reply c is ordered = ordered
-took_ordered (Some p) number a reply c is ordered = with_ordered number p (replied a reply p) c is refl ordered
+took_ordered (Some p) number a reply c is ordered = with_ordered number p (process_with_reply a reply p) c is refl ordered
 
 module _ {Db : Type 0} where
   told_ordered : (number : ℕ) (a : Ask) (s : State Db) (x : Answer Db) → Ordered s.core → Ordered (told number a s x).state.core
@@ -218,7 +218,7 @@ module _ {Db : Type 0} (base : Base Db) where
   asking_ordered number s (Some a) ordered = told_ordered number a s (base s.db a.question) ordered
 
   pub move_ordered : (number : ℕ) (s : State Db) → Ordered s.core → Ordered (move_of base number s).state.core
-  move_ordered number s ordered = asking_ordered number (chosen number s) (ask_at number (chosen number s).core) ordered
+  move_ordered number s ordered = asking_ordered number (chosen number s) (next_ask number (chosen number s).core) ordered
 
   run_ordered : (n : ℕ) (picks : List ℕ) (s : State Db) → Ordered s.core → Ordered (run base n picks s).core
   run_ordered zero picks s ordered = subst (λ (t : State Db). Ordered t.core) (sym (run-zero base picks s)) ordered
@@ -243,7 +243,7 @@ none_runs (p ∷ ps) zero ended = ended_rests p.status (and_parts (has_ended p) 
 none_runs (p ∷ ps) (suc k) ended = none_runs ps k (and_parts (has_ended p) (list_all has_ended ps) ended).1
 
 -- a child is among those that were made after its process
-lookup_above : (n : ℕ) (name : List ℕ) (bs : List (Binding ℕ)) (child : ℕ) → AllByRecursion (IsAbove n) bs → lookup name bs ≡ Some child → n < child
+lookup_above : (n : ℕ) (name : List ℕ) (bs : List (NameBinding ℕ)) (child : ℕ) → AllByRecursion (IsAbove n) bs → lookup name bs ≡ Some child → n < child
 lookup_above n name [] child above is = absurd cc
 lookup_above n name (b ∷ bs) child above is = elim (cases_Bool (is_bound name b)) [
   | inl hit ↦ let found : Some b.bound ≡ Some child = rw hit at is in let same : b.bound ≡ child = cc in subst (λ (k : ℕ). n < k) same above.0
@@ -347,17 +347,17 @@ module _ (P : ℕ → Type 0) where
     | inr other ↦ rw other (in_round ns (x / 2 ^ 33) all some)
   ]
 
-pub chosen_runs : (pick : Option ℕ) (c : Core) → Ordered c → all_ended c ≡ false → MayRun (choose pick c) c
+pub chosen_runs : (pick : Option ℕ) (c : Core) → Ordered c → have_all_ended c ≡ false → MayRun (choose pick c) c
 chosen_runs pick c ordered going =
     let whole : IsRest c.processes 0 c.processes = λ k. let same : 0 + k ≡ k = omega arith in ap (slice_get c.processes) same in
-    let all : AllByRecursion (IsNumbered c.processes) (runnable c) = each_runs c.processes 0 c.processes whole in
-    let some : 1 ≤ length (runnable c) = some_runs c.processes 0 c.processes whole ordered going in
+    let all : AllByRecursion (IsNumbered c.processes) (runnable_processes c) = each_runs c.processes 0 c.processes whole in
+    let some : 1 ≤ length (runnable_processes c) = some_runs c.processes 0 c.processes whole ordered going in
     by pick all some
   where
-    by : (pick : Option ℕ) → AllByRecursion (IsNumbered c.processes) (runnable c) → 1 ≤ length (runnable c) → MayRun (choose pick c) c
-    by None all some = pick_holds (IsNumbered c.processes) c.seed c.last (moved_x c.seed c.x) (runnable c) all some
-    by (Some k) all some = in_round (IsNumbered c.processes) (runnable c) k all some
+    by : (pick : Option ℕ) → AllByRecursion (IsNumbered c.processes) (runnable_processes c) → 1 ≤ length (runnable_processes c) → MayRun (choose pick c) c
+    by None all some = pick_holds (IsNumbered c.processes) c.seed c.last (moved_x c.seed c.x) (runnable_processes c) all some
+    by (Some k) all some = in_round (IsNumbered c.processes) (runnable_processes c) k all some
 
 pub never_stuck : (Db : Type 0) → NeverStuckLaw Db
 never_stuck Db base n picks start seed files script db pick going =
-    chosen_runs pick (run base n picks (started start seed files script db)).core (run_ordered base n picks (started start seed files script db) (tt, tt)) going
+    chosen_runs pick (run base n picks (start_state_of start seed files script db)).core (run_ordered base n picks (start_state_of start seed files script db) (tt, tt)) going

@@ -8,7 +8,7 @@ use Rattle.run_model.specs.Core.{is_over}
 use Rattle.run_model.specs.Database.{Base}
 use Rattle.run_model.specs.Events.{events, events_of_step}
 use Rattle.run_model.specs.Run.{first_pick, later_picks, move, run, steps}
-use Rattle.run_model.specs.State.{State, Stepped}
+use Rattle.run_model.specs.State.{State, StepResult}
 use Rattle.run_model.proofs.Equations.{run-zero, run-over, run-suc, steps-over, steps-suc, events-over, events-suc}
 
 module _ {Db : Type 0} (base : Base Db) where
@@ -33,7 +33,7 @@ module _ {Db : Type 0} (base : Base Db) where
   settled (suc n) more number picks s end = elim (cases_Bool (is_over s.core)) [
     | inl over ↦ settled_over (suc n) more number picks s over
     | inr going ↦
-        let one : Stepped Db = move base (first_pick picks) s in
+        let one : StepResult Db = move base (first_pick picks) s in
         let at_end : is_over (run base n (later_picks picks) one.state).core ≡ true =
         ap (λ (t : State Db). is_over t.core) (sym (run-suc base n picks s going)) ∙ end in
         let rest : IsSettled n more (number + 1) (later_picks picks) one.state =

@@ -8,19 +8,19 @@ use Rattle.ldv_value.proofs.Cases.{cases-option}
 use Rattle.ldv_value.specs.FileState.{FileState, is_there, FileRefusal, open_refusal, has_room, rest_at, content_at}
 use Rattle.script_parse.specs.declared.script.Instr.TheVariants as instr
 use Rattle.run_model.specs.Types.{Instr, Act, Event, OpenMode, World}
-use Rattle.run_model.specs.Core.{lookup, OpenFile, Process, Core, all_ended, is_over}
+use Rattle.run_model.specs.Core.{lookup, OpenFile, Process, Core, have_all_ended, is_over}
 use Rattle.run_model.specs.Database.{Answer, Gives, Diverges, Base}
 use Rattle.run_model.specs.Events.{event_at, events_of_step, events, start_events}
 use Rattle.run_model.specs.Run.{first_pick, later_picks, chosen, move_of, move, steps}
-use Rattle.run_model.specs.RunLaw.{MayRun, started, FewEventsLaw, WorldEventsLaw}
+use Rattle.run_model.specs.RunLaw.{MayRun, start_state_of, FewEventsLaw, WorldEventsLaw}
 use Rattle.run_model.specs.Schedule.{choose, is_waiting}
 use Rattle.run_model.specs.SqlDatabase.{sql_base}
 use Rattle.run_model.specs.Start.{start_script, start_state}
-use Rattle.run_model.specs.State.{State, Stepped}
-use Rattle.run_model.specs.Step.{Ask, Effect, execute, execute_next, quiet_of, quiet, took, asked_act, end_acts, status_acts, ends_at, ask_at, told, asking}
+use Rattle.run_model.specs.State.{State, StepResult}
+use Rattle.run_model.specs.Step.{Ask, Effect, execute, execute_next, local_step_of, local_step, took, asked_act, end_acts, status_acts, ends_at, next_ask, told, asking}
 use Rattle.run_model.specs.StepBase.{FileEffect, on_files}
 use Rattle.run_model.specs.StepFiles.{path_at, open_for, allows_read, allows_write, open_unless, open_path, read_next, write_where, write_text, write_line, copy_where, copy_between, copy_rest, remove_found, remove_path, test_path}
-use Rattle.run_model.specs.StepProcesses.{Spawning, spawn_script, script_within, spawn_file, spawn_path, spawning_of, status_in, wait_until, wait_for}
+use Rattle.run_model.specs.StepProcesses.{SpawnRequest, spawn_script, script_within, spawn_file, spawn_path, spawning_of, status_in, wait_until, wait_for}
 use Rattle.run_model.specs.StepVariables.{printed_line}
 use Rattle.run_model.specs.StepBase.{operand_values}
 use Rattle.run_model.specs.WorldRun.{steps_in, steps_by, events_in, events_by}
@@ -75,15 +75,15 @@ test_few : (to : List ℕ) (o : Option (List ℕ)) (p : Process) (s : FileState)
 test_few to None p s = omega arith
 test_few to (Some path) p s = omega arith
 
-script_few : (o : Option (List Instr)) (spawning : Spawning) (path : List ℕ) (number : ℕ) (p : Process) (c : Core) → IsFew (spawn_script o spawning path number p c).acts
+script_few : (o : Option (List Instr)) (spawning : SpawnRequest) (path : List ℕ) (number : ℕ) (p : Process) (c : Core) → IsFew (spawn_script o spawning path number p c).acts
 script_few None spawning path number p c = omega arith
 script_few (Some script) spawning path number p c = omega arith
 
-file_few : (o : Option (List ℕ)) (spawning : Spawning) (path : List ℕ) (number : ℕ) (p : Process) (c : Core) → IsFew (spawn_file o spawning path number p c).acts
+file_few : (o : Option (List ℕ)) (spawning : SpawnRequest) (path : List ℕ) (number : ℕ) (p : Process) (c : Core) → IsFew (spawn_file o spawning path number p c).acts
 file_few None spawning path number p c = omega arith
 file_few (Some bytes) spawning path number p c = script_few (script_within c bytes) spawning path number p c
 
-spawn_few : (o : Option (List ℕ)) (spawning : Spawning) (number : ℕ) (p : Process) (c : Core) → IsFew (spawn_path o spawning number p c).acts
+spawn_few : (o : Option (List ℕ)) (spawning : SpawnRequest) (number : ℕ) (p : Process) (c : Core) → IsFew (spawn_path o spawning number p c).acts
 spawn_few None spawning number p c = omega arith
 spawn_few (Some path) spawning number p c = file_few (content_at c.files path) spawning path number p c
 
@@ -167,9 +167,9 @@ next_few : (o : Option Instr) (number : ℕ) (p : Process) (c : Core) → p.stat
 next_few None number p c none = few_acts number (execute_next None number p c) (omega arith)
 next_few (Some i) number p c none = executes_few i number p c none
 
-quiet_few : (number : ℕ) (p : Process) (c : Core) → slice_get c.processes number ≡ Some p → p.status ≡ None → all_acts number (quiet number c) ≤ 2
+quiet_few : (number : ℕ) (p : Process) (c : Core) → slice_get c.processes number ≡ Some p → p.status ≡ None → all_acts number (local_step number c) ≤ 2
 quiet_few number p c is none =
-    subst (λ (o : Option Process). all_acts number (quiet_of o number c) ≤ 2) (sym is) (next_few (slice_get p.script p.place) number p c none)
+    subst (λ (o : Option Process). all_acts number (local_step_of o number c) ≤ 2) (sym is) (next_few (slice_get p.script p.place) number p c none)
 
 -- ---- a move, and a run
 
@@ -190,11 +190,11 @@ module _ {Db : Type 0} (base : Base Db) where
   move_few : (pick : Option ℕ) (s : State Db) → Ordered s.core → is_over s.core ≡ false → length (move base pick s).acts ≤ 2
   move_few pick s ordered going =
       let number : ℕ = choose pick s.core in
-      let parts = or_parts (is_some s.core.diverged) (all_ended s.core) going in
+      let parts = or_parts (is_some s.core.diverged) (have_all_ended s.core) going in
       let may : MayRun number s.core = chosen_runs pick s.core ordered parts.1 in
       asking_few number may.0 (chosen number s) may.1
       (none_is may.0.status (not (is_waiting (slice_get may.0.script may.0.place) may.0 s.core.processes)) may.2)
-      (ask_at number (chosen number s).core)
+      (next_ask number (chosen number s).core)
 
   pub few_events : (n number : ℕ) (picks : List ℕ) (s : State Db) → Ordered s.core
       → length (events base n number picks s) ≤ 2 * steps base n picks s
@@ -203,7 +203,7 @@ module _ {Db : Type 0} (base : Base Db) where
     | inl over ↦ omega (arith, ap length (events-over base (suc n) number picks s over))
     | inr going ↦
         let pick : Option ℕ = first_pick picks in
-        let m : Stepped Db = move base pick s in
+        let m : StepResult Db = move base pick s in
         let rest : List Event = events base n (number + 1) (later_picks picks) m.state in
         let all : length (events base (suc n) number picks s) ≡ length (events_of_step number m ++ rest) = ap length (events-suc base n number picks s going) in
         let count : length (events_of_step number m) ≡ length m.acts = length-map m.acts (event_at number m.process) in
@@ -228,7 +228,7 @@ module _ {Db : Type 0} (base : Base Db) where
   ]
 
 pub few_events_law : (Db : Type 0) → FewEventsLaw Db
-few_events_law Db base n picks start seed files script db = few_events base n 1 picks (started start seed files script db) (tt, tt)
+few_events_law Db base n picks start seed files script db = few_events base n 1 picks (start_state_of start seed files script db) (tt, tt)
 
 -- ---- the run of a world
 

@@ -6,17 +6,17 @@ use Rattle.std.specs.List.{AllByRecursion}
 use Rattle.std.proofs.lemmas.Bool.{cases_Bool, ltb-true}
 use Rattle.ldv_value.specs.FileState.{FileState, is_there, FileRefusal, open_refusal, has_room, rest_at, copy_end, read_line}
 use Rattle.ldv_value.specs.Limits.{printed_limit, text_limit}
-use Rattle.ldv_value.specs.Shown.{shown}
+use Rattle.ldv_value.specs.Shown.{value_text}
 use Rattle.ldv_value.specs.declared.line.LineRead.{LineRead}
 use Rattle.ldv_value.specs.declared.line.LineRead.TheVariants as lines
 use Rattle.script_parse.specs.Number.{number_of}
 use Rattle.sql_model.specs.Meaning.{is_null}
 use Rattle.run_model.specs.Types.{Value, Null, Int, Text, CalcOp, OpenMode}
-use Rattle.run_model.specs.Core.{Binding, is_bound, lookup, bind, unbind, OpenFile, Cursor, Process}
-use Rattle.run_model.specs.StepBase.{ended, went_on, went_to, with_variable, Computed, Yields, Misused, number_within, assign}
+use Rattle.run_model.specs.Core.{NameBinding, is_bound, lookup, bind, unbind, OpenFile, Cursor, Process}
+use Rattle.run_model.specs.StepBase.{with_exit_status, went_on, went_to, with_variable, Computation, Yields, Misused, number_within, assign}
 use Rattle.run_model.specs.StepFiles.{if_allowed, open_for, opened_file, open_unless, open_path, take_line, read_next, write_where, write_text, copy_where, copy_between, close_file, remove_found, remove_path, test_path}
-use Rattle.run_model.specs.StepReplies.{with_values, fetch_row, fetch_from, next_row, one_more, counted, status_value, count_in}
-use Rattle.run_model.specs.StepVariables.{calculated, result_of, glued, text_within, number_or_misuse, to_number, cut_values, jump_where, print_line, exit_status}
+use Rattle.run_model.specs.StepReplies.{with_values, fetch_row, fetch_from, next_row, one_more, row_count, status_value, count_in}
+use Rattle.run_model.specs.StepVariables.{calculation, result_of, concatenation, text_within, number_or_misuse, to_number, cut_values, jump_where, print_line, exit_status}
 
 -- ---- statuses
 
@@ -26,7 +26,7 @@ IsStatus None = Unit {0}
 IsStatus (Some status) = status < 256
 
 -- misuse has such a status
-abbrev pub IsByte : Computed → Type 0
+abbrev pub IsByte : Computation → Type 0
 IsByte (Yields v) = Unit {0}
 IsByte (Misused status) = status < 256
 
@@ -43,7 +43,7 @@ within_byte (negsuc n) = elim (cases_Bool (nat_lt n (2 ^ 63))) [
   | inr over ↦ let byte : 241 < 256 = omega arith in rw over byte
 ]
 
-pub calculated_byte : (op : CalcOp) (v w : Value) → IsByte (calculated op v w)
+pub calculated_byte : (op : CalcOp) (v w : Value) → IsByte (calculation op v w)
 calculated_byte op Null w = omega arith
 calculated_byte op (Int m) Null = omega arith
 calculated_byte op (Int m) (Int n) = within_byte (result_of op m n)
@@ -69,7 +69,7 @@ to_number_byte Null = omega arith
 to_number_byte (Int z) = tt
 to_number_byte (Text t) = number_byte (number_of t)
 
-pub counted_byte : (o : Option Cursor) → IsByte (counted o)
+pub counted_byte : (o : Option Cursor) → IsByte (row_count o)
 counted_byte None = omega arith
 counted_byte (Some cursor) = within_byte (pos (count_in cursor.reply))
 
@@ -90,17 +90,17 @@ exit_byte (Text t) = omega arith
 
 module _ (P : List ℕ → Type 0) where
   -- of the path of each
-  abbrev pub AllFiles : List (Binding OpenFile) → Type 0
+  abbrev pub AllFiles : List (NameBinding OpenFile) → Type 0
   AllFiles files = AllByRecursion (λ b. P b.bound.path) files
 
-  pub unbound_files : (name : List ℕ) (files : List (Binding OpenFile)) → AllFiles files → AllFiles (unbind name files)
+  pub unbound_files : (name : List ℕ) (files : List (NameBinding OpenFile)) → AllFiles files → AllFiles (unbind name files)
   unbound_files name [] all = tt
   unbound_files name (b ∷ files) all = elim (cases_Bool (is_bound name b)) [
     | inl hit ↦ rw hit (unbound_files name files all.1)
     | inr miss ↦ rw miss (all.0, unbound_files name files all.1)
   ]
 
-  pub found_file : (name : List ℕ) (files : List (Binding OpenFile)) (file : OpenFile) → AllFiles files
+  pub found_file : (name : List ℕ) (files : List (NameBinding OpenFile)) (file : OpenFile) → AllFiles files
       → lookup name files ≡ Some file → P file.path
   found_file name [] file all is = absurd cc
   found_file name (b ∷ files) file all is = elim (cases_Bool (is_bound name b)) [
@@ -146,15 +146,15 @@ module _ (P : List ℕ → Type 0) where
   pub keeps_variable : (name : List ℕ) (v : Value) (p : Process) → Keeps P p (went_on (with_variable name v p))
   keeps_variable name v p = record { children = refl; files = λ all. all; status = λ byte. byte }
 
-  pub keeps_end : (status : ℕ) (p : Process) → status < 256 → Keeps P p (ended status p)
+  pub keeps_end : (status : ℕ) (p : Process) → status < 256 → Keeps P p (with_exit_status status p)
   keeps_end status p byte = record { children = refl; files = λ all. all; status = λ old. byte }
 
-  pub keeps_assign : (name : List ℕ) (c : Computed) (p : Process) → IsByte c → Keeps P p (assign name c p)
+  pub keeps_assign : (name : List ℕ) (c : Computation) (p : Process) → IsByte c → Keeps P p (assign name c p)
   keeps_assign name (Yields v) p byte = keeps_variable name v p
   keeps_assign name (Misused status) p byte = keeps_end status p byte
 
-  pub keeps_glue : (name : List ℕ) (v w : Value) (p : Process) → Keeps P p (assign name (glued v w) p)
-  keeps_glue name v w p = keeps_assign name (glued v w) p (null_byte (is_null v || is_null w) (shown v ++ shown w))
+  pub keeps_glue : (name : List ℕ) (v w : Value) (p : Process) → Keeps P p (assign name (concatenation v w) p)
+  keeps_glue name v w p = keeps_assign name (concatenation v w) p (null_byte (is_null v || is_null w) (value_text v ++ value_text w))
 
   pub keeps_cut : (before after : List ℕ) (by text : Value) (p : Process) → Keeps P p (cut_values before after by text p)
   keeps_cut before after Null text p = keeps_end 240 p (omega arith)

@@ -5,21 +5,21 @@ use Rattle.ldv_value.specs.FileState.{content_at}
 use Rattle.script_parse.specs.declared.script.Instr.TheVariants as instr
 use Rattle.run_model.specs.Types.{Instr, Reply}
 use Rattle.run_model.specs.Core.{lookup, Process, Core}
-use Rattle.run_model.specs.Step.{Ask, execute, execute_next, quiet_of, took_of}
+use Rattle.run_model.specs.Step.{Ask, execute, execute_next, local_step_of, took_of}
 use Rattle.run_model.specs.StepFiles.{path_at}
-use Rattle.run_model.specs.StepProcesses.{Spawning, spawn_script, script_within, spawn_file, spawn_path, spawning_of, status_in, wait_until, wait_for}
+use Rattle.run_model.specs.StepProcesses.{SpawnRequest, spawn_script, script_within, spawn_file, spawn_path, spawning_of, status_in, wait_until, wait_for}
 
-spawned : (o : Option (List Instr)) (spawning : Spawning) (path : List ℕ) (number : ℕ) (p : Process) (c : Core)
+spawned : (o : Option (List Instr)) (spawning : SpawnRequest) (path : List ℕ) (number : ℕ) (p : Process) (c : Core)
     → (spawn_script o spawning path number p c).core.diverged ≡ c.diverged
 spawned None spawning path number p c = refl
 spawned (Some script) spawning path number p c = refl
 
-spawned_file : (o : Option (List ℕ)) (spawning : Spawning) (path : List ℕ) (number : ℕ) (p : Process) (c : Core)
+spawned_file : (o : Option (List ℕ)) (spawning : SpawnRequest) (path : List ℕ) (number : ℕ) (p : Process) (c : Core)
     → (spawn_file o spawning path number p c).core.diverged ≡ c.diverged
 spawned_file None spawning path number p c = refl
 spawned_file (Some bytes) spawning path number p c = spawned (script_within c bytes) spawning path number p c
 
-spawned_path : (o : Option (List ℕ)) (spawning : Spawning) (number : ℕ) (p : Process) (c : Core)
+spawned_path : (o : Option (List ℕ)) (spawning : SpawnRequest) (number : ℕ) (p : Process) (c : Core)
     → (spawn_path o spawning number p c).core.diverged ≡ c.diverged
 spawned_path None spawning number p c = refl
 spawned_path (Some path) spawning number p c = spawned_file (content_at c.files path) spawning path number p c
@@ -45,7 +45,7 @@ executed_next : (o : Option Instr) (number : ℕ) (p : Process) (c : Core)
 executed_next None number p c = refl
 executed_next (Some i) number p c = executed i number p c
 
-pub quiet_goes : (o : Option Process) (number : ℕ) (c : Core) → (quiet_of o number c).core.diverged ≡ c.diverged
+pub quiet_goes : (o : Option Process) (number : ℕ) (c : Core) → (local_step_of o number c).core.diverged ≡ c.diverged
 quiet_goes None number c = refl
 quiet_goes (Some p) number c = executed_next (slice_get p.script p.place) number p c
 

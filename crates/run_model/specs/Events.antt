@@ -5,17 +5,17 @@ use Rattle.run_model.specs.Types.{Act, Started, Event}
 use Rattle.run_model.specs.Core.{is_over}
 use Rattle.run_model.specs.Database.{Base}
 use Rattle.run_model.specs.Run.{first_pick, later_picks, move}
-use Rattle.run_model.specs.State.{State, Stepped}
+use Rattle.run_model.specs.State.{State, StepResult}
 
 abbrev pub event_at : ℕ → ℕ → Act → Event
 event_at step process act = record { step = step; process = process; act = act }
 
 -- of the step of a number
-abbrev pub events_of_step : {Db : Type 0} → ℕ → Stepped Db → List Event
+abbrev pub events_of_step : {Db : Type 0} → ℕ → StepResult Db → List Event
 events_of_step number stepped = map (event_at number stepped.process) stepped.acts
 
 -- of a step, and of those that follow it
-abbrev pub events_after : {Db : Type 0} → (ℕ → List ℕ → State Db → List Event) → ℕ → List ℕ → Stepped Db
+abbrev pub events_after : {Db : Type 0} → (ℕ → List ℕ → State Db → List Event) → ℕ → List ℕ → StepResult Db
     → List Event
 events_after more number picks stepped =
     events_of_step number stepped ++ more (number + 1) picks stepped.state

@@ -1,7 +1,7 @@
 -- The run of a package over its recorded replies: that of its own world, with the logs as the database.
 use Rattle.std.specs.Prelude.{ℕ, List, Option, Some, None}
 use Rattle.run_model.specs.Types.{Instr, Outcome, Package}
-use Rattle.run_model.specs.Core.{Diverged, Core, start_core}
+use Rattle.run_model.specs.Core.{Divergence, Core, start_core}
 use Rattle.run_model.specs.LogDatabase.{LogDatabase, log_base}
 use Rattle.run_model.specs.Outcome.{outcome_at}
 use Rattle.run_model.specs.Package.{own_world}
@@ -26,10 +26,10 @@ log_outcome_in n picks p (Some script) = outcome_at (log_core n picks p script)
 abbrev pub log_outcome : ℕ → List ℕ → Package → Option Outcome
 log_outcome n picks p = log_outcome_in n picks p (start_script (own_world p))
 
-abbrev pub log_divergence_in : ℕ → List ℕ → Package → Option (List Instr) → Option Diverged
+abbrev pub log_divergence_in : ℕ → List ℕ → Package → Option (List Instr) → Option Divergence
 log_divergence_in n picks p None = None
 log_divergence_in n picks p (Some script) = (log_core n picks p script).diverged
 
 -- where a statement isn't the recorded one, or none is left
-abbrev pub log_divergence : ℕ → List ℕ → Package → Option Diverged
+abbrev pub log_divergence : ℕ → List ℕ → Package → Option Divergence
 log_divergence n picks p = log_divergence_in n picks p (start_script (own_world p))

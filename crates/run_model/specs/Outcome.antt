@@ -4,7 +4,7 @@ use Rattle.std.specs.Ordering.{nat_cmp, is_lt}
 use Rattle.std.specs.Cmp.Lexicographic.{slice_cmp}
 use Rattle.ldv_value.specs.FileState.{FileState, content_at}
 use Rattle.run_model.specs.Types.{Entry, Reply, Outcome, ProcOutcome, PathOutcome}
-use Rattle.run_model.specs.Core.{Process, Core, all_ended}
+use Rattle.run_model.specs.Core.{Process, Core, have_all_ended}
 
 -- ---- processes by name
 
@@ -48,4 +48,4 @@ outcome_of c = record {
 
 -- none where a process hasn't ended
 abbrev pub outcome_at : Core → Option Outcome
-outcome_at c = if all_ended c then Some (outcome_of c) else None
+outcome_at c = if have_all_ended c then Some (outcome_of c) else None

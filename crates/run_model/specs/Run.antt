@@ -2,8 +2,8 @@
 use Rattle.std.specs.Prelude.{ℕ, zero, suc, ◌+◌, List, [], ◌∷◌, if◌then◌else◌, Option, Some, None}
 use Rattle.run_model.specs.Core.{is_over}
 use Rattle.run_model.specs.Database.{Base}
-use Rattle.run_model.specs.Schedule.{choose, scheduled}
-use Rattle.run_model.specs.State.{State, Stepped}
+use Rattle.run_model.specs.Schedule.{choose, core_after_choice}
+use Rattle.run_model.specs.State.{State, StepResult}
 use Rattle.run_model.specs.Step.{step}
 
 -- what picks the next step: a given pick, or the seed
@@ -17,14 +17,14 @@ later_picks (k ∷ picks) = picks
 
 module _ {Db : Type 0} where
   abbrev pub chosen : ℕ → State Db → State Db
-  chosen number s = record { core = scheduled number s.core; db = s.db }
+  chosen number s = record { core = core_after_choice number s.core; db = s.db }
 
 -- a step of the process of a creation number, which the scheduler chose
-abbrev pub move_of : {Db : Type 0} → Base Db → ℕ → State Db → Stepped Db
+abbrev pub move_of : {Db : Type 0} → Base Db → ℕ → State Db → StepResult Db
 move_of base number s = step base number (chosen number s)
 
 -- one step of a run that isn't over
-abbrev pub move : {Db : Type 0} → Base Db → Option ℕ → State Db → Stepped Db
+abbrev pub move : {Db : Type 0} → Base Db → Option ℕ → State Db → StepResult Db
 move base pick s = move_of base (choose pick s.core) s
 
 -- the state after so many steps, or at the end where that comes before

@@ -55,8 +55,8 @@ runnable_from n all [] = []
 runnable_from n all (p ∷ ps) =
     if is_runnable all p then n ∷ runnable_from (n + 1) all ps else runnable_from (n + 1) all ps
 
-abbrev pub runnable : Core → List ℕ
-runnable c = runnable_from 0 c.processes c.processes
+abbrev pub runnable_processes : Core → List ℕ
+runnable_processes c = runnable_from 0 c.processes c.processes
 
 -- ---- by the seed
 
@@ -90,8 +90,8 @@ pick_of seed last x numbers = if seed == 0 then round_robin last numbers else at
 
 -- the creation number of the process that runs next, by the seed or by a given pick
 abbrev pub choose : Option ℕ → Core → ℕ
-choose None c = pick_of c.seed c.last (moved_x c.seed c.x) (runnable c)
-choose (Some k) c = pick_in (runnable c) k
+choose None c = pick_of c.seed c.last (moved_x c.seed c.x) (runnable_processes c)
+choose (Some k) c = pick_in (runnable_processes c) k
 
-abbrev pub scheduled : ℕ → Core → Core
-scheduled number c = record c { last = number; x = moved_x c.seed c.x }
+abbrev pub core_after_choice : ℕ → Core → Core
+core_after_choice number c = record c { last = number; x = moved_x c.seed c.x }

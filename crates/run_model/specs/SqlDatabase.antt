@@ -13,8 +13,8 @@ pub record SqlDatabase : Type 0 where
   pub versions : Versions
 
 -- these tables, of which no row was updated
-abbrev pub unchanged : List Table → SqlDatabase
-unchanged tables = record { tables = tables; versions = λ table row. 0 }
+abbrev pub initial_database : List Table → SqlDatabase
+initial_database tables = record { tables = tables; versions = λ table row. 0 }
 
 -- ---- statements
 

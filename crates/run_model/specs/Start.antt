@@ -6,7 +6,7 @@ use Rattle.ldv_value.specs.Limits.{file_limit}
 use Rattle.script_parse.specs.Script.{script_of}
 use Rattle.run_model.specs.Types.{File, Instr, World}
 use Rattle.run_model.specs.Core.{start_core}
-use Rattle.run_model.specs.SqlDatabase.{SqlDatabase, unchanged}
+use Rattle.run_model.specs.SqlDatabase.{SqlDatabase, initial_database}
 use Rattle.run_model.specs.State.{State}
 
 -- the file that the first start word names
@@ -25,5 +25,5 @@ has_small_files w = list_all (λ file. nat_le (length file.content) file_limit) 
 abbrev pub start_state : World → List Instr → State SqlDatabase
 start_state w script = record {
   core = start_core w.start w.seed w.files script;
-  db = unchanged w.tables;
+  db = initial_database w.tables;
 }

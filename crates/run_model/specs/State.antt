@@ -8,7 +8,7 @@ pub record State (Db : Type 0) : Type 0 where
   pub db : Db
 
 -- a step of a process, by its creation number: the state after it, and what it did
-pub record Stepped (Db : Type 0) : Type 0 where
+pub record StepResult (Db : Type 0) : Type 0 where
   pub process : ℕ
   pub state : State Db
   pub acts : List Act

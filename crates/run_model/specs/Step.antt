@@ -3,19 +3,19 @@
 use Rattle.std.specs.Prelude.{ℕ, ◌+◌, List, [], ◌∷◌, ◌++◌, length, slice_get, Option, Some, None}
 use Rattle.script_parse.specs.declared.script.Instr.TheVariants as instr
 use Rattle.run_model.specs.Types.{Instr, Reply, Act, Ended}
-use Rattle.run_model.specs.Core.{Process, Diverged, Core, with_process}
+use Rattle.run_model.specs.Core.{Process, Divergence, Core, with_process}
 use Rattle.run_model.specs.Database.{Lists, Answer, Gives, Diverges, Base}
 pub use Rattle.run_model.specs.Database.{asked_act}
-use Rattle.run_model.specs.State.{State, Stepped}
+use Rattle.run_model.specs.State.{State, StepResult}
 use Rattle.run_model.specs.StepBase.{on_files}
 use Rattle.run_model.specs.StepFiles.{path_at, allows_read, open_for, open_path, read_next, write_line}
 use Rattle.run_model.specs.StepFiles.{copy_rest, close, remove_path, test_path}
 use Rattle.run_model.specs.StepProcesses.{spawn, wait}
 use Rattle.run_model.specs.StepReplies.{fetch, count, status}
 use Rattle.run_model.specs.StepVariables.{let_value, calculate, glue, let_number, cut, jump_if}
-pub use Rattle.run_model.specs.StepBase.{operand_value, operand_values, ended, went_on, went_to, wrong_kind}
+pub use Rattle.run_model.specs.StepBase.{operand_value, operand_values, with_exit_status, went_on, went_to, wrong_kind}
 pub use Rattle.run_model.specs.StepBase.{Effect, own}
-pub use Rattle.run_model.specs.StepReplies.{Ask, ask, entry_of, replied}
+pub use Rattle.run_model.specs.StepReplies.{Ask, ask, entry_of, process_with_reply}
 pub use Rattle.run_model.specs.StepVariables.{printed_line, print_line, print, exit_status, exit}
 
 -- ---- steps that ask nothing
@@ -43,23 +43,23 @@ execute (instr.Remove path place) number p c =
 execute (instr.Exists to path) number p c = on_files number (test_path to (path_at path p) p c.files) c
 execute (instr.Spawn child path arguments place) number p c = spawn child path arguments place number p c
 execute (instr.Wait to child) number p c = wait to child number p c
-execute (instr.Sql cursor text params) number p c = own number (ended wrong_kind p) c
+execute (instr.Sql cursor text params) number p c = own number (with_exit_status wrong_kind p) c
 execute (instr.Fetch cursor to place) number p c = own number (fetch cursor to place p) c
 execute (instr.Count to cursor) number p c = own number (count to cursor p) c
 execute (instr.Status to cursor) number p c = own number (status to cursor p) c
 
 -- after the last instruction `exit 0` is meant
 abbrev pub execute_next : Option Instr → ℕ → Process → Core → Effect
-execute_next None number p c = own number (ended 0 p) c
+execute_next None number p c = own number (with_exit_status 0 p) c
 execute_next (Some i) number p c = execute i number p c
 
-abbrev pub quiet_of : Option Process → ℕ → Core → Effect
-quiet_of None number c = record { core = c; acts = [] }
-quiet_of (Some p) number c = execute_next (slice_get p.script p.place) number p c
+abbrev pub local_step_of : Option Process → ℕ → Core → Effect
+local_step_of None number c = record { core = c; acts = [] }
+local_step_of (Some p) number c = execute_next (slice_get p.script p.place) number p c
 
 -- the next step of the process of a creation number, where it asks nothing
-abbrev pub quiet : ℕ → Core → Effect
-quiet number c = quiet_of (slice_get c.processes number) number c
+abbrev pub local_step : ℕ → Core → Effect
+local_step number c = local_step_of (slice_get c.processes number) number c
 
 -- ---- steps that ask
 
@@ -88,22 +88,22 @@ asked_by (instr.Fetch cursor to place) p = None
 asked_by (instr.Count to cursor) p = None
 asked_by (instr.Status to cursor) p = None
 
-abbrev pub ask_by : Option Instr → Process → Option Ask
-ask_by None p = None
-ask_by (Some i) p = asked_by i p
+abbrev pub ask_of_instr : Option Instr → Process → Option Ask
+ask_of_instr None p = None
+ask_of_instr (Some i) p = asked_by i p
 
-abbrev pub ask_in : Option Process → Option Ask
-ask_in None = None
-ask_in (Some p) = ask_by (slice_get p.script p.place) p
+abbrev pub ask_of_process : Option Process → Option Ask
+ask_of_process None = None
+ask_of_process (Some p) = ask_of_instr (slice_get p.script p.place) p
 
 -- what the next step of a process asks
-abbrev pub ask_at : ℕ → Core → Option Ask
-ask_at number c = ask_in (slice_get c.processes number)
+abbrev pub next_ask : ℕ → Core → Option Ask
+next_ask number c = ask_of_process (slice_get c.processes number)
 
 abbrev pub took_of : Option Process → ℕ → Ask → Reply → Core → Core
 took_of None number a reply c = c
 took_of (Some p) number a reply c =
-    record (with_process number (replied a reply p) c) { asked = c.asked + 1 }
+    record (with_process number (process_with_reply a reply p) c) { asked = c.asked + 1 }
 
 -- the core after it has its reply
 abbrev pub took : ℕ → Ask → Reply → Core → Core
@@ -114,8 +114,8 @@ entry_count None = 0
 entry_count (Some p) = length p.entries
 
 -- the core where it has none
-abbrev pub stopped : ℕ → Ask → Core → Core
-stopped number a c = record c {
+abbrev pub core_at_divergence : ℕ → Ask → Core → Core
+core_at_divergence number a c = record c {
   diverged = Some (record {
     process = a.question.process;
     index = entry_count (slice_get c.processes number);
@@ -138,7 +138,7 @@ ends_at number c = end_acts (slice_get c.processes number)
 -- ---- steps
 
 module _ {Db : Type 0} where
-  abbrev pub kept_by : ℕ → Db → Effect → Stepped Db
+  abbrev pub kept_by : ℕ → Db → Effect → StepResult Db
   kept_by number db effect = record {
     process = number;
     state = record { core = effect.core; db = db };
@@ -146,11 +146,11 @@ module _ {Db : Type 0} where
   }
 
   -- it asks nothing
-  abbrev pub kept : ℕ → State Db → Stepped Db
-  kept number s = kept_by number s.db (quiet number s.core)
+  abbrev pub kept : ℕ → State Db → StepResult Db
+  kept number s = kept_by number s.db (local_step number s.core)
 
   -- it asks, and the database returns an answer
-  abbrev pub told : ℕ → Ask → State Db → Answer Db → Stepped Db
+  abbrev pub told : ℕ → Ask → State Db → Answer Db → StepResult Db
   told number a s (Gives reply db lists) = record {
     process = number;
     state = record { core = took number a reply s.core; db = db };
@@ -158,15 +158,15 @@ module _ {Db : Type 0} where
   }
   told number a s Diverges = record {
     process = number;
-    state = record { core = stopped number a s.core; db = s.db };
+    state = record { core = core_at_divergence number a s.core; db = s.db };
     acts = [];
   }
 
 module _ {Db : Type 0} (base : Base Db) where
-  abbrev pub asking : ℕ → State Db → Option Ask → Stepped Db
+  abbrev pub asking : ℕ → State Db → Option Ask → StepResult Db
   asking number s None = kept number s
   asking number s (Some a) = told number a s (base s.db a.question)
 
   -- the next step of the process of a creation number
-  abbrev pub step : ℕ → State Db → Stepped Db
-  step number s = asking number s (ask_at number s.core)
+  abbrev pub step : ℕ → State Db → StepResult Db
+  step number s = asking number s (next_ask number s.core)

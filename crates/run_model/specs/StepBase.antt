@@ -21,8 +21,8 @@ operand_values p operands = map (operand_value p) operands
 
 -- ---- what becomes of a process
 
-abbrev pub ended : ℕ → Process → Process
-ended status p = record p { status = Some status }
+abbrev pub with_exit_status : ℕ → Process → Process
+with_exit_status status p = record p { status = Some status }
 
 abbrev pub went_on : Process → Process
 went_on p = record p { place = p.place + 1 }
@@ -45,8 +45,8 @@ abbrev pub number_too_large : ℕ
 number_too_large = 241
 
 -- too many bytes
-abbrev pub too_long : ℕ
-too_long = 242
+abbrev pub too_long_status : ℕ
+too_long_status = 242
 
 -- a value that is no path
 abbrev pub bad_path : ℕ
@@ -59,19 +59,19 @@ not_utf8 = 244
 -- ---- values that are computed
 
 -- a value, or misuse with its status
-pub data Computed : Type 0 where
-  Yields : Value → Computed
-  Misused : ℕ → Computed
+pub data Computation : Type 0 where
+  Yields : Value → Computation
+  Misused : ℕ → Computation
 
 -- a number within 64 bits
-abbrev pub number_within : ℤ → Computed
+abbrev pub number_within : ℤ → Computation
 number_within (pos n) = if nat_lt n (2 ^ 63) then Yields (Int (pos n)) else Misused number_too_large
 number_within (negsuc n) = if nat_lt n (2 ^ 63) then Yields (Int (negsuc n)) else Misused number_too_large
 
 -- the variable gets the value
-abbrev pub assign : List ℕ → Computed → Process → Process
+abbrev pub assign : List ℕ → Computation → Process → Process
 assign name (Yields v) p = went_on (with_variable name v p)
-assign name (Misused status) p = ended status p
+assign name (Misused status) p = with_exit_status status p
 
 -- ---- what a step leaves
 
@@ -85,8 +85,8 @@ abbrev pub own : ℕ → Process → Core → Effect
 own number p c = record { core = with_process number p c; acts = [] }
 
 -- only the process changes
-abbrev pub noted : ℕ → Process → List Act → Core → Effect
-noted number p acts c = record { core = with_process number p c; acts = acts }
+abbrev pub process_effect : ℕ → Process → List Act → Core → Effect
+process_effect number p acts c = record { core = with_process number p c; acts = acts }
 
 -- the process and the files after a step that looks at nothing else, and what it did
 pub record FileEffect : Type 0 where

@@ -6,8 +6,8 @@
 use Rattle.std.specs.Prelude.{ℕ, pos, List, [], ◌∷◌, length, Bool, true, false, ◌&&◌, if◌then◌else◌}
 use Rattle.std.specs.Prelude.{Option, Some, None, option_and_then}
 use Rattle.std.specs.Str.{is_utf8}
-use Rattle.ldv_value.specs.FileState.{FileState, is_there, FileRefusal, open_refusal, opened, removed}
-use Rattle.ldv_value.specs.FileState.{has_room, rest_at, appended, copied, copy_end, read_line}
+use Rattle.ldv_value.specs.FileState.{FileState, is_there, FileRefusal, open_refusal, after_open, after_remove}
+use Rattle.ldv_value.specs.FileState.{has_room, rest_at, after_append, after_copy, copy_end, read_line}
 use Rattle.ldv_value.specs.Names.{path_test}
 use Rattle.ldv_value.specs.declared.file.OpenMode.TheVariants as modes
 use Rattle.ldv_value.specs.declared.line.LineRead.{LineRead}
@@ -15,15 +15,15 @@ use Rattle.ldv_value.specs.declared.line.LineRead.TheVariants as lines
 use Rattle.run_model.specs.Types.{OpenMode, Value, Null, Int, Text, Operand, Act, OpenedRead, OpenedWrite}
 use Rattle.run_model.specs.Types.{OpenedAppend, OpenedNew, Unopened, Read, Wrote, Removed, Tested}
 use Rattle.run_model.specs.Core.{lookup, bind, unbind, OpenFile, Process}
-use Rattle.run_model.specs.StepBase.{operand_value, operand_values, ended, went_on, went_to, with_variable}
-use Rattle.run_model.specs.StepBase.{wrong_kind, too_long, bad_path, not_utf8, FileEffect}
+use Rattle.run_model.specs.StepBase.{operand_value, operand_values, with_exit_status, went_on, went_to, with_variable}
+use Rattle.run_model.specs.StepBase.{wrong_kind, too_long_status, bad_path, not_utf8, FileEffect}
 use Rattle.run_model.specs.StepVariables.{printed_line}
 
 -- ---- what they share
 
 -- misuse before anything is done
-abbrev pub misused : ℕ → Process → FileState → FileEffect
-misused status p s = record { process = ended status p; files = s; acts = [] }
+abbrev pub misuse_effect : ℕ → Process → FileState → FileEffect
+misuse_effect status p s = record { process = with_exit_status status p; files = s; acts = [] }
 
 -- a path is a text by the rule for paths
 abbrev pub path_in : Value → Option (List ℕ)
@@ -81,7 +81,7 @@ open_unless (Some refusal) found name mode path place p s = record {
 }
 open_unless None found name mode path place p s = record {
   process = went_on (with_open name (opened_file path mode) p);
-  files = opened mode s path;
+  files = after_open mode s path;
   acts = open_act mode path found ∷ [];
 }
 
@@ -90,7 +90,7 @@ open_found found name mode path place p s =
     open_unless (open_refusal mode found) found name mode path place p s
 
 abbrev pub open_path : List ℕ → OpenMode → Option (List ℕ) → ℕ → Process → FileState → FileEffect
-open_path name mode None place p s = misused bad_path p s
+open_path name mode None place p s = misuse_effect bad_path p s
 open_path name mode (Some path) place p s = open_found (is_there s path) name mode path place p s
 
 -- ---- `readline x f else L`: x gets the next line of f, open for `r`, and the place moves behind it
@@ -100,12 +100,12 @@ abbrev pub take_line : LineRead → List ℕ → List ℕ → OpenFile → ℕ �
 take_line lines.End to name file place p = went_to place p
 take_line (lines.Line line next) to name file place p =
     went_on (with_variable to (Text line) (at_place name file next p))
-take_line lines.TooLong to name file place p = ended too_long p
-take_line lines.NotText to name file place p = ended not_utf8 p
+take_line lines.TooLong to name file place p = with_exit_status too_long_status p
+take_line lines.NotText to name file place p = with_exit_status not_utf8 p
 
 -- it reads the file whatever that gives, misuse too
 abbrev pub read_next : Option OpenFile → List ℕ → List ℕ → ℕ → Process → FileState → FileEffect
-read_next None to name place p s = misused wrong_kind p s
+read_next None to name place p s = misuse_effect wrong_kind p s
 read_next (Some file) to name place p s = record {
   process = take_line (read_line s file.path file.place) to name file place p;
   files = s;
@@ -115,15 +115,15 @@ read_next (Some file) to name place p s = record {
 -- ---- `write f v v*`: the shown values and LF are appended to f, open for `w`, `a` or `n`
 
 abbrev pub write_where : Bool → OpenFile → List ℕ → Process → FileState → FileEffect
-write_where false file text p s = misused too_long p s
+write_where false file text p s = misuse_effect too_long_status p s
 write_where true file text p s = record {
   process = went_on p;
-  files = appended s file.path text;
+  files = after_append s file.path text;
   acts = Wrote file.path ∷ [];
 }
 
 abbrev pub write_text : Option OpenFile → List ℕ → Process → FileState → FileEffect
-write_text None text p s = misused wrong_kind p s
+write_text None text p s = misuse_effect wrong_kind p s
 write_text (Some file) text p s = write_where (has_room s file.path (length text)) file text p s
 
 abbrev pub write_line : List ℕ → List Operand → Process → FileState → FileEffect
@@ -135,19 +135,19 @@ write_line name operands p s =
 -- it reads f before it is found to be too long
 abbrev pub copy_where : Bool → List ℕ → OpenFile → OpenFile → Process → FileState → FileEffect
 copy_where false name source target p s = record {
-  process = ended too_long p;
+  process = with_exit_status too_long_status p;
   files = s;
   acts = Read source.path ∷ [];
 }
 copy_where true name source target p s = record {
   process = went_on (at_place name source (copy_end s source.path source.place) p);
-  files = copied s source.path source.place target.path;
+  files = after_copy s source.path source.place target.path;
   acts = Read source.path ∷ Wrote target.path ∷ [];
 }
 
 abbrev pub copy_between : List ℕ → Option OpenFile → Option OpenFile → Process → FileState → FileEffect
-copy_between name None target p s = misused wrong_kind p s
-copy_between name (Some source) None p s = misused wrong_kind p s
+copy_between name None target p s = misuse_effect wrong_kind p s
+copy_between name (Some source) None p s = misuse_effect wrong_kind p s
 copy_between name (Some source) (Some target) p s =
     copy_where (has_room s target.path (length (rest_at s source.path source.place))) name source target p s
 
@@ -158,7 +158,7 @@ copy_rest source target p s =
 -- ---- `close f`: f isn't open any more
 
 abbrev pub close_file : Option OpenFile → List ℕ → Process → Process
-close_file None name p = ended wrong_kind p
+close_file None name p = with_exit_status wrong_kind p
 close_file (Some file) name p = went_on (record p { files = unbind name p.files })
 
 abbrev pub close : List ℕ → Process → Process
@@ -174,12 +174,12 @@ remove_found false path place p s = record {
 }
 remove_found true path place p s = record {
   process = went_on p;
-  files = removed s path;
+  files = after_remove s path;
   acts = Removed path ∷ [];
 }
 
 abbrev pub remove_path : Option (List ℕ) → ℕ → Process → FileState → FileEffect
-remove_path None place p s = misused bad_path p s
+remove_path None place p s = misuse_effect bad_path p s
 remove_path (Some path) place p s = remove_found (is_there s path) path place p s
 
 -- ---- `exists x v`: x gets 1 where the path is there, else 0
@@ -196,5 +196,5 @@ exists_where found to path p s = record {
 }
 
 abbrev pub test_path : List ℕ → Option (List ℕ) → Process → FileState → FileEffect
-test_path to None p s = misused bad_path p s
+test_path to None p s = misuse_effect bad_path p s
 test_path to (Some path) p s = exists_where (is_there s path) to path p s

@@ -6,14 +6,14 @@ use Rattle.ldv_value.specs.Limits.{max_processes}
 use Rattle.script_parse.specs.Script.{script_of}
 use Rattle.run_model.specs.Types.{Value, Int, Operand, Instr, Spawned, Unspawned, Waited}
 use Rattle.run_model.specs.Core.{lookup, bind, Process, new_process, Core}
-use Rattle.run_model.specs.StepBase.{operand_values, ended, went_on, went_to, with_variable, wrong_kind}
-use Rattle.run_model.specs.StepBase.{bad_path, Effect, own, noted}
+use Rattle.run_model.specs.StepBase.{operand_values, with_exit_status, went_on, went_to, with_variable, wrong_kind}
+use Rattle.run_model.specs.StepBase.{bad_path, Effect, own, process_effect}
 use Rattle.run_model.specs.StepFiles.{path_at}
 
 -- ---- `spawn p v v* else L`: a child runs the script at a path, with the other values as arguments
 
 -- what a `spawn` says: the name that means the child, its arguments, and the label's place
-pub record Spawning : Type 0 where
+pub record SpawnRequest : Type 0 where
   pub child : List ℕ
   pub arguments : List Value
   pub place : ℕ
@@ -28,15 +28,15 @@ parent_of number name p =
     went_on (record p { children = bind name number p.children; spawned = p.spawned + 1 })
 
 -- the child is the last of the processes
-abbrev pub with_child : ℕ → Spawning → List Instr → Process → List Process → List Process
+abbrev pub with_child : ℕ → SpawnRequest → List Instr → Process → List Process → List Process
 with_child number spawning script p processes =
     slice_set processes number (parent_of (length processes) spawning.child p)
     ++ child_of p script spawning.arguments ∷ []
 
 -- where the file is there and is a script, for which there is room
-abbrev pub spawn_script : Option (List Instr) → Spawning → List ℕ → ℕ → Process → Core → Effect
+abbrev pub spawn_script : Option (List Instr) → SpawnRequest → List ℕ → ℕ → Process → Core → Effect
 spawn_script None spawning path number p c =
-    noted number (went_to spawning.place p) (Unspawned path true ∷ []) c
+    process_effect number (went_to spawning.place p) (Unspawned path true ∷ []) c
 spawn_script (Some script) spawning path number p c = record {
   core = record c { processes = with_child number spawning script p c.processes };
   acts = Spawned path ∷ [];
@@ -47,17 +47,17 @@ abbrev pub script_within : Core → List ℕ → Option (List Instr)
 script_within c bytes = if nat_lt (length c.processes) max_processes then script_of bytes else None
 
 -- by the bytes of the file
-abbrev pub spawn_file : Option (List ℕ) → Spawning → List ℕ → ℕ → Process → Core → Effect
+abbrev pub spawn_file : Option (List ℕ) → SpawnRequest → List ℕ → ℕ → Process → Core → Effect
 spawn_file None spawning path number p c =
-    noted number (went_to spawning.place p) (Unspawned path false ∷ []) c
+    process_effect number (went_to spawning.place p) (Unspawned path false ∷ []) c
 spawn_file (Some bytes) spawning path number p c =
     spawn_script (script_within c bytes) spawning path number p c
 
-abbrev pub spawn_path : Option (List ℕ) → Spawning → ℕ → Process → Core → Effect
-spawn_path None spawning number p c = own number (ended bad_path p) c
+abbrev pub spawn_path : Option (List ℕ) → SpawnRequest → ℕ → Process → Core → Effect
+spawn_path None spawning number p c = own number (with_exit_status bad_path p) c
 spawn_path (Some path) spawning number p c = spawn_file (content_at c.files path) spawning path number p c
 
-abbrev pub spawning_of : List ℕ → List Operand → ℕ → Process → Spawning
+abbrev pub spawning_of : List ℕ → List Operand → ℕ → Process → SpawnRequest
 spawning_of child arguments place p = record {
   child = child;
   arguments = operand_values p arguments;
@@ -77,10 +77,10 @@ status_in processes number = option_and_then (λ q. q.status) (slice_get process
 abbrev pub wait_until : Option ℕ → ℕ → List ℕ → ℕ → Process → Core → Effect
 wait_until None child to number p c = record { core = c; acts = [] }
 wait_until (Some status) child to number p c =
-    noted number (went_on (with_variable to (Int (pos status)) p)) (Waited child ∷ []) c
+    process_effect number (went_on (with_variable to (Int (pos status)) p)) (Waited child ∷ []) c
 
 abbrev pub wait_for : Option ℕ → List ℕ → ℕ → Process → Core → Effect
-wait_for None to number p c = own number (ended wrong_kind p) c
+wait_for None to number p c = own number (with_exit_status wrong_kind p) c
 wait_for (Some child) to number p c = wait_until (status_in c.processes child) child to number p c
 
 abbrev pub wait : List ℕ → List ℕ → ℕ → Process → Core → Effect

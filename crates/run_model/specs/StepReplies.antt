@@ -5,7 +5,7 @@ use Rattle.sql_model.specs.Codes.{code_of}
 use Rattle.run_model.specs.Types.{Value, Null, Int, Text, Reply, Rows, Changed, Refused, Entry}
 use Rattle.run_model.specs.Core.{lookup, bind, Cursor, Process}
 use Rattle.run_model.specs.Database.{Question}
-use Rattle.run_model.specs.StepBase.{ended, went_on, went_to, with_variable, wrong_kind, Computed, Yields}
+use Rattle.run_model.specs.StepBase.{with_exit_status, went_on, went_to, with_variable, wrong_kind, Computation, Yields}
 use Rattle.run_model.specs.StepBase.{Misused, number_within, assign}
 
 -- ---- `sql c v v*`: c means the reply to the statement of a text, with the other values as parameters
@@ -28,8 +28,8 @@ abbrev pub entry_of : Question → Reply → Entry
 entry_of q reply = record { text = q.text; params = q.params; reply = reply }
 
 -- the cursor means the reply, of which no row was fetched
-abbrev pub replied : Ask → Reply → Process → Process
-replied a reply p = went_on (record p {
+abbrev pub process_with_reply : Ask → Reply → Process → Process
+process_with_reply a reply p = went_on (record p {
   cursors = bind a.cursor (record { reply = reply; fetched = 0 }) p.cursors;
   entries = p.entries ++ entry_of a.question reply ∷ [];
 })
@@ -60,10 +60,10 @@ abbrev pub fetch_row : Option (List Value) → Cursor → List ℕ → List (Lis
 fetch_row None cursor name to place p = went_to place p
 fetch_row (Some row) cursor name to place p =
     if length row == length to then went_on (with_values to row (one_more name cursor p))
-    else ended wrong_kind p
+    else with_exit_status wrong_kind p
 
 abbrev pub fetch_from : Option Cursor → List ℕ → List (List ℕ) → ℕ → Process → Process
-fetch_from None name to place p = ended wrong_kind p
+fetch_from None name to place p = with_exit_status wrong_kind p
 fetch_from (Some cursor) name to place p = fetch_row (next_row cursor) cursor name to place p
 
 abbrev pub fetch : List ℕ → List (List ℕ) → ℕ → Process → Process
@@ -76,12 +76,12 @@ count_in (Rows rows) = length rows
 count_in (Changed count) = count
 count_in (Refused refusal) = 0
 
-abbrev pub counted : Option Cursor → Computed
-counted None = Misused wrong_kind
-counted (Some cursor) = number_within (pos (count_in cursor.reply))
+abbrev pub row_count : Option Cursor → Computation
+row_count None = Misused wrong_kind
+row_count (Some cursor) = number_within (pos (count_in cursor.reply))
 
 abbrev pub count : List ℕ → List ℕ → Process → Process
-count to name p = assign to (counted (lookup name p.cursors)) p
+count to name p = assign to (row_count (lookup name p.cursors)) p
 
 -- ---- `status x c`: x gets 0, or the code of the refusal
 
@@ -90,7 +90,7 @@ code_in (Rows rows) = 0
 code_in (Changed count) = 0
 code_in (Refused refusal) = code_of refusal
 
-abbrev pub status_value : Option Cursor → Computed
+abbrev pub status_value : Option Cursor → Computation
 status_value None = Misused wrong_kind
 status_value (Some cursor) = Yields (Int (pos (code_in cursor.reply)))
 

@@ -4,14 +4,14 @@ use Rattle.std.specs.Prelude.{drop, Bool, true, false, ◌||◌, ◌==◌, nat_l
 use Rattle.std.specs.List.{flat_map}
 use Rattle.ldv_value.specs.Limits.{printed_limit, text_limit}
 use Rattle.ldv_value.specs.Order.{order, meets}
-use Rattle.ldv_value.specs.Shown.{shown}
+use Rattle.ldv_value.specs.Shown.{value_text}
 use Rattle.ldv_value.specs.declared.value.Cmp.{Cmp}
 use Rattle.script_parse.specs.Number.{number_of}
 use Rattle.sql_model.specs.Meaning.{is_null}
 use Rattle.run_model.specs.Types.{Value, Null, Int, Text, Operand, Variable, CalcOp, Add, Subtract, Multiply}
 use Rattle.run_model.specs.Core.{Process}
-use Rattle.run_model.specs.StepBase.{operand_value, operand_values, ended, went_on, went_to, with_variable}
-use Rattle.run_model.specs.StepBase.{wrong_kind, too_long, Computed, Yields, Misused, number_within, assign}
+use Rattle.run_model.specs.StepBase.{operand_value, operand_values, with_exit_status, went_on, went_to, with_variable}
+use Rattle.run_model.specs.StepBase.{wrong_kind, too_long_status, Computation, Yields, Misused, number_within, assign}
 
 -- ---- `let x = v`: the variable gets the value
 
@@ -25,34 +25,35 @@ result_of Add m n = m +ℤ n
 result_of Subtract m n = m -ℤ n
 result_of Multiply m n = m *ℤ n
 
-abbrev pub calculated : CalcOp → Value → Value → Computed
-calculated op Null w = Misused wrong_kind
-calculated op (Int m) Null = Misused wrong_kind
-calculated op (Int m) (Int n) = number_within (result_of op m n)
-calculated op (Int m) (Text t) = Misused wrong_kind
-calculated op (Text s) w = Misused wrong_kind
+abbrev pub calculation : CalcOp → Value → Value → Computation
+calculation op Null w = Misused wrong_kind
+calculation op (Int m) Null = Misused wrong_kind
+calculation op (Int m) (Int n) = number_within (result_of op m n)
+calculation op (Int m) (Text t) = Misused wrong_kind
+calculation op (Text s) w = Misused wrong_kind
 
 abbrev pub calculate : List ℕ → CalcOp → Operand → Operand → Process → Process
-calculate to op left right p = assign to (calculated op (operand_value p left) (operand_value p right)) p
+calculate to op left right p = assign to (calculation op (operand_value p left) (operand_value p right)) p
 
 -- ---- `let x = v ++ w`: the shown values joined; neither may be NULL
 
-abbrev pub text_within : List ℕ → Computed
-text_within text = if nat_lt text_limit (length text) then Misused too_long else Yields (Text text)
+abbrev pub text_within : List ℕ → Computation
+text_within text = if nat_lt text_limit (length text) then Misused too_long_status else Yields (Text text)
 
-abbrev pub glued : Value → Value → Computed
-glued v w = if is_null v || is_null w then Misused wrong_kind else text_within (shown v ++ shown w)
+abbrev pub concatenation : Value → Value → Computation
+concatenation v w = if is_null v || is_null w then Misused wrong_kind
+    else text_within (value_text v ++ value_text w)
 
 abbrev pub glue : List ℕ → Operand → Operand → Process → Process
-glue to left right p = assign to (glued (operand_value p left) (operand_value p right)) p
+glue to left right p = assign to (concatenation (operand_value p left) (operand_value p right)) p
 
 -- ---- `let x = int v`: a number stays, and a text that writes a number becomes it
 
-abbrev pub number_or_misuse : Option ℤ → Computed
+abbrev pub number_or_misuse : Option ℤ → Computation
 number_or_misuse None = Misused wrong_kind
 number_or_misuse (Some z) = Yields (Int z)
 
-abbrev pub to_number : Value → Computed
+abbrev pub to_number : Value → Computation
 to_number Null = Misused wrong_kind
 to_number (Int z) = Yields (Int z)
 to_number (Text t) = number_or_misuse (number_of t)
@@ -90,11 +91,11 @@ cut_at before after place by text p =
 
 -- by a text that isn't empty, of a text
 abbrev pub cut_values : List ℕ → List ℕ → Value → Value → Process → Process
-cut_values before after Null text p = ended wrong_kind p
-cut_values before after (Int n) text p = ended wrong_kind p
-cut_values before after (Text []) text p = ended wrong_kind p
-cut_values before after (Text (b ∷ bs)) Null p = ended wrong_kind p
-cut_values before after (Text (b ∷ bs)) (Int n) p = ended wrong_kind p
+cut_values before after Null text p = with_exit_status wrong_kind p
+cut_values before after (Int n) text p = with_exit_status wrong_kind p
+cut_values before after (Text []) text p = with_exit_status wrong_kind p
+cut_values before after (Text (b ∷ bs)) Null p = with_exit_status wrong_kind p
+cut_values before after (Text (b ∷ bs)) (Int n) p = with_exit_status wrong_kind p
 cut_values before after (Text (b ∷ bs)) (Text text) p =
     cut_at before after (first_place 0 (b ∷ bs) text) (b ∷ bs) text p
 
@@ -114,11 +115,11 @@ jump_if op left right place p =
 -- ---- `print v v*`: the shown values and LF follow the printed bytes
 
 abbrev pub printed_line : List Value → List ℕ
-printed_line values = flat_map shown values ++ 10 ∷ []
+printed_line values = flat_map value_text values ++ 10 ∷ []
 
 abbrev pub print_line : List ℕ → Process → Process
 print_line text p =
-    if nat_lt printed_limit (length p.printed + length text) then ended too_long p
+    if nat_lt printed_limit (length p.printed + length text) then with_exit_status too_long_status p
     else went_on (record p { printed = p.printed ++ text })
 
 abbrev pub print : List Operand → Process → Process
@@ -133,4 +134,4 @@ exit_status (Int (negsuc n)) = wrong_kind
 exit_status (Text t) = wrong_kind
 
 abbrev pub exit : Operand → Process → Process
-exit status p = ended (exit_status (operand_value p status)) p
+exit status p = with_exit_status (exit_status (operand_value p status)) p

@@ -3,7 +3,7 @@
 use Rattle.std.specs.Prelude.{ℕ, List, [], ◌∷◌, ◌++◌, map, filter, length, Bool, false, not, ◌==◌, Option}
 use Rattle.std.specs.Prelude.{Some, None, slice_get}
 use Rattle.run_model.specs.Types.{Instr, Event, Log, Outcome, World}
-use Rattle.run_model.specs.Core.{Process, Core, all_ended}
+use Rattle.run_model.specs.Core.{Process, Core, have_all_ended}
 use Rattle.run_model.specs.Events.{events, start_events}
 use Rattle.run_model.specs.Outcome.{by_name, outcome_at}
 use Rattle.run_model.specs.Run.{run, steps}
@@ -18,7 +18,7 @@ core_after n picks w script = (run sql_base n picks (start_state w script)).core
 
 abbrev pub ends_in : ℕ → List ℕ → World → Option (List Instr) → Bool
 ends_in n picks w None = false
-ends_in n picks w (Some script) = all_ended (core_after n picks w script)
+ends_in n picks w (Some script) = have_all_ended (core_after n picks w script)
 
 -- whether all processes have ended
 abbrev pub ends_by : ℕ → List ℕ → World → Bool

@@ -35,7 +35,7 @@ fn statement_of(alloc: Global, text: &str) -> Result<Option<Statement>, AllocErr
     }
 }
 
-fn accepted(
+fn check_statement(
     alloc: Global,
     statement: &Statement,
     catalog: &Catalog,
@@ -55,13 +55,13 @@ fn checked_text(
 ) -> Result<Option<Checked>, AllocError> {
     match statement_of(alloc, text)? {
         None => Ok(None),
-        Some(statement) => accepted(alloc, &statement, catalog),
+        Some(statement) => check_statement(alloc, &statement, catalog),
     }
 }
 
 // ---- the rows of a core
 
-fn plain(checked: &Checked, core: usize, picks: Picks) -> Result<Grouped, AllocError>
+fn project_plain(checked: &Checked, core: usize, picks: Picks) -> Result<Grouped, AllocError>
     requires { HasCore checked.now core }
 {
     let alloc = picks.allocator();
@@ -71,13 +71,13 @@ fn plain(checked: &Checked, core: usize, picks: Picks) -> Result<Grouped, AllocE
     })
 }
 
-fn evaluated(checked: &Checked, core: usize, picks: Picks) -> Result<Grouped, AllocError>
+fn evaluate(checked: &Checked, core: usize, picks: Picks) -> Result<Grouped, AllocError>
     requires { HasCore checked.now core }
 {
     if groups(core_of(checked, core)) {
         group(checked, core, picks)
     } else {
-        plain(checked, core, picks)
+        project_plain(checked, core, picks)
     }
 }
 
@@ -100,7 +100,7 @@ fn core_rows(
     requires { HasCore checked.now core }
 {
     let picks = picked(checked, core, store, keep)?;
-    let rows = evaluated(checked, core, picks)?;
+    let rows = evaluate(checked, core, picks)?;
     merged_if(core_of(checked, core).distinct, rows)
 }
 
@@ -120,7 +120,7 @@ fn has_core(checked: &Checked, core: usize) -> bool
     }
 }
 
-fn appended(answers: Answers, more: Answers) -> Result<Answers, AllocError> {
+fn append_answers(answers: Answers, more: Answers) -> Result<Answers, AllocError> {
     let mut made = answers;
     for answer in more.into_vec() {
         made.push(answer)?;
@@ -133,7 +133,7 @@ fn with_more(rows: Grouped, more: Grouped) -> Result<Grouped, AllocError> {
     let mut set = rejected;
     set.union(&more.rejected)?;
     Ok(Grouped {
-        answers: appended(answers, more.answers)?,
+        answers: append_answers(answers, more.answers)?,
         rejected: set,
     })
 }

@@ -51,7 +51,7 @@ fn every_read(
 }
 
 // What a run that is done writes.
-fn written(
+fn written_bytes(
     rt: &impl Abort,
     alloc: Global,
     command: &str,
@@ -83,7 +83,7 @@ fn every_write(
     command: &str,
     input: &[u8],
 ) -> Result<u64, AllocError> {
-    let whole = written(rt, alloc, command, input)?;
+    let whole = written_bytes(rt, alloc, command, input)?;
     for before in 0..CALLS {
         let write = before.saturating_add(1);
         let ended = call(alloc, command, input, (0, write, 0))?;
@@ -109,7 +109,7 @@ fn every_call(
 
 // Its package has 107 bytes and their digest.
 fn least_package(rt: &impl Abort, alloc: Global) -> Result<Vec<u8>, AllocError> {
-    let package = written(rt, alloc, "record", WORLD)?;
+    let package = written_bytes(rt, alloc, "record", WORLD)?;
     assert_eq!(rt; package.len(), 139);
     Ok(package)
 }
@@ -188,7 +188,7 @@ fn commands_on_packages() -> [&'static str; 9] {
 // Those that read a package.
 #[test]
 fn one_call_on_a_package_fails(rt: HostRuntime) -> Result<(), Fail> {
-    let package = written(&rt, rt.alloc(), "record", ASKING)?;
+    let package = written_bytes(&rt, rt.alloc(), "record", ASKING)?;
     for command in commands_on_packages() {
         every_call(&rt, rt.alloc(), command, package.as_slice())?;
     }
@@ -197,7 +197,7 @@ fn one_call_on_a_package_fails(rt: HostRuntime) -> Result<(), Fail> {
 
 #[test]
 fn one_call_on_recorded_replies_fails(rt: HostRuntime) -> Result<(), Fail> {
-    let package = written(&rt, rt.alloc(), "record --excluded", ASKING)?;
+    let package = written_bytes(&rt, rt.alloc(), "record --excluded", ASKING)?;
     for command in ["replay", "migrate"] {
         every_call(&rt, rt.alloc(), command, package.as_slice())?;
     }
@@ -206,10 +206,10 @@ fn one_call_on_recorded_replies_fails(rt: HostRuntime) -> Result<(), Fail> {
 
 #[test]
 fn one_call_on_two_packages_fails(rt: HostRuntime) -> Result<(), Fail> {
-    let package = written(&rt, rt.alloc(), "record", ASKING)?;
+    let package = written_bytes(&rt, rt.alloc(), "record", ASKING)?;
     let pair = twice(rt.alloc(), package.as_slice())?;
     every_call(&rt, rt.alloc(), "join", pair.as_slice())?;
-    let joined = written(&rt, rt.alloc(), "join", pair.as_slice())?;
+    let joined = written_bytes(&rt, rt.alloc(), "join", pair.as_slice())?;
     every_call(&rt, rt.alloc(), "replay --run 2", joined.as_slice())?;
     Ok(())
 }

@@ -1,9 +1,9 @@
 //! The graphs of worked runs.
 
 ghost use Rattle.std.specs.Prelude.{◌<◌, length, IfOk, IfSome};
-ghost use Rattle.package_layout.specs.Valid.{Valid};
+ghost use Rattle.package_layout.specs.Valid.{IsValidPackage};
 
-use crate::recorded::{recorded, world_of};
+use crate::recorded::{recorded_package, world_of};
 use ldv_value::Utf8;
 use reach::depends;
 use run_model::Package;
@@ -61,7 +61,7 @@ fn are_edges(edges: &[Edge], wants: &[Ends]) -> bool {
 }
 
 fn graph_of(alloc: Global, package: &Package) -> Result<Graph, AllocError>
-    requires { Valid «package».now }
+    requires { IsValidPackage «package».now }
 {
     Graph::of_events(alloc, &package.events)
 }
@@ -72,7 +72,7 @@ const FILE: &str = r#""f":"x\n","#;
 // The graph of the run of a script, over the table t and with files beside the script.
 fn graph(rt: &impl Abort, alloc: Global, script: &str, files: &str) -> Result<Graph, AllocError> {
     let world = world_of(alloc, script, files)?;
-    let package = recorded(rt, alloc, world.as_str())?;
+    let package = recorded_package(rt, alloc, world.as_str())?;
     graph_of(alloc, &package)
 }
 

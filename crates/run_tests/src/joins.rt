@@ -1,8 +1,8 @@
 //! Two packages joined by calls that no command makes: of references, and back from bytes with all events.
 
-ghost use Rattle.package_layout.specs.Valid.{Valid};
+ghost use Rattle.package_layout.specs.Valid.{IsValidPackage};
 
-use crate::recorded::recorded;
+use crate::recorded::recorded_package;
 use ldv_value::Bytes;
 use package_join::{Joined, Which, join, joined_world, read_joined, run_of, spell_joined};
 use package_layout::spell;
@@ -45,8 +45,8 @@ fn joined_two(
     a: &Package,
     b: &Package,
 ) -> Result<Joined, AllocError>
-    requires first { Valid a.now }
-    requires second { Valid b.now }
+    requires first { IsValidPackage a.now }
+    requires second { IsValidPackage b.now }
 {
     match a.mode {
         Mode::Included => match b.mode {
@@ -60,7 +60,7 @@ fn joined_two(
     }
 }
 
-fn spelled(rt: &impl Abort, alloc: Global, package: &Package) -> Bytes {
+fn spelling_of(rt: &impl Abort, alloc: Global, package: &Package) -> Bytes {
     match spell(alloc, package) {
         Ok(bytes) => bytes,
         Err(stop) => panic!(rt; "{stop:?}"),
@@ -88,8 +88,8 @@ fn has_both(rt: &impl Abort, joined: &Joined) {
 #[test]
 fn what_is_joined_is_read_back(rt: HostRuntime) -> Result<(), Fail> {
     let alloc = rt.alloc();
-    let a = recorded(&rt, alloc, document(alloc, "main")?.as_str())?;
-    let b = recorded(&rt, alloc, document(alloc, "other")?.as_str())?;
+    let a = recorded_package(&rt, alloc, document(alloc, "main")?.as_str())?;
+    let b = recorded_package(&rt, alloc, document(alloc, "other")?.as_str())?;
     let joined = joined_two(&rt, alloc, &a, &b)?;
     has_both(&rt, &joined);
     let bytes = bytes_of(&rt, alloc, &joined);
@@ -98,9 +98,9 @@ fn what_is_joined_is_read_back(rt: HostRuntime) -> Result<(), Fail> {
     };
     assert!(rt; bytes_of(&rt, alloc, &back).as_slice() == bytes.as_slice());
     let first = run_of(alloc, &back, Which::First)?;
-    assert!(rt; spelled(&rt, alloc, &first).as_slice() == spelled(&rt, alloc, &a).as_slice());
+    assert!(rt; spelling_of(&rt, alloc, &first).as_slice() == spelling_of(&rt, alloc, &a).as_slice());
     let second = run_of(alloc, &back, Which::Second)?;
-    assert!(rt; spelled(&rt, alloc, &second).as_slice() == spelled(&rt, alloc, &b).as_slice());
+    assert!(rt; spelling_of(&rt, alloc, &second).as_slice() == spelling_of(&rt, alloc, &b).as_slice());
     let world = joined_world(alloc, &joined, Which::First)?;
     assert!(rt; world.files.len() == 2 && world.tables.len() == 1);
     Ok(())

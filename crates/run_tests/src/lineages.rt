@@ -3,7 +3,7 @@
 
 use crate::answered::{Answered, answer_to};
 use crate::asked::{Case, ask_all, session_of_t};
-use crate::shown::shown;
+use crate::shown::answered_text;
 use crate::stored::store_of_t;
 use ldv_value::Utf8;
 use run_model::NullTracer;
@@ -18,7 +18,7 @@ type Want = (&'static str, &'static str);
 fn shown_if(alloc: Global, found: Option<Answered>) -> Result<Utf8, AllocError> {
     match found {
         None => Utf8::of(alloc, "no answer"),
-        Some(answered) => shown(alloc, &answered),
+        Some(answered) => answered_text(alloc, &answered),
     }
 }
 
@@ -126,7 +126,7 @@ fn rows_have_the_same_values_without_lineage(rt: HostRuntime) -> Result<(), Fail
 
 // ---- merged rows
 
-fn merged() -> [Want; 4] {
+fn merged_wants() -> [Want; 4] {
     [
         (
             "SELECT DISTINCT x.g FROM t x JOIN t y ON x.v = y.v",
@@ -149,12 +149,12 @@ fn merged() -> [Want; 4] {
 
 #[test]
 fn merged_rows_come_from_all(rt: HostRuntime) -> Result<(), Fail> {
-    expect_over_t(&rt, rt.alloc(), &merged())?;
+    expect_over_t(&rt, rt.alloc(), &merged_wants())?;
     Ok(())
 }
 
 // UNION ALL merges nothing, and each UNION merges what is before it.
-fn united() -> [Want; 3] {
+fn united_wants() -> [Want; 3] {
     [
         (
             "SELECT v FROM t WHERE g = 'a' UNION ALL SELECT v FROM t WHERE k = 5",
@@ -173,7 +173,7 @@ fn united() -> [Want; 3] {
 
 #[test]
 fn united_rows_come_from_those_before(rt: HostRuntime) -> Result<(), Fail> {
-    expect_over_t(&rt, rt.alloc(), &united())?;
+    expect_over_t(&rt, rt.alloc(), &united_wants())?;
     Ok(())
 }
 
@@ -196,7 +196,7 @@ fn groups_come_from_all_their_rows(rt: HostRuntime) -> Result<(), Fail> {
     Ok(())
 }
 
-fn rejected() -> [Want; 4] {
+fn rejected_wants() -> [Want; 4] {
     [
         (
             "SELECT g FROM t GROUP BY g HAVING COUNT(*) < 2",
@@ -219,7 +219,7 @@ fn rejected() -> [Want; 4] {
 
 #[test]
 fn rejected_groups_are_told_apart(rt: HostRuntime) -> Result<(), Fail> {
-    expect_over_t(&rt, rt.alloc(), &rejected())?;
+    expect_over_t(&rt, rt.alloc(), &rejected_wants())?;
     Ok(())
 }
 

@@ -62,7 +62,7 @@ fn event(step: u32, act: Act) -> Event {
     }
 }
 
-fn started(alloc: Global) -> Result<Event, AllocError> {
+fn start_event(alloc: Global) -> Result<Event, AllocError> {
     let path = Utf8::of(alloc, "main")?;
     Ok(event(0, Act::Started { path }))
 }
@@ -82,14 +82,14 @@ fn asked_without_rows(alloc: Global) -> Result<Event, AllocError> {
 // The events of its run, but that no row is read: 9 bytes fewer for each row.
 fn events(alloc: Global) -> Result<Events, AllocError> {
     let mut events = Events::new(alloc);
-    events.push(started(alloc)?)?;
+    events.push(start_event(alloc)?)?;
     events.push(asked_without_rows(alloc)?)?;
     events.push(event(2, Act::Ended { status: 0 }))?;
     Ok(events)
 }
 
 // The package of the run of a document's world.
-fn recorded(rt: &impl Abort, alloc: Global, text: &str) -> Package {
+fn recorded_package(rt: &impl Abort, alloc: Global, text: &str) -> Package {
     let world = world_of_text(rt, alloc, text);
     match record_world(alloc, &world, Mode::Included, 100) {
         Ok(package) => package,
@@ -97,7 +97,7 @@ fn recorded(rt: &impl Abort, alloc: Global, text: &str) -> Package {
     }
 }
 
-fn spelled(rt: &impl Abort, alloc: Global, package: &Package) -> Bytes {
+fn spelling_of(rt: &impl Abort, alloc: Global, package: &Package) -> Bytes {
     match spell(alloc, package) {
         Ok(bytes) => bytes,
         Err(stop) => panic!(rt; "{stop:?}"),
@@ -107,9 +107,9 @@ fn spelled(rt: &impl Abort, alloc: Global, package: &Package) -> Bytes {
 /// A package of about 5,000 bytes less than the limit. That of its own world has about 9,000 bytes more.
 pub(crate) fn longer_than_it_reads(rt: &impl Abort, alloc: Global) -> Result<Bytes, AllocError> {
     let text = long_document(alloc, 46_000)?;
-    let mut package = recorded(rt, alloc, text.as_str());
+    let mut package = recorded_package(rt, alloc, text.as_str());
     package.events = events(alloc)?;
-    Ok(spelled(rt, alloc, &package))
+    Ok(spelling_of(rt, alloc, &package))
 }
 
 // ---- a table of a long name
@@ -138,6 +138,6 @@ pub(crate) fn package_of_a_long_name(
 ) -> Result<Bytes, AllocError> {
     let name = letters(alloc, 63)?;
     let text = document_of_nulls(alloc, name.as_str(), count)?;
-    let package = recorded(rt, alloc, text.as_str());
-    Ok(spelled(rt, alloc, &package))
+    let package = recorded_package(rt, alloc, text.as_str());
+    Ok(spelling_of(rt, alloc, &package))
 }

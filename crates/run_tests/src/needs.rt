@@ -111,7 +111,7 @@ fn statements() -> [Case; 8] {
 }
 
 // The new row has the number 5. After all keys have moved, that of row 0 is 2 and that of row 4 is 6.
-fn told() -> [&'static str; 8] {
+fn told_lines() -> [&'static str; 8] {
     [
         "needs 1@0 L; makes 1@1",
         "needs 2@0 K; makes",
@@ -130,6 +130,6 @@ fn statements_need_rows_at_their_versions(rt: HostRuntime) -> Result<(), Fail> {
     let session = session_of_t(&rt, rt.alloc())?;
     let _session = ask_all(&rt, rt.alloc(), session, &statements(), &mut tracer)?;
     let events = tracer.events();
-    expect_events(&rt, rt.alloc(), events.items(), &told())?;
+    expect_events(&rt, rt.alloc(), events.items(), &told_lines())?;
     Ok(())
 }

@@ -1,7 +1,7 @@
 //! Packages that the program records, read back.
 
 ghost use Rattle.std.specs.Prelude.{IfOk};
-ghost use Rattle.package_layout.specs.Valid.{Valid};
+ghost use Rattle.package_layout.specs.Valid.{IsValidPackage};
 
 use ldv_io::{MemorySink, MemorySource};
 use ldv_top::{Exit, ldv};
@@ -12,10 +12,10 @@ use std::alloc::{AllocError, Global};
 use std::process::Abort;
 
 /// The package of the run of a world document.
-pub(crate) fn recorded(rt: &impl Abort, alloc: Global, world: &str) -> Result<Package, AllocError>
-    ensures { IfOk result (λ p. Valid p) }
+pub(crate) fn recorded_package(rt: &impl Abort, alloc: Global, world: &str) -> Result<Package, AllocError>
+    ensures { IfOk result (λ p. IsValidPackage p) }
 {
-    let written = written(rt, alloc, world)?;
+    let written = written_bytes(rt, alloc, world)?;
     match read_package(alloc, written.as_slice()) {
         Ok(package) => Ok(package),
         Err(_) => panic!(rt; "no package"),
@@ -23,7 +23,7 @@ pub(crate) fn recorded(rt: &impl Abort, alloc: Global, world: &str) -> Result<Pa
 }
 
 // What `record` writes for a world document.
-fn written(rt: &impl Abort, alloc: Global, world: &str) -> Result<Vec<u8>, AllocError> {
+fn written_bytes(rt: &impl Abort, alloc: Global, world: &str) -> Result<Vec<u8>, AllocError> {
     let mut words = Vec::new(alloc);
     words.push(String::from_str(alloc, "record")?)?;
     let input = Bytes::of_slice(alloc, world.as_bytes())?;
@@ -31,7 +31,7 @@ fn written(rt: &impl Abort, alloc: Global, world: &str) -> Result<Vec<u8>, Alloc
     let mut sink = MemorySink::new(alloc, 65_536, 4_096, Calls::new(alloc))?;
     let exit = ldv(alloc, &words, &mut source, &mut sink);
     assert!(rt; matches!(&exit, Exit::Done));
-    Vec::from_slice(alloc, sink.taken())
+    Vec::from_slice(alloc, sink.bytes())
 }
 
 /// A world whose script has these lines, with the table t and these files beside the script, as parts of a

@@ -2,7 +2,7 @@
 //! one or the other.
 
 ghost use Rattle.std.specs.Prelude.{◌≡◌, IfOk, true};
-ghost use Rattle.ldv_value.specs.FileState.{files_test, untouched};
+ghost use Rattle.ldv_value.specs.FileState.{files_test, initial_files};
 ghost use Rattle.replay_db.specs.Runs.{CanRun};
 
 use crate::worlds::world_of_text;
@@ -98,7 +98,7 @@ fn logs(alloc: Global) -> Result<Logs, AllocError> {
 
 // ---- packages
 
-fn recorded(rt: &impl Abort, alloc: Global) -> Package {
+fn recorded_package(rt: &impl Abort, alloc: Global) -> Package {
     let world = world_of_text(rt, alloc, WORLD);
     match record_world(alloc, &world, Mode::Excluded, BUDGET) {
         Ok(package) => package,
@@ -112,7 +112,7 @@ fn with_logs(package: Package, logs: Logs) -> Package {
     other
 }
 
-fn spelled(rt: &impl Abort, alloc: Global, package: &Package) -> Bytes {
+fn spelling_of(rt: &impl Abort, alloc: Global, package: &Package) -> Bytes {
     match spell(alloc, package) {
         Ok(bytes) => bytes,
         Err(stop) => panic!(rt; "{stop:?}"),
@@ -129,7 +129,7 @@ fn reply_log(rt: &impl Abort, alloc: Global) -> Result<ReplyLog, AllocError> {
 
 fn tree_of(alloc: Global, files: Files) -> Result<Tree, AllocError>
     requires { files_test files ≡ true }
-    ensures { IfOk result (λ tree. tree ≡ untouched files) }
+    ensures { IfOk result (λ tree. tree ≡ initial_files files) }
 {
     Tree::of_files(alloc, files)
 }
@@ -214,8 +214,8 @@ fn kept_logs(rt: &impl Abort, alloc: Global) -> Result<Logs, AllocError> {
 
 // The bytes of the recorded package with these replies.
 fn spelled_with(rt: &impl Abort, alloc: Global, logs: Logs) -> Bytes {
-    let package = with_logs(recorded(rt, alloc), logs);
-    spelled(rt, alloc, &package)
+    let package = with_logs(recorded_package(rt, alloc), logs);
+    spelling_of(rt, alloc, &package)
 }
 
 #[test]

@@ -39,7 +39,7 @@ fn push_row(alloc: Global, values: &mut Values, number: u32) -> Result<(), Alloc
 }
 
 /// k, g and v of rows of t, one row after another.
-pub(crate) fn joined(alloc: Global, numbers: &[u32]) -> Result<Values, AllocError> {
+pub(crate) fn values_of_rows(alloc: Global, numbers: &[u32]) -> Result<Values, AllocError> {
     let mut values = Values::new(alloc);
     for number in numbers {
         push_row(alloc, &mut values, *number)?;

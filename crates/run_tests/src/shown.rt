@@ -116,7 +116,7 @@ fn show_hidden(
 }
 
 /// The text of an answer.
-pub(crate) fn shown(alloc: Global, answered: &Answered) -> Result<Utf8, AllocError> {
+pub(crate) fn answered_text(alloc: Global, answered: &Answered) -> Result<Utf8, AllocError> {
     let mut text = Utf8::new(alloc);
     show_answers(alloc, &mut text, answered.answers.items())?;
     show_hidden(alloc, &mut text, "rejected", &answered.rejected)?;

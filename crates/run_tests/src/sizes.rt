@@ -62,7 +62,7 @@ fn push_table(text: &mut String, name: &str, count: u32) -> Result<(), AllocErro
 const JOIN: &str =
     r#"{"start":["main"],"files":{"main":"sql q \"SELECT a.id FROM a JOIN b ON a.id = b.id\""},"tables":{"#;
 
-fn joining(alloc: Global, count: u32) -> Result<String, AllocError> {
+fn join_world(alloc: Global, count: u32) -> Result<String, AllocError> {
     let mut text = String::from_str(alloc, JOIN)?;
     push_table(&mut text, "a", count)?;
     text.push_str(",")?;
@@ -98,7 +98,7 @@ fn expect_numbers(rt: &impl Abort, outcome: &Outcome, count: usize) {
 #[test]
 fn joins_large_tables(rt: HostRuntime) -> Result<(), Fail> {
     let alloc = rt.alloc();
-    let text = joining(alloc, 300_000)?;
+    let text = join_world(alloc, 300_000)?;
     let outcome = outcome_of(&rt, alloc, text.as_str(), DEFAULT_STEPS);
     expect_numbers(&rt, &outcome, 300_000);
     Ok(())

@@ -3,7 +3,7 @@
 ghost use Rattle.std.specs.Prelude.{◌≡◌, IfOk, true};
 ghost use Rattle.sql_model.specs.Tables.{have_distinct_columns, is_database};
 
-use crate::rows::joined;
+use crate::rows::values_of_rows;
 use crate::schemas::schema;
 use crate::validity::{have_distinct_columns, is_one_table};
 use ldv_value::Utf8;
@@ -13,7 +13,7 @@ use std::process::Abort;
 use table_store::Store;
 
 fn table_row(alloc: Global, number: u32) -> Result<TableRow, AllocError> {
-    let values = joined(alloc, &[number])?;
+    let values = values_of_rows(alloc, &[number])?;
     Ok(TableRow { number, values })
 }
 

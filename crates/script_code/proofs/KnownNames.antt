@@ -11,77 +11,77 @@ use Rattle.script_code.specs.declared.code.OwnInstr.TheVariants as own
 use Rattle.script_code.specs.declared.code.FileInstr.TheVariants as on_files
 use Rattle.script_code.specs.declared.code.SlotOperand.{SlotOperand}
 use Rattle.script_code.specs.declared.code.SlotOperand.TheVariants.{Slot}
-use Rattle.script_code.specs.Resolved.{Distinct, slot_of, slot_operand, slot_instr, HasName, HasNames, HasOperand, HasOperands, HasAll, Keeps, KeepsAll}
+use Rattle.script_code.specs.Resolved.{AreDistinct, slot_of, slot_operand, slot_instr, HasName, HasNames, HasOperand, HasOperands, HasAll, Extends, KeepsAll}
 use Rattle.script_code.specs.Resolved.{IsSlot, AreSlots, IsOperand, IsOperands, Resolves, IsScope}
 
 -- ---- tables
 
-pub keeps_same : (names new : List (List ℕ)) → new ≡ names → Keeps names new
+pub keeps_same : (names new : List (List ℕ)) → new ≡ names → Extends names new
 keeps_same names new same = record {
   at = λ name slot is. subst (λ (ns : List (List ℕ)). IsSlot ns name slot) (sym same) is;
-  distinct = λ once. subst Distinct (sym same) once;
+  distinct = λ once. subst AreDistinct (sym same) once;
 }
 
-pub keeps_itself : (names : List (List ℕ)) → Keeps names names
+pub keeps_itself : (names : List (List ℕ)) → Extends names names
 keeps_itself names = record { at = λ name slot is. is; distinct = λ once. once }
 
-pub distinct_none : (names : List (List ℕ)) → names ≡ [] → Distinct names
-distinct_none names none = subst Distinct (sym none) tt
+pub distinct_none : (names : List (List ℕ)) → names ≡ [] → AreDistinct names
+distinct_none names none = subst AreDistinct (sym none) tt
 
 module _ (a b : List (List ℕ)) where
-  pub kept_distinct : Keeps a b → Distinct a → Distinct b
+  pub kept_distinct : Extends a b → AreDistinct a → AreDistinct b
   kept_distinct keeps distinct = keeps.distinct distinct
 
-  pub keeps_on : (c : List (List ℕ)) → Keeps a b → Keeps b c → Keeps a c
+  pub keeps_on : (c : List (List ℕ)) → Extends a b → Extends b c → Extends a c
   keeps_on c first second = record {
     at = λ name slot is. second.at name slot (first.at name slot is);
     distinct = λ once. second.distinct (first.distinct once);
   }
 
-  pub kept_slot : (name : List ℕ) (slot : ℕ) → Keeps a b → IsSlot a name slot → IsSlot b name slot
+  pub kept_slot : (name : List ℕ) (slot : ℕ) → Extends a b → IsSlot a name slot → IsSlot b name slot
   kept_slot name slot keeps is = keeps.at name slot is
 
-  same_slot : (name : List ℕ) → Keeps a b → HasName a name → slot_of a name ≡ slot_of b name
+  same_slot : (name : List ℕ) → Extends a b → HasName a name → slot_of a name ≡ slot_of b name
   same_slot name keeps has = (keeps.at name (slot_of a name) (refl, has)).0
 
-  pub kept_name : (name : List ℕ) → Keeps a b → HasName a name → HasName b name
+  pub kept_name : (name : List ℕ) → Extends a b → HasName a name → HasName b name
   kept_name name keeps has = (keeps.at name (slot_of a name) (refl, has)).1
 
   -- ---- operands
 
-  same_operand : (o : Operand) → Keeps a b → HasOperand a o → slot_operand a o ≡ slot_operand b o
+  same_operand : (o : Operand) → Extends a b → HasOperand a o → slot_operand a o ≡ slot_operand b o
   same_operand (operand.Constant v) keeps has = refl
   same_operand (operand.Variable name) keeps has = λ j. Slot (same_slot name keeps has j)
 
-  has_operand : (o : Operand) → Keeps a b → HasOperand a o → HasOperand b o
+  has_operand : (o : Operand) → Extends a b → HasOperand a o → HasOperand b o
   has_operand (operand.Constant v) keeps has = tt
   has_operand (operand.Variable name) keeps has = kept_name name keeps has
 
-  pub kept_operand : (o : Operand) (slotted : SlotOperand) → Keeps a b → IsOperand a o slotted → IsOperand b o slotted
+  pub kept_operand : (o : Operand) (slotted : SlotOperand) → Extends a b → IsOperand a o slotted → IsOperand b o slotted
   kept_operand o slotted keeps is = (is.0 ∙ same_operand o keeps is.1, has_operand o keeps is.1)
 
-  same_operands : (os : List Operand) → Keeps a b → HasOperands a os → map (slot_operand a) os ≡ map (slot_operand b) os
+  same_operands : (os : List Operand) → Extends a b → HasOperands a os → map (slot_operand a) os ≡ map (slot_operand b) os
   same_operands [] keeps has = refl
   same_operands (o ∷ os) keeps has = λ j. same_operand o keeps has.0 j ∷ same_operands os keeps has.1 j
 
-  has_operands : (os : List Operand) → Keeps a b → HasOperands a os → HasOperands b os
+  has_operands : (os : List Operand) → Extends a b → HasOperands a os → HasOperands b os
   has_operands [] keeps has = tt
   has_operands (o ∷ os) keeps has = (has_operand o keeps has.0, has_operands os keeps has.1)
 
-  pub kept_operands : (os : List Operand) (slotted : List SlotOperand) → Keeps a b → IsOperands a os slotted → IsOperands b os slotted
+  pub kept_operands : (os : List Operand) (slotted : List SlotOperand) → Extends a b → IsOperands a os slotted → IsOperands b os slotted
   kept_operands os slotted keeps is = (is.0 ∙ same_operands os keeps is.1, has_operands os keeps is.1)
 
   -- ---- names
 
-  same_names : (ns : List (List ℕ)) → Keeps a b → HasNames a ns → map (slot_of a) ns ≡ map (slot_of b) ns
+  same_names : (ns : List (List ℕ)) → Extends a b → HasNames a ns → map (slot_of a) ns ≡ map (slot_of b) ns
   same_names [] keeps has = refl
   same_names (n ∷ ns) keeps has = λ j. same_slot n keeps has.0 j ∷ same_names ns keeps has.1 j
 
-  has_names : (ns : List (List ℕ)) → Keeps a b → HasNames a ns → HasNames b ns
+  has_names : (ns : List (List ℕ)) → Extends a b → HasNames a ns → HasNames b ns
   has_names [] keeps has = tt
   has_names (n ∷ ns) keeps has = (kept_name n keeps has.0, has_names ns keeps has.1)
 
-  pub kept_slots : (ns : List (List ℕ)) (slots : List ℕ) → Keeps a b → AreSlots a ns slots → AreSlots b ns slots
+  pub kept_slots : (ns : List (List ℕ)) (slots : List ℕ) → Extends a b → AreSlots a ns slots → AreSlots b ns slots
   kept_slots ns slots keeps are = record { same = are.same ∙ same_names ns keeps are.has; has = has_names ns keeps are.has }
 
 -- ---- scopes

@@ -11,7 +11,7 @@ use Rattle.std.proofs.lemmas.Map.Text.{btree_map_updates_text}
 use Rattle.ldv_value.proofs.Cases.{cases-bool}
 use Rattle.ldv_value.proofs.SameBytes.{bytes_eq-true, bytes_eq-itself, bytes_eq-other}
 use Rattle.ldv_value.proofs.Lists.{list_any-append}
-use Rattle.script_code.specs.Names.{Distinct, slot_of, HasName, IsSlot, IsFound, IsNamed, Keeps}
+use Rattle.script_code.specs.Names.{AreDistinct, slot_of, HasName, IsSlot, IsFound, IsNamed, Extends}
 use Rattle.script_code.proofs.SlotLists.{distinct_more}
 
 -- a test that fails the other way round
@@ -156,8 +156,8 @@ module _ (names new : List (List ℕ)) (name copy : List ℕ) (pushed : new ≡ 
       let after : IsSlot (names ++ name ∷ []) q slot = (is.0 ∙ sym stays, omega (arith, stays, long, within)) in
       subst (λ (ns : List (List ℕ)). IsSlot ns q slot) (sym added_last) after
 
-  pub keeps_before : list_any (bytes_eq name) names ≡ false → Keeps names new
+  pub keeps_before : list_any (bytes_eq name) names ≡ false → Extends names new
   keeps_before none = record {
     at = slot_before;
-    distinct = λ once. subst Distinct (sym added_last) (distinct_more names name once none);
+    distinct = λ once. subst AreDistinct (sym added_last) (distinct_more names name once none);
   }

@@ -7,16 +7,16 @@ use Rattle.script_parse.specs.declared.script.Operand.{Operand}
 use Rattle.script_code.specs.declared.code.Scope.{Scope}
 use Rattle.script_code.specs.declared.code.SlotInstr.{SlotInstr}
 use Rattle.script_code.specs.declared.code.SlotOperand.{SlotOperand}
-use Rattle.script_code.specs.Resolved.{Keeps, KeepsAll, Resolves, ResolvesAll, IsOperand, IsOperands, IsSlot, AreSlots}
+use Rattle.script_code.specs.Resolved.{Extends, KeepsAll, Resolves, ResolvesAll, IsOperand, IsOperands, IsSlot, AreSlots}
 use Rattle.script_code.proofs.KnownNames.{keeps_itself, keeps_on, kept_operand, kept_slot, keeps_all_itself, keeps_all_on, kept_instr}
 
 -- so far, with whatever names are added and the others become
 abbrev pub OperandsSo : List (List ℕ) → List Operand → List Operand → List SlotOperand → Type 0
 OperandsSo names all rest so =
-    (later : List (List ℕ)) (more : List SlotOperand) → Keeps names later → IsOperands later rest more → IsOperands later all (so ++ more)
+    (later : List (List ℕ)) (more : List SlotOperand) → Extends names later → IsOperands later rest more → IsOperands later all (so ++ more)
 
 abbrev pub SlotsSo : List (List ℕ) → List (List ℕ) → List (List ℕ) → List ℕ → Type 0
-SlotsSo names all rest so = (later : List (List ℕ)) (more : List ℕ) → Keeps names later → AreSlots later rest more → AreSlots later all (so ++ more)
+SlotsSo names all rest so = (later : List (List ℕ)) (more : List ℕ) → Extends names later → AreSlots later rest more → AreSlots later all (so ++ more)
 
 abbrev pub InstrsSo : Scope → List Instr → List Instr → List SlotInstr → Type 0
 InstrsSo s all rest so = (later : Scope) (more : List SlotInstr) → KeepsAll s later → ResolvesAll later rest more → ResolvesAll later all (so ++ more)
@@ -36,7 +36,7 @@ split_first (y ∷ ys) same x some first is =
 more_last : {X : Type 0} (so new more : List X) (x : X) → new ≡ so ++ x ∷ [] → so ++ (x ∷ more) ≡ new ++ more
 more_last {X} so new more x pushed = sym (ap (λ (l : List X). l ++ more) pushed ∙ append_assoc so (x ∷ []) more)
 
-module _ (names new : List (List ℕ)) (keeps : Keeps names new) where
+module _ (names new : List (List ℕ)) (keeps : Extends names new) where
   pub operand_next : (all rest others : List Operand) (o : Operand) (slotted : SlotOperand) (so after : List SlotOperand)
       → rest ≡ o ∷ others → after ≡ so ++ slotted ∷ [] → IsOperand new o slotted → OperandsSo names all rest so → OperandsSo new all others after
   operand_next all rest others o slotted so after first pushed one before = λ later more stays are.

@@ -5,11 +5,11 @@ use Rattle.std.specs.List.{list_any}
 use Rattle.ldv_value.proofs.Cases.{cases-bool}
 use Rattle.ldv_value.proofs.SameBytes.{bytes_eq-true, bytes_eq-itself, bytes_eq-other}
 use Rattle.ldv_value.proofs.Lists.{list_any-append}
-use Rattle.script_code.specs.Resolved.{Distinct, slot_of, HasName}
+use Rattle.script_code.specs.Resolved.{AreDistinct, slot_of, HasName}
 
 -- a new name at the end
-pub distinct_more : (names : List (List ℕ)) (name : List ℕ) → Distinct names → list_any (bytes_eq name) names ≡ false
-    → Distinct (names ++ name ∷ [])
+pub distinct_more : (names : List (List ℕ)) (name : List ℕ) → AreDistinct names → list_any (bytes_eq name) names ≡ false
+    → AreDistinct (names ++ name ∷ [])
 distinct_more [] name distinct none = (refl, tt)
 distinct_more (n ∷ ns) name distinct none = elim (cases-bool (bytes_eq name n)) [
   | inl hit ↦ let no : true ≡ false = rw hit at none in absurd cc
@@ -41,7 +41,7 @@ module _ {X : Type 0} where
         λ i. sym (same n miss) i ∷ map_absent f g name ns rest same i
   ]
 
-  pub set_slot : (f g : List ℕ → X) (names : List (List ℕ)) (name : List ℕ) → Distinct names → HasName names name
+  pub set_slot : (f g : List ℕ → X) (names : List (List ℕ)) (name : List ℕ) → AreDistinct names → HasName names name
       → ((n : List ℕ) → bytes_eq name n ≡ false → g n ≡ f n)
       → slice_set (map f names) (slot_of names name) (g name) ≡ map g names
   set_slot f g [] name distinct has same = refl

@@ -7,9 +7,9 @@ use Rattle.std.specs.declared.alloc.Global.{Global}
 use Rattle.std.specs.Prelude.{String}
 
 -- no name is there twice
-abbrev pub Distinct : List (List ℕ) → Type 0
-Distinct [] = Unit {0}
-Distinct (name ∷ names) = (list_any (bytes_eq name) names ≡ false) × Distinct names
+abbrev pub AreDistinct : List (List ℕ) → Type 0
+AreDistinct [] = Unit {0}
+AreDistinct (name ∷ names) = (list_any (bytes_eq name) names ≡ false) × AreDistinct names
 
 -- the index of a name, or how many names there are
 abbrev pub slot_of : List (List ℕ) → List ℕ → ℕ
@@ -23,9 +23,9 @@ abbrev pub IsSlot : List (List ℕ) → List ℕ → ℕ → Type 0
 IsSlot names name slot = (slot ≡ slot_of names name) × HasName names name
 
 -- each name of one table has the same slot in another, where none is twice if none was
-pub record Keeps (names more : List (List ℕ)) : Type 0 where
+pub record Extends (names more : List (List ℕ)) : Type 0 where
   pub at : (name : List ℕ) (slot : ℕ) → IsSlot names name slot → IsSlot more name slot
-  pub distinct : Distinct names → Distinct more
+  pub distinct : AreDistinct names → AreDistinct more
 
 -- what a name's look-up finds: its slot, or that it isn't there
 abbrev pub IsFound : List (List ℕ) → List ℕ → Option ℕ → Type 0
@@ -34,5 +34,5 @@ IsFound names name (Some slot) = IsSlot names name slot
 
 -- names, none of them twice, with a map of their slots
 pub record IsNamed (names : List (List ℕ)) (slots : BTreeMap (String Global) ℕ) : Type 0 where
-  pub distinct : Distinct names
+  pub distinct : AreDistinct names
   pub found : (name : List ℕ) → IsFound names name (get_by_text slots name)

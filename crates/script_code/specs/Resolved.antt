@@ -6,7 +6,7 @@ use Rattle.script_parse.specs.declared.script.Instr.TheVariants as instr
 use Rattle.script_parse.specs.declared.script.Operand.{Operand}
 use Rattle.script_parse.specs.declared.script.Operand.TheVariants as operand
 use Rattle.script_parse.specs.declared.script.Instr.{Instr}
-pub use Rattle.script_code.specs.Names.{Distinct, slot_of, HasName, IsSlot, Keeps}
+pub use Rattle.script_code.specs.Names.{AreDistinct, slot_of, HasName, IsSlot, Extends}
 use Rattle.script_code.specs.declared.code.SlotInstr.{SlotInstr}
 use Rattle.script_code.specs.declared.code.SlotInstr.TheVariants.{Own, OnFiles, Spawn, Wait, Sql}
 use Rattle.script_code.specs.declared.code.OwnInstr.TheVariants as own
@@ -117,10 +117,10 @@ HasAll s (instr.Status to cursor) = HasName s.variables to × HasName s.cursors 
 
 -- each name of one scope has the same slot in another
 pub record KeepsAll (s more : Scope) : Type 0 where
-  pub variables : Keeps s.variables more.variables
-  pub files : Keeps s.files more.files
-  pub cursors : Keeps s.cursors more.cursors
-  pub children : Keeps s.children more.children
+  pub variables : Extends s.variables more.variables
+  pub files : Extends s.files more.files
+  pub cursors : Extends s.cursors more.cursors
+  pub children : Extends s.children more.children
 
 abbrev pub Resolves : Scope → Instr → SlotInstr → Type 0
 Resolves s i slotted = (slotted ≡ slot_instr s i) × HasAll s i
@@ -134,10 +134,10 @@ ResolvesAll s (i ∷ is) [] = ⊥
 ResolvesAll s (i ∷ is) (slotted ∷ more) = Resolves s i slotted × ResolvesAll s is more
 
 pub record IsScope (s : Scope) : Type 0 where
-  pub variables : Distinct s.variables
-  pub files : Distinct s.files
-  pub cursors : Distinct s.cursors
-  pub children : Distinct s.children
+  pub variables : AreDistinct s.variables
+  pub files : AreDistinct s.files
+  pub cursors : AreDistinct s.cursors
+  pub children : AreDistinct s.children
 
 -- the resolved form of a script, with the bytes that it was read from
 pub record IsCode (code : Code) (script : List Instr) : Type 0 where

@@ -2,7 +2,7 @@
 
 ghost use Rattle.script_code.specs.Resolved.{IsScope};
 
-use crate::names::NameTable;
+use crate::name_table::NameTable;
 use ldv_value::{Bytes, Cmp, List, OpenMode, Value};
 use script_parse::CalcOp;
 use std::alloc::Global;

@@ -14,7 +14,7 @@
 #![tactic(auto)]
 
 mod code;
-mod names;
+mod name_table;
 mod operands;
 mod read;
 mod resolve;
@@ -22,5 +22,5 @@ mod resolve;
 pub use code::{
     Code, FileInstr, OwnInstr, Scope, SlotInstr, SlotInstrs, SlotOperand, SlotOperands, Slots,
 };
-pub use names::NameTable;
+pub use name_table::NameTable;
 pub use read::read_code;

@@ -1,10 +1,10 @@
 //! Slots in the place of names and operands. Each call adds the names that it meets first.
 
 ghost use Rattle.std.specs.Prelude.{IfOk, OnOk};
-ghost use Rattle.script_code.specs.Resolved.{AreSlots, IsOperand, IsOperands, IsSlot, Keeps};
+ghost use Rattle.script_code.specs.Resolved.{AreSlots, IsOperand, IsOperands, IsSlot, Extends};
 
 use crate::code::{SlotOperand, SlotOperands, Slots};
-use crate::names::NameTable;
+use crate::name_table::NameTable;
 use ldv_value::{CopyItem, Names, Utf8};
 use script_parse::{Operand, Operands};
 use std::alloc::{AllocError, Global};
@@ -17,7 +17,7 @@ pub(crate) fn operand(
     operand: &Operand,
 ) -> Result<SlotOperand, AllocError>
     ensures slotted { IfOk result (IsOperand names.new operand.now) }
-    ensures keeps { OnOk result (Keeps names.old names.new) }
+    ensures keeps { OnOk result (Extends names.old names.new) }
 {
     match operand {
         Operand::Constant(value) => Ok(SlotOperand::Constant(value.copy_item(alloc)?)),
@@ -32,7 +32,7 @@ pub(crate) fn operands(
     operands: &Operands,
 ) -> Result<SlotOperands, AllocError>
     ensures slotted { IfOk result (IsOperands names.new operands.now) }
-    ensures keeps { OnOk result (Keeps names.old names.new) }
+    ensures keeps { OnOk result (Extends names.old names.new) }
 {
     let mut slotted = SlotOperands::with_capacity(alloc, operands.len())?;
     let mut rest = operands.items();
@@ -50,7 +50,7 @@ pub(crate) fn slots(
     wanted: &Names,
 ) -> Result<Slots, AllocError>
     ensures slots { IfOk result (AreSlots names.new wanted.now) }
-    ensures keeps { OnOk result (Keeps names.old names.new) }
+    ensures keeps { OnOk result (Extends names.old names.new) }
 {
     let mut slots = Slots::with_capacity(alloc, wanted.len())?;
     let mut rest = wanted.items();
@@ -70,7 +70,7 @@ pub(crate) fn two_slots(
 ) -> Result<(usize, usize), AllocError>
     ensures first { IfOk result (λ pair. IsSlot names.new first.now pair.0) }
     ensures second { IfOk result (λ pair. IsSlot names.new second.now pair.1) }
-    ensures keeps { OnOk result (Keeps names.old names.new) }
+    ensures keeps { OnOk result (Extends names.old names.new) }
 {
     let one = names.intern(first)?;
     let other = names.intern(second)?;
@@ -87,7 +87,7 @@ pub(crate) fn two_operands(
 ) -> Result<(SlotOperand, SlotOperand), AllocError>
     ensures left { IfOk result (λ pair. IsOperand names.new left.now pair.0) }
     ensures right { IfOk result (λ pair. IsOperand names.new right.now pair.1) }
-    ensures keeps { OnOk result (Keeps names.old names.new) }
+    ensures keeps { OnOk result (Extends names.old names.new) }
 {
     let one = operand(alloc, names, left)?;
     let other = operand(alloc, names, right)?;
@@ -104,7 +104,7 @@ pub(crate) fn first_and_others(
 ) -> Result<(SlotOperand, SlotOperands), AllocError>
     ensures first { IfOk result (λ pair. IsOperand names.new first.now pair.0) }
     ensures others { IfOk result (λ pair. IsOperands names.new others.now pair.1) }
-    ensures keeps { OnOk result (Keeps names.old names.new) }
+    ensures keeps { OnOk result (Extends names.old names.new) }
 {
     let one = operand(alloc, names, first)?;
     let more = operands(alloc, names, others)?;

@@ -21,7 +21,7 @@ use Rattle.ldv_value.specs.Options.{◌>>=◌, only_if}
 use Rattle.script_parse.specs.Names.{is_text}
 use Rattle.script_parse.specs.Tokens.{tokens_of}
 use Rattle.script_parse.specs.Lines.{lines_of, form_of, is_comment, line_of}
-use Rattle.script_parse.specs.Script.{entry_of, entries_from, labels_from, definition_of, with_place, is_first, resolve, resolve_line, instructions_of, first_bad, look_up, script_of, first_bad_line, IfLine}
+use Rattle.script_parse.specs.Script.{entry_of, entries_from, labels_from, definition_of, with_place, is_first, resolve, resolve_line, instructions_of, first_unresolved_line, look_up, script_of, first_bad_line, IfLine}
 use Rattle.script_parse.specs.Grammar.{Blank, Names, Does, IsScript}
 use Rattle.script_parse.specs.BadLine.{Anywhere, HasAForm, Defines, IsDefined, Uses, IsBadLine, IsBad, IsFirstBad, IsFirstBadLine}
 use Rattle.ldv_value.proofs.Cases.{cases-option}
@@ -239,17 +239,17 @@ none_after i (Some is) h = absurd cc
 
 -- the first of lines is bad, or what is read is so as it is of the others
 abbrev Goes : (List ℕ → Option Definition) → ℕ → Option (Option Instr) → List Entry → List Entry → Type 0
-Goes look n r all es = ((r ≡ None) × (first_bad look all ≡ n) × (instructions_of look all ≡ None))
-    ⊎ ((r ≢ None) × (first_bad look all ≡ first_bad look es)
+Goes look n r all es = ((r ≡ None) × (first_unresolved_line look all ≡ n) × (instructions_of look all ≡ None))
+    ⊎ ((r ≢ None) × (first_unresolved_line look all ≡ first_unresolved_line look es)
     × (instructions_of look es ≡ None → instructions_of look all ≡ None) × (instructions_of look all ≡ None → instructions_of look es ≡ None))
 
 entry_goes : (look : List ℕ → Option Definition) (e : Entry) (es : List Entry) (r : Option (Option Instr)) → resolve look e ≡ r → Goes look e.number r (e ∷ es) es
 entry_goes look e es None h =
-    inl (refl, ap (λ r. cond (is_some r) (first_bad look es) e.number) h, ap (λ r. after r (instructions_of look es)) h)
+    inl (refl, ap (λ r. cond (is_some r) (first_unresolved_line look es) e.number) h, ap (λ r. after r (instructions_of look es)) h)
 entry_goes look e es (Some i) h =
     inr (
       λ no. cc,
-      ap (λ r. cond (is_some r) (first_bad look es) e.number) h,
+      ap (λ r. cond (is_some r) (first_unresolved_line look es) e.number) h,
       λ rest. ap (λ r. after r (instructions_of look es)) h ∙ ap (after (Some i)) rest,
       λ whole. none_after i (instructions_of look es) (sym (ap (λ r. after r (instructions_of look es)) h) ∙ whole),
     )
@@ -268,7 +268,7 @@ AreGood look n (x ∷ xs) = (resolve_line look n (line_of x) ≢ None) × AreGoo
 -- what is reported of lines from the number n on
 abbrev Reported : (List ℕ → Option Definition) → ℕ → List (List ℕ) → Type 0
 Reported look n ls = (front : List (List ℕ)) × (line : List ℕ) × (back : List (List ℕ)) × (ls ≡ front ++ line ∷ back)
-    × (first_bad look (entries_from n ls) ≡ n + length front) × (resolve_line look (n + length front) (line_of line) ≡ None) × AreGood look n front
+    × (first_unresolved_line look (entries_from n ls) ≡ n + length front) × (resolve_line look (n + length front) (line_of line) ≡ None) × AreGood look n front
 
 reported : (look : List ℕ → Option Definition) (n : ℕ) (ls : List (List ℕ)) → instructions_of look (entries_from n ls) ≡ None → Reported look n ls
 reported look n [] h = absurd cc
@@ -309,12 +309,12 @@ good_at look n (y ∷ ys) rest (z ∷ zs) x b e less h =
 bad_here : (ls f : List (List ℕ)) (x : List ℕ) (b : List (List ℕ)) → ls ≡ f ++ x ∷ b → IsBadLine f x b → resolve_line (places ls) (1 + length f) (line_of x) ≡ None
 bad_here ls f x b e is = subst (λ (k : List (List ℕ)). resolve_line (places k) (1 + length f) (line_of x) ≡ None) (sym e) (bad_complete f x b is)
 
-least_bad : (ls : List (List ℕ)) → Reported (places ls) 1 ls → IsFirstBad ls (first_bad (places ls) (entries_from 1 ls))
+least_bad : (ls : List (List ℕ)) → Reported (places ls) 1 ls → IsFirstBad ls (first_unresolved_line (places ls) (entries_from 1 ls))
 least_bad ls (front, line, back, split, number, bad, good) =
     let here : IsBadLine front line back =
     bad_sound front line back (subst (λ (k : List (List ℕ)). resolve_line (places k) (1 + length front) (line_of line) ≡ None) split bad) in (
       (front, line, back, split, omega (arith, number), here),
-      λ m is. elim (cases_lt m (first_bad (places ls) (entries_from 1 ls))) [
+      λ m is. elim (cases_lt m (first_unresolved_line (places ls) (entries_from 1 ls))) [
         | inl less ↦ absurd (good_at (places ls) 1 front (line ∷ back) is.0 is.1 is.2 (sym split ∙ is.3) (omega (arith, number, less, is.4)) good (bad_here ls is.0 is.1 is.2 is.3 is.5))
         | inr more ↦ more
       ],

@@ -23,9 +23,9 @@ use Rattle.script_parse.specs.declared.line.Line.TheVariants.{Quiet, Label, Plai
 use Rattle.ldv_value.specs.Options.{◌>>=◌, only_if}
 use Rattle.script_parse.specs.Names.{is_text, name_test}
 use Rattle.script_parse.specs.Keywords.{keyword_text, sign_text, comparison_text, mode_text, keywords, signs, comparisons, modes, keyword_of, sign_of, comparison_of, mode_of}
-use Rattle.script_parse.specs.Forms.{each, word_of, is_word, name_in, name_of, operand_of, operands_of, operands_from_one, names_from_one, sign_in, comparison_in, mode_in, signed, let_value, let_of, cut_of, goto_of, if_of, print_of, exit_of, write_of, copy_of, close_of, exists_of, wait_of, sql_of, count_of, status_of, last_label, else_at, else_of, open_of, readline_of, remove_of, spawn_of, fetch_of, with_else, instruction_of}
-use Rattle.script_parse.specs.Lines.{before_colon, worded, form_of}
-use Rattle.script_parse.specs.Grammar.{IsName, written, IsOperand, AreOperands, AreNames, word, tokens_for, HasForm, place_of}
+use Rattle.script_parse.specs.Forms.{each, word_of, is_word, name_in, name_of, operand_of, operands_of, operands_from_one, names_from_one, sign_in, comparison_in, mode_in, instr_of_sign, let_value, let_of, cut_of, goto_of, if_of, print_of, exit_of, write_of, copy_of, close_of, exists_of, wait_of, sql_of, count_of, status_of, last_label, else_at, else_of, open_of, readline_of, remove_of, spawn_of, fetch_of, with_else, instruction_of}
+use Rattle.script_parse.specs.Lines.{before_colon, line_of_word, form_of}
+use Rattle.script_parse.specs.Grammar.{IsName, operand_token, IsOperand, AreOperands, AreNames, word, tokens_for, HasForm, place_of}
 use Rattle.ldv_value.proofs.Options.{bind-some, only_if-some, same-some, tested-some}
 use Rattle.script_parse.proofs.Colon.{colon_split}
 use Rattle.ldv_value.proofs.Lists.{found-passes}
@@ -46,21 +46,21 @@ name_sound (Word w) x h = let p = tested-some name_test w x h in (ap Word p.0, p
 name_sound (Number z) x h = cc
 name_sound (Quoted t) x h = cc
 
-operand_sound : (t : Token) (v : Operand) → operand_of t ≡ Some v → (t ≡ written v) × IsOperand v
+operand_sound : (t : Token) (v : Operand) → operand_of t ≡ Some v → (t ≡ operand_token v) × IsOperand v
 operand_sound (Word w) v h = elim (cases_Bool (is_text w (codes "null"))) [
   | inl null ↦
       let h2 : Some (Constant value.Null) ≡ Some v = rw null at h in
       let e : Constant value.Null ≡ v = cc (h2) in
-      subst (λ v. (Word w ≡ written v) × IsOperand v) e (ap Word (text_is w (codes "null") null), tt)
+      subst (λ v. (Word w ≡ operand_token v) × IsOperand v) e (ap Word (text_is w (codes "null") null), tt)
   | inr not_null ↦
       let h2 : (name_in w >>= λ x. Some (Variable x)) ≡ Some v = sym (ap (λ b. cond b (Some (Constant value.Null)) (name_in w >>= λ x. Some (Variable x))) not_null) ∙ h in
       let p = bind-some (name_in w) (λ x. Some (Variable x)) v h2 in
       let q = tested-some name_test w p.0 p.1 in
       let e : Variable p.0 ≡ v = cc (p.2) in
-      subst (λ v. (Word w ≡ written v) × IsOperand v) e (ap Word q.0, q.1)
+      subst (λ v. (Word w ≡ operand_token v) × IsOperand v) e (ap Word q.0, q.1)
 ]
-operand_sound (Number z) v h = let e : Constant (value.Int z) ≡ v = cc (h) in subst (λ v. (Number z ≡ written v) × IsOperand v) e (refl, tt)
-operand_sound (Quoted t) v h = let e : Constant (value.Text t) ≡ v = cc (h) in subst (λ v. (Quoted t ≡ written v) × IsOperand v) e (refl, tt)
+operand_sound (Number z) v h = let e : Constant (value.Int z) ≡ v = cc (h) in subst (λ v. (Number z ≡ operand_token v) × IsOperand v) e (refl, tt)
+operand_sound (Quoted t) v h = let e : Constant (value.Text t) ≡ v = cc (h) in subst (λ v. (Quoted t ≡ operand_token v) × IsOperand v) e (refl, tt)
 
 is_word_sound : (text : List ℕ) (t : Token) → is_word text t ≡ true → t ≡ Word text
 is_word_sound text (Word w) h = ap Word (text_is w text h)
@@ -81,16 +81,16 @@ comparison_sound t s h = let p = bind-some (word_of t) comparison_of s h in word
 mode_sound : (t : Token) (s : OpenMode) → mode_in t ≡ Some s → t ≡ Word (mode_text s)
 mode_sound t s h = let p = bind-some (word_of t) mode_of s h in word_sound t p.0 p.1 ∙ ap Word (text_is p.0 (mode_text s) (found-passes (λ k. is_text p.0 (mode_text k)) modes s p.2))
 
-operands_sound : (ts : List Token) (vs : List Operand) → each operand_of ts ≡ Some vs → (ts ≡ map written vs) × AllByRecursion IsOperand vs × (length vs ≡ length ts)
-operands_sound [] vs h = let e : [] ≡ vs = cc (h) in subst (λ vs. ([] ≡ map written vs) × AllByRecursion IsOperand vs × (length vs ≡ length {A = Token} [])) e (refl, tt, refl)
+operands_sound : (ts : List Token) (vs : List Operand) → each operand_of ts ≡ Some vs → (ts ≡ map operand_token vs) × AllByRecursion IsOperand vs × (length vs ≡ length ts)
+operands_sound [] vs h = let e : [] ≡ vs = cc (h) in subst (λ vs. ([] ≡ map operand_token vs) × AllByRecursion IsOperand vs × (length vs ≡ length {A = Token} [])) e (refl, tt, refl)
 operands_sound (t ∷ ts) vs h =
     let p = bind-some (operand_of t) (λ y. each operand_of ts >>= λ ys. Some (y ∷ ys)) vs h in
     let q = bind-some (each operand_of ts) (λ ys. Some (p.0 ∷ ys)) vs p.2 in
     let e : p.0 ∷ q.0 ≡ vs = cc (q.2) in
     let one = operand_sound t p.0 p.1 in
     let more = operands_sound ts q.0 q.1 in
-    subst (λ vs. (t ∷ ts ≡ map written vs) × AllByRecursion IsOperand vs × (length vs ≡ length (t ∷ ts))) e
-    (ap (λ x. x ∷ ts) one.0 ∙ ap (λ l. written p.0 ∷ l) more.0, (one.1, more.1), ap suc more.2)
+    subst (λ vs. (t ∷ ts ≡ map operand_token vs) × AllByRecursion IsOperand vs × (length vs ≡ length (t ∷ ts))) e
+    (ap (λ x. x ∷ ts) one.0 ∙ ap (λ l. operand_token p.0 ∷ l) more.0, (one.1, more.1), ap suc more.2)
 
 names_sound : (ts : List Token) (xs : List (List ℕ)) → each name_of ts ≡ Some xs → (ts ≡ map Word xs) × AllByRecursion IsName xs × (length xs ≡ length ts)
 names_sound [] xs h = let e : [] ≡ xs = cc (h) in subst (λ xs. ([] ≡ map Word xs) × AllByRecursion IsName xs × (length xs ≡ length {A = Token} [])) e (refl, tt, refl)
@@ -103,7 +103,7 @@ names_sound (t ∷ ts) xs h =
     subst (λ xs. (t ∷ ts ≡ map Word xs) × AllByRecursion IsName xs × (length xs ≡ length (t ∷ ts))) e
     (ap (λ x. x ∷ ts) one.0 ∙ ap (λ l. Word p.0 ∷ l) more.0, (one.1, more.1), ap suc more.2)
 
-operands_one_sound : (ts : List Token) (vs : List Operand) → operands_from_one ts ≡ Some vs → (ts ≡ map written vs) × (vs ≢ []) × AreOperands 256 vs
+operands_one_sound : (ts : List Token) (vs : List Operand) → operands_from_one ts ≡ Some vs → (ts ≡ map operand_token vs) × (vs ≢ []) × AreOperands 256 vs
 operands_one_sound [] vs h = cc
 operands_one_sound (t ∷ ts) vs h =
     let p = only_if-some (leb (length ts) 255) (each operand_of (t ∷ ts)) vs h in
@@ -112,7 +112,7 @@ operands_one_sound (t ∷ ts) vs h =
     let len : length vs ≡ suc (length ts) = q.2 in
     (q.0, λ none. absurd (omega (arith, ap length none)), (omega arith, q.1))
 
-operands_most_sound : (ts : List Token) (vs : List Operand) → operands_of ts ≡ Some vs → (ts ≡ map written vs) × AreOperands 255 vs
+operands_most_sound : (ts : List Token) (vs : List Operand) → operands_of ts ≡ Some vs → (ts ≡ map operand_token vs) × AreOperands 255 vs
 operands_most_sound ts vs h =
     let p = only_if-some (leb (length ts) 255) (each operand_of ts) vs h in
     let few : length ts ≤ 255 = leb-true _ _ p.0 in
@@ -327,7 +327,7 @@ fetch_sound (c ∷ ts) label line h ok =
     subst (λ (made : Line). IsForm made (word "fetch" ∷ c ∷ ts ++ word "else" ∷ Word label ∷ [])) e (refl, (k0.1, k1.1, k1.2), ok, λ j. word "fetch" ∷ (k0.0 j) ∷ ((k1.0 j) ++ word "else" ∷ Word label ∷ []))
 
 signed_sound : (x : List ℕ) (v w : Operand) (s : Sign) → IsName x → IsOperand v → IsOperand w
-    → IsForm (Plain (signed x v w s)) (word "let" ∷ Word x ∷ word "=" ∷ written v ∷ Word (sign_text s) ∷ written w ∷ [])
+    → IsForm (Plain (instr_of_sign x v w s)) (word "let" ∷ Word x ∷ word "=" ∷ operand_token v ∷ Word (sign_text s) ∷ operand_token w ∷ [])
 signed_sound x v w Plus a b c = (refl, (a, b, c), refl)
 signed_sound x v w Minus a b c = (refl, (a, b, c), refl)
 signed_sound x v w Times a b c = (refl, (a, b, c), refl)
@@ -348,13 +348,13 @@ value_sound x (t ∷ v ∷ []) i ok h =
     let e : instr.ToInt x s0.0 ≡ i = cc (guard.1) in
     subst (λ (made : Instr). IsForm (Plain made) (word "let" ∷ Word x ∷ word "=" ∷ t ∷ v ∷ [])) e (refl, (ok, k0.1), λ j. word "let" ∷ Word x ∷ word "=" ∷ (int j) ∷ (k0.0 j) ∷ [])
 value_sound x (v ∷ s ∷ w ∷ []) i ok h =
-    let s0 = bind-some (operand_of v) (λ a. (sign_in s >>= λ b. (operand_of w >>= λ d. Some (signed x a d b)))) i h in
+    let s0 = bind-some (operand_of v) (λ a. (sign_in s >>= λ b. (operand_of w >>= λ d. Some (instr_of_sign x a d b)))) i h in
     let k0 = operand_sound v s0.0 s0.1 in
-    let s1 = bind-some (sign_in s) (λ b. (operand_of w >>= λ d. Some (signed x s0.0 d b))) i s0.2 in
+    let s1 = bind-some (sign_in s) (λ b. (operand_of w >>= λ d. Some (instr_of_sign x s0.0 d b))) i s0.2 in
     let k1 = sign_sound s s1.0 s1.1 in
-    let s2 = bind-some (operand_of w) (λ d. Some (signed x s0.0 d s1.0)) i s1.2 in
+    let s2 = bind-some (operand_of w) (λ d. Some (instr_of_sign x s0.0 d s1.0)) i s1.2 in
     let k2 = operand_sound w s2.0 s2.1 in
-    let e : signed x s0.0 s2.0 s1.0 ≡ i = cc (s2.2) in
+    let e : instr_of_sign x s0.0 s2.0 s1.0 ≡ i = cc (s2.2) in
     let made = signed_sound x s0.0 s2.0 s1.0 ok k0.1 k2.1 in
     subst (λ (made : Instr). IsForm (Plain made) (word "let" ∷ Word x ∷ word "=" ∷ v ∷ s ∷ w ∷ [])) e
     (made.0, made.1, ((λ j. word "let" ∷ Word x ∷ word "=" ∷ (k0.0 j) ∷ (k1 j) ∷ (k2.0 j) ∷ []) ∙ made.2))
@@ -437,7 +437,7 @@ instruction_sound Fetch ts line h = else_form fetch_of (codes "fetch") fetch_sou
 instruction_sound Count ts line h = count_sound ts line h
 instruction_sound Status ts line h = status_sound ts line h
 
-worded_sound : (w : List ℕ) (ts : List Token) (line : Line) → worded w ts ≡ Some line → IsForm line (Word w ∷ ts)
+worded_sound : (w : List ℕ) (ts : List Token) (line : Line) → line_of_word w ts ≡ Some line → IsForm line (Word w ∷ ts)
 worded_sound w [] line h =
     let s0 = bind-some (before_colon w) (λ front. (name_in front >>= λ name. Some (Label name))) line h in
     let s1 = bind-some (name_in s0.0) (λ name. Some (Label name)) line s0.2 in
@@ -452,5 +452,5 @@ worded_sound w (t ∷ ts) line h =
 pub forms_sound : (ts : List Token) (line : Line) → form_of ts ≡ Some line → IsForm line ts
 forms_sound [] line h = let e : Quiet ≡ line = cc (h) in subst (λ (l : Line). IsForm l []) e refl
 forms_sound (t ∷ ts) line h =
-    let s0 = bind-some (word_of t) (λ w. worded w ts) line h in
+    let s0 = bind-some (word_of t) (λ w. line_of_word w ts) line h in
     subst (λ (x : Token). IsForm line (x ∷ ts)) (sym (word_sound t s0.0 s0.1)) (worded_sound s0.0 ts line s0.2)

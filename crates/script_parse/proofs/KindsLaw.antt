@@ -12,7 +12,7 @@ use Rattle.script_parse.specs.declared.line.Definition.{Definition}
 use Rattle.ldv_value.specs.Options.{◌>>=◌, only_if}
 use Rattle.script_parse.specs.Names.{is_text}
 use Rattle.script_parse.specs.Lines.{line_of}
-use Rattle.script_parse.specs.Script.{entry_of, entries_from, Labelled, labels_from, definition_of, with_place, is_first, instructions_of}
+use Rattle.script_parse.specs.Script.{entry_of, entries_from, LabelDefinition, labels_from, definition_of, with_place, is_first, instructions_of}
 use Rattle.script_parse.specs.Grammar.{Kind, Blank, Names, Does, steps, labels, AllDiffer}
 use Rattle.ldv_value.proofs.Cases.{cases-option}
 use Rattle.ldv_value.proofs.Options.{bind-some, only_if-some}
@@ -26,11 +26,11 @@ Fits look n (Label l) k = (is_first n (look l) ≡ true) × (k ≡ Names l)
 Fits look n (Plain i) k = k ≡ Does i
 Fits look n (Jumping i l) k = (d : Definition) × (look l ≡ Some d) × (k ≡ Does (with_place d.place i))
 
-abbrev pub Reads : (List ℕ → Option Definition) → ℕ → List (List ℕ) → List Kind → Type 0
-Reads look n [] [] = Unit {0}
-Reads look n [] (k ∷ ks) = ⊥
-Reads look n (l ∷ ls) [] = ⊥
-Reads look n (l ∷ ls) (k ∷ ks) = (s : Line) × (line_of l ≡ Some s) × Fits look n s k × Reads look (n + 1) ls ks
+abbrev pub ReadsLines : (List ℕ → Option Definition) → ℕ → List (List ℕ) → List Kind → Type 0
+ReadsLines look n [] [] = Unit {0}
+ReadsLines look n [] (k ∷ ks) = ⊥
+ReadsLines look n (l ∷ ls) [] = ⊥
+ReadsLines look n (l ∷ ls) (k ∷ ks) = (s : Line) × (line_of l ≡ Some s) × Fits look n s k × ReadsLines look (n + 1) ls ks
 
 abbrev pub front : Kind → List Instr
 front Blank = []
@@ -67,7 +67,7 @@ one_sound look n (Jumping i l) rest is h =
     (Does (with_place d.0.place i), b.0, (d.0, d.1, refl), b.1, sym e ∙ ap (λ o. option_to_list o ++ b.0) (sym some))
 
 pub reads_sound : (look : List ℕ → Option Definition) (n : ℕ) (ls : List (List ℕ)) (is : List Instr) → instructions_of look (entries_from n ls) ≡ Some is
-    → (ks : List Kind) × Reads look n ls ks × (is ≡ steps ks)
+    → (ks : List Kind) × ReadsLines look n ls ks × (is ≡ steps ks)
 reads_sound look n [] is h = let e : [] ≡ is = cc (h) in ([], tt, sym e)
 reads_sound look n (l ∷ ls) is h = elim (cases-option (line_of l)) [
   | inl none ↦
@@ -90,7 +90,7 @@ one_complete look n (Jumping i l) k rest more (d, found, is) h =
     ap (λ o. (o >>= λ d. Some (Some (with_place d.place i))) >>= λ i. instructions_of look rest >>= λ is. Some (option_to_list i ++ is)) found
     ∙ ap (λ o. o >>= λ is. Some (with_place d.place i ∷ is)) h ∙ ap (λ k. Some (front k ++ more)) (sym is)
 
-pub reads_complete : (look : List ℕ → Option Definition) (n : ℕ) (ls : List (List ℕ)) (ks : List Kind) → Reads look n ls ks → instructions_of look (entries_from n ls) ≡ Some (steps ks)
+pub reads_complete : (look : List ℕ → Option Definition) (n : ℕ) (ls : List (List ℕ)) (ks : List Kind) → ReadsLines look n ls ks → instructions_of look (entries_from n ls) ≡ Some (steps ks)
 reads_complete look n [] [] h = refl
 reads_complete look n [] (k ∷ ks) h = absurd h
 reads_complete look n (l ∷ ls) [] h = absurd h
@@ -100,7 +100,7 @@ reads_complete look n (l ∷ ls) (k ∷ ks) (s, said, fits, more) =
 
 -- LABELS
 
-abbrev pub labelled : ℕ → ℕ → List Kind → List Labelled
+abbrev pub labelled : ℕ → ℕ → List Kind → List LabelDefinition
 labelled m n [] = []
 labelled m n (Blank ∷ ks) = labelled m (n + 1) ks
 labelled m n (Names l ∷ ks) = record { name = l; definition = record { line = n; place = m } } ∷ labelled m (n + 1) ks
@@ -115,7 +115,7 @@ one_label look m n (Label l) k rest ks fits h =
 one_label look m n (Plain i) k rest ks fits h = h (m + 1) ∙ ap (λ k. labelled m n (k ∷ ks)) (sym fits)
 one_label look m n (Jumping i l) k rest ks (d, found, is) h = h (m + 1) ∙ ap (λ k. labelled m n (k ∷ ks)) (sym is)
 
-pub labels_are : (look : List ℕ → Option Definition) (m n : ℕ) (ls : List (List ℕ)) (ks : List Kind) → Reads look n ls ks → labels_from m (entries_from n ls) ≡ labelled m n ks
+pub labels_are : (look : List ℕ → Option Definition) (m n : ℕ) (ls : List (List ℕ)) (ks : List Kind) → ReadsLines look n ls ks → labels_from m (entries_from n ls) ≡ labelled m n ks
 labels_are look m n [] [] h = refl
 labels_are look m n [] (k ∷ ks) h = absurd h
 labels_are look m n (l ∷ ls) [] h = absurd h
@@ -156,20 +156,20 @@ later_one look l n m (Label x) k ks first less fits rest =
 later_one look l n m (Plain i) k ks first less fits rest = subst (λ k. AllByRecursion (λ other. l ≢ other) (labels (k ∷ ks))) (sym fits) rest
 later_one look l n m (Jumping i x) k ks first less (d, found, is) rest = subst (λ k. AllByRecursion (λ other. l ≢ other) (labels (k ∷ ks))) (sym is) rest
 
-later_differ : (look : List ℕ → Option Definition) (l : List ℕ) (n m : ℕ) (ls : List (List ℕ)) (ks : List Kind) → is_first n (look l) ≡ true → n < m → Reads look m ls ks → AllByRecursion (λ other. l ≢ other) (labels ks)
+later_differ : (look : List ℕ → Option Definition) (l : List ℕ) (n m : ℕ) (ls : List (List ℕ)) (ks : List Kind) → is_first n (look l) ≡ true → n < m → ReadsLines look m ls ks → AllByRecursion (λ other. l ≢ other) (labels ks)
 later_differ look l n m [] [] first less h = tt
 later_differ look l n m [] (k ∷ ks) first less h = absurd h
 later_differ look l n m (x ∷ ls) [] first less h = absurd h
 later_differ look l n m (x ∷ ls) (k ∷ ks) first less (s, said, fits, more) =
     later_one look l n m s k ks first less fits (later_differ look l n (m + 1) ls ks first (omega arith) more)
 
-differ_one : (look : List ℕ → Option Definition) (n : ℕ) (s : Line) (k : Kind) (ls : List (List ℕ)) (ks : List Kind) → Fits look n s k → Reads look (n + 1) ls ks → AllDiffer (labels ks) → AllDiffer (labels (k ∷ ks))
+differ_one : (look : List ℕ → Option Definition) (n : ℕ) (s : Line) (k : Kind) (ls : List (List ℕ)) (ks : List Kind) → Fits look n s k → ReadsLines look (n + 1) ls ks → AllDiffer (labels ks) → AllDiffer (labels (k ∷ ks))
 differ_one look n Quiet k ls ks fits more rest = subst (λ k. AllDiffer (labels (k ∷ ks))) (sym fits) rest
 differ_one look n (Label x) k ls ks fits more rest = subst (λ k. AllDiffer (labels (k ∷ ks))) (sym fits.1) (later_differ look x n (n + 1) ls ks fits.0 (omega arith) more, rest)
 differ_one look n (Plain i) k ls ks fits more rest = subst (λ k. AllDiffer (labels (k ∷ ks))) (sym fits) rest
 differ_one look n (Jumping i x) k ls ks (d, found, is) more rest = subst (λ k. AllDiffer (labels (k ∷ ks))) (sym is) rest
 
-pub labels_differ : (look : List ℕ → Option Definition) (n : ℕ) (ls : List (List ℕ)) (ks : List Kind) → Reads look n ls ks → AllDiffer (labels ks)
+pub labels_differ : (look : List ℕ → Option Definition) (n : ℕ) (ls : List (List ℕ)) (ks : List Kind) → ReadsLines look n ls ks → AllDiffer (labels ks)
 labels_differ look n [] [] h = tt
 labels_differ look n [] (k ∷ ks) h = absurd h
 labels_differ look n (l ∷ ls) [] h = absurd h

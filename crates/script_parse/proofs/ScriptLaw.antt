@@ -16,7 +16,7 @@ use Rattle.script_parse.specs.declared.line.Definition.{Definition}
 use Rattle.ldv_value.specs.Options.{◌>>=◌, only_if}
 use Rattle.script_parse.specs.Names.{name_test}
 use Rattle.script_parse.specs.Tokens.{is_blank, tokens_of}
-use Rattle.script_parse.specs.Lines.{lines_of, form_of, first_shown, is_comment, is_comment_start, line_of}
+use Rattle.script_parse.specs.Lines.{lines_of, form_of, first_nonblank, is_comment, is_comment_start, line_of}
 use Rattle.script_parse.specs.Script.{entries_from, definition_of, with_place, is_first, instructions_of, look_up, script_of}
 use Rattle.script_parse.specs.Grammar.{Kind, Blank, Names, Does, steps, labels, AllDiffer, AreBlanks, AreTokens, IsName, HasForm, tokens_for, place_of, IsAtPlace, IsComment, IsKind, IsLine, IsAt, IsScript}
 use Rattle.ldv_value.proofs.Options.{bind-some, only_if-some}
@@ -25,7 +25,7 @@ use Rattle.script_parse.proofs.TokensLaw.{tokens_sound}
 use Rattle.script_parse.proofs.TokensRead.{tokens_complete}
 use Rattle.script_parse.proofs.FormsLaw.{IsForm, forms_sound}
 use Rattle.script_parse.proofs.FormsRead.{forms_complete}
-use Rattle.script_parse.proofs.KindsLaw.{Fits, Reads, reads_sound, reads_complete, labelled, labels_are, at_sound, labels_differ, define, at_complete}
+use Rattle.script_parse.proofs.KindsLaw.{Fits, ReadsLines, reads_sound, reads_complete, labelled, labels_are, at_sound, labels_differ, define, at_complete}
 use Rattle.ldv_value.proofs.Booleans.{not-so}
 
 -- COMMENTS
@@ -34,22 +34,22 @@ comment_sound : (line : List ℕ) → is_comment line ≡ true → IsComment lin
 comment_sound [] h = absurd (false≢true h)
 comment_sound (b ∷ line) h = elim (cases_Bool (is_blank b)) [
   | inl blank ↦
-      let h2 : is_comment line ≡ true = sym (ap (λ t. is_comment_start (cond (not t) (Some b) (first_shown line))) blank) ∙ h in
+      let h2 : is_comment line ≡ true = sym (ap (λ t. is_comment_start (cond (not t) (Some b) (first_nonblank line))) blank) ∙ h in
       let r = comment_sound line h2 in
       (b ∷ r.0, r.1, (blank, r.2), ap (λ (l : List ℕ). b ∷ l) r.3)
   | inr shown ↦
-      let h2 : (b == 35) ≡ true = sym (ap (λ t. is_comment_start (cond (not t) (Some b) (first_shown line))) shown) ∙ h in
+      let h2 : (b == 35) ≡ true = sym (ap (λ t. is_comment_start (cond (not t) (Some b) (first_nonblank line))) shown) ∙ h in
       ([], line, tt, ap (λ (x : ℕ). x ∷ line) (eqb-true b 35 h2))
 ]
 
 blanks_before : (blanks line : List ℕ) → AreBlanks blanks → is_comment (blanks ++ line) ≡ is_comment line
 blanks_before [] line h = refl
 blanks_before (b ∷ blanks) line h =
-    ap (λ t. is_comment_start (cond (not t) (Some b) (first_shown (blanks ++ line)))) h.0 ∙ blanks_before blanks line h.1
+    ap (λ t. is_comment_start (cond (not t) (Some b) (first_nonblank (blanks ++ line)))) h.0 ∙ blanks_before blanks line h.1
 
 only_blanks : (line : List ℕ) → AreBlanks line → is_comment line ≡ false
 only_blanks [] h = refl
-only_blanks (b ∷ line) h = ap (λ t. is_comment_start (cond (not t) (Some b) (first_shown line))) h.0 ∙ only_blanks line h.1
+only_blanks (b ∷ line) h = ap (λ t. is_comment_start (cond (not t) (Some b) (first_nonblank line))) h.0 ∙ only_blanks line h.1
 
 -- tokens of which the first is a word that doesn't begin with `#`
 abbrev pub PlainWord : List ℕ → Type 0
@@ -64,7 +64,7 @@ BeginsPlain (Quoted t ∷ ts) = ⊥
 
 word_no_comment : (piece rest : List ℕ) → AllByRecursion (λ b. ¬ IsTrue (is_blank b)) piece → PlainWord piece → is_comment (piece ++ rest) ≡ false
 word_no_comment [] rest h p = absurd p
-word_no_comment (c ∷ cs) rest h p = ap (λ t. is_comment_start (cond (not t) (Some c) (first_shown (cs ++ rest)))) (not-so (is_blank c) h.0) ∙ p
+word_no_comment (c ∷ cs) rest h p = ap (λ t. is_comment_start (cond (not t) (Some c) (first_nonblank (cs ++ rest)))) (not-so (is_blank c) h.0) ∙ p
 
 pub no_comment : (ts : List Token) (line : List ℕ) → AreTokens line ts → BeginsPlain ts → is_comment line ≡ false
 no_comment [] line h p = absurd p
@@ -240,7 +240,7 @@ line_sound At look at line s h n k fits =
     )
 
 lines_kinds : (At : List ℕ → ℕ → Type 0) (look : List ℕ → Option Definition) → ((l : List ℕ) (d : Definition) → look l ≡ Some d → At l d.place)
-    → (n : ℕ) (ls : List (List ℕ)) (ks : List Kind) → Reads look n ls ks → AllZip (IsLine At) ls ks
+    → (n : ℕ) (ls : List (List ℕ)) (ks : List Kind) → ReadsLines look n ls ks → AllZip (IsLine At) ls ks
 lines_kinds At look at n [] [] h = tt
 lines_kinds At look at n [] (k ∷ ks) h = absurd h
 lines_kinds At look at n (l ∷ ls) [] h = absurd h
@@ -317,7 +317,7 @@ length_push [] k = refl
 length_push (x ∷ before) k = let e : 1 + length (before ++ k ∷ []) ≡ 1 + length before + 1 = length_push before k in omega (arith, e)
 
 all_read : (all : List Kind) → AllDiffer (labels all) → (before : List Kind) (ls : List (List ℕ)) (ks : List Kind) → all ≡ before ++ ks → AllZip (IsLine (IsAt all)) ls ks
-    → Reads (definition_of (labelled 0 1 all)) (1 + length before) ls ks
+    → ReadsLines (definition_of (labelled 0 1 all)) (1 + length before) ls ks
 all_read all differ before [] [] e h = tt
 all_read all differ before [] (k ∷ ks) e h = absurd h
 all_read all differ before (l ∷ ls) [] e h = absurd h
@@ -327,13 +327,13 @@ all_read all differ before (l ∷ ls) (k ∷ ks) e h =
       one.0,
       one.1,
       fits_of all differ before k ks e one.0 one.2,
-      subst (λ n. Reads (definition_of (labelled 0 1 all)) n ls ks) (length_push before k) (all_read all differ (before ++ k ∷ []) ls ks e2 h.1),
+      subst (λ n. ReadsLines (definition_of (labelled 0 1 all)) n ls ks) (length_push before k) (all_read all differ (before ++ k ∷ []) ls ks e2 h.1),
     )
 
 pub script_complete : (bytes : List ℕ) (is : List Instr) → IsScript bytes is → script_of bytes ≡ Some is
 script_complete bytes is (ls, ks, are, lines, differ, instructions) =
     let look : List ℕ → Option Definition = definition_of (labelled 0 1 ks) in
-    let reads : Reads look 1 ls ks = all_read ks differ [] ls ks refl lines in
+    let reads : ReadsLines look 1 ls ks = all_read ks differ [] ls ks refl lines in
     let same : look_up (entries_from 1 ls) ≡ look = ap definition_of (labels_are look 0 1 ls ks reads) in
     ap (λ ls. instructions_of (look_up (entries_from 1 ls)) (entries_from 1 ls)) (lines_complete ls bytes are)
     ∙ ap (λ f. instructions_of f (entries_from 1 ls)) same ∙ reads_complete look 1 ls ks reads ∙ ap Some (sym instructions)

@@ -80,11 +80,11 @@ abbrev pub mode_in : Token → Option OpenMode
 mode_in t = word_of t >>= mode_of
 
 -- `x = v` with a sign and a second operand, after `let`
-abbrev pub signed : List ℕ → Operand → Operand → Sign → Instr
-signed x v w Plus = instr.Calc x Add v w
-signed x v w Minus = instr.Calc x Subtract v w
-signed x v w Times = instr.Calc x Multiply v w
-signed x v w Join = instr.Glue x v w
+abbrev pub instr_of_sign : List ℕ → Operand → Operand → Sign → Instr
+instr_of_sign x v w Plus = instr.Calc x Add v w
+instr_of_sign x v w Minus = instr.Calc x Subtract v w
+instr_of_sign x v w Times = instr.Calc x Multiply v w
+instr_of_sign x v w Join = instr.Glue x v w
 
 -- what follows `let x =`
 abbrev pub let_value : List ℕ → List Token → Option Instr
@@ -99,7 +99,7 @@ let_value x (v ∷ s ∷ w ∷ []) = do
   left ← operand_of v
   sign ← sign_in s
   right ← operand_of w
-  Some (signed x left right sign)
+  Some (instr_of_sign x left right sign)
 let_value x (a ∷ b ∷ c ∷ d ∷ more) = None
 
 -- After the first word. A place that isn't known yet is 0.

@@ -9,9 +9,9 @@ Fails Malformed due = due ≡ None
 Fails NoMemory due = Unit {0}
 
 -- the result is the value that is due, or `Malformed` where none is, or out of memory
-abbrev pub Gives : {X : Type 0} → Result X LineError → Option X → Type 0
-Gives = GivesOf Fails
+abbrev pub GivesLine : {X : Type 0} → Result X LineError → Option X → Type 0
+GivesLine = GivesOf Fails
 
 -- the same of a result as a contract sees it by `view`
-abbrev pub GivesBy : {X Y : Type 0} → (X → Y) → Result X LineError → Option Y → Type 0
-GivesBy = GivesByOf Fails
+abbrev pub GivesLineBy : {X Y : Type 0} → (X → Y) → Result X LineError → Option Y → Type 0
+GivesLineBy = GivesByOf Fails

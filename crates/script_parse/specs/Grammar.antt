@@ -97,11 +97,11 @@ abbrev pub IsName : List ℕ → Type 0
 IsName x = IsTrue (name_test x)
 
 -- an operand as a token
-abbrev pub written : Operand → Token
-written (Constant value.Null) = Word (codes "null")
-written (Constant (value.Int z)) = Number z
-written (Constant (value.Text text)) = Quoted text
-written (Variable x) = Word x
+abbrev pub operand_token : Operand → Token
+operand_token (Constant value.Null) = Word (codes "null")
+operand_token (Constant (value.Int z)) = Number z
+operand_token (Constant (value.Text text)) = Quoted text
+operand_token (Variable x) = Word x
 
 abbrev pub IsOperand : Operand → Type 0
 IsOperand (Constant v) = Unit {0}
@@ -124,29 +124,32 @@ calc_text Multiply = codes "*"
 
 -- The tokens of an instruction that names the label l, if it names one.
 abbrev pub tokens_for : Instr → List ℕ → List Token
-tokens_for (Let x v) l = word "let" ∷ Word x ∷ word "=" ∷ written v ∷ []
-tokens_for (Calc x op v w) l = word "let" ∷ Word x ∷ word "=" ∷ written v ∷ Word (calc_text op) ∷ written w
+tokens_for (Let x v) l = word "let" ∷ Word x ∷ word "=" ∷ operand_token v ∷ []
+tokens_for (Calc x op v w) l = word "let" ∷ Word x ∷ word "="
+    ∷ operand_token v ∷ Word (calc_text op) ∷ operand_token w
     ∷ []
-tokens_for (Glue x v w) l = word "let" ∷ Word x ∷ word "=" ∷ written v ∷ word "++" ∷ written w ∷ []
-tokens_for (ToInt x v) l = word "let" ∷ Word x ∷ word "=" ∷ word "int" ∷ written v ∷ []
-tokens_for (Cut x y v) l = word "cut" ∷ Word x ∷ Word y ∷ written v ∷ []
+tokens_for (Glue x v w) l = word "let" ∷ Word x ∷ word "="
+    ∷ operand_token v ∷ word "++" ∷ operand_token w ∷ []
+tokens_for (ToInt x v) l = word "let" ∷ Word x ∷ word "=" ∷ word "int" ∷ operand_token v ∷ []
+tokens_for (Cut x y v) l = word "cut" ∷ Word x ∷ Word y ∷ operand_token v ∷ []
 tokens_for (Jump place) l = word "goto" ∷ Word l ∷ []
-tokens_for (JumpIf op v w place) l = word "if" ∷ written v ∷ Word (comparison_text op) ∷ written w
+tokens_for (JumpIf op v w place) l = word "if" ∷ operand_token v ∷ Word (comparison_text op) ∷ operand_token w
     ∷ word "goto" ∷ Word l ∷ []
-tokens_for (Print vs) l = word "print" ∷ map written vs
-tokens_for (Exit v) l = word "exit" ∷ written v ∷ []
-tokens_for (OpenPath f mode v place) l = word "open" ∷ Word f ∷ Word (mode_text mode) ∷ written v
+tokens_for (Print vs) l = word "print" ∷ map operand_token vs
+tokens_for (Exit v) l = word "exit" ∷ operand_token v ∷ []
+tokens_for (OpenPath f mode v place) l = word "open" ∷ Word f ∷ Word (mode_text mode) ∷ operand_token v
     ∷ word "else" ∷ Word l ∷ []
 tokens_for (ReadLine x f place) l = word "readline" ∷ Word x ∷ Word f ∷ word "else" ∷ Word l ∷ []
-tokens_for (WriteLine f vs) l = word "write" ∷ Word f ∷ map written vs
+tokens_for (WriteLine f vs) l = word "write" ∷ Word f ∷ map operand_token vs
 tokens_for (CopyRest f g) l = word "copy" ∷ Word f ∷ Word g ∷ []
 tokens_for (Close f) l = word "close" ∷ Word f ∷ []
-tokens_for (Remove v place) l = word "remove" ∷ written v ∷ word "else" ∷ Word l ∷ []
-tokens_for (Exists x v) l = word "exists" ∷ Word x ∷ written v ∷ []
-tokens_for (Spawn p v vs place) l = word "spawn" ∷ Word p ∷ written v ∷ map written vs ++ word "else"
+tokens_for (Remove v place) l = word "remove" ∷ operand_token v ∷ word "else" ∷ Word l ∷ []
+tokens_for (Exists x v) l = word "exists" ∷ Word x ∷ operand_token v ∷ []
+tokens_for (Spawn p v vs place) l = word "spawn" ∷ Word p
+    ∷ operand_token v ∷ map operand_token vs ++ word "else"
     ∷ Word l ∷ []
 tokens_for (Wait x p) l = word "wait" ∷ Word x ∷ Word p ∷ []
-tokens_for (Sql c v vs) l = word "sql" ∷ Word c ∷ written v ∷ map written vs
+tokens_for (Sql c v vs) l = word "sql" ∷ Word c ∷ operand_token v ∷ map operand_token vs
 tokens_for (Fetch c xs place) l = word "fetch" ∷ Word c ∷ map Word xs ++ word "else" ∷ Word l ∷ []
 tokens_for (Count x c) l = word "count" ∷ Word x ∷ Word c ∷ []
 tokens_for (Status x c) l = word "status" ∷ Word x ∷ Word c ∷ []

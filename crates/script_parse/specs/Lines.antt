@@ -40,25 +40,25 @@ label_in w = do
   Some (Label name)
 
 -- a line of one token is a label, and one of more an instruction
-abbrev pub worded : List ℕ → List Token → Option Line
-worded w [] = label_in w
-worded w (t ∷ ts) = keyword_of w >>= λ k. instruction_of k (t ∷ ts)
+abbrev pub line_of_word : List ℕ → List Token → Option Line
+line_of_word w [] = label_in w
+line_of_word w (t ∷ ts) = keyword_of w >>= λ k. instruction_of k (t ∷ ts)
 
 -- from the tokens of a line
 abbrev pub form_of : List Token → Option Line
 form_of [] = Some Quiet
-form_of (t ∷ ts) = word_of t >>= λ w. worded w ts
+form_of (t ∷ ts) = word_of t >>= λ w. line_of_word w ts
 
 -- the first byte that is no blank
-abbrev pub first_shown : List ℕ → Option ℕ
-first_shown line = find (λ b. not (is_blank b)) line
+abbrev pub first_nonblank : List ℕ → Option ℕ
+first_nonblank line = find (λ b. not (is_blank b)) line
 
 abbrev pub is_comment_start : Option ℕ → Bool
 is_comment_start None = false
 is_comment_start (Some b) = b == 35
 
 abbrev pub is_comment : List ℕ → Bool
-is_comment line = is_comment_start (first_shown line)
+is_comment line = is_comment_start (first_nonblank line)
 
 -- what a line says; `None` where it is bad in itself
 abbrev pub line_of : List ℕ → Option Line

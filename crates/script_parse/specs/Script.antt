@@ -30,12 +30,12 @@ abbrev pub entries_of : List ℕ → List Entry
 entries_of bytes = entries_from 1 (lines_of bytes)
 
 -- A definition of a label
-pub record Labelled : Type 0 where
+pub record LabelDefinition : Type 0 where
   pub name : List ℕ
   pub definition : Definition
 
 -- the label that a line defines, with n instructions before it
-abbrev pub labels_in : ℕ → ℕ → Option Said → List Labelled
+abbrev pub labels_in : ℕ → ℕ → Option Said → List LabelDefinition
 labels_in number n None = []
 labels_in number n (Some Quiet) = []
 labels_in number n (Some (Label l)) = record { name = l; definition = record { line = number; place = n } }
@@ -51,12 +51,12 @@ instructions_in (Some (Plain i)) = 1
 instructions_in (Some (Jumping i l)) = 1
 
 -- the labels that lines define, with n instructions before them
-abbrev pub labels_from : ℕ → List Entry → List Labelled
+abbrev pub labels_from : ℕ → List Entry → List LabelDefinition
 labels_from n [] = []
 labels_from n (e ∷ es) = labels_in e.number n e.line ++ labels_from (n + instructions_in e.line) es
 
 -- the first definition of a name
-abbrev pub definition_of : List Labelled → List ℕ → Option Definition
+abbrev pub definition_of : List LabelDefinition → List ℕ → Option Definition
 definition_of [] name = None
 definition_of (l ∷ ls) name = if is_text l.name name then Some l.definition else definition_of ls name
 
@@ -108,9 +108,10 @@ instructions_of look (e ∷ es) = resolve look e >>= λ i. instructions_of look 
     Some (option_to_list i ++ is)
 
 -- the number of the first bad line, where there is one
-abbrev pub first_bad : (List ℕ → Option Definition) → List Entry → ℕ
-first_bad look [] = 0
-first_bad look (e ∷ es) = if is_some (resolve look e) then first_bad look es else e.number
+abbrev pub first_unresolved_line : (List ℕ → Option Definition) → List Entry → ℕ
+first_unresolved_line look [] = 0
+first_unresolved_line look (e ∷ es) = if is_some (resolve look e)
+    then first_unresolved_line look es else e.number
 
 abbrev pub look_up : List Entry → List ℕ → Option Definition
 look_up es = definition_of (labels_from 0 es)
@@ -121,7 +122,7 @@ script_of bytes = instructions_of (look_up (entries_of bytes)) (entries_of bytes
 
 -- the first bad line, from 1, where they aren't
 abbrev pub first_bad_line : List ℕ → ℕ
-first_bad_line bytes = first_bad (look_up (entries_of bytes)) (entries_of bytes)
+first_bad_line bytes = first_unresolved_line (look_up (entries_of bytes)) (entries_of bytes)
 
 -- a fact for the number of the first bad line
 abbrev pub IfLine : ScriptStop → (ℕ → Type 0) → Type 0

@@ -3,8 +3,8 @@
 ghost use Rattle.std.specs.Prelude.{◌≡◌};
 ghost use Rattle.std.specs.Option.{option_map};
 ghost use Rattle.std.specs.Str.{is_utf8};
-ghost use Rattle.script_parse.specs.Gives.{Gives};
-ghost use Rattle.script_parse.specs.Lines.{before_colon, label_in, worded, form_of, first_shown, is_comment};
+ghost use Rattle.script_parse.specs.Gives.{GivesLine};
+ghost use Rattle.script_parse.specs.Lines.{before_colon, label_in, line_of_word, form_of, first_nonblank, is_comment};
 ghost use Rattle.script_parse.specs.Lines.{line_of};
 
 use crate::forms::instruction;
@@ -19,7 +19,7 @@ use std::alloc::Global;
 
 /// What a line says.
 pub(crate) fn read_line(alloc: Global, line: &[u8]) -> Result<Line, LineError>
-    ensures { Gives result (line_of line.now) }
+    ensures { GivesLine result (line_of line.now) }
 {
     if !is_text(line) {
         return Err(LineError::Malformed);
@@ -41,33 +41,33 @@ fn is_text(line: &[u8]) -> bool
 fn is_comment(line: &[u8]) -> bool
     ensures { result ≡ is_comment line.now }
 {
-    match first_shown(line) {
+    match first_nonblank(line) {
         None => false,
         Some(b) => b == b'#',
     }
 }
 
-fn first_shown(line: &[u8]) -> Option<u8>
-    ensures { result ≡ first_shown line.now }
+fn first_nonblank(line: &[u8]) -> Option<u8>
+    ensures { result ≡ first_nonblank line.now }
 {
     line.iter().copied().find(|b| !blank(*b))
 }
 
 fn form(alloc: Global, tokens: &[Token]) -> Result<Line, LineError>
-    ensures { Gives result (form_of tokens.now) }
+    ensures { GivesLine result (form_of tokens.now) }
 {
     match tokens {
         [] => Ok(Line::Quiet),
         [first, rest @ ..] => match first {
-            Token::Word(word) => worded(alloc, word.as_str(), rest),
+            Token::Word(word) => line_of_word(alloc, word.as_str(), rest),
             Token::Number(_) => Err(LineError::Malformed),
             Token::Quoted(_) => Err(LineError::Malformed),
         },
     }
 }
 
-fn worded(alloc: Global, word: &str, rest: &[Token]) -> Result<Line, LineError>
-    ensures { Gives result (worded word.now rest.now) }
+fn line_of_word(alloc: Global, word: &str, rest: &[Token]) -> Result<Line, LineError>
+    ensures { GivesLine result (line_of_word word.now rest.now) }
 {
     match rest {
         [] => label(alloc, word),
@@ -81,7 +81,7 @@ fn worded(alloc: Global, word: &str, rest: &[Token]) -> Result<Line, LineError>
 }
 
 fn label(alloc: Global, word: &str) -> Result<Line, LineError>
-    ensures { Gives result (label_in word.now) }
+    ensures { GivesLine result (label_in word.now) }
 {
     let Some(name) = before_colon(word) else {
         return Err(LineError::Malformed);

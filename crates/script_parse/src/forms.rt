@@ -1,8 +1,8 @@
 //! The forms of instructions: from the tokens after the first word to what the line says.
 
 ghost use Rattle.std.specs.Prelude.{◌≡◌, ◌<◌, IfSome, length, position, codes};
-ghost use Rattle.script_parse.specs.Gives.{Gives, GivesBy};
-ghost use Rattle.script_parse.specs.Forms.{is_word, sign_in, comparison_in, mode_in, signed, let_value};
+ghost use Rattle.script_parse.specs.Gives.{GivesLine, GivesLineBy};
+ghost use Rattle.script_parse.specs.Forms.{is_word, sign_in, comparison_in, mode_in, instr_of_sign, let_value};
 ghost use Rattle.script_parse.specs.Forms.{let_of, cut_of, goto_of, if_of, print_of, exit_of, write_of};
 ghost use Rattle.script_parse.specs.Forms.{copy_of, close_of, exists_of, wait_of, sql_of, count_of};
 ghost use Rattle.script_parse.specs.Forms.{status_of, last_label, else_of, open_of, readline_of, remove_of};
@@ -23,7 +23,7 @@ pub(crate) fn instruction(
     keyword: Keyword,
     tokens: &[Token],
 ) -> Result<Line, LineError>
-    ensures { Gives result (instruction_of keyword tokens.now) }
+    ensures { GivesLine result (instruction_of keyword tokens.now) }
 {
     match keyword {
         Keyword::Let => let_form(tokens),
@@ -50,7 +50,7 @@ pub(crate) fn instruction(
 
 // `x = ..`
 fn let_form(tokens: &[Token]) -> Result<Line, LineError>
-    ensures { Gives result (let_of tokens.now) }
+    ensures { GivesLine result (let_of tokens.now) }
 {
     let [x, equals, rest @ ..] = tokens else {
         return Err(LineError::Malformed);
@@ -65,7 +65,7 @@ fn let_form(tokens: &[Token]) -> Result<Line, LineError>
 
 // `v`, `int v` or `v + w`
 fn let_value(to: Utf8, tokens: &[Token]) -> Result<Instr, LineError>
-    ensures { Gives result (let_value to tokens.now) }
+    ensures { GivesLine result (let_value to tokens.now) }
 {
     match tokens {
         [v] => {
@@ -83,14 +83,14 @@ fn let_value(to: Utf8, tokens: &[Token]) -> Result<Instr, LineError>
             let left = operand(v)?;
             let sign = sign(s)?;
             let right = operand(w)?;
-            Ok(signed(to, left, right, sign))
+            Ok(instr_of_sign(to, left, right, sign))
         }
         _ => Err(LineError::Malformed),
     }
 }
 
 fn sign(token: &Token) -> Result<Sign, LineError>
-    ensures { Gives result (sign_in token.now) }
+    ensures { GivesLine result (sign_in token.now) }
 {
     match token {
         Token::Word(word) => find_sign(word.as_str()).ok_or(LineError::Malformed),
@@ -100,7 +100,7 @@ fn sign(token: &Token) -> Result<Sign, LineError>
 }
 
 fn comparison(token: &Token) -> Result<Cmp, LineError>
-    ensures { Gives result (comparison_in token.now) }
+    ensures { GivesLine result (comparison_in token.now) }
 {
     match token {
         Token::Word(word) => find_comparison(word.as_str()).ok_or(LineError::Malformed),
@@ -110,7 +110,7 @@ fn comparison(token: &Token) -> Result<Cmp, LineError>
 }
 
 fn mode(token: &Token) -> Result<OpenMode, LineError>
-    ensures { Gives result (mode_in token.now) }
+    ensures { GivesLine result (mode_in token.now) }
 {
     match token {
         Token::Word(word) => find_mode(word.as_str()).ok_or(LineError::Malformed),
@@ -119,8 +119,8 @@ fn mode(token: &Token) -> Result<OpenMode, LineError>
     }
 }
 
-fn signed(to: Utf8, left: Operand, right: Operand, sign: Sign) -> Instr
-    ensures { result ≡ signed to left right sign }
+fn instr_of_sign(to: Utf8, left: Operand, right: Operand, sign: Sign) -> Instr
+    ensures { result ≡ instr_of_sign to left right sign }
 {
     match sign {
         Sign::Plus => Instr::Calc {
@@ -147,7 +147,7 @@ fn signed(to: Utf8, left: Operand, right: Operand, sign: Sign) -> Instr
 
 // `x y v`
 fn cut_form(tokens: &[Token]) -> Result<Line, LineError>
-    ensures { Gives result (cut_of tokens.now) }
+    ensures { GivesLine result (cut_of tokens.now) }
 {
     let [x, y, v] = tokens else {
         return Err(LineError::Malformed);
@@ -163,7 +163,7 @@ fn cut_form(tokens: &[Token]) -> Result<Line, LineError>
 
 // `L`
 fn goto_form(tokens: &[Token]) -> Result<Line, LineError>
-    ensures { Gives result (goto_of tokens.now) }
+    ensures { GivesLine result (goto_of tokens.now) }
 {
     let [l] = tokens else {
         return Err(LineError::Malformed);
@@ -174,7 +174,7 @@ fn goto_form(tokens: &[Token]) -> Result<Line, LineError>
 
 // `v = w goto L`
 fn if_form(tokens: &[Token]) -> Result<Line, LineError>
-    ensures { Gives result (if_of tokens.now) }
+    ensures { GivesLine result (if_of tokens.now) }
 {
     let [v, c, w, goto, l] = tokens else {
         return Err(LineError::Malformed);
@@ -199,7 +199,7 @@ fn if_form(tokens: &[Token]) -> Result<Line, LineError>
 
 // `v v*`
 fn print_form(alloc: Global, tokens: &[Token]) -> Result<Line, LineError>
-    ensures { Gives result (print_of tokens.now) }
+    ensures { GivesLine result (print_of tokens.now) }
 {
     let values = operands_from_one(alloc, tokens)?;
     Ok(Line::Plain(Instr::Print { values }))
@@ -207,7 +207,7 @@ fn print_form(alloc: Global, tokens: &[Token]) -> Result<Line, LineError>
 
 // `v`
 fn exit_form(tokens: &[Token]) -> Result<Line, LineError>
-    ensures { Gives result (exit_of tokens.now) }
+    ensures { GivesLine result (exit_of tokens.now) }
 {
     let [v] = tokens else {
         return Err(LineError::Malformed);
@@ -218,7 +218,7 @@ fn exit_form(tokens: &[Token]) -> Result<Line, LineError>
 
 // `f v v*`
 fn write_form(alloc: Global, tokens: &[Token]) -> Result<Line, LineError>
-    ensures { Gives result (write_of tokens.now) }
+    ensures { GivesLine result (write_of tokens.now) }
 {
     let [f, rest @ ..] = tokens else {
         return Err(LineError::Malformed);
@@ -230,7 +230,7 @@ fn write_form(alloc: Global, tokens: &[Token]) -> Result<Line, LineError>
 
 // `f g`
 fn copy_form(tokens: &[Token]) -> Result<Line, LineError>
-    ensures { Gives result (copy_of tokens.now) }
+    ensures { GivesLine result (copy_of tokens.now) }
 {
     let [f, g] = tokens else {
         return Err(LineError::Malformed);
@@ -242,7 +242,7 @@ fn copy_form(tokens: &[Token]) -> Result<Line, LineError>
 
 // `f`
 fn close_form(tokens: &[Token]) -> Result<Line, LineError>
-    ensures { Gives result (close_of tokens.now) }
+    ensures { GivesLine result (close_of tokens.now) }
 {
     let [f] = tokens else {
         return Err(LineError::Malformed);
@@ -253,7 +253,7 @@ fn close_form(tokens: &[Token]) -> Result<Line, LineError>
 
 // `x v`
 fn exists_form(tokens: &[Token]) -> Result<Line, LineError>
-    ensures { Gives result (exists_of tokens.now) }
+    ensures { GivesLine result (exists_of tokens.now) }
 {
     let [x, v] = tokens else {
         return Err(LineError::Malformed);
@@ -265,7 +265,7 @@ fn exists_form(tokens: &[Token]) -> Result<Line, LineError>
 
 // `x p`
 fn wait_form(tokens: &[Token]) -> Result<Line, LineError>
-    ensures { Gives result (wait_of tokens.now) }
+    ensures { GivesLine result (wait_of tokens.now) }
 {
     let [x, p] = tokens else {
         return Err(LineError::Malformed);
@@ -277,7 +277,7 @@ fn wait_form(tokens: &[Token]) -> Result<Line, LineError>
 
 // `c v v*`
 fn sql_form(alloc: Global, tokens: &[Token]) -> Result<Line, LineError>
-    ensures { Gives result (sql_of tokens.now) }
+    ensures { GivesLine result (sql_of tokens.now) }
 {
     let [c, v, rest @ ..] = tokens else {
         return Err(LineError::Malformed);
@@ -294,7 +294,7 @@ fn sql_form(alloc: Global, tokens: &[Token]) -> Result<Line, LineError>
 
 // `x c`
 fn count_form(tokens: &[Token]) -> Result<Line, LineError>
-    ensures { Gives result (count_of tokens.now) }
+    ensures { GivesLine result (count_of tokens.now) }
 {
     let [x, c] = tokens else {
         return Err(LineError::Malformed);
@@ -306,7 +306,7 @@ fn count_form(tokens: &[Token]) -> Result<Line, LineError>
 
 // `x c`
 fn status_form(tokens: &[Token]) -> Result<Line, LineError>
-    ensures { Gives result (status_of tokens.now) }
+    ensures { GivesLine result (status_of tokens.now) }
 {
     let [x, c] = tokens else {
         return Err(LineError::Malformed);
@@ -318,7 +318,7 @@ fn status_form(tokens: &[Token]) -> Result<Line, LineError>
 
 // The tokens before `else L` at the end, and the label.
 fn split_else(tokens: &[Token]) -> Result<(&[Token], Utf8), LineError>
-    ensures { GivesBy (λ r. (r.0.now, r.1)) result (else_of tokens.now) }
+    ensures { GivesLineBy (λ r. (r.0.now, r.1)) result (else_of tokens.now) }
 {
     let Some(place) = else_place(tokens) else {
         return Err(LineError::Malformed);
@@ -335,7 +335,7 @@ fn else_place(tokens: &[Token]) -> Option<usize>
 }
 
 fn last_label(tokens: &[Token]) -> Result<Utf8, LineError>
-    ensures { Gives result (last_label tokens.now) }
+    ensures { GivesLine result (last_label tokens.now) }
 {
     let [l] = tokens else {
         return Err(LineError::Malformed);
@@ -345,14 +345,14 @@ fn last_label(tokens: &[Token]) -> Result<Utf8, LineError>
 
 // `f M v else L`
 fn open_form(tokens: &[Token]) -> Result<Line, LineError>
-    ensures { Gives result (with_else open_of tokens.now) }
+    ensures { GivesLine result (with_else open_of tokens.now) }
 {
     let (front, label) = split_else(tokens)?;
     open_front(front, label)
 }
 
 fn open_front(tokens: &[Token], label: Utf8) -> Result<Line, LineError>
-    ensures { Gives result (open_of tokens.now label) }
+    ensures { GivesLine result (open_of tokens.now label) }
 {
     let [f, m, v] = tokens else {
         return Err(LineError::Malformed);
@@ -373,14 +373,14 @@ fn open_front(tokens: &[Token], label: Utf8) -> Result<Line, LineError>
 
 // `x f else L`
 fn readline_form(tokens: &[Token]) -> Result<Line, LineError>
-    ensures { Gives result (with_else readline_of tokens.now) }
+    ensures { GivesLine result (with_else readline_of tokens.now) }
 {
     let (front, label) = split_else(tokens)?;
     readline_front(front, label)
 }
 
 fn readline_front(tokens: &[Token], label: Utf8) -> Result<Line, LineError>
-    ensures { Gives result (readline_of tokens.now label) }
+    ensures { GivesLine result (readline_of tokens.now label) }
 {
     let [x, f] = tokens else {
         return Err(LineError::Malformed);
@@ -392,14 +392,14 @@ fn readline_front(tokens: &[Token], label: Utf8) -> Result<Line, LineError>
 
 // `v else L`
 fn remove_form(tokens: &[Token]) -> Result<Line, LineError>
-    ensures { Gives result (with_else remove_of tokens.now) }
+    ensures { GivesLine result (with_else remove_of tokens.now) }
 {
     let (front, label) = split_else(tokens)?;
     remove_front(front, label)
 }
 
 fn remove_front(tokens: &[Token], label: Utf8) -> Result<Line, LineError>
-    ensures { Gives result (remove_of tokens.now label) }
+    ensures { GivesLine result (remove_of tokens.now label) }
 {
     let [v] = tokens else {
         return Err(LineError::Malformed);
@@ -410,14 +410,14 @@ fn remove_front(tokens: &[Token], label: Utf8) -> Result<Line, LineError>
 
 // `p v v* else L`
 fn spawn_form(alloc: Global, tokens: &[Token]) -> Result<Line, LineError>
-    ensures { Gives result (with_else spawn_of tokens.now) }
+    ensures { GivesLine result (with_else spawn_of tokens.now) }
 {
     let (front, label) = split_else(tokens)?;
     spawn_front(alloc, front, label)
 }
 
 fn spawn_front(alloc: Global, tokens: &[Token], label: Utf8) -> Result<Line, LineError>
-    ensures { Gives result (spawn_of tokens.now label) }
+    ensures { GivesLine result (spawn_of tokens.now label) }
 {
     let [p, v, rest @ ..] = tokens else {
         return Err(LineError::Malformed);
@@ -438,14 +438,14 @@ fn spawn_front(alloc: Global, tokens: &[Token], label: Utf8) -> Result<Line, Lin
 
 // `c x x* else L`
 fn fetch_form(alloc: Global, tokens: &[Token]) -> Result<Line, LineError>
-    ensures { Gives result (with_else fetch_of tokens.now) }
+    ensures { GivesLine result (with_else fetch_of tokens.now) }
 {
     let (front, label) = split_else(tokens)?;
     fetch_front(alloc, front, label)
 }
 
 fn fetch_front(alloc: Global, tokens: &[Token], label: Utf8) -> Result<Line, LineError>
-    ensures { Gives result (fetch_of tokens.now label) }
+    ensures { GivesLine result (fetch_of tokens.now label) }
 {
     let [c, rest @ ..] = tokens else {
         return Err(LineError::Malformed);

@@ -23,15 +23,15 @@ pub(crate) fn number(bytes: &[u8]) -> Option<i64>
         [] => None,
         [first, digits @ ..] => {
             if *first == b'-' {
-                negative(digits)
+                negative_of(digits)
             } else {
-                natural(bytes)
+                natural_of(bytes)
             }
         }
     }
 }
 
-fn natural(digits: &[u8]) -> Option<i64>
+fn natural_of(digits: &[u8]) -> Option<i64>
     ensures { result ≡ natural_of digits.now }
 {
     let number = magnitude(digits)?;
@@ -42,7 +42,7 @@ fn natural(digits: &[u8]) -> Option<i64>
     }
 }
 
-fn negative(digits: &[u8]) -> Option<i64>
+fn negative_of(digits: &[u8]) -> Option<i64>
     ensures { result ≡ negative_of digits.now }
 {
     let number = magnitude(digits)?;
@@ -68,13 +68,13 @@ fn all_digits(digits: &[u8]) -> Option<u64>
 {
     let mut number: u64 = 0;
     for b in digits {
-        number = longer(number, *b)?;
+        number = with_digit(number, *b)?;
     }
     Some(number)
 }
 
 // The number with one more digit.
-fn longer(number: u64, b: u8) -> Option<u64>
+fn with_digit(number: u64, b: u8) -> Option<u64>
     requires { number ≤ 2 ^ 63 }
     ensures { result ≡ magnitude_from number (b ∷ []) }
 {

@@ -1,7 +1,7 @@
 //! Names and operands among the tokens of a line.
 
 ghost use Rattle.std.specs.Prelude.{◌≡◌, codes};
-ghost use Rattle.script_parse.specs.Gives.{Gives};
+ghost use Rattle.script_parse.specs.Gives.{GivesLine};
 ghost use Rattle.script_parse.specs.Names.{is_reserved, name_test};
 ghost use Rattle.script_parse.specs.Forms.{each, is_word, name_in, name_of, word_operand, operand_of};
 ghost use Rattle.script_parse.specs.Forms.{operands_of, operands_from_one, names_from_one};
@@ -40,7 +40,7 @@ fn is_reserved(text: &str) -> bool
 }
 
 fn name_in(word: &Utf8) -> Result<Utf8, LineError>
-    ensures { Gives result (name_in word.now) }
+    ensures { GivesLine result (name_in word.now) }
 {
     if !is_name(word.as_str()) {
         return Err(LineError::Malformed);
@@ -50,7 +50,7 @@ fn name_in(word: &Utf8) -> Result<Utf8, LineError>
 
 /// The name that a token is.
 pub(crate) fn name(token: &Token) -> Result<Utf8, LineError>
-    ensures { Gives result (name_of token.now) }
+    ensures { GivesLine result (name_of token.now) }
 {
     match token {
         Token::Word(word) => name_in(word),
@@ -60,7 +60,7 @@ pub(crate) fn name(token: &Token) -> Result<Utf8, LineError>
 }
 
 fn word_operand(word: &Utf8) -> Result<Operand, LineError>
-    ensures { Gives result (word_operand word.now) }
+    ensures { GivesLine result (word_operand word.now) }
 {
     if word.is_text("null") {
         return Ok(Operand::Constant(Value::Null));
@@ -71,7 +71,7 @@ fn word_operand(word: &Utf8) -> Result<Operand, LineError>
 
 /// The operand that a token is.
 pub(crate) fn operand(token: &Token) -> Result<Operand, LineError>
-    ensures { Gives result (operand_of token.now) }
+    ensures { GivesLine result (operand_of token.now) }
 {
     match token {
         Token::Word(word) => word_operand(word),
@@ -82,7 +82,7 @@ pub(crate) fn operand(token: &Token) -> Result<Operand, LineError>
 
 #[tactic(auto, using(crate::proofs::Each::each_rules))]
 fn all_operands(alloc: Global, tokens: &[Token]) -> Result<Operands, LineError>
-    ensures { Gives result (each operand_of tokens.now) }
+    ensures { GivesLine result (each operand_of tokens.now) }
 {
     let mut operands = Operands::new(alloc);
     for token in tokens {
@@ -94,7 +94,7 @@ fn all_operands(alloc: Global, tokens: &[Token]) -> Result<Operands, LineError>
 
 #[tactic(auto, using(crate::proofs::Each::each_rules))]
 fn all_names(alloc: Global, tokens: &[Token]) -> Result<Names, LineError>
-    ensures { Gives result (each name_of tokens.now) }
+    ensures { GivesLine result (each name_of tokens.now) }
 {
     let mut names = Names::new(alloc);
     for token in tokens {
@@ -106,7 +106,7 @@ fn all_names(alloc: Global, tokens: &[Token]) -> Result<Names, LineError>
 
 /// At most 255 operands.
 pub(crate) fn operands(alloc: Global, tokens: &[Token]) -> Result<Operands, LineError>
-    ensures { Gives result (operands_of tokens.now) }
+    ensures { GivesLine result (operands_of tokens.now) }
 {
     if tokens.len() > LIST_LIMIT {
         return Err(LineError::Malformed);
@@ -116,7 +116,7 @@ pub(crate) fn operands(alloc: Global, tokens: &[Token]) -> Result<Operands, Line
 
 /// One operand and at most 255 more.
 pub(crate) fn operands_from_one(alloc: Global, tokens: &[Token]) -> Result<Operands, LineError>
-    ensures { Gives result (operands_from_one tokens.now) }
+    ensures { GivesLine result (operands_from_one tokens.now) }
 {
     match tokens {
         [] => Err(LineError::Malformed),
@@ -131,7 +131,7 @@ pub(crate) fn operands_from_one(alloc: Global, tokens: &[Token]) -> Result<Opera
 
 /// One name and at most 255 more.
 pub(crate) fn names_from_one(alloc: Global, tokens: &[Token]) -> Result<Names, LineError>
-    ensures { Gives result (names_from_one tokens.now) }
+    ensures { GivesLine result (names_from_one tokens.now) }
 {
     match tokens {
         [] => Err(LineError::Malformed),

@@ -4,10 +4,10 @@ ghost use Rattle.std.specs.Prelude.{◌≡◌, List, Some, IfOk, IfErr, option_m
 ghost use Rattle.std.specs.BTreeMap.{get_by_text};
 ghost use Rattle.script_parse.specs.declared.script.Instr.{Instr};
 ghost use Rattle.script_parse.specs.BadLine.{IsFirstBadLine};
-ghost use Rattle.script_parse.specs.Gives.{Gives};
+ghost use Rattle.script_parse.specs.Gives.{GivesLine};
 ghost use Rattle.script_parse.specs.Grammar.{IsScript};
 ghost use Rattle.script_parse.specs.Script.{script_of, first_bad_line, resolve, is_first, with_place};
-ghost use Rattle.script_parse.specs.Script.{instructions_of, first_bad, Answers, IfLine, look_up};
+ghost use Rattle.script_parse.specs.Script.{instructions_of, first_unresolved_line, Answers, IfLine, look_up};
 
 use crate::labels::{Labels, labels};
 use crate::line::{Entries, Entry, Line};
@@ -52,16 +52,16 @@ pub fn parse_script(alloc: Global, bytes: &[u8]) -> Result<Script, ScriptStop>
     ensures line { IfErr result (λ stop. IfLine stop (λ n. (script_of bytes.now ≡ None)
         × (n ≡ first_bad_line bytes.now))) }
 {
-    parsed(alloc, bytes)
+    parse_lines(alloc, bytes)
 }
 
-fn parsed(alloc: Global, bytes: &[u8]) -> Result<Script, ScriptStop>
+fn parse_lines(alloc: Global, bytes: &[u8]) -> Result<Script, ScriptStop>
     ensures script { IfOk result (λ script. script_of bytes.now ≡ Some script.instructions) }
     ensures line { IfErr result (λ stop. IfLine stop (λ n. (script_of bytes.now ≡ None)
         × (n ≡ first_bad_line bytes.now))) }
 {
     let entries = entries(alloc, bytes)?;
-    match resolved(alloc, entries) {
+    match resolve_labels(alloc, entries) {
         Ok(instructions) => Ok(Script { instructions }),
         Err(stop) => Err(stop),
     }
@@ -69,9 +69,9 @@ fn parsed(alloc: Global, bytes: &[u8]) -> Result<Script, ScriptStop>
 
 // The instructions of lines, with the labels that they define.
 #[tactic(auto, using(crate::proofs::LookUp::results_same))]
-fn resolved(alloc: Global, entries: Entries) -> Result<Instrs, ScriptStop>
+fn resolve_labels(alloc: Global, entries: Entries) -> Result<Instrs, ScriptStop>
     ensures { Answers result
-        (instructions_of (look_up entries) entries) (first_bad (look_up entries) entries) }
+        (instructions_of (look_up entries) entries) (first_unresolved_line (look_up entries) entries) }
 {
     let labels = labels(alloc, &entries)?;
     instructions(alloc, &labels, entries)
@@ -79,7 +79,7 @@ fn resolved(alloc: Global, entries: Entries) -> Result<Instrs, ScriptStop>
 
 // The instructions of lines, where none is bad.
 fn instructions(alloc: Global, labels: &Labels, entries: Entries) -> Result<Instrs, ScriptStop>
-    ensures { Answers result (instructions_of (get_by_text labels.now) entries) (first_bad
+    ensures { Answers result (instructions_of (get_by_text labels.now) entries) (first_unresolved_line
         (get_by_text labels.now) entries) }
 {
     let mut instructions = Instrs::new(alloc);
@@ -106,7 +106,7 @@ fn bad_line(number: u64) -> ScriptStop
 }
 
 fn resolve(labels: &Labels, entry: Entry) -> Result<Option<Instr>, LineError>
-    ensures { Gives result (resolve (get_by_text labels.now) entry) }
+    ensures { GivesLine result (resolve (get_by_text labels.now) entry) }
 {
     let Entry { number, line } = entry;
     match line {
@@ -123,14 +123,14 @@ fn resolve(labels: &Labels, entry: Entry) -> Result<Option<Instr>, LineError>
             let Some(place) = place_of(labels, &label) else {
                 return Err(LineError::Malformed);
             };
-            placed(instr, place)
+            with_label_place(instr, place)
         }
     }
 }
 
 // An instruction with the place of its label.
-fn placed(instr: Instr, place: u64) -> Result<Option<Instr>, LineError>
-    ensures { Gives result (Some (Some (with_place place instr))) }
+fn with_label_place(instr: Instr, place: u64) -> Result<Option<Instr>, LineError>
+    ensures { GivesLine result (Some (Some (with_place place instr))) }
 {
     match u32::try_from(place) {
         Ok(place) => Ok(Some(with_place(instr, place))),

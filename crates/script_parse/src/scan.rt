@@ -1,7 +1,7 @@
 //! From the bytes of a line to its tokens.
 
 ghost use Rattle.std.specs.Prelude.{◌≡◌};
-ghost use Rattle.script_parse.specs.Gives.{Gives};
+ghost use Rattle.script_parse.specs.Gives.{GivesLine};
 ghost use Rattle.script_parse.specs.Tokens.{is_blank, escape_of, step_between, step_in_word, step_in_text};
 ghost use Rattle.script_parse.specs.Tokens.{step_escaped, step_closed, step, finish, tokens_of};
 
@@ -27,7 +27,7 @@ pub(crate) enum LexState {
 
 /// The tokens of a line.
 pub(crate) fn tokens(alloc: Global, line: &[u8]) -> Result<Tokens, LineError>
-    ensures { Gives result (tokens_of line.now) }
+    ensures { GivesLine result (tokens_of line.now) }
 {
     let mut tokens = Tokens::new(alloc);
     let mut place = LexState::Between;
@@ -42,19 +42,19 @@ pub(crate) fn tokens(alloc: Global, line: &[u8]) -> Result<Tokens, LineError>
 }
 
 fn step(alloc: Global, place: LexState, b: u8) -> Result<(LexState, Option<Token>), LineError>
-    ensures { Gives result (step place b) }
+    ensures { GivesLine result (step place b) }
 {
     match place {
         LexState::Between => between(alloc, b),
         LexState::InWord(word) => in_word(word, b),
         LexState::InText(text) => in_text(text, b),
-        LexState::Escaped(text) => escaped(text, b),
-        LexState::Closed(token) => closed(token, b),
+        LexState::Escaped(text) => escape_byte(text, b),
+        LexState::Closed(token) => close_token(token, b),
     }
 }
 
 fn between(alloc: Global, b: u8) -> Result<(LexState, Option<Token>), LineError>
-    ensures { Gives result (step_between b) }
+    ensures { GivesLine result (step_between b) }
 {
     if blank(b) {
         return Ok((LexState::Between, None));
@@ -68,7 +68,7 @@ fn between(alloc: Global, b: u8) -> Result<(LexState, Option<Token>), LineError>
 }
 
 fn in_word(mut word: Bytes, b: u8) -> Result<(LexState, Option<Token>), LineError>
-    ensures { Gives result (step_in_word word b) }
+    ensures { GivesLine result (step_in_word word b) }
 {
     if blank(b) {
         let token = word_token(word)?;
@@ -79,7 +79,7 @@ fn in_word(mut word: Bytes, b: u8) -> Result<(LexState, Option<Token>), LineErro
 }
 
 fn in_text(mut text: Bytes, b: u8) -> Result<(LexState, Option<Token>), LineError>
-    ensures { Gives result (step_in_text text b) }
+    ensures { GivesLine result (step_in_text text b) }
 {
     if b == b'"' {
         let token = text_token(text)?;
@@ -92,8 +92,8 @@ fn in_text(mut text: Bytes, b: u8) -> Result<(LexState, Option<Token>), LineErro
     Ok((LexState::InText(text), None))
 }
 
-fn escaped(mut text: Bytes, b: u8) -> Result<(LexState, Option<Token>), LineError>
-    ensures { Gives result (step_escaped text b) }
+fn escape_byte(mut text: Bytes, b: u8) -> Result<(LexState, Option<Token>), LineError>
+    ensures { GivesLine result (step_escaped text b) }
 {
     let Some(meant) = escape(b) else {
         return Err(LineError::Malformed);
@@ -102,8 +102,8 @@ fn escaped(mut text: Bytes, b: u8) -> Result<(LexState, Option<Token>), LineErro
     Ok((LexState::InText(text), None))
 }
 
-fn closed(token: Token, b: u8) -> Result<(LexState, Option<Token>), LineError>
-    ensures { Gives result (step_closed token b) }
+fn close_token(token: Token, b: u8) -> Result<(LexState, Option<Token>), LineError>
+    ensures { GivesLine result (step_closed token b) }
 {
     if blank(b) {
         Ok((LexState::Between, Some(token)))
@@ -113,7 +113,7 @@ fn closed(token: Token, b: u8) -> Result<(LexState, Option<Token>), LineError>
 }
 
 fn finish(place: LexState) -> Result<Option<Token>, LineError>
-    ensures { Gives result (finish place) }
+    ensures { GivesLine result (finish place) }
 {
     match place {
         LexState::Between => Ok(None),

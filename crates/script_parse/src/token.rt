@@ -2,7 +2,7 @@
 
 ghost use Rattle.std.specs.Prelude.{◌≡◌, OnErr, OnOk};
 ghost use Rattle.std.specs.Str.{is_utf8};
-ghost use Rattle.script_parse.specs.Gives.{Gives};
+ghost use Rattle.script_parse.specs.Gives.{GivesLine};
 ghost use Rattle.ldv_value.specs.Texts.{text_of};
 ghost use Rattle.script_parse.specs.Tokens.{word_token, text_token};
 
@@ -26,7 +26,7 @@ pub(crate) type Tokens = List<Token>;
 
 /// The token of bytes that stood without quotes.
 pub(crate) fn word_token(bytes: Bytes) -> Result<Token, LineError>
-    ensures { Gives result (word_token bytes) }
+    ensures { GivesLine result (word_token bytes) }
 {
     match number(bytes.as_slice()) {
         Some(number) => Ok(Token::Number(number)),
@@ -39,7 +39,7 @@ pub(crate) fn word_token(bytes: Bytes) -> Result<Token, LineError>
 
 /// The token of bytes that stood in quotes, their escapes read.
 pub(crate) fn text_token(bytes: Bytes) -> Result<Token, LineError>
-    ensures { Gives result (text_token bytes) }
+    ensures { GivesLine result (text_token bytes) }
 {
     if bytes.len() > TEXT_LIMIT {
         return Err(LineError::Malformed);
@@ -50,7 +50,7 @@ pub(crate) fn text_token(bytes: Bytes) -> Result<Token, LineError>
 
 #[tactic(auto, using(ldv_value::proofs::Utf8Parts::text_rules))]
 fn text(bytes: Bytes) -> Result<Utf8, LineError>
-    ensures { Gives result (text_of bytes) }
+    ensures { GivesLine result (text_of bytes) }
 {
     match String::from_utf8(bytes.into_vec()) {
         Ok(text) => Ok(Utf8::of_string(text)),

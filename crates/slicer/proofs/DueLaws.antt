@@ -12,7 +12,7 @@ use Rattle.run_model.specs.Slice.{Reason, is_read, reason_in}
 use Rattle.slicer.specs.declared.reasons.Why.{Why}
 use Rattle.slicer.specs.Marks.{reason_at, reason_of_read}
 use Rattle.lanes.specs.Sets.{member}
-use Rattle.slicer.specs.Rows.{asks, has_row, due}
+use Rattle.slicer.specs.Rows.{asks, has_row, reason_due}
 use Rattle.slicer.proofs.ReasonLaws.{reason_step}
 use Rattle.slicer.proofs.RowSetLaws.{rows_same}
 
@@ -28,7 +28,7 @@ Reasons = BTreeMap (String Global) (BTreeMap ℕ Why)
 
 -- where no reason comes later
 pub due_last : (reasons : Reasons) (initial needed : Rows) (table : List ℕ) (row : ℕ)
-    → due reasons initial needed table row None ≡ reason_at reasons table row
+    → reason_due reasons initial needed table row None ≡ reason_at reasons table row
 due_last reasons initial needed table row =
     ap (option_or (reason_at reasons table row)) (only_none (has_row initial table row && not (has_row needed table row)))
     ∙ option_or-none (reason_at reasons table row)
@@ -111,7 +111,7 @@ pub block_noted : (old new : Reasons) (initial needed left : Rows) (fresh : List
     → ((table : List ℕ) (row : ℕ) → reason_at new table row
     ≡ option_or (reason_at old table row) (only_if (is_marked initial fresh table row) (reason_in statement table row needs)))
     → (table : List ℕ) (row : ℕ) (later : Option Reason)
-    → due new initial left table row later ≡ due old initial needed table row (option_or (reason_in statement table row needs) later)
+    → reason_due new initial left table row later ≡ reason_due old initial needed table row (option_or (reason_in statement table row needs) later)
 block_noted old new initial needed left fresh statement needs united taken noted table row later =
     (λ j. option_or (noted table row j) (only_if (has_row initial table row && not (united table row j)) later))
     ∙ elim (cases_Bool (asks table row needs)) [

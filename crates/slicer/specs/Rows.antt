@@ -82,9 +82,10 @@ are_of_block (head ∷ others) = list_all (is_of_block head) others
 -- ---- reasons
 
 -- the reason for a row that has one, and a later one for an initial row that wasn't needed yet
-abbrev pub due : BTreeMap (String Global) (BTreeMap ℕ Why) → BTreeMap (String Global) (BTreeMap ℕ (List ℕ))
+abbrev pub reason_due : BTreeMap (String Global) (BTreeMap ℕ Why)
+    → BTreeMap (String Global) (BTreeMap ℕ (List ℕ))
     → BTreeMap (String Global) (BTreeMap ℕ (List ℕ)) → List ℕ → ℕ → Option Reason → Option Reason
-due reasons initial needed table row later = option_or (reason_at reasons table row)
+reason_due reasons initial needed table row later = option_or (reason_at reasons table row)
     (only_if (has_row initial table row && not (has_row needed table row)) later)
 
 -- of an initial row of the graph, the first reason

@@ -9,7 +9,7 @@ ghost use Rattle.run_model.specs.Slice.{is_path, whole_path, present_path, chang
 ghost use Rattle.run_model.specs.Slice.{packed_as, files_needed};
 
 use crate::lists::push_made;
-use crate::names::{NameSet, add, has};
+use crate::name_set::{NameSet, add, has};
 use ldv_value::{File, Utf8};
 use run_model::{Act, Event, PackedFile, PackedFiles};
 use std::alloc::{AllocError, Global};

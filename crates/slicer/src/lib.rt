@@ -22,14 +22,14 @@ mod files;
 mod fresh;
 mod initial;
 mod lists;
-mod names;
+mod name_set;
 mod needed;
 mod reasons;
 mod row_set;
 mod tables;
 mod united;
 
-pub use names::{NameSet, add_all, has};
+pub use name_set::{NameSet, add_all, has};
 pub use needed::{Sliced, slice, slice_files};
 pub use reasons::{Reasons, RowReasons, Why, note_need};
 pub use tables::pack_tables;

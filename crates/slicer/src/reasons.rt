@@ -8,7 +8,7 @@ ghost use Rattle.std.specs.Option.{option_or};
 ghost use Rattle.ldv_value.specs.Options.{only_if};
 ghost use Rattle.run_model.specs.Slice.{Reason, reason_in, act_reason, first_reason};
 ghost use Rattle.lanes.specs.Sets.{member};
-ghost use Rattle.slicer.specs.Rows.{are_of_block, due, has_row};
+ghost use Rattle.slicer.specs.Rows.{are_of_block, reason_due, has_row};
 
 use crate::fresh::{fresh_rows, split_block};
 use crate::row_set::{RowSet, has_bit, has_row};
@@ -149,8 +149,8 @@ fn note_block(
 ) -> Result<(), AllocError>
     requires { are_of_block needs.now ≡ true }
     ensures { OnOk result ((table : Items ℕ) (row : ℕ) (later : Option Reason)
-        → due reasons.new initial_rows.now needed.new table row later
-        ≡ due reasons.old initial_rows.now needed.old table row
+        → reason_due reasons.new initial_rows.now needed.new table row later
+        ≡ reason_due reasons.old initial_rows.now needed.old table row
         (option_or (reason_in statement table row needs.now) later)) }
 {
     let fresh = fresh_rows(alloc, needed, needs)?;
@@ -167,9 +167,9 @@ fn note_first_block<'a>(
     needs: &'a [Need],
 ) -> Result<&'a [Need], AllocError>
     ensures due { IfOk result (λ left. (table : Items ℕ) (row : ℕ) (later : Option Reason)
-        → due reasons.new initial_rows.now needed.new table row
+        → reason_due reasons.new initial_rows.now needed.new table row
         (option_or (reason_in statement table row left.now) later)
-        ≡ due reasons.old initial_rows.now needed.old table row
+        ≡ reason_due reasons.old initial_rows.now needed.old table row
         (option_or (reason_in statement table row needs.now) later)) }
     ensures shorter { IfOk result (λ left. 0 < length needs.now → length left.now < length needs.now) }
 {
@@ -187,8 +187,8 @@ fn note_reads(
     needs: &[Need],
 ) -> Result<(), AllocError>
     ensures { OnOk result ((table : Items ℕ) (row : ℕ) (later : Option Reason)
-        → due reasons.new initial_rows.now needed.new table row later
-        ≡ due reasons.old initial_rows.now needed.old table row
+        → reason_due reasons.new initial_rows.now needed.new table row later
+        ≡ reason_due reasons.old initial_rows.now needed.old table row
         (option_or (reason_in statement table row needs.now) later)) }
 {
     let mut left = needs;
@@ -206,8 +206,8 @@ fn note_act(
     act: &Act,
 ) -> Result<(), AllocError>
     ensures { OnOk result ((table : Items ℕ) (row : ℕ) (later : Option Reason)
-        → due reasons.new initial_rows.now needed.new table row later
-        ≡ due reasons.old initial_rows.now needed.old table row
+        → reason_due reasons.new initial_rows.now needed.new table row later
+        ≡ reason_due reasons.old initial_rows.now needed.old table row
         (option_or (act_reason table row act.now) later)) }
 {
     match act {

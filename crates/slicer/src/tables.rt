@@ -10,7 +10,7 @@ ghost use Rattle.slicer.specs.Rows.{tables_from};
 
 use crate::initial::initial_rows;
 use crate::lists::push_made;
-use crate::names::{NameSet, has, tables_named};
+use crate::name_set::{NameSet, has, tables_named};
 use crate::reasons::{Reasons, RowReasons, Why, reasons_in};
 use ldv_value::CopyItem;
 use run_model::{Event, PackedRow, PackedRows, PackedTable, PackedTables};

@@ -4,8 +4,8 @@ use Rattle.std.proofs.Common.{◌≡◌, ℕ, List, [], ◌∷◌, ◌++◌, map
 use Rattle.std.specs.Prelude.{Option, Some, None, if◌then◌else◌}
 use Rattle.std.specs.List.{list_any}
 use Rattle.sql_cases.proofs.Types.{Catalog, Member, Reply, Changed, Refused, SqlRefusal, Syntax, NoTable, NoColumn, TypeClash, NotNull, KeyTaken, Full, NoParent, HasChild, Statement, TheQuery, TheInsert, TheUpdate, TheDelete, Table}
-use Rattle.sql_model.specs.Changes.{or_else, refusal_if, has_null, key_refusal, key_clash, is_full, target_of, table_of, change_refusal, changed, changed_in, matched}
-use Rattle.sql_model.specs.Needs.{Versions, made_by, made_unless, members_made, new_member, next_member, NeededRow, need_of, needs_by, accepted_needs, matched_row, matched_rows, parent_rows, child_rows, key_row, key_rows, stood, clash_rows, sorted_needs}
+use Rattle.sql_model.specs.Changes.{or_else, refusal_if, has_null, key_refusal, key_clash, is_full, target_of, table_of, change_refusal, table_after, changed_in, matched}
+use Rattle.sql_model.specs.Needs.{Versions, made_by, made_unless, members_made, new_member, next_member, NeededRow, need_of, needs_by, accepted_needs, matched_row, matched_rows, parent_rows, child_rows, key_row, key_rows, had_row, clash_rows, sorted_needs}
 use Rattle.sql_model.specs.Refusals.{check_refusal}
 use Rattle.sql_model.specs.Scope.{catalog_of, is_table}
 use Rattle.sql_model.specs.Statements.{reference_refusal, reply_of, reply_or, accepted_reply, matched_count, refusal_of, target, after, after_unless}
@@ -99,7 +99,7 @@ module _ (s : Statement) (table : Table) where
   matched_from p = map (matched_row table) p.matched
 
   abbrev clashing_from : Parts → List NeededRow
-  clashing_from p = map (key_row table) (filter (stood table) (clash_rows (key_clash p.changed)))
+  clashing_from p = map (key_row table) (filter (had_row table) (clash_rows (key_clash p.changed)))
 
   abbrev needs_from : Option SqlRefusal → Parts → List NeededRow
   needs_from None p = matched_from p
@@ -181,7 +181,7 @@ module _ (s : Statement) (table : Table) where
     needs (Some (HasChild t key)) = without_children
 
     abbrev the_changed : Table
-    the_changed = changed s (schemas table) table
+    the_changed = table_after s (schemas table) table
 
     left : (r : Option SqlRefusal) → after_unless r (Some s) here ≡ after_from r parts
     left None =

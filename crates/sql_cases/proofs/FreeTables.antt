@@ -3,7 +3,7 @@ use Rattle.std.proofs.Common.{◌≡◌, ℕ, List, [], ◌∷◌, ◌++◌, map
 use Rattle.std.specs.Prelude.{Option, Some, None, option_map, option_to_list}
 use Rattle.std.specs.List.{filter_map, flat_map}
 use Rattle.sql_cases.proofs.Types.{Value, SqlRefusal, P, Catalog, Foreign, Statement, Table, TableRow}
-use Rattle.sql_model.specs.Changes.{changed, new_rows, or_else}
+use Rattle.sql_model.specs.Changes.{table_after, new_rows, or_else}
 use Rattle.sql_model.specs.Needs.{needed_by, parent_rows, child_row, child_rows}
 use Rattle.sql_model.specs.References.{reference, missing_parents, is_lost, orphan_by, orphans_of, other_rows, child_of, orphans, parents_of, first_in, tables_after, is_changed}
 use Rattle.sql_model.specs.Statements.{parent_refusal, child_refusal, reference_refusal}
@@ -42,8 +42,8 @@ module _ (t : Table) (free : t.schema.foreign ≡ []) where
         ap (λ (fs : List Foreign). missing_parents (tables_after s catalog db) fs (new_rows s catalog t)) free
         ∙ no_missing (tables_after s catalog db) (new_rows s catalog t)
 
-    orphaned : orphans (is_changed s catalog) t (changed s catalog t) db ≡ []
-    orphaned = no_orphans (is_changed s catalog) (changed s catalog t)
+    orphaned : orphans (is_changed s catalog) t (table_after s catalog t) db ≡ []
+    orphaned = no_orphans (is_changed s catalog) (table_after s catalog t)
 
     pub no_reference : reference_refusal s catalog (Some t) db ≡ None
     no_reference = λ j.

@@ -4,9 +4,9 @@ use Rattle.std.specs.Prelude.{ℕ, ◌+◌, List, [], ◌∷◌, ◌++◌, map, 
 use Rattle.std.specs.List.{flat_map, list_all}
 use Rattle.sql_cases.proofs.Types.{Value, Catalog, ColumnName, Expr-F, SqlRefusal, NoTable, NoColumn, TypeClash, Statement, Column, Table, TableRow}
 use Rattle.sql_model.specs.Changes as changes
-use Rattle.sql_model.specs.Changes.{numbered, with_rows}
+use Rattle.sql_model.specs.Changes.{numbered_rows, with_rows}
 use Rattle.sql_model.specs.Keys.{repeats}
-use Rattle.sql_model.specs.Refusals.{check_refusal, lacks_table, unresolved, target_columns, takes, takes_set}
+use Rattle.sql_model.specs.Refusals.{check_refusal, lacks_table, has_unresolved_name, target_columns, takes, takes_set}
 use Rattle.sql_model.specs.Scope.{InScope, same_text, schema_at, columns_of, is_column, has_column, own_scope, environment}
 use Rattle.sql_model.specs.Meaning.{Environment, or_null}
 use Rattle.sql_cases.proofs.Terms.{Term}
@@ -26,7 +26,7 @@ parts_of s catalog table = record {
   check = check_refusal s catalog;
   matched = changes.matched s catalog table;
   made = changes.new_rows s catalog table;
-  changed = changes.changed s catalog table;
+  changed = changes.table_after s catalog table;
 }
 
 -- the row that an UPDATE makes of a row
@@ -68,7 +68,7 @@ module _ (fold : (A : Type 0) → (Expr-F A → A) → Term → A) where
 
   abbrev inserted : TermInsert → Table → List TableRow
   inserted insert table =
-      numbered table.next (map (new_values insert.columns table.schema.columns) insert.rows)
+      numbered_rows table.next (map (new_values insert.columns table.schema.columns) insert.rows)
 
   abbrev row_fits : List Column → List Term → Bool
   row_fits columns terms =
@@ -78,7 +78,7 @@ module _ (fold : (A : Type 0) → (Expr-F A → A) → Term → A) where
   abbrev insert_lacks : TermInsert → List Column → Bool
   insert_lacks insert columns =
       not (list_all (has_column columns) (unwrap_or insert.columns []))
-      || unresolved [] (flat_map (queries.names_of fold) insert.rows)
+      || has_unresolved_name [] (flat_map (queries.names_of fold) insert.rows)
 
   abbrev insert_clashes : TermInsert → List Column → Bool
   insert_clashes insert columns =
@@ -131,7 +131,7 @@ module _ (fold : (A : Type 0) → (Expr-F A → A) → Term → A) where
   abbrev update_lacks : TermUpdate → List Column → List InScope → Bool
   update_lacks update columns scope =
       not (list_all (λ set. has_column columns set.column) update.sets)
-      || unresolved scope (flat_map (λ set. queries.names_in fold set.term) update.sets
+      || has_unresolved_name scope (flat_map (λ set. queries.names_in fold set.term) update.sets
       ++ names_of_pick update.pick)
 
   abbrev update_clashes : TermUpdate → List Column → List InScope → Bool
@@ -165,7 +165,7 @@ module _ (fold : (A : Type 0) → (Expr-F A → A) → Term → A) where
 
   abbrev delete_check : TermDelete → Catalog → List InScope → Option SqlRefusal
   delete_check delete catalog scope =
-      check (TheDelete delete) catalog (unresolved scope (names_of_pick delete.pick))
+      check (TheDelete delete) catalog (has_unresolved_name scope (names_of_pick delete.pick))
       (not (pick_fits scope delete.pick))
 
   abbrev after_delete : List InScope → TermDelete → Table → Table

@@ -4,10 +4,10 @@
 use Rattle.std.specs.Prelude.{ℕ, List, [], ◌∷◌, ◌++◌, map, filter, length, ◌==◌, Bool, true, false, not, ◌&&◌, ◌||◌, nat_le, if◌then◌else◌, Option, Some, None, is_none, is_some, option_map, option_and_then, option_to_list, unwrap_or}
 use Rattle.std.specs.List.{flat_map, list_any, list_all, range_with_len}
 use Rattle.sql_cases.proofs.Types.{Value, ColumnName, Expr-F, Kind, H, SqlRefusal, NoTable, NoColumn, TypeClash, Table}
-use Rattle.sql_model.specs.QueryAnswer.{AnswerRow, Combination, Origin, combinations, combination_rows, row_environment, environments, groups_of, first_values, single, once, united, SortKey, sort_key, sort_rows, limit_of, first_rows, other_rows, lineage_of}
-use Rattle.sql_model.specs.Kinds.{Counting, kind_step, names_step, outer_step, aggregate_step, counting_step, own_name_step, is_condition, kind_of_column}
+use Rattle.sql_model.specs.QueryAnswer.{AnswerRow, Combination, Origin, combinations, combination_rows, row_environment, environments, groups_of, first_values, one_combination, once, union_answers, SortKey, sort_key, sort_rows, limit_of, first_rows, other_rows, lineage_of}
+use Rattle.sql_model.specs.Kinds.{CountUse, kind_step, names_step, outer_step, aggregate_step, count_use_step, own_name_step, is_condition, kind_of_column}
 use Rattle.sql_model.specs.Needs.{NeededRow, needed_by, has_merging}
-use Rattle.sql_model.specs.Refusals.{lacks_table, unresolved, is_grouped, is_order_key, kind_of_item, union_kinds, is_limit}
+use Rattle.sql_model.specs.Refusals.{lacks_table, has_unresolved_name, is_grouped, is_order_key, kind_of_item, union_kinds, is_limit}
 use Rattle.sql_model.specs.Scope.{InScope, catalog_of, scope_of, places_in}
 use Rattle.sql_model.specs.Meaning.{Environment, Meaning, eval_step, is_true}
 use Rattle.sql_cases.proofs.Terms.{Term}
@@ -32,7 +32,7 @@ module _ (fold : (A : Type 0) → (Expr-F A → A) → Term → A) where
   is_pick scope over_groups term = is_condition (kind scope term over_groups)
 
   abbrev pub counts : Term → Bool
-  counts term = (fold Counting counting_step term).counts_rows
+  counts term = (fold CountUse count_use_step term).counts_rows
 
   abbrev pub title : TermItem → Option (List ℕ)
   title item = title_of item.name
@@ -85,7 +85,7 @@ module _ (fold : (A : Type 0) → (Expr-F A → A) → Term → A) where
   rows_in_scope scope core all =
       if groups core
       then map (group_row scope core) (filter (is_kept scope core.having) (groups_in scope core all))
-      else map (λ rows. group_row scope core (single rows)) all
+      else map (λ rows. group_row scope core (one_combination rows)) all
 
   abbrev pub core_rows : List Table → TermCore → List AnswerRow
   core_rows db core = once core.distinct (rows_in_scope (scope_in db core) core (picked db core))
@@ -104,7 +104,7 @@ module _ (fold : (A : Type 0) → (Expr-F A → A) → Term → A) where
 
   abbrev pub rows_after : List Table → List AnswerRow → List TermCore → List AnswerRow
   rows_after db rows [] = rows
-  rows_after db rows (core ∷ cores) = rows_after db (united core.joined_all rows (core_rows db core)) cores
+  rows_after db rows (core ∷ cores) = rows_after db (union_answers core.joined_all rows (core_rows db core)) cores
 
   abbrev pub union_rows : List Table → List TermCore → List AnswerRow
   union_rows db [] = []
@@ -169,7 +169,7 @@ module _ (fold : (A : Type 0) → (Expr-F A → A) → Term → A) where
 
   abbrev pub core_lacks_column : List Table → TermCore → Bool
   core_lacks_column db core =
-      unresolved (scope_in db core) (core_names core) || ungrouped (scope_in db core) core
+      has_unresolved_name (scope_in db core) (core_names core) || ungrouped (scope_in db core) core
 
   abbrev pub query_lacks_column : List Table → TermQuery → Bool
   query_lacks_column db query =

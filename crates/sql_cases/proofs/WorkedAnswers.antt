@@ -10,7 +10,7 @@ use Rattle.sql_cases.proofs.TermReplies.{Computes, query_accepted}
 use Rattle.sql_cases.proofs.TermStatements.{TermQuery, query_of}
 use Rattle.sql_cases.proofs.Terms.{Not, Both, IsNull, Count, Aggregate, folds_over}
 use Rattle.sql_model.proofs.WorkedTables.{table_t}
-use Rattle.sql_cases.proofs.WorkedTerms.{column_of, k, g, v, g_name, number, text, compared, t, t_twice, selected, distinct, joined_all, grouped, ordered, query, needed, Gives}
+use Rattle.sql_cases.proofs.WorkedTerms.{column_of, k, g, v, g_name, number, text, compared, t, t_twice, selected, distinct, joined_all, grouped, ordered, query, needed, Answers}
 
 abbrev db : List Table
 db = table_t 5 ∷ []
@@ -26,7 +26,7 @@ over_100_computes = record {
   hidden = λ d i. hidden_rows (folds_over i) over_100 d;
 }
 
-no_row : Gives over_100 db [] []
+no_row : Answers over_100 db [] []
 no_row = query_accepted over_100 over_100_computes db refl
 
 -- SELECT DISTINCT x.g FROM t x JOIN t y ON x.v = y.v
@@ -43,7 +43,7 @@ twins_computes = record {
   hidden = λ d i. hidden_rows (folds_over i) twins d;
 }
 
-distinct_join : Gives twins db
+distinct_join : Answers twins db
     ((Text (codes "a") ∷ []) ∷ (Text (codes "b") ∷ []) ∷ (Text (codes "c") ∷ []) ∷ [])
     (needed L 0 ∷ needed L 1 ∷ needed L 2 ∷ needed L 4 ∷ [])
 distinct_join = query_accepted twins twins_computes db refl
@@ -68,7 +68,7 @@ counts_computes = record {
   hidden = λ d i. hidden_rows (folds_over i) counts d;
 }
 
-over_no_rows : Gives counts db ((Int (pos 0) ∷ Null ∷ []) ∷ []) []
+over_no_rows : Answers counts db ((Int (pos 0) ∷ Null ∷ []) ∷ []) []
 over_no_rows = query_accepted counts counts_computes db refl
 
 -- SELECT SUM(v + 9223372036854775787) FROM t WHERE g = 'a'
@@ -84,7 +84,7 @@ large_sum_computes = record {
   hidden = λ d i. hidden_rows (folds_over i) large_sum d;
 }
 
-sum_outside_64_bits : Gives large_sum db ((Null ∷ []) ∷ []) (needed L 0 ∷ needed L 1 ∷ [])
+sum_outside_64_bits : Answers large_sum db ((Null ∷ []) ∷ []) (needed L 0 ∷ needed L 1 ∷ [])
 sum_outside_64_bits = query_accepted large_sum large_sum_computes db refl
 
 -- SELECT v FROM t WHERE k = 1
@@ -98,7 +98,7 @@ first_v_computes = record {
   hidden = λ d i. hidden_rows (folds_over i) first_v d;
 }
 
-one_row : Gives first_v db ((Int (pos 10) ∷ []) ∷ []) (needed L 0 ∷ [])
+one_row : Answers first_v db ((Int (pos 10) ∷ []) ∷ []) (needed L 0 ∷ [])
 one_row = query_accepted first_v first_v_computes db refl
 
 -- SELECT g FROM t GROUP BY g HAVING COUNT(*) < 2
@@ -114,7 +114,7 @@ small_groups_computes = record {
   hidden = λ d i. hidden_rows (folds_over i) small_groups d;
 }
 
-rejected_groups : Gives small_groups db ((Text (codes "c") ∷ []) ∷ [])
+rejected_groups : Answers small_groups db ((Text (codes "c") ∷ []) ∷ [])
     (needed H 0 ∷ needed H 1 ∷ needed H 2 ∷ needed H 3 ∷ needed L 4 ∷ [])
 rejected_groups = query_accepted small_groups small_groups_computes db refl
 
@@ -130,7 +130,7 @@ largest_computes = record {
   hidden = λ d i. hidden_rows (folds_over i) largest d;
 }
 
-first_two : Gives largest db
+first_two : Answers largest db
     ((Int (pos 20) ∷ Int (pos 2) ∷ []) ∷ (Int (pos 10) ∷ Int (pos 1) ∷ []) ∷ [])
     (needed L 0 ∷ needed L 1 ∷ [])
 first_two = query_accepted largest largest_computes db refl
@@ -147,7 +147,7 @@ least_values_computes = record {
   hidden = λ d i. hidden_rows (folds_over i) least_values d;
 }
 
-first_two_distinct : Gives least_values db ((Null ∷ []) ∷ (Int (pos 5) ∷ []) ∷ [])
+first_two_distinct : Answers least_values db ((Null ∷ []) ∷ (Int (pos 5) ∷ []) ∷ [])
     (needed H 0 ∷ needed H 1 ∷ needed L 2 ∷ needed L 3 ∷ needed H 4 ∷ [])
 first_two_distinct = query_accepted least_values least_values_computes db refl
 
@@ -168,7 +168,7 @@ unions_computes = record {
   hidden = λ d i. hidden_rows (folds_over i) unions d;
 }
 
-united_from_the_left : Gives unions db ((Text (codes "a") ∷ []) ∷ (Text (codes "c") ∷ []) ∷ [])
+united_from_the_left : Answers unions db ((Text (codes "a") ∷ []) ∷ (Text (codes "c") ∷ []) ∷ [])
     (needed L 0 ∷ needed L 1 ∷ needed L 4 ∷ [])
 united_from_the_left = query_accepted unions unions_computes db refl
 
@@ -183,7 +183,7 @@ not_over_5_computes = record {
   hidden = λ d i. hidden_rows (folds_over i) not_over_5 d;
 }
 
-unknown_is_not_true : Gives not_over_5 db
+unknown_is_not_true : Answers not_over_5 db
     ((Int (pos 3) ∷ []) ∷ [])
     (needed L 2 ∷ [])
 unknown_is_not_true = query_accepted not_over_5 not_over_5_computes db refl
@@ -199,7 +199,7 @@ null_or_large_computes = record {
   hidden = λ d i. hidden_rows (folds_over i) null_or_large d;
 }
 
-null_or_true : Gives null_or_large db
+null_or_true : Answers null_or_large db
     ((Int (pos 2) ∷ [])
     ∷ (Int (pos 4) ∷ []) ∷ [])
     (needed L 1 ∷ needed L 3 ∷ [])
@@ -218,7 +218,7 @@ sums_computes = record {
   hidden = λ d i. hidden_rows (folds_over i) sums d;
 }
 
-groups_in_order : Gives sums db
+groups_in_order : Answers sums db
     ((Text (codes "a") ∷ Int (pos 2) ∷ Int (pos 30) ∷ Int (pos 20) ∷ [])
     ∷ (Text (codes "b") ∷ Int (pos 1) ∷ Int (pos 5) ∷ Int (pos 5) ∷ [])
     ∷ (Text (codes "c") ∷ Int (pos 1) ∷ Int (pos 10) ∷ Int (pos 10) ∷ []) ∷ [])
@@ -237,7 +237,7 @@ by_v_computes = record {
   hidden = λ d i. hidden_rows (folds_over i) by_v d;
 }
 
-ties_keep_order : Gives by_v db
+ties_keep_order : Answers by_v db
     ((Null ∷ Int (pos 4) ∷ [])
     ∷ (Int (pos 5) ∷ Int (pos 3) ∷ [])
     ∷ (Int (pos 10) ∷ Int (pos 1) ∷ [])

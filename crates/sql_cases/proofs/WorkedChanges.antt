@@ -11,7 +11,7 @@ use Rattle.sql_cases.proofs.TermStatements.{TermInsert, TermUpdate, TermDelete, 
 use Rattle.sql_cases.proofs.Terms.{Term, Both, over, folds_over}
 use Rattle.sql_cases.proofs.WorkedAnswers.{first_v, first_v_computes}
 use Rattle.sql_model.proofs.WorkedTables.{rows_of_t, columns_of_t, table_row, table_t}
-use Rattle.sql_cases.proofs.WorkedTerms.{k, v, number, text, compared, set, needed, new, next, nothing, Gives, Leaves}
+use Rattle.sql_cases.proofs.WorkedTerms.{k, v, number, text, compared, set, needed, new, next, nothing, Answers, Leaves}
 
 -- the schemas of the table t
 abbrev catalog : Catalog
@@ -73,7 +73,7 @@ one_updated =
     (table_t 5))
 
 -- SELECT v FROM t WHERE k = 1, after that
-seen_after : Gives first_v (t_after_first ∷ []) ((Int (pos 11) ∷ []) ∷ []) (needed L 0 ∷ [])
+seen_after : Answers first_v (t_after_first ∷ []) ((Int (pos 11) ∷ []) ∷ []) (needed L 0 ∷ [])
 seen_after = query_accepted first_v first_v_computes (t_after_first ∷ []) refl
 
 -- INSERT INTO t VALUES (3, 'z', 1)

@@ -100,8 +100,8 @@ abbrev pub needed : Rule → ℕ → NeededRow
 needed rule row = needed_row rule (codes "t") row
 
 -- over these tables the query answers these rows and needs those
-abbrev pub Gives : TermQuery → List Table → List (List Value) → List NeededRow → Type 0
-Gives q db rows needs = (reply_of (Some (statement_of (TheQuery q))) db ≡ Rows rows)
+abbrev pub Answers : TermQuery → List Table → List (List Value) → List NeededRow → Type 0
+Answers q db rows needs = (reply_of (Some (statement_of (TheQuery q))) db ≡ Rows rows)
     × (need_of (Some (statement_of (TheQuery q))) db ≡ needs)
 
 -- over the table t the query is refused, and needs no row

@@ -11,7 +11,7 @@ use Rattle.sql_model.specs.declared.expr.Fold.{Fold}
 use Rattle.sql_model.specs.declared.expr.Operator.{Operator}
 use Rattle.sql_model.specs.declared.kind.Kind.{Kind}
 use Rattle.sql_model.specs.declared.kind.Kind.TheVariants.{Int as IntKind, Truth as TruthKind}
-use Rattle.sql_model.specs.Kinds.{kind_of_value, kind_of_column, is_number, is_logical, kind_if, kind_both, folded_kind, counted_kind, kind_step, kind, names_step, names_in, outer_step, outer_names, aggregate_step, has_aggregate, counting, counting_step, counting_of, fold_counts, own_name_step, own_name}
+use Rattle.sql_model.specs.Kinds.{kind_of_value, kind_of_column, is_number, is_logical, kind_if, kind_both, folded_kind, counted_kind, kind_step, kind, names_step, names_in, outer_step, outer_names, aggregate_step, has_aggregate, count_use, count_use_step, count_use_of, fold_counts, own_name_step, own_name}
 use Rattle.sql_model.specs.Scope.{InScope, is_meant, place_of, places_in}
 use Rattle.sql_model.proofs.Folds.{fold-Constant, fold-Column, fold-Negate, fold-Not, fold-Both, fold-IsNull, fold-Count, fold-Aggregate}
 use Rattle.sql_check.specs.Sources.{is_among, all_among}
@@ -163,31 +163,31 @@ aggregate-Aggregate f e = fold-Aggregate aggregate_step f e
 
 pub ruleset aggregate_forms = (aggregate-Constant, aggregate-Column, aggregate-Negate, aggregate-Not, aggregate-Both, aggregate-IsNull, aggregate-Count, aggregate-Aggregate)
 
-pub counting-Constant : (v : Value) → counting_of (Constant v) ≡ counting false false
-counting-Constant v = fold-Constant counting_step v
+pub count_use_of-Constant : (v : Value) → count_use_of (Constant v) ≡ count_use false false
+count_use_of-Constant v = fold-Constant count_use_step v
 
-pub counting-Column : (c : ColumnName) → counting_of (Column c) ≡ counting true false
-counting-Column c = fold-Column counting_step c
+pub count_use_of-Column : (c : ColumnName) → count_use_of (Column c) ≡ count_use true false
+count_use_of-Column c = fold-Column count_use_step c
 
-pub counting-Negate : (e : Expr) → counting_of (Negate e) ≡ counting_of e
-counting-Negate e = fold-Negate counting_step e
+pub count_use_of-Negate : (e : Expr) → count_use_of (Negate e) ≡ count_use_of e
+count_use_of-Negate e = fold-Negate count_use_step e
 
-pub counting-Not : (e : Expr) → counting_of (Not e) ≡ counting_of e
-counting-Not e = fold-Not counting_step e
+pub count_use_of-Not : (e : Expr) → count_use_of (Not e) ≡ count_use_of e
+count_use_of-Not e = fold-Not count_use_step e
 
-pub counting-Both : (op : Operator) (a b : Expr) → counting_of (Both op a b) ≡ counting ((counting_of a).names_column || (counting_of b).names_column) ((counting_of a).counts_rows || (counting_of b).counts_rows)
-counting-Both op a b = fold-Both counting_step op a b
+pub count_use_of-Both : (op : Operator) (a b : Expr) → count_use_of (Both op a b) ≡ count_use ((count_use_of a).names_column || (count_use_of b).names_column) ((count_use_of a).counts_rows || (count_use_of b).counts_rows)
+count_use_of-Both op a b = fold-Both count_use_step op a b
 
-pub counting-IsNull : (e : Expr) (negative : Bool) → counting_of (IsNull e negative) ≡ counting_of e
-counting-IsNull e negative = fold-IsNull counting_step e negative
+pub count_use_of-IsNull : (e : Expr) (negative : Bool) → count_use_of (IsNull e negative) ≡ count_use_of e
+count_use_of-IsNull e negative = fold-IsNull count_use_step e negative
 
-pub counting-Count : (f : Fold) → counting_of (Aggregate f None) ≡ counting false true
-counting-Count f = fold-Count counting_step f
+pub count_use_of-Count : (f : Fold) → count_use_of (Aggregate f None) ≡ count_use false true
+count_use_of-Count f = fold-Count count_use_step f
 
-pub counting-Aggregate : (f : Fold) (e : Expr) → counting_of (Aggregate f (Some e)) ≡ counting (counting_of e).names_column ((counting_of e).counts_rows || fold_counts f (counting_of e).names_column)
-counting-Aggregate f e = fold-Aggregate counting_step f e
+pub count_use_of-Aggregate : (f : Fold) (e : Expr) → count_use_of (Aggregate f (Some e)) ≡ count_use (count_use_of e).names_column ((count_use_of e).counts_rows || fold_counts f (count_use_of e).names_column)
+count_use_of-Aggregate f e = fold-Aggregate count_use_step f e
 
-pub ruleset counting_forms = (counting-Constant, counting-Column, counting-Negate, counting-Not, counting-Both, counting-IsNull, counting-Count, counting-Aggregate)
+pub ruleset counting_forms = (count_use_of-Constant, count_use_of-Column, count_use_of-Negate, count_use_of-Not, count_use_of-Both, count_use_of-IsNull, count_use_of-Count, count_use_of-Aggregate)
 
 -- ---- own names
 

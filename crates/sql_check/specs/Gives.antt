@@ -1,8 +1,8 @@
 -- How a check that may run out of memory gives what the definition of a check gives.
 use Rattle.std.specs.Prelude.{◌≡◌, ℕ, List, Result, Ok, Err}
 use Rattle.ldv_value.specs.Gives.{GivesOr}
-use Rattle.sql_check.specs.declared.stop.CheckStop.{CheckStop}
-use Rattle.sql_check.specs.declared.stop.CheckStop.TheVariants.{NoTable, NoColumn, TypeClash, NoMemory}
+use Rattle.sql_check.specs.declared.error.CheckStop.{CheckStop}
+use Rattle.sql_check.specs.declared.error.CheckStop.TheVariants.{NoTable, NoColumn, TypeClash, NoMemory}
 use Rattle.sql_model.specs.declared.catalog.Checked.{Checked}
 use Rattle.sql_model.specs.declared.reply.SqlRefusal.{SqlRefusal}
 use Rattle.sql_model.specs.declared.reply.SqlRefusal.TheVariants.{NoTable as NoTableRefusal}
@@ -17,8 +17,8 @@ Stops TypeClash due = due ≡ Err TypeClashRefusal
 Stops NoMemory due = Unit {0}
 
 -- the result is the checked statement that is due, or the refusal that is due, or out of memory
-abbrev pub Gives : Result Checked CheckStop → Result Checked SqlRefusal → Type 0
-Gives = GivesOr Stops
+abbrev pub GivesChecked : Result Checked CheckStop → Result Checked SqlRefusal → Type 0
+GivesChecked = GivesOr Stops
 
 -- the same of the places alone, where the caller has the statement
 abbrev pub GivesPlaces : Result (List (List ℕ)) CheckStop → Statement → Result Checked SqlRefusal → Type 0

@@ -1,7 +1,7 @@
 //! The aggregates of an expression.
 
 ghost use Rattle.std.specs.Prelude.{◌≡◌};
-ghost use Rattle.sql_model.specs.Kinds.{has_aggregate, counting_of, fold_counts};
+ghost use Rattle.sql_model.specs.Kinds.{has_aggregate, count_use_of, fold_counts};
 ghost use Rattle.sql_model.specs.Refusals.{counts};
 
 use sql_model::{Expr, Fold};
@@ -26,7 +26,7 @@ pub(crate) fn has_aggregate(expr: &Expr) -> bool
 // Whether an expression names a column.
 #[tactic(auto, using(crate::proofs::Walks::counting_forms))]
 fn names_column(expr: &Expr) -> bool
-    ensures { result ≡ (counting_of expr.now).names_column }
+    ensures { result ≡ (count_use_of expr.now).names_column }
 {
     match expr {
         Expr::Constant(_) => false,

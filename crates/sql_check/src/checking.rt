@@ -1,12 +1,12 @@
 //! The check of a statement.
 
 ghost use Rattle.sql_model.specs.Places.{checked_of};
-ghost use Rattle.sql_check.specs.Gives.{Gives, GivesPlaces};
+ghost use Rattle.sql_check.specs.Gives.{GivesChecked, GivesPlaces};
 
 use crate::clash::has_type_clash;
 use crate::columns::has_unknown_column;
 use crate::places::places_of;
-use crate::stop::CheckStop;
+use crate::error::CheckStop;
 use crate::tables::has_unknown_table;
 use ldv_value::{CopyItem, PlaceLists};
 use sql_model::{Catalog, Checked, Statement};
@@ -18,7 +18,7 @@ use std::alloc::Global;
 /// exactly where `specs/Refusals.antt` of `sql_model` has them, as `docs/SQL.md` says in words. `NoMemory`
 /// may come at any point.
 pub fn check(alloc: Global, statement: &Statement, catalog: &Catalog) -> Result<Checked, CheckStop>
-    ensures { Gives result (checked_of statement.now catalog.now) }
+    ensures { GivesChecked result (checked_of statement.now catalog.now) }
 {
     let places = check_places(alloc, statement, catalog)?;
     let copy = statement.copy_item(alloc)?;

@@ -10,8 +10,8 @@ ghost use Rattle.sql_model.specs.Refusals.{update_clashes, clashes};
 
 use crate::aggregate::counts;
 use crate::duplicate::has_duplicate;
-use crate::kinds::{comparable, group_kind, is_logical, kind_of_column, row_kind};
-use crate::part::items_of;
+use crate::kinds::{are_comparable, group_kind, is_logical, kind_of_column, row_kind};
+use crate::core_names::items_of;
 use crate::scope::{Entry, column_at, columns_of, own_scope};
 use crate::union::query_kinds;
 use crate::values::insert_clashes;
@@ -144,7 +144,7 @@ pub(crate) fn takes(column: &Column, kind: Option<Kind>) -> bool
 {
     match kind {
         None => false,
-        Some(kind) => comparable(kind_of_column(column), kind),
+        Some(kind) => are_comparable(kind_of_column(column), kind),
     }
 }
 

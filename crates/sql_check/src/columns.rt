@@ -11,7 +11,7 @@ ghost use Rattle.sql_model.specs.Scope.{has_column, resolves, places_in};
 ghost use Rattle.sql_check.specs.Sources.{is_among, all_among};
 
 use crate::output_column::{OutputColumn, answer_titles, is_order_key};
-use crate::part::{core_resolves, exprs_resolve, groups, names_of, optional_resolves};
+use crate::core_names::{core_resolves, exprs_resolve, groups, names_of, optional_resolves};
 use crate::scope::{Entry, columns_of, has_column, own_scope, place_of, scope_of};
 use crate::walk::{all_among, all_resolve, is_among};
 use ldv_value::Utf8;
@@ -99,7 +99,7 @@ fn lacks_in_scope(scope: &[Entry], core: &Core, grouped: &[usize]) -> bool
     requires { grouped.now ≡ places_in scope.now core.now.group }
     ensures { result ≡ lacks_in_scope scope.now core.now }
 {
-    !core_resolves(scope, core) || ungrouped(scope, core, grouped)
+    !core_resolves(scope, core) || has_ungrouped_column(scope, core, grouped)
 }
 
 // The places of column names.
@@ -119,14 +119,14 @@ fn name_places(
 
 // Whether a core groups, and a column outside its aggregates isn't grouped by.
 #[tactic(auto, using(crate::proofs::Parts::all_both_places))]
-fn ungrouped(scope: &[Entry], core: &Core, grouped: &[usize]) -> bool
+fn has_ungrouped_column(scope: &[Entry], core: &Core, grouped: &[usize]) -> bool
     ensures { result
         ≡ (groups core.now && not (list_all (is_among grouped.now) (item_places scope.now core.now.items
         ++ having_places scope.now core.now.having))) }
 {
     groups(core)
         && !(items_grouped(scope, grouped, &core.items)
-            && having_grouped(scope, grouped, &core.having))
+            && is_having_grouped(scope, grouped, &core.having))
 }
 
 #[tactic(auto, using(crate::proofs::Parts::all_item_places))]
@@ -134,19 +134,19 @@ fn items_grouped(scope: &[Entry], grouped: &[usize], items: &Option<Items>) -> b
     ensures { result ≡ list_all (is_among grouped.now) (item_places scope.now items.now) }
 {
     match items {
-        None => all_grouped(grouped, scope.len()),
-        Some(items) => written_grouped(scope, grouped, items.items()),
+        None => are_all_grouped(grouped, scope.len()),
+        Some(items) => are_written_grouped(scope, grouped, items.items()),
     }
 }
 
 // Whether each place below a number is grouped by.
-fn all_grouped(grouped: &[usize], count: usize) -> bool
+fn are_all_grouped(grouped: &[usize], count: usize) -> bool
     ensures { result ≡ list_all (is_among grouped.now) (range_with_len 0 count) }
 {
     (0..count).all(|place| is_among(grouped, place))
 }
 
-fn written_grouped(scope: &[Entry], grouped: &[usize], items: &[Item]) -> bool
+fn are_written_grouped(scope: &[Entry], grouped: &[usize], items: &[Item]) -> bool
     ensures { result ≡ list_all (λ item. all_among scope.now grouped.now (outer_names item.expr)) items.now }
 {
     items
@@ -155,7 +155,7 @@ fn written_grouped(scope: &[Entry], grouped: &[usize], items: &[Item]) -> bool
 }
 
 #[tactic(auto, using(crate::proofs::Parts::all_optional_among))]
-fn having_grouped(scope: &[Entry], grouped: &[usize], having: &Option<Expr>) -> bool
+fn is_having_grouped(scope: &[Entry], grouped: &[usize], having: &Option<Expr>) -> bool
     ensures { result ≡ list_all (is_among grouped.now) (having_places scope.now having.now) }
 {
     match having {

@@ -14,14 +14,14 @@ pub(crate) trait Named {
     ghost name: { Self → List ℕ };
 
     /// Its name.
-    fn named(&self) -> &str
+    fn name_text(&self) -> &str
         ensures { result.now ≡ name self.now };
 }
 
 impl Named for Utf8 {
     ghost name = { λ text. text };
 
-    fn named(&self) -> &str {
+    fn name_text(&self) -> &str {
         self.as_str()
     }
 }
@@ -29,7 +29,7 @@ impl Named for Utf8 {
 impl Named for FromItem {
     ghost name = { λ item. item.name };
 
-    fn named(&self) -> &str {
+    fn name_text(&self) -> &str {
         self.name.as_str()
     }
 }
@@ -37,7 +37,7 @@ impl Named for FromItem {
 impl Named for Set {
     ghost name = { λ set. set.column };
 
-    fn named(&self) -> &str {
+    fn name_text(&self) -> &str {
         self.column.as_str()
     }
 }
@@ -67,7 +67,7 @@ fn all_names<'a, N: Named>(alloc: Global, items: &'a [N]) -> Result<Vec<&'a str>
 {
     let mut names = Vec::with_capacity(alloc, items.len())?;
     for item in items {
-        names.push(item.named())?;
+        names.push(item.name_text())?;
     }
     Ok(names)
 }

@@ -5,7 +5,7 @@ ghost use Rattle.std.specs.Prelude.{true, false};
 ghost use Rattle.sql_model.specs.declared.kind.Kind.TheVariants.{Int as IntKind, Text as TextKind};
 ghost use Rattle.sql_model.specs.declared.kind.Kind.TheVariants.{Truth as TruthKind};
 ghost use Rattle.sql_model.specs.Kinds.{kind, row_kind, group_kind, kind_of_value, kind_of_column, is_number};
-ghost use Rattle.sql_model.specs.Kinds.{is_logical, comparable, kind_if, kind_both, folded_kind};
+ghost use Rattle.sql_model.specs.Kinds.{is_logical, are_comparable, kind_if, kind_both, folded_kind};
 ghost use Rattle.sql_model.specs.Kinds.{counted_kind};
 ghost use Rattle.sql_model.specs.Scope.{is_meant};
 
@@ -34,17 +34,17 @@ fn kind_in(scope: &[Entry], expr: &Expr, over_groups: bool) -> Option<Kind>
     match expr {
         Expr::Constant(value) => Some(kind_of_value(value)),
         Expr::Column(name) => kind_of_name(scope, name),
-        Expr::Negate(inner) => negated(kind_in(scope, inner.get(), over_groups)),
-        Expr::Not(inner) => inverted(kind_in(scope, inner.get(), over_groups)),
+        Expr::Negate(inner) => negation_kind(kind_in(scope, inner.get(), over_groups)),
+        Expr::Not(inner) => not_kind(kind_in(scope, inner.get(), over_groups)),
         Expr::Both(operator, left, right) => {
             let left = kind_in(scope, left.get(), over_groups);
             let right = kind_in(scope, right.get(), over_groups);
-            joined(*operator, left, right)
+            operator_kind(*operator, left, right)
         }
-        Expr::IsNull(inner, _) => tested(kind_in(scope, inner.get(), over_groups)),
-        Expr::Aggregate(fold, None) => counted(*fold, over_groups),
+        Expr::IsNull(inner, _) => null_test_kind(kind_in(scope, inner.get(), over_groups)),
+        Expr::Aggregate(fold, None) => count_kind(*fold, over_groups),
         Expr::Aggregate(fold, Some(inner)) => {
-            folded(*fold, kind_in(scope, inner.get(), false), over_groups)
+            aggregate_kind(*fold, kind_in(scope, inner.get(), false), over_groups)
         }
     }
 }
@@ -106,8 +106,8 @@ pub(crate) fn is_logical(kind: Kind) -> bool
 }
 
 /// Whether values of two kinds can be compared, and one be stored as the other.
-pub(crate) fn comparable(left: Kind, right: Kind) -> bool
-    ensures { result ≡ comparable left right }
+pub(crate) fn are_comparable(left: Kind, right: Kind) -> bool
+    ensures { result ≡ are_comparable left right }
 {
     match left {
         Kind::Int => is_number(right),
@@ -118,7 +118,7 @@ pub(crate) fn comparable(left: Kind, right: Kind) -> bool
 }
 
 fn is_textual(kind: Kind) -> bool
-    ensures { result ≡ comparable TextKind kind }
+    ensures { result ≡ are_comparable TextKind kind }
 {
     match kind {
         Kind::Int => false,
@@ -129,7 +129,7 @@ fn is_textual(kind: Kind) -> bool
 }
 
 // The kind of `-x`, from the kind of `x`.
-fn negated(inner: Option<Kind>) -> Option<Kind>
+fn negation_kind(inner: Option<Kind>) -> Option<Kind>
     ensures { result ≡ option_and_then (λ k. kind_if (is_number k) IntKind) inner }
 {
     match inner {
@@ -139,7 +139,7 @@ fn negated(inner: Option<Kind>) -> Option<Kind>
 }
 
 // The kind of `NOT x`, from the kind of `x`.
-fn inverted(inner: Option<Kind>) -> Option<Kind>
+fn not_kind(inner: Option<Kind>) -> Option<Kind>
     ensures { result ≡ option_and_then (λ k. kind_if (is_logical k) TruthKind) inner }
 {
     match inner {
@@ -149,7 +149,7 @@ fn inverted(inner: Option<Kind>) -> Option<Kind>
 }
 
 // The kind of `x IS NULL`, from the kind of `x`.
-fn tested(inner: Option<Kind>) -> Option<Kind>
+fn null_test_kind(inner: Option<Kind>) -> Option<Kind>
     ensures { result ≡ option_and_then (λ k. kind_if (not (is_logical k)) TruthKind) inner }
 {
     match inner {
@@ -159,7 +159,7 @@ fn tested(inner: Option<Kind>) -> Option<Kind>
 }
 
 // The kind of two operands with the operator between them.
-fn joined(operator: Operator, left: Option<Kind>, right: Option<Kind>) -> Option<Kind>
+fn operator_kind(operator: Operator, left: Option<Kind>, right: Option<Kind>) -> Option<Kind>
     ensures { result ≡ option_and_then (λ k. option_and_then (kind_both operator k) right) left }
 {
     match left {
@@ -178,14 +178,14 @@ fn kind_both(operator: Operator, left: Kind, right: Kind) -> Option<Kind>
         Operator::Add => kind_if(is_number(left) && is_number(right), Kind::Int),
         Operator::Subtract => kind_if(is_number(left) && is_number(right), Kind::Int),
         Operator::Multiply => kind_if(is_number(left) && is_number(right), Kind::Int),
-        Operator::Compare(_) => kind_if(comparable(left, right), Kind::Truth),
+        Operator::Compare(_) => kind_if(are_comparable(left, right), Kind::Truth),
         Operator::And => kind_if(is_logical(left) && is_logical(right), Kind::Truth),
         Operator::Or => kind_if(is_logical(left) && is_logical(right), Kind::Truth),
     }
 }
 
 // The kind of an aggregate without an argument, which is over groups only.
-fn counted(fold: Fold, over_groups: bool) -> Option<Kind>
+fn count_kind(fold: Fold, over_groups: bool) -> Option<Kind>
     ensures { result ≡ (if over_groups then counted_kind fold else None) }
 {
     match fold {
@@ -197,7 +197,7 @@ fn counted(fold: Fold, over_groups: bool) -> Option<Kind>
 }
 
 // The kind of an aggregate over its argument, which is over groups only.
-fn folded(fold: Fold, inner: Option<Kind>, over_groups: bool) -> Option<Kind>
+fn aggregate_kind(fold: Fold, inner: Option<Kind>, over_groups: bool) -> Option<Kind>
     ensures { result ≡ (if over_groups then option_and_then (folded_kind fold) inner else None) }
 {
     if !over_groups {

@@ -10,10 +10,10 @@ use Rattle.dml_versions.specs.Versions.{versions_now}
 use Rattle.group_eval.specs.Evaluating.{IsGrouped}
 use Rattle.group_eval.specs.declared.grouping.Grouped.{Grouped}
 use Rattle.lineage.specs.Lineage.{Lineage, IsUnion}
-use Rattle.lineage.specs.Rows.{kept, joined_row, AnswersStandFor}
+use Rattle.lineage.specs.Rows.{kept_origins, joined_row, AnswersStandFor}
 use Rattle.lineage.specs.StandsFor.{StandsFor}
 use Rattle.lineage.proofs.Origins.{stands-empty}
-use Rattle.lineage.proofs.RowLaws.{answers-append, answers-values, kept-union}
+use Rattle.lineage.proofs.RowLaws.{answers-append, answers-values, kept_origins-union}
 use Rattle.query_eval.specs.Finishing.{IsFinished}
 use Rattle.query_eval.specs.Picking.{ArePicked}
 use Rattle.query_eval.specs.Projecting.{IsProjected}
@@ -25,15 +25,15 @@ use Rattle.sql_engine.specs.Types.{Answer, Checked, Core, Pick, Query, StoreHist
 use Rattle.sql_engine.specs.declared.answered.Answered.{Answered}
 use Rattle.sql_engine.specs.declared.cores.CoreRows.{CoreRows}
 use Rattle.sql_model.specs.Needs.{sums_up}
-use Rattle.sql_model.specs.QueryAnswer.{Origin, AnswerRow, once, united, rows_in_scope, rejected_in_scope, picked, core_rows, union_rows, rejected, answer, cut, lineage_of, limit_of, merge}
+use Rattle.sql_model.specs.QueryAnswer.{Origin, AnswerRow, once, union_answers, rows_in_scope, rejected_in_scope, picked, core_rows, union_rows, rejected, answer, cut, lineage_of, limit_of, merge}
 use Rattle.sql_model.specs.Refusals.{groups, cores_of}
 use Rattle.sql_model.specs.Scope.{catalog_of, scope_of}
 use Rattle.table_store.specs.Histories.{tables_now}
 
 -- what is kept of no lineage
-kept-none : (keep : Bool) → [] ≡ kept keep []
-kept-none true = refl
-kept-none false = refl
+kept_origins-none : (keep : Bool) → [] ≡ kept_origins keep []
+kept_origins-none true = refl
+kept_origins-none false = refl
 
 -- ---- a core
 
@@ -56,8 +56,8 @@ module _ (checked : Checked) (place : ℕ) (picks : List Pick) (own : Core) (at 
       let plain : groups core ≡ false = ap groups (sym (same_core core there)) ∙ is in
       let none : rejected_in_scope (scope_of core.from catalog) core all ≡ [] = none_rejected (groups core) _ plain in (
         made query catalog core names versions keep all was there plain stand,
-        subst (λ (os : List Origin). StandsFor names versions empty (kept keep os)) (sym none)
-            (subst (StandsFor names versions empty) (kept-none keep) (stands-empty names versions)),
+        subst (λ (os : List Origin). StandsFor names versions empty (kept_origins keep os)) (sym none)
+            (subst (StandsFor names versions empty) (kept_origins-none keep) (stands-empty names versions)),
       )
 
 -- rows of the same values as one
@@ -100,12 +100,12 @@ module _ (store : StoreHistory) (keep : Bool) (now after : List AnswerRow) (hidd
   names = table_names store
 
   both_rejected : IsKept store keep set (hidden ++ others)
-  both_rejected = kept-union names (versions_now store) keep rows.rejected more.rejected set hidden others is first.rejected second.rejected
+  both_rejected = kept_origins-union names (versions_now store) keep rows.rejected more.rejected set hidden others is first.rejected second.rejected
 
   appended : AnswersStandFor names (versions_now store) keep (rows.answers ++ more.answers) (now ++ after)
   appended = answers-append names (versions_now store) keep rows.answers more.answers now after first.answers second.answers
 
-  once_united : (all : Bool) → once (not all) (now ++ after) ≡ united all now after
+  once_united : (all : Bool) → once (not all) (now ++ after) ≡ union_answers all now after
   once_united true = refl
   once_united false = refl
 
@@ -113,7 +113,7 @@ module _ (store : StoreHistory) (keep : Bool) (now after : List AnswerRow) (hidd
       → ((names : List (List ℕ)) (versions : List ℕ → ℕ → ℕ) (keep : Bool) (now : List AnswerRow)
       → AnswersStandFor names versions keep (rows.answers ++ more.answers) now
       → AnswersStandFor names versions keep made (once (not all) now))
-      → AreRows store keep (united all now after) (hidden ++ others) (record { answers = made; rejected = set })
+      → AreRows store keep (union_answers all now after) (hidden ++ others) (record { answers = made; rejected = set })
   united_is all made merged =
       subst (λ (l : List AnswerRow). AreRows store keep l (hidden ++ others) (record { answers = made; rejected = set })) (once_united all)
       (record {
@@ -138,10 +138,10 @@ module _ (store : StoreHistory) (keep : Bool) where
       → AreRows store keep (core_rows (tables_now store) core) (rejected (tables_now store) core) more
       → ((store : StoreHistory) (keep : Bool) (now after : List AnswerRow) (hidden others : List Origin)
       → AreRows store keep now hidden rows → AreRows store keep after others more
-      → AreRows store keep (united core.joined_all now after) (hidden ++ others) made)
+      → AreRows store keep (union_answers core.joined_all now after) (hidden ++ others) made)
       → AreUnited store keep all left made
   united_step all left core rows more made old are joined = record {
-    rows = united core.joined_all old.rows (core_rows (tables_now store) core);
+    rows = union_answers core.joined_all old.rows (core_rows (tables_now store) core);
     hidden = old.hidden ++ rejected (tables_now store) core;
     are = joined store keep old.rows (core_rows (tables_now store) core) old.hidden (rejected (tables_now store) core) old.are are;
     same_rows = old.same_rows;
@@ -161,7 +161,7 @@ module _ (store : StoreHistory) (keep : Bool) where
       (subst (λ (s : Lineage). AreRows store keep [] [] (record { answers = []; rejected = s })) (sym no_rows)
       (record {
         answers = tt;
-        rejected = subst (StandsFor (table_names store) (versions_now store) empty) (kept-none keep) (stands-empty (table_names store) (versions_now store));
+        rejected = subst (StandsFor (table_names store) (versions_now store) empty) (kept_origins-none keep) (stands-empty (table_names store) (versions_now store));
       }))
 
 -- ---- the answer
@@ -189,7 +189,7 @@ module _ (checked : Checked) (store : StoreHistory) (keep : Bool) (all : CoreRow
     hidden_by : (sums : Bool) (hidden : Lineage) → IsHidden sums all.rejected finished.cut hidden
         → IsKept store keep hidden (flat_map (rejected db) query.cores ++ (if sums then lineage_of (cut query db) else []))
     hidden_by true hidden union =
-        kept-union (table_names store) (versions_now store) keep all.rejected finished.cut hidden (flat_map (rejected db) query.cores) (lineage_of (cut query db))
+        kept_origins-union (table_names store) (versions_now store) keep all.rejected finished.cut hidden (flat_map (rejected db) query.cores) (lineage_of (cut query db))
         union rows.rejected ends.1
     hidden_by false hidden same =
         subst (λ (os : List Origin). IsKept store keep hidden os) (sym (append-nil (flat_map (rejected db) query.cores)))
@@ -197,7 +197,7 @@ module _ (checked : Checked) (store : StoreHistory) (keep : Bool) (all : CoreRow
 
   pub answered_is : (hidden lineage : Lineage) → IsHidden (sums_up own.cores) all.rejected finished.cut hidden
       → ((names : List (List ℕ)) (versions : List ℕ → ℕ → ℕ) (keep : Bool) (rows : List AnswerRow)
-      → AnswersStandFor names versions keep finished.answers rows → StandsFor names versions lineage (kept keep (lineage_of rows)))
+      → AnswersStandFor names versions keep finished.answers rows → StandsFor names versions lineage (kept_origins keep (lineage_of rows)))
       → IsAnswered checked store keep (record { rows = map values_of finished.answers; lineage = lineage; hidden = hidden })
   answered_is hidden lineage is_hidden united query asked = record {
     rows = answers-values (table_names store) (versions_now store) keep finished.answers (answer query (tables_now store)) (ends query asked).0;

@@ -12,14 +12,14 @@ use Rattle.sql_model.specs.Tables.{AreWellFormed}
 use Rattle.dml_versions.specs.Versions.{versions_now, updates_of, updates_in}
 use Rattle.dml_versions.specs.declared.change.Change.{Change}
 use Rattle.query_eval.specs.Stored.{table_names}
-use Rattle.run_model.specs.SqlDatabase.{SqlDatabase, unchanged, db_after, lists_of, answer_of, sql_base}
+use Rattle.run_model.specs.SqlDatabase.{SqlDatabase, initial_database, db_after, lists_of, answer_of, sql_base}
 use Rattle.run_model.specs.Database.{Gives, asked_by}
 use Rattle.run_model.specs.declared.database.Asker.{Asker}
 use Rattle.sql_model.specs.Texts.{statement_of}
 use Rattle.sql_engine.proofs.NeedLaws.{needs_are}
 use Rattle.sql_engine.proofs.StoreLaws.{answer_named, hidden_named, sorted_names}
 use Rattle.sql_engine.specs.Answering.{IsAnswer, IsAnswered, hidden_lineage}
-use Rattle.sql_engine.specs.Asking.{database, lists_in, IsDone, IsOutcome, refused, done_of}
+use Rattle.sql_engine.specs.Asking.{database, lists_in, IsDone, IsOutcome, refusal_change, done_of}
 use Rattle.sql_engine.specs.Listing.{is_in, names_first, tables_asked, needs_of}
 use Rattle.sql_laws.proofs.DatabaseLaws.{database_law}
 use Rattle.sql_engine.specs.Types.{Catalog, Checked, H, L, Member, Need, Query, Reply, Rows, SqlRefusal, Statement, StoreHistory, Syntax, Table, TheQuery, TheInsert, TheUpdate, TheDelete, Value}
@@ -34,9 +34,9 @@ use Rattle.sql_model.specs.Refusals.{check_refusal, tables_of}
 use Rattle.sql_model.specs.Places.{checked_of, checked_statement, checked_unless}
 use Rattle.sql_model.specs.Scope.{catalog_of}
 use Rattle.sql_model.specs.Statements.{reference_refusal, refusal_of, reply_of, reply_or, target, after_unless}
-use Rattle.table_store.specs.Histories.{added, is_history, is_of_number, tables_now}
-use Rattle.table_store.specs.StoreView.{started}
-use Rattle.table_store.specs.TableView.{begun}
+use Rattle.table_store.specs.Histories.{history_of_new_row, is_history, is_of_number, tables_now}
+use Rattle.table_store.specs.StoreView.{store_at_start}
+use Rattle.table_store.specs.TableView.{history_at_start}
 use Rattle.sql_model.specs.declared.table.TableRow.{TableRow}
 
 -- ---- tables
@@ -114,7 +114,7 @@ module _ (s : Statement) (store : StoreHistory) (keep : Bool) (refusal : SqlRefu
       (reference_refusal s (catalog_of (tables_now store)) (target s (tables_now store)) (tables_now store))) is
 
   -- what the schemas refuse
-  pub refused_outcome : IsOutcome s keep store store (refused refusal)
+  pub refused_outcome : IsOutcome s keep store store (refusal_change refusal)
   refused_outcome = record {
     reply = sym (reply_by (Some s) store (Some refusal) refusal_is);
     after = after_by (Some s) store (Some refusal) refusal_is refl refl;
@@ -126,7 +126,7 @@ module _ (s : Statement) (store : StoreHistory) (keep : Bool) (refusal : SqlRefu
   }
 
 -- what no statement is
-pub syntax_done : (store : StoreHistory) (keep : Bool) → IsDone None keep store store (done_of (refused Syntax) [])
+pub syntax_done : (store : StoreHistory) (keep : Bool) → IsDone None keep store store (done_of (refusal_change Syntax) [])
 syntax_done store keep = record {
   reply = sym (reply_by None store (Some Syntax) refl);
   after = after_by None store (Some Syntax) refl refl refl;
@@ -237,7 +237,7 @@ checked_over s db catalog checked same is =
 -- the same of a catalog that is that of the tables
 pub refused_over : (s : Statement) (store : StoreHistory) (keep : Bool) (refusal : SqlRefusal) (catalog : Catalog)
     → catalog ≡ catalog_of (tables_now store) → checked_of s catalog ≡ Err refusal → needs_by (Some refusal) s (tables_now store) ≡ []
-    → IsOutcome s keep store store (refused refusal)
+    → IsOutcome s keep store store (refusal_change refusal)
 refused_over s store keep refusal catalog same is none =
     refused_outcome s store keep refusal
     (refused_by_check s (catalog_of (tables_now store)) refusal (ap (checked_of s) (sym same) ∙ is)) none
@@ -251,22 +251,22 @@ same_needs s keep old new reply made needs others same is none =
 
 -- ---- a store at its start
 
-unchanged_row : (number : ℕ) (rows : List TableRow) → updates_of (find (is_of_number number) (map (added 0) rows)) ≡ 0
+unchanged_row : (number : ℕ) (rows : List TableRow) → updates_of (find (is_of_number number) (map (history_of_new_row 0) rows)) ≡ 0
 unchanged_row number [] = refl
-unchanged_row number (row ∷ rows) = elim (cases_Bool (is_of_number number (added 0 row))) [
+unchanged_row number (row ∷ rows) = elim (cases_Bool (is_of_number number (history_of_new_row 0 row))) [
   | inl hit ↦ rw hit refl
   | inr miss ↦ rw miss (unchanged_row number rows)
 ]
 
-unchanged_in : (name : List ℕ) (number : ℕ) (tables : List Table) → updates_in number (find (is_history name) (map begun tables)) ≡ 0
+unchanged_in : (name : List ℕ) (number : ℕ) (tables : List Table) → updates_in number (find (is_history name) (map history_at_start tables)) ≡ 0
 unchanged_in name number [] = refl
-unchanged_in name number (t ∷ tables) = elim (cases_Bool (is_history name (begun t))) [
+unchanged_in name number (t ∷ tables) = elim (cases_Bool (is_history name (history_at_start t))) [
   | inl hit ↦ rw hit (unchanged_row number t.rows)
   | inr miss ↦ rw miss (unchanged_in name number tables)
 ]
 
-pub started_is : (tables : List Table) (store : StoreHistory) → store ≡ started tables → tables_now store ≡ tables
-    → database store ≡ unchanged tables
+pub started_is : (tables : List Table) (store : StoreHistory) → store ≡ store_at_start tables → tables_now store ≡ tables
+    → database store ≡ initial_database tables
 started_is tables store made now = λ j. record {
   tables = now j;
   versions = (ap versions_now made ∙ (λ i name number. unchanged_in name number tables i)) j;

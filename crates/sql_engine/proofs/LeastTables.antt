@@ -8,18 +8,18 @@ use Rattle.ldv_value.proofs.Booleans.{or-cases}
 use Rattle.ldv_value.proofs.Lists.{list_any-append}
 use Rattle.ldv_value.proofs.SameBytes.{bytes_eq-true}
 use Rattle.sql_laws.proofs.ParentTables.{Among, Refers}
-use Rattle.sql_model.specs.ForeignKeys.{Named, name_of, is_among, parent_names, close}
+use Rattle.sql_model.specs.ForeignKeys.{NamedSchema, name_of, is_among, parent_names, close}
 use Rattle.sql_model.specs.Scope.{same_text}
 use Rattle.sql_model.specs.declared.table.Foreign.{Foreign}
 
-abbrev taken : List (List ℕ) → List Named → List Named
+abbrev taken : List (List ℕ) → List NamedSchema → List NamedSchema
 taken names rest = filter (is_among names) rest
 
-abbrev left : List (List ℕ) → List Named → List Named
+abbrev left : List (List ℕ) → List NamedSchema → List NamedSchema
 left names rest = filter (λ t. not (is_among names t)) rest
 
 -- what is among those that pass a test is among all, and passes it
-filtered : (p : Named → Bool) (t : Named) (us : List Named) → Among t (filter p us) → Among t us × (p t ≡ true)
+filtered : (p : NamedSchema → Bool) (t : NamedSchema) (us : List NamedSchema) → Among t (filter p us) → Among t us × (p t ≡ true)
 filtered p t [] here = absurd here
 filtered p t (u ∷ us) here = elim (cases_Bool (p u)) [
   | inl hit ↦ first hit (rw hit at here) (λ more. filtered p t us more)
@@ -32,12 +32,12 @@ filtered p t (u ∷ us) here = elim (cases_Bool (p u)) [
     first hit (inr more) again = let rest = again more in (inr rest.0, rest.1)
 
 -- a table among some has a name that is among theirs
-pub record HasName (name : List ℕ) (us : List Named) : Type 0 where
-  pub table : Named
+pub record HasName (name : List ℕ) (us : List NamedSchema) : Type 0 where
+  pub table : NamedSchema
   pub among : Among table us
   pub same : name ≡ table.0
 
-has_name : (name : List ℕ) (us : List Named) → list_any (same_text name) (map name_of us) ≡ true → HasName name us
+has_name : (name : List ℕ) (us : List NamedSchema) → list_any (same_text name) (map name_of us) ≡ true → HasName name us
 has_name name [] is = cc
 has_name name (u ∷ us) is = elim (or-cases (same_text name u.0) (list_any (same_text name) (map name_of us)) is) [
   | inl here ↦ record { table = u; among = inl refl; same = bytes_eq-true name u.0 here }
@@ -45,12 +45,12 @@ has_name name (u ∷ us) is = elim (or-cases (same_text name u.0) (list_any (sam
 ]
 
 -- a table that some refer to
-record HasChild (parent : Named) (us : List Named) : Type 0 where
-  child : Named
+record HasChild (parent : NamedSchema) (us : List NamedSchema) : Type 0 where
+  child : NamedSchema
   among : Among child us
   refers : Refers child parent
 
-has_child : (parent : Named) (us : List Named) → is_among (parent_names us) parent ≡ true → HasChild parent us
+has_child : (parent : NamedSchema) (us : List NamedSchema) → is_among (parent_names us) parent ≡ true → HasChild parent us
 has_child parent [] is = cc
 has_child parent (u ∷ us) is =
     let own : List (List ℕ) = map (λ (f : Foreign). f.parent) u.1.foreign in
@@ -60,15 +60,15 @@ has_child parent (u ∷ us) is =
       | inr more ↦ let rest = has_child parent us more in record { child = rest.child; among = inr rest.among; refers = rest.refers }
     ]
 
-module _ (test : List ℕ → Bool) (all : List Named)
-    (closed : (t u : Named) → Among t all → Among u all → Refers t u → test t.0 ≡ true → test u.0 ≡ true) where
-  pub close-least : (n : ℕ) (names : List (List ℕ)) (rest : List Named) → ((t : Named) → Among t rest → Among t all)
-      → ((t : Named) → Among t rest → is_among names t ≡ true → test t.0 ≡ true)
+module _ (test : List ℕ → Bool) (all : List NamedSchema)
+    (closed : (t u : NamedSchema) → Among t all → Among u all → Refers t u → test t.0 ≡ true → test u.0 ≡ true) where
+  pub close-least : (n : ℕ) (names : List (List ℕ)) (rest : List NamedSchema) → ((t : NamedSchema) → Among t rest → Among t all)
+      → ((t : NamedSchema) → Among t rest → is_among names t ≡ true → test t.0 ≡ true)
       → (name : List ℕ) → list_any (same_text name) (close n names rest) ≡ true → test name ≡ true
   close-least zero names rest within first name is = cc
   close-least (suc n) names rest within first name is =
-      let now : List Named = taken names rest in
-      let later : List Named = left names rest in
+      let now : List NamedSchema = taken names rest in
+      let later : List NamedSchema = left names rest in
       let more : List (List ℕ) = close n (parent_names now) later in
       elim (or-cases (list_any (same_text name) (map name_of now)) (list_any (same_text name) more)
       (sym (list_any-append (same_text name) (map name_of now) more) ∙ is)) [

@@ -13,23 +13,23 @@ use Rattle.ldv_value.proofs.SameBytes.{bytes_eq-true, bytes_eq-itself}
 use Rattle.sql_laws.proofs.ParentTables.{Among, parents_taken, taken_soon}
 use Rattle.sql_engine.proofs.LeastTables.{close-least}
 use Rattle.sql_engine.specs.Listing.{is_in, is_text, names_table, names_first}
-use Rattle.sql_engine.specs.Taking.{is_taken, is_waiting, is_done, raised, first_mark, raised_at, with_name, with_unless, with_more, with_reads, with_parents_of, foreigns_at, finished, AreDistinct, AllSound, AllTaken, name_taken, refers_to, AllClosed, IsTaken, AreMarks}
+use Rattle.sql_engine.specs.Taking.{is_taken, is_waiting, is_done, taken_mark, first_mark, raised_at, with_name, with_unless, with_more, with_reads, with_parents_of, foreigns_at, marks_with_parents, AreDistinct, AllSound, AreTaken, name_taken, refers_to, AreClosed, IsTaken, AreMarks}
 use Rattle.sql_engine.specs.Types.{Catalog, Need, Schema, Statement}
 use Rattle.sql_engine.specs.declared.tables.Mark.{Mark}
 use Rattle.sql_engine.specs.declared.tables.Mark.TheVariants.{Left, Taken, Done}
-use Rattle.sql_model.specs.ForeignKeys.{Named, with_parents}
+use Rattle.sql_model.specs.ForeignKeys.{NamedSchema, with_parents}
 use Rattle.sql_model.specs.Refusals.{tables_of}
 use Rattle.sql_model.specs.Scope.{same_text}
 use Rattle.sql_model.specs.declared.table.Foreign.{Foreign}
 
 -- ---- one mark
 
-raised_taken : (m : Mark) → is_taken (raised m) ≡ true
+raised_taken : (m : Mark) → is_taken (taken_mark m) ≡ true
 raised_taken Left = refl
 raised_taken Taken = refl
 raised_taken Done = refl
 
-raised_done : (m : Mark) → is_done (raised m) ≡ is_done m
+raised_done : (m : Mark) → is_done (taken_mark m) ≡ is_done m
 raised_done Left = refl
 raised_done Taken = refl
 raised_done Done = refl
@@ -47,7 +47,7 @@ taken_done Done no_wait is = refl
 -- ---- the mark at a place is raised
 
 pub raised_set : (marks : List Mark) (place : ℕ) (d : Mark) → place < length marks
-    → slice_set marks place (raised (slice_index_or marks place d)) ≡ raised_at marks place
+    → slice_set marks place (taken_mark (slice_index_or marks place d)) ≡ raised_at marks place
 raised_set [] place d within = absurd (omega (arith, within))
 raised_set (m ∷ ms) zero d within = refl
 raised_set (m ∷ ms) (suc place) d within = ap (λ (l : List Mark). m ∷ l) (raised_set ms place d (omega (arith, within)))
@@ -63,7 +63,7 @@ pub ruleset raised_rules = (raised_set, raised_out)
 abbrev raise_named : List (List ℕ) → List ℕ → List Mark → List Mark
 raise_named [] name marks = marks
 raise_named (n ∷ ns) name [] = []
-raise_named (n ∷ ns) name (m ∷ ms) = if same_text name n then raised m ∷ ms else m ∷ raise_named ns name ms
+raise_named (n ∷ ns) name (m ∷ ms) = if same_text name n then taken_mark m ∷ ms else m ∷ raise_named ns name ms
 
 none_raised : (o : Option ℕ) → option_map_or (raised_at []) o [] ≡ []
 none_raised None = refl
@@ -79,7 +79,7 @@ named_raise [] name marks = refl
 named_raise (n ∷ ns) name [] = none_raised (position (is_text name) (n ∷ ns))
 named_raise (n ∷ ns) name (m ∷ ms) =
     let at : Option ℕ → List Mark = λ o. option_map_or (raised_at (m ∷ ms)) o (m ∷ ms) in
-    let by : Bool → List Mark = λ b. if b then raised m ∷ ms else m ∷ raise_named ns name ms in
+    let by : Bool → List Mark = λ b. if b then taken_mark m ∷ ms else m ∷ raise_named ns name ms in
     elim (cases-bool (same_text name n)) [
       | inl hit ↦ ap at (position-here (is_text name) n ns hit) ∙ sym (ap by hit)
       | inr miss ↦
@@ -159,8 +159,8 @@ module _ (name : List ℕ) where
     | inr miss ↦ rw miss (all.0, raise_sound test ns ms (λ is. passes (or-right (same_text name n) (is_in ns name) is)) all.1)
   ]
 
-  raise_all : (test : List ℕ → Bool) (names : List (List ℕ)) (marks : List Mark) → AllTaken test names marks
-      → AllTaken test names (raise_named names name marks)
+  raise_all : (test : List ℕ → Bool) (names : List (List ℕ)) (marks : List Mark) → AreTaken test names marks
+      → AreTaken test names (raise_named names name marks)
   raise_all test [] marks all = tt
   raise_all test (n ∷ ns) [] all = tt
   raise_all test (n ∷ ns) (m ∷ ms) all = elim (cases-bool (same_text name n)) [
@@ -185,8 +185,8 @@ module _ (names : List (List ℕ)) (name : List ℕ) (marks : List Mark) where
   name_sound test passes all =
       subst (AllSound test names) (sym (named_raise names name marks)) (raise_sound name test names marks passes all)
 
-  name_all : (test : List ℕ → Bool) → AllTaken test names marks → AllTaken test names (with_name names name marks)
-  name_all test all = subst (AllTaken test names) (sym (named_raise names name marks)) (raise_all name test names marks all)
+  name_all : (test : List ℕ → Bool) → AreTaken test names marks → AreTaken test names (with_name names name marks)
+  name_all test all = subst (AreTaken test names) (sym (named_raise names name marks)) (raise_all name test names marks all)
 
 -- ---- parents of foreign keys
 
@@ -210,8 +210,8 @@ module _ (names : List (List ℕ)) where
       (name_sound names f.parent marks test
       (λ there. passes f.parent (or-left (same_text f.parent f.parent) (is_in (parents_in fs) f.parent) (bytes_eq-itself f.parent)) there) all)
 
-  parents_all : (test : List ℕ → Bool) (foreigns : List Foreign) (marks : List Mark) → AllTaken test names marks
-      → AllTaken test names (with_parents_of names foreigns marks)
+  parents_all : (test : List ℕ → Bool) (foreigns : List Foreign) (marks : List Mark) → AreTaken test names marks
+      → AreTaken test names (with_parents_of names foreigns marks)
   parents_all test [] marks all = all
   parents_all test (f ∷ fs) marks all = parents_all test fs (with_name names f.parent marks) (name_all names f.parent marks test all)
 
@@ -394,8 +394,8 @@ set_sound test (n ∷ ns) [] place waits all = tt
 set_sound test (n ∷ ns) (m ∷ ms) zero waits all = (λ is. all.0 (waiting_taken m waits), all.1)
 set_sound test (n ∷ ns) (m ∷ ms) (suc place) waits all = (all.0, set_sound test ns ms place waits all.1)
 
-set_all : (test : List ℕ → Bool) (names : List (List ℕ)) (marks : List Mark) (place : ℕ) → AllTaken test names marks
-    → AllTaken test names (slice_set marks place Done)
+set_all : (test : List ℕ → Bool) (names : List (List ℕ)) (marks : List Mark) (place : ℕ) → AreTaken test names marks
+    → AreTaken test names (slice_set marks place Done)
 set_all test [] marks place all = tt
 set_all test (n ∷ ns) [] place all = tt
 set_all test (n ∷ ns) (m ∷ ms) zero all = (λ is. refl, all.1)
@@ -407,7 +407,7 @@ abbrev foreigns_in : List Schema → ℕ → List Foreign
 foreigns_in schemas place = option_map_or (λ (s : Schema). s.foreign) (slice_get schemas place) []
 
 closed_weaker : (P Q : List ℕ → Type 0) → ((name : List ℕ) → P name → Q name) → (schemas : List Schema) (marks : List Mark)
-    → AllClosed P schemas marks → AllClosed Q schemas marks
+    → AreClosed P schemas marks → AreClosed Q schemas marks
 closed_weaker P Q weaker [] marks all = tt
 closed_weaker P Q weaker (s ∷ ss) [] all = tt
 closed_weaker P Q weaker (s ∷ ss) (m ∷ ms) all =
@@ -415,14 +415,14 @@ closed_weaker P Q weaker (s ∷ ss) (m ∷ ms) all =
 
 closed_set : (P : List ℕ → Type 0) (schemas : List Schema) (marks : List Mark) (place : ℕ)
     → ((name : List ℕ) → is_in (parents_in (foreigns_in schemas place)) name ≡ true → P name)
-    → AllClosed P schemas marks → AllClosed P schemas (slice_set marks place Done)
+    → AreClosed P schemas marks → AreClosed P schemas (slice_set marks place Done)
 closed_set P [] marks place new all = tt
 closed_set P (s ∷ ss) [] place new all = tt
 closed_set P (s ∷ ss) (m ∷ ms) zero new all = (λ done name refers. new name refers, all.1)
 closed_set P (s ∷ ss) (m ∷ ms) (suc place) new all = (all.0, closed_set P ss ms place new all.1)
 
 closed_done : (P : List ℕ → Type 0) (schemas : List Schema) (a b : List Mark) → map is_done a ≡ map is_done b
-    → AllClosed P schemas a → AllClosed P schemas b
+    → AreClosed P schemas a → AreClosed P schemas b
 closed_done P [] a b same all = tt
 closed_done P (s ∷ ss) a [] same all = tt
 closed_done P (s ∷ ss) [] (n ∷ ns) same all = cc
@@ -462,11 +462,11 @@ in_zip name (n ∷ ns) (s ∷ ss) paired is = elim (or-cases (same_text name n) 
   | inr more ↦ let rest = in_zip name ns ss (omega (arith, paired)) more in (rest.0, inr rest.1)
 ]
 
-among_in : (t : Named) (names : List (List ℕ)) (schemas : List Schema) → Among t (zip names schemas) → is_in names t.0 ≡ true
+among_in : (t : NamedSchema) (names : List (List ℕ)) (schemas : List Schema) → Among t (zip names schemas) → is_in names t.0 ≡ true
 among_in t [] schemas here = absurd here
 among_in t (n ∷ ns) [] here = absurd here
 among_in t (n ∷ ns) (s ∷ ss) (inl same) =
-    or-left (same_text t.0 n) (is_in ns t.0) (ap (λ (u : Named). same_text t.0 u.0) (sym same) ∙ bytes_eq-itself t.0)
+    or-left (same_text t.0 n) (is_in ns t.0) (ap (λ (u : NamedSchema). same_text t.0 u.0) (sym same) ∙ bytes_eq-itself t.0)
 among_in t (n ∷ ns) (s ∷ ss) (inr more) = or-right (same_text t.0 n) (is_in ns t.0) (among_in t ns ss more)
 
 zip_long : (names : List (List ℕ)) (schemas : List Schema) → length (zip names schemas) ≤ length names
@@ -480,7 +480,7 @@ module _ (first : List (List ℕ)) (catalog : Catalog) (paired : length catalog.
   abbrev all_names : List (List ℕ)
   all_names = catalog.names
 
-  abbrev all_tables : List Named
+  abbrev all_tables : List NamedSchema
   all_tables = zip catalog.names catalog.schemas
 
   abbrev asked_by : List ℕ → Bool
@@ -489,7 +489,7 @@ module _ (first : List (List ℕ)) (catalog : Catalog) (paired : length catalog.
   few : length all_tables < suc (length all_names)
   few = omega (arith, zip_long all_names catalog.schemas)
 
-  parents_of : (ns : List (List ℕ)) (ss : List Schema) → ((t : Named) → Among t (zip ns ss) → Among t all_tables) → AllParents asked_by all_names ns ss
+  parents_of : (ns : List (List ℕ)) (ss : List Schema) → ((t : NamedSchema) → Among t (zip ns ss) → Among t all_tables) → AllParents asked_by all_names ns ss
   parents_of [] ss within = tt
   parents_of (n ∷ ns) [] within = tt
   parents_of (n ∷ ns) (s ∷ ss) within = (
@@ -502,11 +502,11 @@ module _ (first : List (List ℕ)) (catalog : Catalog) (paired : length catalog.
 
   -- a table whose parents are taken
   pub finish-keeps : (marks : List Mark) (place : ℕ) → waits_at marks place ≡ true → AreMarks first catalog marks
-      → AreMarks first catalog (finished catalog place marks)
+      → AreMarks first catalog (marks_with_parents catalog place marks)
   finish-keeps marks place waits is =
       let foreigns : List Foreign = foreigns_at catalog place in
       let set : List Mark = slice_set marks place Done in
-      let end : List Mark = finished catalog place marks in
+      let end : List Mark = marks_with_parents catalog place marks in
       let raises = parents_raise all_names foreigns set in
       let long : length set ≡ length all_names = set_long marks place ∙ is.long in
       record {
@@ -541,10 +541,10 @@ undone-fewer (m ∷ ms) (suc place) waits = by (is_done m) (undone-fewer ms plac
     by true fewer = fewer
     by false fewer = omega (arith, fewer)
 
-pub finished-fewer : (catalog : Catalog) (marks : List Mark) (place : ℕ) → waits_at marks place ≡ true
-    → length (filter not (map is_done (finished catalog place marks))) < length (filter not (map is_done marks))
-finished-fewer catalog marks place waits =
-    let same : map is_done (finished catalog place marks) ≡ map is_done (slice_set marks place Done) =
+pub marks_with_parents-fewer : (catalog : Catalog) (marks : List Mark) (place : ℕ) → waits_at marks place ≡ true
+    → length (filter not (map is_done (marks_with_parents catalog place marks))) < length (filter not (map is_done marks))
+marks_with_parents-fewer catalog marks place waits =
+    let same : map is_done (marks_with_parents catalog place marks) ≡ map is_done (slice_set marks place Done) =
     (parents_raise catalog.names (foreigns_at catalog place) (slice_set marks place Done)).dones in
     omega (arith, ap (λ (l : List Bool). length (filter not l)) same, undone-fewer marks place waits)
 
@@ -580,7 +580,7 @@ by_place (n ∷ ns) (m ∷ ms) distinct long =
 
 -- so what is taken by its name is taken at its place
 all_by_name : (test by : List ℕ → Bool) (names : List (List ℕ)) (marks : List Mark) → map by names ≡ map is_taken marks
-    → ((name : List ℕ) → is_in names name ≡ true → test name ≡ true → by name ≡ true) → AllTaken test names marks
+    → ((name : List ℕ) → is_in names name ≡ true → test name ≡ true → by name ≡ true) → AreTaken test names marks
 all_by_name test by [] marks same passes = tt
 all_by_name test by (n ∷ ns) [] same passes = tt
 all_by_name test by (n ∷ ns) (m ∷ ms) same passes =
@@ -617,7 +617,7 @@ module _ (s : Statement) where
       named true is = refl
       named false is = cc
 
-  none_done : (P : List ℕ → Type 0) (names : List (List ℕ)) (schemas : List Schema) → AllClosed P schemas (map (first_mark s) names)
+  none_done : (P : List ℕ → Type 0) (names : List (List ℕ)) (schemas : List Schema) → AreClosed P schemas (map (first_mark s) names)
   none_done P names [] = tt
   none_done P [] (sc ∷ ss) = tt
   none_done P (n ∷ ns) (sc ∷ ss) = (λ done name refers. absurd (false≢true (sym (undone (names_table s n)) ∙ done)), none_done P ns ss)
@@ -674,29 +674,29 @@ module _ (names : List (List ℕ)) (marks : List Mark) where
   at_name = name_taken names marks
 
   named_pairs : (first : List (List ℕ)) (ns : List (List ℕ)) (ss : List Schema) (ms : List Mark) → map at_name ns ≡ map is_taken ms
-      → AllTaken (is_in first) ns ms → (t : Named) → Among t (zip ns ss) → is_in first t.0 ≡ true → at_name t.0 ≡ true
+      → AreTaken (is_in first) ns ms → (t : NamedSchema) → Among t (zip ns ss) → is_in first t.0 ≡ true → at_name t.0 ≡ true
   named_pairs first [] ss ms same all t here is = absurd here
   named_pairs first (n ∷ ns) [] ms same all t here is = absurd here
   named_pairs first (n ∷ ns) (s ∷ ss) [] same all t here is = cc
   named_pairs first (n ∷ ns) (s ∷ ss) (m ∷ ms) same all t (inl eq) is =
       let one : at_name n ≡ is_taken m = cc in
-      let name : t.0 ≡ n = ap (λ (u : Named). u.0) eq in
+      let name : t.0 ≡ n = ap (λ (u : NamedSchema). u.0) eq in
       ap at_name name ∙ one ∙ all.0 (ap (is_in first) (sym name) ∙ is)
   named_pairs first (n ∷ ns) (s ∷ ss) (m ∷ ms) same all t (inr more) is =
       let rest : map at_name ns ≡ map is_taken ms = cc in
       named_pairs first ns ss ms rest all.1 t more is
 
   closed_pairs : (ns : List (List ℕ)) (ss : List Schema) (ms : List Mark) → map at_name ns ≡ map is_taken ms
-      → AllClosed (IsTaken names marks) ss ms → list_any is_waiting ms ≡ false
-      → (t : Named) → Among t (zip ns ss) → at_name t.0 ≡ true → (name : List ℕ) → refers_to t.1 name ≡ true → is_in names name ≡ true → at_name name ≡ true
+      → AreClosed (IsTaken names marks) ss ms → list_any is_waiting ms ≡ false
+      → (t : NamedSchema) → Among t (zip ns ss) → at_name t.0 ≡ true → (name : List ℕ) → refers_to t.1 name ≡ true → is_in names name ≡ true → at_name name ≡ true
   closed_pairs [] ss ms same all none t here is name refers there = absurd here
   closed_pairs (n ∷ ns) [] ms same all none t here is name refers there = absurd here
   closed_pairs (n ∷ ns) (s ∷ ss) [] same all none t here is name refers there = cc
   closed_pairs (n ∷ ns) (s ∷ ss) (m ∷ ms) same all none t (inl eq) is name refers there =
       let one : at_name n ≡ is_taken m = cc in
       let undone = or-parts (is_waiting m) (list_any is_waiting ms) none in
-      let own : is_taken m ≡ true = sym one ∙ ap at_name (sym (ap (λ (u : Named). u.0) eq)) ∙ is in
-      all.0 (taken_done m undone.0 own) name (ap (λ (u : Named). refers_to u.1 name) (sym eq) ∙ refers) there
+      let own : is_taken m ≡ true = sym one ∙ ap at_name (sym (ap (λ (u : NamedSchema). u.0) eq)) ∙ is in
+      all.0 (taken_done m undone.0 own) name (ap (λ (u : NamedSchema). refers_to u.1 name) (sym eq) ∙ refers) there
   closed_pairs (n ∷ ns) (s ∷ ss) (m ∷ ms) same all none t (inr more) is name refers there =
       let rest : map at_name ns ≡ map is_taken ms = cc in
       let undone = or-parts (is_waiting m) (list_any is_waiting ms) none in
@@ -719,7 +719,7 @@ pub marks-are : (first : List (List ℕ)) (catalog : Catalog) (marks : List Mark
     → map (is_in (with_parents first catalog)) catalog.names ≡ map is_taken marks
 marks-are first catalog marks paired distinct is none =
     let names : List (List ℕ) = catalog.names in
-    let tables : List Named = zip catalog.names catalog.schemas in
+    let tables : List NamedSchema = zip catalog.names catalog.schemas in
     let by : List ℕ → Bool = name_taken names marks in
     let same : map by names ≡ map is_taken marks = by_place names marks distinct is.long in
     let waits : list_any is_waiting marks ≡ false = none_waits marks none in

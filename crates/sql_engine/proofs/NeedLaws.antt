@@ -13,7 +13,7 @@ use Rattle.std.proofs.lemmas.Bool.{cases_Bool}
 use Rattle.std.proofs.lemmas.Bool.Decides.{nat_tests}
 use Rattle.std.proofs.lemmas.Cmp.{tied_itself}
 use Rattle.std.proofs.lemmas.List.{append-nil}
-use Rattle.core_parts.specs.Needing.{need_by, united}
+use Rattle.core_parts.specs.Needing.{need_by, union_of_needs}
 use Rattle.core_parts.proofs.RowLists.{IsBefore, Rises, sorted_united, read_united}
 use Rattle.ldv_value.proofs.Booleans.{or-right, t-first, t-second}
 use Rattle.ldv_value.proofs.Orderings.{t-less}
@@ -27,7 +27,7 @@ use Rattle.sql_engine.specs.Listing.{needs_of}
 use Rattle.sql_engine.specs.Types.{L, H, Rule}
 use Rattle.sql_laws.proofs.NeedsLaws.{needs_law}
 use Rattle.sql_model.specs.Needs.{NeededRow, Versions, needed_by, sorted_needs, read_of}
-use Rattle.sql_model.specs.Origins.{is_origin, has_origin, SameSet, Needing}
+use Rattle.sql_model.specs.Origins.{is_origin, has_origin, SameSet, RuleOrigins}
 use Rattle.sql_model.proofs.OriginSets.{origin-same, origin-itself}
 use Rattle.sql_model.specs.QueryAnswer.{Origin}
 use Rattle.sql_model.specs.Scope.{same_text}
@@ -207,7 +207,7 @@ module _ (names : List (List ℕ)) where
 
   -- ---- both sets
 
-  abbrev needing : Rule → List Origin → Needing
+  abbrev needing : Rule → List Origin → RuleOrigins
   needing rule origins = record { rule = rule; origins = origins }
 
   pub needs_are : (versions : Versions) (lineage hidden : Lineage) (a b : List Origin)
@@ -215,7 +215,7 @@ module _ (names : List (List ℕ)) where
       → StandsFor names versions lineage a → StandsFor names versions hidden b
       → needs_of names lineage hidden ≡ map (read_of versions) (sorted_needs (map (needed_by L) a ++ map (needed_by H) b))
   needs_are versions lineage hidden a b sorted first second stands others =
-      (λ j. united (read_members versions lineage a first stands L j) (read_members versions hidden b second others H j))
+      (λ j. union_of_needs (read_members versions lineage a first stands L j) (read_members versions hidden b second others H j))
       ∙ read_united versions xs ys
       ∙ ap (map (read_of versions)) (sym (sorted_united xs ys (rows_rise versions lineage a first stands sorted L) (rows_rise versions hidden b second others sorted H)))
       ∙ ap (λ (ns : List NeededRow). map (read_of versions) (sorted_needs (xs ++ ns))) (sym (append-nil ys))

@@ -4,7 +4,7 @@ use Rattle.std.specs.List.{flat_map}
 use Rattle.core_parts.specs.Checking.{core_at, IsChecked, WasChecked}
 use Rattle.dml_versions.specs.Versions.{versions_now}
 use Rattle.lineage.specs.Lineage.{Lineage, IsUnion}
-use Rattle.lineage.specs.Rows.{kept, joined_row, AnswersStandFor, PicksStandFor}
+use Rattle.lineage.specs.Rows.{kept_origins, joined_row, AnswersStandFor, PicksStandFor}
 use Rattle.lineage.specs.StandsFor.{StandsFor}
 use Rattle.query_eval.specs.Stored.{table_names}
 use Rattle.sql_engine.specs.Types.{Answer, Catalog, Checked, Core, Pick, Query, StoreHistory, Table, Value}
@@ -20,7 +20,8 @@ use Rattle.table_store.specs.Histories.{tables_now}
 
 -- a set of rows stands for what is kept of a lineage over a store: each row at its version there
 abbrev pub IsKept : StoreHistory → Bool → Lineage → List Origin → Type 0
-IsKept store keep set origins = StandsFor (table_names store) (versions_now store) set (kept keep origins)
+IsKept store keep set origins = StandsFor (table_names store)
+    (versions_now store) set (kept_origins keep origins)
 
 -- answer rows over a store, and the rows of groups that HAVING rejects
 pub record AreRows (store : StoreHistory) (keep : Bool) (rows : List AnswerRow) (hidden : List Origin)
@@ -39,7 +40,7 @@ IsEvaluated checked place picks made =
     → AnswersStandFor names versions keep made.answers
     (rows_in_scope (scope_of core.from catalog) core all)
     × StandsFor names versions made.rejected
-    (kept keep (rejected_in_scope (scope_of core.from catalog) core all))
+    (kept_origins keep (rejected_in_scope (scope_of core.from catalog) core all))
 
 -- a query that was checked against the tables of a store, which are a database
 pub record IsAsked (checked : Checked) (store : StoreHistory) (query : Query) : Type 0 where

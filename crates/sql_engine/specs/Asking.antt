@@ -37,8 +37,8 @@ pub record IsOutcome (statement : Statement) (keep : Bool) (old new : StoreHisto
 -- ---- on the way
 
 -- what the text or the schemas refuse
-abbrev pub refused : SqlRefusal → Change
-refused refusal = record { reply = Refused refusal; made = []; needs = [] }
+abbrev pub refusal_change : SqlRefusal → Change
+refusal_change refusal = record { reply = Refused refusal; made = []; needs = [] }
 
 abbrev pub done_of : Change → List (List ℕ) → Done
 done_of change tables =

@@ -1,7 +1,7 @@
 -- The lists that are recorded of a statement: the tables that it asks, and the rows that it needs.
 use Rattle.std.specs.Prelude.{ℕ, List, ◌++◌, map, filter, Bool}
 use Rattle.std.specs.List.{list_any}
-use Rattle.core_parts.specs.Needing.{need_by, united}
+use Rattle.core_parts.specs.Needing.{need_by, union_of_needs}
 use Rattle.lineage.specs.Lineage.{Lineage, members_of}
 use Rattle.sql_engine.specs.Types.{Catalog, L, H, Need, Statement}
 use Rattle.sql_model.specs.ForeignKeys.{with_parents}
@@ -34,4 +34,4 @@ tables_asked statement reads catalog =
 -- the rows of two sets: those of the first by rule L, those that are in the second alone by rule H
 abbrev pub needs_of : List (List ℕ) → Lineage → Lineage → List Need
 needs_of names lineage hidden =
-    united (map (need_by L) (members_of names lineage)) (map (need_by H) (members_of names hidden))
+    union_of_needs (map (need_by L) (members_of names lineage)) (map (need_by H) (members_of names hidden))

@@ -30,10 +30,10 @@ is_done Left = false
 is_done Taken = false
 is_done Done = true
 
-abbrev pub raised : Mark → Mark
-raised Left = Taken
-raised Taken = Taken
-raised Done = Done
+abbrev pub taken_mark : Mark → Mark
+taken_mark Left = Taken
+taken_mark Taken = Taken
+taken_mark Done = Done
 
 -- at the start the tables are taken that a statement names
 abbrev pub first_mark : Statement → List ℕ → Mark
@@ -47,7 +47,7 @@ pub record IsFresh (statement : Statement) (names : List (List ℕ)) (taking : T
 
 abbrev pub raised_at : List Mark → ℕ → List Mark
 raised_at [] place = []
-raised_at (mark ∷ marks) zero = raised mark ∷ marks
+raised_at (mark ∷ marks) zero = taken_mark mark ∷ marks
 raised_at (mark ∷ marks) (suc place) = mark ∷ raised_at marks place
 
 abbrev pub with_name : List (List ℕ) → List ℕ → List Mark → List Mark
@@ -78,8 +78,8 @@ abbrev pub foreigns_at : Catalog → ℕ → List Foreign
 foreigns_at catalog place = option_map_or (λ schema. schema.foreign) (slice_get catalog.schemas place) []
 
 -- the parents of the table at a place
-abbrev pub finished : Catalog → ℕ → List Mark → List Mark
-finished catalog place marks =
+abbrev pub marks_with_parents : Catalog → ℕ → List Mark → List Mark
+marks_with_parents catalog place marks =
     with_parents_of catalog.names (foreigns_at catalog place) (slice_set marks place Done)
 
 -- ---- what marks say
@@ -97,11 +97,11 @@ AllSound test (name ∷ names) (mark ∷ marks) =
     (is_taken mark ≡ true → test name ≡ true) × AllSound test names marks
 
 -- each table that passes a test is taken
-abbrev pub AllTaken : (List ℕ → Bool) → List (List ℕ) → List Mark → Type 0
-AllTaken test [] marks = Unit {0}
-AllTaken test (name ∷ names) [] = Unit {0}
-AllTaken test (name ∷ names) (mark ∷ marks) =
-    (test name ≡ true → is_taken mark ≡ true) × AllTaken test names marks
+abbrev pub AreTaken : (List ℕ → Bool) → List (List ℕ) → List Mark → Type 0
+AreTaken test [] marks = Unit {0}
+AreTaken test (name ∷ names) [] = Unit {0}
+AreTaken test (name ∷ names) (mark ∷ marks) =
+    (test name ≡ true → is_taken mark ≡ true) × AreTaken test names marks
 
 -- the first table of a name is taken
 abbrev pub name_taken : List (List ℕ) → List Mark → List ℕ → Bool
@@ -115,12 +115,12 @@ abbrev pub refers_to : Schema → List ℕ → Bool
 refers_to schema name = list_any (same_text name) (map (λ foreign. foreign.parent) schema.foreign)
 
 -- of each table that is done the parents have a property
-abbrev pub AllClosed : (List ℕ → Type 0) → List Schema → List Mark → Type 0
-AllClosed P [] marks = Unit {0}
-AllClosed P (schema ∷ schemas) [] = Unit {0}
-AllClosed P (schema ∷ schemas) (mark ∷ marks) =
+abbrev pub AreClosed : (List ℕ → Type 0) → List Schema → List Mark → Type 0
+AreClosed P [] marks = Unit {0}
+AreClosed P (schema ∷ schemas) [] = Unit {0}
+AreClosed P (schema ∷ schemas) (mark ∷ marks) =
     (is_done mark ≡ true → (name : List ℕ) → refers_to schema name ≡ true → P name)
-    × AllClosed P schemas marks
+    × AreClosed P schemas marks
 
 -- a table that is there is taken
 abbrev pub IsTaken : List (List ℕ) → List Mark → List ℕ → Type 0
@@ -131,8 +131,8 @@ IsTaken names marks name = is_in names name ≡ true → name_taken names marks 
 pub record AreMarks (first : List (List ℕ)) (catalog : Catalog) (marks : List Mark) : Type 0 where
   pub long : length marks ≡ length catalog.names
   pub sound : AllSound (is_in (with_parents first catalog)) catalog.names marks
-  pub named : AllTaken (is_in first) catalog.names marks
-  pub closed : AllClosed (IsTaken catalog.names marks) catalog.schemas marks
+  pub named : AreTaken (is_in first) catalog.names marks
+  pub closed : AreClosed (IsTaken catalog.names marks) catalog.schemas marks
 
 -- ---- names in place
 

@@ -27,7 +27,7 @@ pub(crate) struct Answered {
 }
 
 // Whether UNION ALL stands before each core.
-fn all_joined(cores: &[Core]) -> bool
+fn is_union_all(cores: &[Core]) -> bool
     ensures { result ≡ list_all (λ core. core.joined_all) cores.now }
 {
     cores.iter().all(|core| core.joined_all)
@@ -39,7 +39,7 @@ fn has_merging(cores: &[Core]) -> bool
 {
     match cores {
         [] => false,
-        [_first, others @ ..] => !all_joined(others),
+        [_first, others @ ..] => !is_union_all(others),
     }
 }
 

@@ -10,7 +10,7 @@ ghost use Rattle.sql_model.specs.Texts.{statement_of};
 ghost use Rattle.table_store.specs.Histories.{tables_now};
 
 use crate::answered::{Answered, query_answer};
-use crate::done::{Done, refused};
+use crate::done::{Done, refusal_change};
 use crate::needs::needs_of;
 use crate::tables::{Taking, prepare, tables_asked};
 use dml_versions::{Change, delete, insert, update};
@@ -58,7 +58,7 @@ fn tables_of(
 }
 
 // A query that was checked.
-fn asked_query(
+fn execute_query(
     alloc: Global,
     checked: &Checked,
     store: &Store,
@@ -96,7 +96,7 @@ fn done_of(change: Change, tables: Names) -> Done
 
 // A statement that was checked.
 #[tactic(auto, using(crate::proofs::AskLaws::change_outcome))]
-fn asked_checked(
+fn execute_checked(
     alloc: Global,
     checked: &Checked,
     store: &mut Store,
@@ -110,7 +110,7 @@ fn asked_checked(
     ensures err { OnErr result (store.new ≡ store.old) }
 {
     match &checked.statement {
-        Statement::Query(_) => asked_query(alloc, checked, store, keep),
+        Statement::Query(_) => execute_query(alloc, checked, store, keep),
         Statement::Insert(_) => insert(checked, store, time, keep),
         Statement::Update(_) => update(checked, store, time, keep),
         Statement::Delete(_) => delete(checked, store, time, keep),
@@ -134,18 +134,18 @@ fn asked_or_refused(
     match check_places(alloc, &statement, store.catalog()) {
         Ok(places) => {
             let checked = Checked { statement, places };
-            let change = asked_checked(alloc, &checked, store, time, keep)?;
+            let change = execute_checked(alloc, &checked, store, time, keep)?;
             Ok((change, checked.statement))
         }
-        Err(CheckStop::NoTable) => Ok((refused(alloc, SqlRefusal::NoTable), statement)),
-        Err(CheckStop::NoColumn) => Ok((refused(alloc, SqlRefusal::NoColumn), statement)),
-        Err(CheckStop::TypeClash) => Ok((refused(alloc, SqlRefusal::TypeClash), statement)),
+        Err(CheckStop::NoTable) => Ok((refusal_change(alloc, SqlRefusal::NoTable), statement)),
+        Err(CheckStop::NoColumn) => Ok((refusal_change(alloc, SqlRefusal::NoColumn), statement)),
+        Err(CheckStop::TypeClash) => Ok((refusal_change(alloc, SqlRefusal::TypeClash), statement)),
         Err(CheckStop::NoMemory) => Err(AllocError),
     }
 }
 
 // A statement. Once it has run, nothing can fail.
-fn asked_statement(
+fn execute_statement(
     alloc: Global,
     statement: Statement,
     store: &mut Store,
@@ -166,7 +166,7 @@ fn asked_statement(
 
 /// Answers a text with its parameters over the tables of a store at a time, which is later than that of the
 /// store's last change. Where `keep` is false, no lineage is made. On `AllocError` the store is as it was.
-pub(crate) fn asked(
+pub(crate) fn execute(
     alloc: Global,
     store: &mut Store,
     text: &str,
@@ -180,8 +180,8 @@ pub(crate) fn asked(
     ensures err { OnErr result (store.new ≡ store.old) }
 {
     match parse(alloc, text, params) {
-        Ok(statement) => asked_statement(alloc, statement, store, time, keep),
-        Err(ParseStop::Syntax) => Ok(done_of(refused(alloc, SqlRefusal::Syntax), List::new(alloc))),
+        Ok(statement) => execute_statement(alloc, statement, store, time, keep),
+        Err(ParseStop::Syntax) => Ok(done_of(refusal_change(alloc, SqlRefusal::Syntax), List::new(alloc))),
         Err(ParseStop::NoMemory) => Err(AllocError),
     }
 }

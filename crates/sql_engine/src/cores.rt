@@ -6,7 +6,7 @@ ghost use Rattle.sql_model.specs.Needs.{Versions};
 ghost use Rattle.core_parts.specs.Checking.{HasCore, IsQuery};
 ghost use Rattle.sql_engine.specs.Answering.{AreRows, IsEvaluated, IsCore, AreAll};
 ghost use Rattle.sql_engine.specs.Types.{StoreHistory};
-ghost use Rattle.sql_model.specs.QueryAnswer.{Origin, AnswerRow, once, united};
+ghost use Rattle.sql_model.specs.QueryAnswer.{Origin, AnswerRow, once, union_answers};
 ghost use Rattle.sql_model.specs.Refusals.{cores_of};
 
 use core_parts::{core_of, query_of};
@@ -27,7 +27,7 @@ pub(crate) struct CoreRows {
 }
 
 // The rows of a core from its picked combinations.
-fn evaluated(checked: &Checked, place: usize, picks: Picks) -> Result<CoreRows, AllocError>
+fn evaluate_core(checked: &Checked, place: usize, picks: Picks) -> Result<CoreRows, AllocError>
     requires { HasCore checked.now place }
     ensures { IfOk result (IsEvaluated checked.now place picks) }
 {
@@ -72,12 +72,12 @@ fn core_rows(
     ensures { IfOk result (IsCore checked.now place store.now keep) }
 {
     let picks = picked(checked, place, store, keep)?;
-    let rows = evaluated(checked, place, picks)?;
+    let rows = evaluate_core(checked, place, picks)?;
     once(core_of(checked, place).distinct, rows)
 }
 
 // Answers, and more after them.
-fn appended(answers: Answers, more: Answers) -> Result<Answers, AllocError>
+fn append_answers(answers: Answers, more: Answers) -> Result<Answers, AllocError>
     ensures { IfOk result (λ made. made ≡ answers ++ more) }
 {
     let mut made = answers;
@@ -97,16 +97,16 @@ fn merged_unless(all: bool, answers: Answers) -> Result<Answers, AllocError>
 }
 
 // UNION ALL appends; UNION merges then.
-fn united(all: bool, rows: CoreRows, more: CoreRows) -> Result<CoreRows, AllocError>
+fn unite_rows(all: bool, rows: CoreRows, more: CoreRows) -> Result<CoreRows, AllocError>
     ensures { IfOk result (λ made. (store : StoreHistory) (keep : Bool) (now after : Items AnswerRow)
         (hidden others : Items Origin) → AreRows store keep now hidden rows
         → AreRows store keep after others more
-        → AreRows store keep (united all now after) (hidden ++ others) made) }
+        → AreRows store keep (union_answers all now after) (hidden ++ others) made) }
 {
     let CoreRows { answers, rejected } = rows;
     let mut set = rejected;
     set.union(&more.rejected)?;
-    let both = appended(answers, more.answers)?;
+    let both = append_answers(answers, more.answers)?;
     Ok(CoreRows {
         answers: merged_unless(all, both)?,
         rejected: set,
@@ -128,7 +128,7 @@ fn rows_from(
     let mut place = 1;
     for core in others {
         let more = core_rows(checked, place, store, keep)?;
-        rows = united(core.joined_all, rows, more)?;
+        rows = unite_rows(core.joined_all, rows, more)?;
         place += 1;
     }
     Ok(rows)

@@ -1,7 +1,7 @@
 //! What asking a statement gives.
 
 ghost use Rattle.std.specs.Prelude.{◌≡◌, IfOk};
-ghost use Rattle.sql_engine.specs.Asking.{refused};
+ghost use Rattle.sql_engine.specs.Asking.{refusal_change};
 
 use dml_versions::Change;
 use ldv_value::{List, Names};
@@ -19,8 +19,8 @@ pub(crate) struct Done {
 }
 
 /// A refusal that needs no row.
-pub(crate) fn refused(alloc: Global, refusal: SqlRefusal) -> Change
-    ensures { result ≡ refused refusal }
+pub(crate) fn refusal_change(alloc: Global, refusal: SqlRefusal) -> Change
+    ensures { result ≡ refusal_change refusal }
 {
     Change {
         reply: Reply::Refused(refusal),

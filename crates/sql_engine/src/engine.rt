@@ -1,13 +1,13 @@
 //! The engine: a store that is asked SQL.
 
 ghost use Rattle.std.specs.Prelude.{◌≡◌, IfOk, true};
-ghost use Rattle.run_model.specs.SqlDatabase.{SqlDatabase, unchanged, sql_base};
+ghost use Rattle.run_model.specs.SqlDatabase.{SqlDatabase, initial_database, sql_base};
 ghost use Rattle.run_model.specs.Database.{asked_event};
 ghost use Rattle.sql_engine.specs.Asking.{database, lists_in};
 ghost use Rattle.sql_model.specs.Tables.{have_distinct_columns};
 ghost use Rattle.sql_model.specs.Tables.{is_database};
 
-use crate::asking::asked;
+use crate::asking::execute;
 use crate::done::Done;
 use ldv_value::{Utf8, Values};
 use run_model::{Act, Asker, Database, Event, Stop, Tracer};
@@ -36,7 +36,7 @@ impl Engine {
     pub fn of_tables(alloc: Global, tables: Tables) -> Result<Engine, AllocError>
         requires database { is_database tables ≡ true }
         requires distinct { have_distinct_columns tables ≡ true }
-        ensures database { IfOk result (λ engine. database engine ≡ unchanged tables) }
+        ensures database { IfOk result (λ engine. database engine ≡ initial_database tables) }
         ensures latest { IfOk result (λ engine. engine.time ≡ 0) }
     {
         Ok(Engine {
@@ -96,7 +96,7 @@ impl Database for Engine {
         params: &Values,
         tracer: &mut T,
     ) -> Result<Reply, Stop> {
-        let done = asked(
+        let done = execute(
             self.alloc,
             &mut self.store,
             text.as_str(),

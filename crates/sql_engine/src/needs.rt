@@ -7,7 +7,7 @@ ghost use Rattle.std.specs.Ordering.{nat_cmp};
 ghost use Rattle.lineage.specs.Lineage.{IsNamed};
 ghost use Rattle.sql_engine.specs.Listing.{needs_of};
 
-use core_parts::{needed_by, united};
+use core_parts::{needed_by, union_of_needs};
 use ldv_value::Names;
 use lineage::LineageSet;
 use sql_model::{Needs, Rule};
@@ -28,5 +28,5 @@ pub(crate) fn needs_of(
 {
     let first = needed_by(Rule::L, lineage.members(names)?)?;
     let others = needed_by(Rule::H, hidden.members(names)?)?;
-    united(alloc, first.items(), others.items())
+    union_of_needs(alloc, first.items(), others.items())
 }

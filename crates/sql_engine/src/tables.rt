@@ -9,8 +9,8 @@ ghost use Rattle.std.specs.Prelude.{◌≡◌, ◌+◌, ◌<◌, ◌≤◌, List
 ghost use Rattle.std.specs.Prelude.{IfOk, None, slice_index_or};
 ghost use Rattle.std.specs.List.{list_any, position};
 ghost use Rattle.sql_engine.specs.Listing.{is_text, names_table, tables_asked};
-ghost use Rattle.sql_engine.specs.Taking.{is_taken, is_waiting, raised, first_mark, raised_at, with_name};
-ghost use Rattle.sql_engine.specs.Taking.{with_unless, with_more, with_reads, with_parents_of, finished};
+ghost use Rattle.sql_engine.specs.Taking.{is_taken, is_waiting, taken_mark, first_mark, raised_at, with_name};
+ghost use Rattle.sql_engine.specs.Taking.{with_unless, with_more, with_reads, with_parents_of, marks_with_parents};
 ghost use Rattle.sql_engine.specs.Taking.{AreDistinct, AreMarks, IsFresh, InPlace};
 
 use ldv_value::{List, Names, Utf8};
@@ -79,8 +79,8 @@ fn is_waiting(mark: Mark) -> bool
 }
 
 // The mark of a table that is taken.
-fn raised(mark: Mark) -> Mark
-    ensures { result ≡ raised mark }
+fn taken_mark(mark: Mark) -> Mark
+    ensures { result ≡ taken_mark mark }
 {
     match mark {
         Mark::Left => Mark::Taken,
@@ -140,7 +140,7 @@ fn take(marks: &mut Vec<Mark>, place: usize)
     if place >= marks.len() {
         return;
     }
-    marks[place] = raised(marks[place]);
+    marks[place] = taken_mark(marks[place]);
 }
 
 fn place_of(names: &[Utf8], name: &Utf8) -> Option<usize>
@@ -203,7 +203,7 @@ fn take_parents(names: &[Utf8], marks: &mut Vec<Mark>, foreigns: &[Foreign])
 }
 
 // The first table whose parents are still to be taken.
-fn first_waiting(marks: &[Mark]) -> Option<usize>
+fn waiting_table(marks: &[Mark]) -> Option<usize>
     ensures { result ≡ position is_waiting marks.now }
 {
     marks.iter().position(|mark| is_waiting(*mark))
@@ -212,7 +212,7 @@ fn first_waiting(marks: &[Mark]) -> Option<usize>
 // Takes the parents of the table at a place.
 fn finish(catalog: &Catalog, marks: &mut Vec<Mark>, place: usize)
     requires { place < length marks.old.items }
-    ensures { marks.new.items ≡ finished catalog.now place marks.old.items }
+    ensures { marks.new.items ≡ marks_with_parents catalog.now place marks.old.items }
 {
     marks[place] = Mark::Done;
     match catalog.schemas.get(place) {
@@ -228,7 +228,7 @@ fn close(catalog: &Catalog, marks: &mut Vec<Mark>)
         → AreMarks first catalog.now marks.new.items }
     ensures none { position is_waiting marks.new.items ≡ None }
 {
-    'tables: while let Some(place) = first_waiting(marks.as_slice()) {
+    'tables: while let Some(place) = waiting_table(marks.as_slice()) {
         finish(catalog, marks, place);
     }
 }

@@ -12,9 +12,9 @@ use Rattle.sql_model.proofs.NewNumbers.{numbers-insert, numbers-map, numbers-fil
 use Rattle.sql_laws.proofs.NewRows.{AllFirst, all_first, new_kinds, updated_kinds, updated_length}
 use Rattle.sql_model.proofs.UniqueKeys.{unique-clash}
 use Rattle.sql_model.proofs.ValidTables.{TableParts, table-parts, table-from, kinds-fits, row_from}
-use Rattle.sql_model.specs.Changes.{is_matched, update_one, new_values, numbered, inserted, updated_row, updated_values, after_insert, after_update, after_delete, changed, has_null, lacks_value, KeyClash, key_clash, key_refusal, is_full, or_else, refusal_if, change_refusal}
+use Rattle.sql_model.specs.Changes.{is_matched, update_one, new_values, numbered_rows, rows_of_insert, updated_row, updated_values, after_insert, after_update, after_delete, table_after, has_null, lacks_value, KeyClash, key_clash, key_refusal, is_full, or_else, refusal_if, change_refusal}
 use Rattle.sql_model.specs.Keys.{repeats}
-use Rattle.sql_model.specs.Refusals.{lacks_table, insert_lacks_column, insert_clashes, row_fits, target_columns, update_clashes, set_fits, pick_fits, lacks_column, clashes, check_refusal, unresolved, insert_names}
+use Rattle.sql_model.specs.Refusals.{lacks_table, insert_lacks_column, insert_clashes, row_fits, target_columns, update_clashes, set_fits, pick_fits, lacks_column, clashes, check_refusal, has_unresolved_name, insert_names}
 use Rattle.sql_model.specs.Scope.{InScope, same_text, has_column, columns_of, own_scope, schema_at}
 use Rattle.sql_model.specs.Tables.{are_distinct, fits, each_value, is_row, numbers_test, is_valid_table}
 
@@ -45,11 +45,11 @@ clash_none t None is = refl
 clash_none t (Some clash) is = absurd (none-some _ (sym is))
 
 change_parts : (s : Statement) (catalog : Catalog) (t : Table) → change_refusal s catalog (Some t) ≡ None
-    → (lacks_value s catalog t ≡ false) × (key_clash (changed s catalog t) ≡ None) × (is_full s t ≡ false)
+    → (lacks_value s catalog t ≡ false) × (key_clash (table_after s catalog t) ≡ None) × (is_full s t ≡ false)
 change_parts s catalog t is =
     let one = else-parts (refusal_if (lacks_value s catalog t) NotNull) _ is in
-    let two = else-parts (key_refusal t (key_clash (changed s catalog t))) (refusal_if (is_full s t) Full) one.1 in
-    (if-none (lacks_value s catalog t) NotNull one.0, clash_none t (key_clash (changed s catalog t)) two.0, if-none (is_full s t) Full two.1)
+    let two = else-parts (key_refusal t (key_clash (table_after s catalog t))) (refusal_if (is_full s t) Full) one.1 in
+    (if-none (lacks_value s catalog t) NotNull one.0, clash_none t (key_clash (table_after s catalog t)) two.0, if-none (is_full s t) Full two.1)
 
 second_of : (a b : Bool) → (a || not b) ≡ false → b ≡ true
 second_of true b is = cc
@@ -67,14 +67,14 @@ all_rows columns rows = list_all (λ row. is_row columns row.values) rows
 
 module _ (columns : List Column) (first : AllFirst columns columns) (names : Option (List (List ℕ))) (there : list_all (has_column columns) (unwrap_or names []) ≡ true) where
   inserted_rows : (n : ℕ) (rows : List (List Expr)) → list_all (row_fits (target_columns names columns)) rows ≡ true
-      → list_any (has_null columns) (numbered n (map (new_values names columns) rows)) ≡ false
-      → all_rows columns (numbered n (map (new_values names columns) rows)) ≡ true
+      → list_any (has_null columns) (numbered_rows n (map (new_values names columns) rows)) ≡ false
+      → all_rows columns (numbered_rows n (map (new_values names columns) rows)) ≡ true
   inserted_rows n [] fit null = refl
   inserted_rows n (exprs ∷ rows) fit null =
       let both = and-parts (row_fits (target_columns names columns) exprs) (list_all (row_fits (target_columns names columns)) rows) fit in
-      let parts = or-parts (has_null columns (record { number = n; values = new_values names columns exprs })) (list_any (has_null columns) (numbered (n + 1) (map (new_values names columns) rows))) null in
+      let parts = or-parts (has_null columns (record { number = n; values = new_values names columns exprs })) (list_any (has_null columns) (numbered_rows (n + 1) (map (new_values names columns) rows))) null in
       let kinds = new_kinds columns names exprs first there both.0 in
-      and-from (is_row columns (new_values names columns exprs)) (all_rows columns (numbered (n + 1) (map (new_values names columns) rows)))
+      and-from (is_row columns (new_values names columns exprs)) (all_rows columns (numbered_rows (n + 1) (map (new_values names columns) rows)))
       (row_from columns (new_values names columns exprs) kinds.0 kinds.1 parts.0)
       (inserted_rows (n + 1) rows both.1 parts.1)
 
@@ -97,17 +97,17 @@ module _ (catalog : Catalog) (t : Table) (valid : is_valid_table t ≡ true) (di
   insert_valid insert schema lacks clash null key full =
       let lacks_here : insert_lacks_column insert columns ≡ false = sym (ap (λ (s : Option Schema). insert_lacks_column insert (columns_of s)) schema) ∙ lacks in
       let clash_here : insert_clashes insert columns ≡ false = sym (ap (λ (s : Option Schema). insert_clashes insert (columns_of s)) schema) ∙ clash in
-      let there : list_all (has_column columns) (unwrap_or insert.columns []) ≡ true = first_of (list_all (has_column columns) (unwrap_or insert.columns [])) (unresolved [] (insert_names insert)) lacks_here in
+      let there : list_all (has_column columns) (unwrap_or insert.columns []) ≡ true = first_of (list_all (has_column columns) (unwrap_or insert.columns [])) (has_unresolved_name [] (insert_names insert)) lacks_here in
       let fit : list_all (row_fits (target_columns insert.columns columns)) insert.rows ≡ true = second_of (repeats same_text (unwrap_or insert.columns [])) (list_all (row_fits (target_columns insert.columns columns)) insert.rows) clash_here in
       let more : List (List Value) = map (new_values insert.columns columns) insert.rows in
       let count : length more ≡ length insert.rows = length-map insert.rows (new_values insert.columns columns) in
       table-from (after_insert insert t) (record {
         next = next-within (t.next + length insert.rows) full;
-        numbers = subst (λ k. numbers_test (λ row. row.number) (t.next + k) (t.rows ++ inserted insert t) ≡ true) count (numbers-insert t.next t.rows more parts.numbers);
-        rows = list_all-append (λ row. is_row columns row.values) t.rows (inserted insert t)
-            ∙ and-from (all_rows columns t.rows) (all_rows columns (inserted insert t)) parts.rows
+        numbers = subst (λ k. numbers_test (λ row. row.number) (t.next + k) (t.rows ++ rows_of_insert insert t) ≡ true) count (numbers-insert t.next t.rows more parts.numbers);
+        rows = list_all-append (λ row. is_row columns row.values) t.rows (rows_of_insert insert t)
+            ∙ and-from (all_rows columns t.rows) (all_rows columns (rows_of_insert insert t)) parts.rows
             (inserted_rows columns first insert.columns there t.next insert.rows fit null);
-        keys = unique-clash t.schema.key (t.rows ++ inserted insert t) key;
+        keys = unique-clash t.schema.key (t.rows ++ rows_of_insert insert t) key;
       })
 
   -- ---- DELETE
@@ -198,20 +198,20 @@ module _ (catalog : Catalog) (t : Table) (valid : is_valid_table t ≡ true) (di
   IsTarget (TheUpdate update) = schema_at update.table catalog ≡ Some t.schema
   IsTarget (TheDelete delete) = schema_at delete.table catalog ≡ Some t.schema
 
-  pub changed-valid : (s : Statement) → IsTarget s → check_refusal s catalog ≡ None → change_refusal s catalog (Some t) ≡ None
-      → is_valid_table (changed s catalog t) ≡ true
-  changed-valid (TheQuery query) target check change = valid
-  changed-valid (TheInsert insert) target check change =
+  pub table_after-valid : (s : Statement) → IsTarget s → check_refusal s catalog ≡ None → change_refusal s catalog (Some t) ≡ None
+      → is_valid_table (table_after s catalog t) ≡ true
+  table_after-valid (TheQuery query) target check change = valid
+  table_after-valid (TheInsert insert) target check change =
       let c = check-parts (TheInsert insert) catalog check in
       let d = change_parts (TheInsert insert) catalog t change in
       insert_valid insert target c.1 c.2 d.0 d.1 d.2
-  changed-valid (TheUpdate update) target check change =
+  table_after-valid (TheUpdate update) target check change =
       let c = check-parts (TheUpdate update) catalog check in
       let d = change_parts (TheUpdate update) catalog t change in
       let own : List InScope = own_scope update.table catalog in
       let clash : update_clashes update columns own ≡ false = sym (ap (λ (s : Option Schema). update_clashes update (columns_of s) own) target) ∙ c.2 in
       let fit : (list_all (set_fits columns own) update.sets && pick_fits own update.pick) ≡ true = second_of (repeats same_text (map (λ set. set.column) update.sets)) (list_all (set_fits columns own) update.sets && pick_fits own update.pick) clash in
       updates update target (and-parts (list_all (set_fits columns own) update.sets) (pick_fits own update.pick) fit).0 d.0 d.1
-  changed-valid (TheDelete delete) target check change =
+  table_after-valid (TheDelete delete) target check change =
       let d = change_parts (TheDelete delete) catalog t change in
       delete_valid (own_scope delete.table catalog) delete d.1

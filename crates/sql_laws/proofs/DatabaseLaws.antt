@@ -9,11 +9,11 @@ use Rattle.ldv_value.specs.Sorted.{text_precedes, is_strictly_sorted}
 use Rattle.sql_laws.specs.DatabaseLaw.{DatabaseLaw, TablesLaw}
 use Rattle.sql_model.specs.Tables.{have_distinct_columns}
 use Rattle.sql_laws.specs.Types.{Catalog, SqlRefusal, Syntax, Statement, TheQuery, TheInsert, TheUpdate, TheDelete, Column, Schema, Table}
-use Rattle.sql_laws.proofs.ChangedTables.{check-parts, else-parts, changed-valid}
+use Rattle.sql_laws.proofs.ChangedTables.{check-parts, else-parts, table_after-valid}
 use Rattle.sql_laws.proofs.TableNames.{change_named, all-changed, map-changed}
 use Rattle.sql_model.proofs.Databases.{parents_of_database, database-from, valid_of_database, sorted_of_database}
 use Rattle.sql_model.proofs.Equations.{after_is, table_schema, schema_found, changed_name}
-use Rattle.sql_model.specs.Changes.{changed, target_of, changed_in, change_refusal}
+use Rattle.sql_model.specs.Changes.{table_after, target_of, changed_in, change_refusal}
 use Rattle.sql_model.specs.ForeignKeys.{have_parents}
 use Rattle.sql_model.specs.Refusals.{is_missing, check_refusal}
 use Rattle.sql_model.specs.Scope.{is_table, table_at, catalog_of, schema_at}
@@ -23,7 +23,7 @@ use Rattle.sql_model.specs.Tables.{are_distinct, column_names_test, column_count
 
 -- ---- what a statement keeps of each table
 
-changed_schema : (s : Statement) (catalog : Catalog) (t : Table) → (changed s catalog t).schema ≡ t.schema
+changed_schema : (s : Statement) (catalog : Catalog) (t : Table) → (table_after s catalog t).schema ≡ t.schema
 changed_schema (TheQuery query) catalog t = refl
 changed_schema (TheInsert insert) catalog t = refl
 changed_schema (TheUpdate update) catalog t = refl
@@ -49,17 +49,17 @@ module _ (db : List Table) (valid : is_database db ≡ true) (distinct : have_di
   Left ts = (is_database ts ≡ true) × (catalog_of ts ≡ catalog)
 
   left_by : (s : Statement) (name : List ℕ) (t : Table) → table_at name db ≡ Some t
-      → is_valid_table (changed s catalog t) ≡ true
-      → Left (map (change_named (changed s catalog) name) db)
+      → is_valid_table (table_after s catalog t) ≡ true
+      → Left (map (change_named (table_after s catalog) name) db)
   left_by s name t found good =
-      let after : List Table = map (change_named (changed s catalog) name) db in
-      let names : map (λ (t : Table). t.name) after ≡ map (λ (t : Table). t.name) db = map-changed (changed s catalog) (λ t. t.name) (changed_name s catalog) name db in
-      let schemas : map table_schema after ≡ map table_schema db = map-changed (changed s catalog) table_schema (changed_schema s catalog) name db in
+      let after : List Table = map (change_named (table_after s catalog) name) db in
+      let names : map (λ (t : Table). t.name) after ≡ map (λ (t : Table). t.name) db = map-changed (table_after s catalog) (λ t. t.name) (changed_name s catalog) name db in
+      let schemas : map table_schema after ≡ map table_schema db = map-changed (table_after s catalog) table_schema (changed_schema s catalog) name db in
       let order : is_strictly_sorted table_precedes after ≡ true = sym (names_sorted after) ∙ ap (is_strictly_sorted text_precedes) names ∙ names_sorted db ∙ sorted in
       let same : catalog_of after ≡ catalog = λ j. record { names = names j; schemas = schemas j } in (
         database-from after
             (and-from (list_all is_valid_table after) (is_strictly_sorted table_precedes after)
-            (all-changed (changed s catalog) is_valid_table name t good db found sorted tables) order)
+            (all-changed (table_after s catalog) is_valid_table name t good db found sorted tables) order)
             (ap have_parents same ∙ parents_of_database db valid),
         same,
       )
@@ -68,11 +68,11 @@ module _ (db : List Table) (valid : is_database db ≡ true) (distinct : have_di
   schema_of name t found = schema_found name db ∙ ap (option_map table_schema) found
 
   left_named : (s : Statement) (name : List ℕ) → is_missing catalog name ≡ false
-      → ((t : Table) → table_at name db ≡ Some t → is_valid_table t ≡ true → are_distinct t.schema.columns ≡ true → is_valid_table (changed s catalog t) ≡ true)
-      → Left (map (change_named (changed s catalog) name) db)
+      → ((t : Table) → table_at name db ≡ Some t → is_valid_table t ≡ true → are_distinct t.schema.columns ≡ true → is_valid_table (table_after s catalog t) ≡ true)
+      → Left (map (change_named (table_after s catalog) name) db)
   left_named s name there good = by (table_at name db) refl
     where
-      by : (o : Option Table) → table_at name db ≡ o → Left (map (change_named (changed s catalog) name) db)
+      by : (o : Option Table) → table_at name db ≡ o → Left (map (change_named (table_after s catalog) name) db)
       by None found =
           let none : schema_at name catalog ≡ None = schema_found name db ∙ ap (option_map table_schema) found in
           let wrong : true ≡ false = sym (ap is_none none) ∙ there in
@@ -90,13 +90,13 @@ module _ (db : List Table) (valid : is_database db ≡ true) (distinct : have_di
   accepted (TheQuery query) check change = (valid, refl)
   accepted (TheInsert insert) check change = left_named (TheInsert insert) insert.table
       (there_by insert.table (check-parts (TheInsert insert) catalog check).0)
-      (λ t found fits apart. changed-valid catalog t fits apart (TheInsert insert) (schema_of insert.table t found) check (sym (ap (change_refusal (TheInsert insert) catalog) found) ∙ change))
+      (λ t found fits apart. table_after-valid catalog t fits apart (TheInsert insert) (schema_of insert.table t found) check (sym (ap (change_refusal (TheInsert insert) catalog) found) ∙ change))
   accepted (TheUpdate update) check change = left_named (TheUpdate update) update.table
       (there_by update.table (check-parts (TheUpdate update) catalog check).0)
-      (λ t found fits apart. changed-valid catalog t fits apart (TheUpdate update) (schema_of update.table t found) check (sym (ap (change_refusal (TheUpdate update) catalog) found) ∙ change))
+      (λ t found fits apart. table_after-valid catalog t fits apart (TheUpdate update) (schema_of update.table t found) check (sym (ap (change_refusal (TheUpdate update) catalog) found) ∙ change))
   accepted (TheDelete delete) check change = left_named (TheDelete delete) delete.table
       (there_by delete.table (check-parts (TheDelete delete) catalog check).0)
-      (λ t found fits apart. changed-valid catalog t fits apart (TheDelete delete) (schema_of delete.table t found) check (sym (ap (change_refusal (TheDelete delete) catalog) found) ∙ change))
+      (λ t found fits apart. table_after-valid catalog t fits apart (TheDelete delete) (schema_of delete.table t found) check (sym (ap (change_refusal (TheDelete delete) catalog) found) ∙ change))
 
   left_after : (statement : Option Statement) (refusal : Option SqlRefusal) → refusal_of statement db ≡ refusal
       → Left (after_unless refusal statement db)

@@ -8,9 +8,9 @@ use Rattle.ldv_value.proofs.Cases.{cases-bool}
 use Rattle.ldv_value.proofs.Lists.{list_any-append}
 use Rattle.ldv_value.proofs.SameBytes.{bytes_eq-itself}
 use Rattle.sql_laws.specs.Types.{Value, Catalog, Foreign, SqlRefusal, Syntax, NoTable, NoColumn, TypeClash, NotNull, KeyTaken, Full, NoParent, HasChild, Statement, TheQuery, TheInsert, TheUpdate, TheDelete, Table, TableRow}
-use Rattle.sql_model.specs.Changes.{is_matched, stood, matched, matched_in, changed, changed_in, target_of, new_rows, updated_row, after_update, after_delete, has_null, key_clash, key_refusal, is_full, or_else, refusal_if}
+use Rattle.sql_model.specs.Changes.{is_matched, had_row, matched, matched_in, table_after, changed_in, target_of, new_rows, updated_row, after_update, after_delete, has_null, key_clash, key_refusal, is_full, or_else, refusal_if}
 use Rattle.sql_model.specs.Needs.{NeededRow, matched_row, matched_rows, clash_rows, key_row, key_rows, need_of, asked_tables}
-use Rattle.sql_model.specs.References.{reference, Orphan, first_in, missing_key, missing_by, missing_parents, orphans, is_changed, parents_in, parents_by, parents_of, tables_after, first_missing, first_orphan, parents_needed}
+use Rattle.sql_model.specs.References.{reference, Orphan, first_in, missing_key, missing_by, missing_parents, orphans, is_changed, parents_in, parents_by, parents_of, tables_after, first_missing_parent, first_orphan, parents_needed}
 use Rattle.sql_model.specs.Refusals.{tables_of, check_refusal}
 use Rattle.sql_model.specs.Scope.{same_text, is_table, table_at, catalog_of, own_scope}
 use Rattle.sql_laws.specs.QueryLaw.{Keep, KeepsNeeded}
@@ -36,7 +36,7 @@ target_same tables (TheDelete delete) db k = k.0
 pub record SameCatalog (statement : Statement) (small whole : Catalog) : Type 0 where
   pub check : check_refusal statement small ≡ check_refusal statement whole
   pub matches : (table : Table) → matched statement small table ≡ matched statement whole table
-  pub changes : (table : Table) → changed statement small table ≡ changed statement whole table
+  pub changes : (table : Table) → table_after statement small table ≡ table_after statement whole table
   pub makes : (table : Table) → new_rows statement small table ≡ new_rows statement whole table
   pub picks : is_changed statement small ≡ is_changed statement whole
 
@@ -89,7 +89,7 @@ module _ (statement : Statement) (small whole : Catalog) (same : SameCatalog sta
 
   keys_same : (o : Option Table) → key_rows statement small o ≡ key_rows statement whole o
   keys_same None = refl
-  keys_same (Some t) = λ j. map (key_row t) (filter (stood t) (clash_rows (key_clash (same.changes t j))))
+  keys_same (Some t) = λ j. map (key_row t) (filter (had_row t) (clash_rows (key_clash (same.changes t j))))
 
   needs_same : (refusal : Option SqlRefusal) (o : Option Table)
       → needs_at refusal statement small o ≡ needs_at refusal statement whole o
@@ -191,7 +191,7 @@ module _ (tables : KeepTables) (statement : Statement) (db : List Table) (ask : 
   -- ---- the tables after
 
   abbrev change_one : List ℕ → Catalog → Table → Table
-  change_one name catalog table = if is_table name table then changed statement catalog table else table
+  change_one name catalog table = if is_table name table then table_after statement catalog table else table
 
   one_name : (name : List ℕ) (table : Table) → (change_one name c2 table).name ≡ table.name
   one_name name table = elim (cases-bool (is_table name table)) [
@@ -256,7 +256,7 @@ module _ (tables : KeepTables) (statement : Statement) (db : List Table) (ask : 
     finds_after = finds_kept tables later t.schema.foreign
         (λ parent refers there. kept_parents parent refers (sym (there_in parent (target_of statement)) ∙ there))
 
-    missing_fewer : first_missing statement c1 t small ≡ first_missing statement c2 t db
+    missing_fewer : first_missing_parent statement c1 t small ≡ first_missing_parent statement c2 t db
     missing_fewer =
         (λ j. first_in (missing_parents (in_fewer (target_of statement) j) t.schema.foreign (same.makes t j)))
         ∙ ap first_in (missing_finds (fewer tables later) later t.schema.foreign finds_after (new_rows statement c2 t))
@@ -270,7 +270,7 @@ module _ (tables : KeepTables) (statement : Statement) (db : List Table) (ask : 
       abbrev keep : Keep
       keep = named_in_needs (need_of (Some statement) db)
 
-      needed : KeepsNeeded keep (refs_at (refs_of (first_missing statement c2 t db) (first_orphan statement c2 t db)) statement c2 (Some t) db)
+      needed : KeepsNeeded keep (refs_at (refs_of (first_missing_parent statement c2 t db) (first_orphan statement c2 t db)) statement c2 (Some t) db)
       needed =
           let both = change_needed keep statement change db (needs_named (need_of (Some statement) db) (need_of (Some statement) db) (λ name among. among)) in
           let refs : KeepsNeeded keep (refs_at (reference_refusal statement c2 (target statement db) db) statement c2 (target statement db) db) =
@@ -278,20 +278,20 @@ module _ (tables : KeepTables) (statement : Statement) (db : List Table) (ask : 
           subst (λ (o : Option Table). KeepsNeeded keep (refs_at (reference_refusal statement c2 o db) statement c2 o db)) is refs
 
       -- the first child's table stays
-      orphan_kept : first_missing statement c2 t db ≡ None → (orphan : Orphan) → first_orphan statement c2 t db ≡ Some orphan
+      orphan_kept : first_missing_parent statement c2 t db ≡ None → (orphan : Orphan) → first_orphan statement c2 t db ≡ Some orphan
           → tables orphan.table ≡ true
       orphan_kept missing orphan first =
           let named : list_any (same_text orphan.table) (map (λ (need : NeededRow). need.table) (need_of (Some statement) db)) ≡ true =
-          child_kept keep statement c2 t db (first_missing statement c2 t db) (first_orphan statement c2 t db) missing needed orphan first first in
+          child_kept keep statement c2 t db (first_missing_parent statement c2 t db) (first_orphan statement c2 t db) missing needed orphan first first in
           first_kept tables statement db ask orphan.table
           (list_any-append (same_text orphan.table) (tables_of statement) (map (λ (need : NeededRow). need.table) (need_of (Some statement) db))
           ∙ or-right (list_any (same_text orphan.table) (tables_of statement)) (list_any (same_text orphan.table) (map (λ (need : NeededRow). need.table) (need_of (Some statement) db))) named)
-          (orphan_there (is_changed statement c2) t (changed statement c2 t) db orphan first)
+          (orphan_there (is_changed statement c2) t (table_after statement c2 t) db orphan first)
 
-      orphan_same : first_missing statement c2 t db ≡ None → first_orphan statement c1 t small ≡ first_orphan statement c2 t db
+      orphan_same : first_missing_parent statement c2 t db ≡ None → first_orphan statement c1 t small ≡ first_orphan statement c2 t db
       orphan_same missing =
           (λ j. first_in (orphans (same.picks j) t (same.changes t j) small))
-          ∙ orphans_fewer tables (is_changed statement c2) t (changed statement c2 t) db (orphan_kept missing)
+          ∙ orphans_fewer tables (is_changed statement c2) t (table_after statement c2 t) db (orphan_kept missing)
 
       refs_fewer : SameRefs statement c1 c2 (Some t) (Some t) small db
       refs_fewer = same_refs statement c1 c2 t t small db missing_fewer parents_same orphan_same

@@ -3,7 +3,7 @@ use Rattle.std.proofs.Common.{◌≡◌, List, [], ◌∷◌, ◌++◌, refl, �
 use Rattle.std.specs.Prelude.{Option, Some, None, map, filter, if◌then◌else◌}
 use Rattle.std.specs.List.{flat_map}
 use Rattle.sql_laws.specs.Types.{L, H, Rows, SqlRefusal, Syntax, NoTable, NoColumn, TypeClash, NotNull, KeyTaken, Full, NoParent, HasChild, Core, FromItem, Query, TheQuery, Table}
-use Rattle.sql_model.specs.QueryAnswer.{AnswerRow, answer_values, lineage_of, combinations, meets_all, row_environment, picked, rows_in_scope, once, core_rows, rejected_in_scope, rejected, united, rows_after, union_rows, sort_key, sort_rows, sorted_rows, limit_of, first_rows, other_rows}
+use Rattle.sql_model.specs.QueryAnswer.{AnswerRow, answer_values, lineage_of, combinations, meets_all, row_environment, picked, rows_in_scope, once, core_rows, rejected_in_scope, rejected, union_answers, rows_after, union_rows, sort_key, sort_rows, sorted_rows, limit_of, first_rows, other_rows}
 use Rattle.sql_model.specs.Changes.{or_else}
 use Rattle.sql_model.specs.Needs.{needed_by, sums_up}
 use Rattle.sql_model.specs.Refusals.{tables_of_core}
@@ -49,8 +49,8 @@ module _ (tables : KeepTables) (db : List Table) where
   after_same rows [] k = refl
   after_same rows (core ∷ cores) k =
       let both = agree_split tables db (tables_of_core core) (flat_map tables_of_core cores) k in
-      (λ j. rows_after small (united core.joined_all rows (core_same core both.0 j)) cores)
-      ∙ after_same (united core.joined_all rows (core_rows db core)) cores both.1
+      (λ j. rows_after small (union_answers core.joined_all rows (core_same core both.0 j)) cores)
+      ∙ after_same (union_answers core.joined_all rows (core_rows db core)) cores both.1
 
   union_same : (cores : List Core) → Named cores → union_rows small cores ≡ union_rows db cores
   union_same [] k = refl

@@ -14,7 +14,7 @@ use Rattle.sql_model.specs.declared.expr.Expr.TheViews.{roll-Expr}
 use Rattle.sql_model.specs.declared.expr.Fold.TheVariants as fold
 use Rattle.sql_model.specs.Kinds.{kind_of_value, kind_of_column, is_number, is_logical, kind_if, kind_both, folded_kind, counted_kind, kind_step, kind, is_of_kind}
 use Rattle.sql_model.specs.Scope.{InScope, is_meant, place_of, value_at}
-use Rattle.sql_model.specs.Meaning.{Environment, Meaning, number_value, with_numbers, negated, value_both, or_null, lesser, greater, total, folded, counted, known_values, is_null, in_first, eval_step, eval}
+use Rattle.sql_model.specs.Meaning.{Environment, Meaning, number_value, with_numbers, negation_of, value_both, or_null, lesser_of, greater_of, total, aggregate_of, count_value, known_values, is_null, in_first, eval_step, eval}
 use Rattle.sql_laws.specs.Types.{Value, Null, Int, Text, ColumnName, Expr, Expr-F, Fold, Operator, Add, Subtract, Multiply, Compare, And, Or, Kind, IntKind, TextKind, AnyKind, TruthKind}
 use Rattle.sql_laws.specs.KindLaw.{AllFit, KindLaw, is_typed_row, RowLaw}
 
@@ -44,7 +44,7 @@ number_kind (negsuc n) = elim (cases-bool (nat_lt n (2 ^ 63))) [
   | inr outside ↦ rw outside refl
 ]
 
-negated_kind : (v : Value) → IsOf IntKind (negated v)
+negated_kind : (v : Value) → IsOf IntKind (negation_of v)
 negated_kind Null = refl
 negated_kind (Int n) = number_kind (neg_ℤ n)
 negated_kind (Text t) = refl
@@ -73,13 +73,13 @@ module _ (k : Kind) where
   abbrev AllOf : List Value → Type 0
   AllOf vs = list_all (is_of_kind k) vs ≡ true
 
-  lesser_kind : (a b : Value) → IsOf k a → IsOf k b → IsOf k (lesser a b)
+  lesser_kind : (a b : Value) → IsOf k a → IsOf k b → IsOf k (lesser_of a b)
   lesser_kind a b first second = elim (cases-bool (is_lt (order b a))) [
     | inl turned ↦ rw turned second
     | inr kept ↦ rw kept first
   ]
 
-  greater_kind : (a b : Value) → IsOf k a → IsOf k b → IsOf k (greater a b)
+  greater_kind : (a b : Value) → IsOf k a → IsOf k b → IsOf k (greater_of a b)
   greater_kind a b first second = elim (cases-bool (is_gt (order b a))) [
     | inl turned ↦ rw turned second
     | inr kept ↦ rw kept first
@@ -99,19 +99,19 @@ module _ (k : Kind) where
       let both = and-parts (is_of_kind k v) (list_all (is_of_kind k) vs) all in
       fold_kind f keeps v vs both.0 both.1
 
-sum_kind : (vs : List Value) → IsOf IntKind (folded fold.Sum vs)
+sum_kind : (vs : List Value) → IsOf IntKind (aggregate_of fold.Sum vs)
 sum_kind [] = refl
 sum_kind (v ∷ vs) = number_kind (total (v ∷ vs))
 
-count_kind : (vs : List Value) → IsOf IntKind (folded fold.Count vs)
+count_kind : (vs : List Value) → IsOf IntKind (aggregate_of fold.Count vs)
 count_kind vs = number_kind (pos (length vs))
 
 folded_is : (f : Fold) (k l : Kind) (vs : List Value) → folded_kind f k ≡ Some l → list_all (is_of_kind k) vs ≡ true
-    → IsOf l (folded f vs)
-folded_is fold.Count k l vs is all = subst (λ m. IsOf m (folded fold.Count vs)) (kind_is (not (is_logical k)) IntKind l is) (count_kind vs)
-folded_is fold.Sum k l vs is all = subst (λ m. IsOf m (folded fold.Sum vs)) (kind_is (is_number k) IntKind l is) (sum_kind vs)
-folded_is fold.Min k l vs is all = subst (λ m. IsOf m (folded fold.Min vs)) (kind_is (not (is_logical k)) k l is) (reduced_kind k lesser (lesser_kind k) vs all)
-folded_is fold.Max k l vs is all = subst (λ m. IsOf m (folded fold.Max vs)) (kind_is (not (is_logical k)) k l is) (reduced_kind k greater (greater_kind k) vs all)
+    → IsOf l (aggregate_of f vs)
+folded_is fold.Count k l vs is all = subst (λ m. IsOf m (aggregate_of fold.Count vs)) (kind_is (not (is_logical k)) IntKind l is) (count_kind vs)
+folded_is fold.Sum k l vs is all = subst (λ m. IsOf m (aggregate_of fold.Sum vs)) (kind_is (is_number k) IntKind l is) (sum_kind vs)
+folded_is fold.Min k l vs is all = subst (λ m. IsOf m (aggregate_of fold.Min vs)) (kind_is (not (is_logical k)) k l is) (reduced_kind k lesser_of (lesser_kind k) vs all)
+folded_is fold.Max k l vs is all = subst (λ m. IsOf m (aggregate_of fold.Max vs)) (kind_is (not (is_logical k)) k l is) (reduced_kind k greater_of (greater_kind k) vs all)
 
 counted_is : (f : Fold) (l : Kind) → counted_kind f ≡ Some l → IntKind ≡ l
 counted_is fold.Count l is = same-some IntKind l is
@@ -175,14 +175,14 @@ module _ (scope : List InScope) where
 
   aggregate_is : (f : Fold) (e : Expr) → HasKind e → (k l : Kind) (group : List Environment) → AllFit scope group
       → kind scope e false ≡ Some k → folded_kind f k ≡ Some l
-      → IsOf l (folded f (known_values (map (λ env. (eval e (env ∷ [])).value) group)))
+      → IsOf l (aggregate_of f (known_values (map (λ env. (eval e (env ∷ [])).value) group)))
   aggregate_is f e has k l group fit arg is =
       let values : List Value = map (λ env. (eval e (env ∷ [])).value) group in
       folded_is f k l (known_values values) is (list_all-filter (is_of_kind k) (λ v. not (is_null v)) values (values_are e has k group fit arg))
 
   aggregate_by : (f : Fold) (e : Expr) → HasKind e → (over_groups : Bool) (l : Kind) (group : List Environment) → AllFit scope group
       → (o : Option Kind) → kind scope e false ≡ o → (if over_groups then option_and_then (folded_kind f) o else None) ≡ Some l
-      → IsOf l (folded f (known_values (map (λ env. (eval e (env ∷ [])).value) group)))
+      → IsOf l (aggregate_of f (known_values (map (λ env. (eval e (env ∷ [])).value) group)))
   aggregate_by f e has false l group fit o arg is = absurd (none-some l is)
   aggregate_by f e has true l group fit None arg is = absurd (none-some l is)
   aggregate_by f e has true l group fit (Some k) arg is = aggregate_is f e has k l group fit arg is
@@ -195,13 +195,13 @@ module _ (scope : List InScope) where
   step (open_expr.Constant v) = layer (open_expr.Constant v) (λ over_groups k group fit is. subst (λ m. IsOf m v) (same-some (kind_of_value v) k is) (own_kind v))
   step (open_expr.Column c) = layer (open_expr.Column c) (λ over_groups k group fit is. column_is c k group fit (find (is_meant c) scope) refl is)
   step (open_expr.Negate e) = layer (open_expr.Negate e.0) (λ over_groups k group fit is.
-      subst (λ m. IsOf m (negated (eval e.0 group).value)) (after_kind (kind scope e.0 over_groups) is_number IntKind k is) (negated_kind (eval e.0 group).value))
+      subst (λ m. IsOf m (negation_of (eval e.0 group).value)) (after_kind (kind scope e.0 over_groups) is_number IntKind k is) (negated_kind (eval e.0 group).value))
   step (open_expr.Not e) = layer (open_expr.Not e.0) (λ over_groups k group fit is. null_kind k)
   step (open_expr.Both op a b) = layer (open_expr.Both op a.0 b.0) (λ over_groups k group fit is.
       both_parts op (kind scope a.0 over_groups) (kind scope b.0 over_groups) k (eval a.0 group).value (eval b.0 group).value is)
   step (open_expr.IsNull e negative) = layer (open_expr.IsNull e.0 negative) (λ over_groups k group fit is. null_kind k)
   step (open_expr.Aggregate f None) = layer (open_expr.Aggregate f None) (λ over_groups k group fit is.
-      subst (λ m. IsOf m (counted group)) (counted_by f over_groups k is) (number_kind (pos (length group))))
+      subst (λ m. IsOf m (count_value group)) (counted_by f over_groups k is) (number_kind (pos (length group))))
   step (open_expr.Aggregate f (Some e)) = layer (open_expr.Aggregate f (Some e.0)) (λ over_groups k group fit is.
       aggregate_by f e.0 e.1 over_groups k group fit (kind scope e.0 false) refl is)
 

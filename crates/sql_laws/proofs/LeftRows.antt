@@ -8,8 +8,8 @@ use Rattle.ldv_value.proofs.Booleans.{and-parts, or-left, or-right}
 use Rattle.ldv_value.proofs.Cases.{cases-bool}
 use Rattle.ldv_value.proofs.Lists.{filter-filter, list_all-append, list_all-filter, list_all-map, list_all-weaker}
 use Rattle.sql_laws.specs.Types.{Value, Catalog, Insert, Statement, TheQuery, TheInsert, TheUpdate, TheDelete, Update, Table, TableRow}
-use Rattle.sql_model.specs.Changes.{is_matched, new_values, numbered, inserted, updated_row, with_rows, changed, matched, new_rows, has_null, lacks_value, is_full}
-use Rattle.sql_model.specs.Changes.{stood, changed_in}
+use Rattle.sql_model.specs.Changes.{is_matched, new_values, numbered_rows, rows_of_insert, updated_row, with_rows, table_after, matched, new_rows, has_null, lacks_value, is_full}
+use Rattle.sql_model.specs.Changes.{had_row, changed_in}
 use Rattle.sql_model.specs.Needs.{matched_row}
 use Rattle.sql_laws.specs.QueryLaw.{Keep, stays, cut_table, cut_tables, KeepsNeeded}
 use Rattle.sql_model.specs.Scope.{InScope, is_table, own_scope}
@@ -39,11 +39,11 @@ stood_all (row ∷ rows) =
 -- all numbers from one on pass
 numbered_pass : (p : ℕ → Bool) (start : ℕ) → ((n : ℕ) → start ≤ n → p n ≡ true)
     → (rows : List (List Value))
-    → list_all (λ (row : TableRow). p row.number) (numbered start rows) ≡ true
+    → list_all (λ (row : TableRow). p row.number) (numbered_rows start rows) ≡ true
 numbered_pass p start from [] = refl
 numbered_pass p start from (values ∷ rows) =
     let here : p start ≡ true = from start (omega arith) in
-    let more : list_all (λ (row : TableRow). p row.number) (numbered (start + 1) rows) ≡ true = numbered_pass p (start + 1) (λ n over. from n (omega (arith, over))) rows in
+    let more : list_all (λ (row : TableRow). p row.number) (numbered_rows (start + 1) rows) ≡ true = numbered_pass p (start + 1) (λ n over. from n (omega (arith, over))) rows in
     (λ j. here j && more j)
 
 module _ (keep : Keep) (t : Table) where
@@ -56,16 +56,16 @@ module _ (keep : Keep) (t : Table) where
 
   -- the row stood in the table before, or stays
   abbrev pub safe : TableRow → Bool
-  safe row = stood t row || keep t.name row.number
+  safe row = had_row t row || keep t.name row.number
 
   pub stood_safe : list_all safe t.rows ≡ true
-  stood_safe = list_all-weaker (stood t) safe (λ row is. or-left (stood t row) (keep t.name row.number) is) t.rows (stood_all t.rows)
+  stood_safe = list_all-weaker (had_row t) safe (λ row is. or-left (had_row t row) (keep t.name row.number) is) t.rows (stood_all t.rows)
 
-  inserted_stay : (insert : Insert) → KeepsNew → list_all (stays keep t) (inserted insert t) ≡ true
+  inserted_stay : (insert : Insert) → KeepsNew → list_all (stays keep t) (rows_of_insert insert t) ≡ true
   inserted_stay insert new = numbered_pass (keep t.name) t.next new (map (new_values insert.columns t.schema.columns) insert.rows)
 
-  inserted_safe : (insert : Insert) → KeepsNew → list_all safe (inserted insert t) ≡ true
-  inserted_safe insert new = list_all-weaker (stays keep t) safe (λ row is. or-right (stood t row) (keep t.name row.number) is) (inserted insert t) (inserted_stay insert new)
+  inserted_safe : (insert : Insert) → KeepsNew → list_all safe (rows_of_insert insert t) ≡ true
+  inserted_safe insert new = list_all-weaker (stays keep t) safe (λ row is. or-right (had_row t row) (keep t.name row.number) is) (rows_of_insert insert t) (inserted_stay insert new)
 
   -- an UPDATE's rows
   abbrev updated : List InScope → Update → TableRow → TableRow
@@ -90,20 +90,20 @@ module _ (keep : Keep) (t : Table) where
   -- ---- the table after, over any catalog
 
   module _ (catalog : Catalog) where
-    pub changed_safe : (s : Statement) → KeepsNew → list_all safe (changed s catalog t).rows ≡ true
+    pub changed_safe : (s : Statement) → KeepsNew → list_all safe (table_after s catalog t).rows ≡ true
     changed_safe (TheQuery query) new = stood_safe
-    changed_safe (TheInsert insert) new = list_all-append safe t.rows (inserted insert t) ∙ (λ j. stood_safe j && inserted_safe insert new j)
+    changed_safe (TheInsert insert) new = list_all-append safe t.rows (rows_of_insert insert t) ∙ (λ j. stood_safe j && inserted_safe insert new j)
     changed_safe (TheUpdate update) new = updated_safe (own_scope update.table catalog) update
     changed_safe (TheDelete delete) new = list_all-filter safe (λ row. not (is_matched (own_scope delete.table catalog) delete.pick row)) t.rows stood_safe
 
     -- the table after is that after over the whole table, without the same rows
     pub changed_cut : (s : Statement) → KeepsNew
-        → changed s catalog small ≡ cut_table keep (changed s catalog t)
+        → table_after s catalog small ≡ cut_table keep (table_after s catalog t)
     changed_cut (TheQuery query) new = refl
     changed_cut (TheInsert insert) new =
-        let whole : filter (stays keep t) (t.rows ++ inserted insert t) ≡ filter (stays keep t) t.rows ++ inserted insert t =
-        filter-append (stays keep t) t.rows (inserted insert t)
-        ∙ ap (λ (l : List TableRow). filter (stays keep t) t.rows ++ l) (filter_all (stays keep t) (inserted insert t) (inserted_stay insert new)) in
+        let whole : filter (stays keep t) (t.rows ++ rows_of_insert insert t) ≡ filter (stays keep t) t.rows ++ rows_of_insert insert t =
+        filter-append (stays keep t) t.rows (rows_of_insert insert t)
+        ∙ ap (λ (l : List TableRow). filter (stays keep t) t.rows ++ l) (filter_all (stays keep t) (rows_of_insert insert t) (inserted_stay insert new)) in
         sym (λ j. with_rows t (whole j) (t.next + length insert.rows))
     changed_cut (TheUpdate update) new =
         let rows : map (updated (own_scope update.table catalog) update) (filter (stays keep t) t.rows) ≡ filter (stays keep t) (map (updated (own_scope update.table catalog) update) t.rows) =
@@ -170,7 +170,7 @@ module _ (keep : Keep) (t : Table) where
   ]
 
   pub stood_same : (rows : List TableRow) → list_all (stays keep t) rows ≡ true
-      → filter (stood small) rows ≡ filter (stood t) rows
+      → filter (had_row small) rows ≡ filter (had_row t) rows
   stood_same [] all = refl
   stood_same (row ∷ rows) all =
       let both = and-parts (keep t.name row.number) (list_all (stays keep t) rows) all in
@@ -188,7 +188,7 @@ module _ (keep : Keep) where
 
   module _ (s : Statement) (catalog : Catalog) where
     abbrev pub change_one : List ℕ → Table → Table
-    change_one name table = if is_table name table then changed s catalog table else table
+    change_one name table = if is_table name table then table_after s catalog table else table
 
     tables_cut : (name : List ℕ) (ts : List Table) → KeepsAllNew ts
         → map (change_one name) (cut_tables keep ts) ≡ cut_tables keep (map (change_one name) ts)

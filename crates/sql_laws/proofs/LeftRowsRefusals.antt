@@ -5,8 +5,8 @@ use Rattle.std.specs.List.{list_all}
 use Rattle.ldv_value.proofs.Booleans.{and-parts}
 use Rattle.ldv_value.proofs.Cases.{cases-bool}
 use Rattle.sql_laws.specs.Types.{Catalog, SqlRefusal, NotNull, Full, Statement, Table, TableRow}
-use Rattle.sql_model.specs.Changes.{changed, matched, lacks_value, KeyClash, key_clash, key_refusal, is_full, or_else, refusal_if, change_refusal}
-use Rattle.sql_model.specs.Changes.{stood}
+use Rattle.sql_model.specs.Changes.{table_after, matched, lacks_value, KeyClash, key_clash, key_refusal, is_full, or_else, refusal_if, change_refusal}
+use Rattle.sql_model.specs.Changes.{had_row}
 use Rattle.sql_model.specs.Needs.{matched_row, matched_rows, clash_rows, key_row, key_rows}
 use Rattle.sql_laws.specs.QueryLaw.{Keep, stays, KeepsNeeded}
 use Rattle.sql_model.specs.Statements.{matched_count}
@@ -30,7 +30,7 @@ module _ (keep : Keep) (t : Table) (catalog : Catalog) (s : Statement) (new : Ke
   less = small keep t
 
   abbrev whole : Table
-  whole = changed s catalog t
+  whole = table_after s catalog t
 
   abbrev clash : Option KeyClash
   clash = key_clash whole
@@ -48,27 +48,27 @@ module _ (keep : Keep) (t : Table) (catalog : Catalog) (s : Statement) (new : Ke
   key_same (Some found) = refl
 
   less_is : change_refusal s catalog (Some less)
-      ≡ first_of (lacks_value s catalog less) (key_clash (changed s catalog less)) (is_full s t)
-  less_is = λ j. or_else (refusal_if (lacks_value s catalog less) NotNull) (or_else (key_same (key_clash (changed s catalog less)) j) (refusal_if (full_same keep t catalog s j) Full))
+      ≡ first_of (lacks_value s catalog less) (key_clash (table_after s catalog less)) (is_full s t)
+  less_is = λ j. or_else (refusal_if (lacks_value s catalog less) NotNull) (or_else (key_same (key_clash (table_after s catalog less)) j) (refusal_if (full_same keep t catalog s j) Full))
 
   clash_same : list_all (stays keep t) (clash_rows clash) ≡ true
-      → key_clash (changed s catalog less) ≡ clash
+      → key_clash (table_after s catalog less) ≡ clash
   clash_same kept =
       ap key_clash (changed_cut keep t catalog s new)
       ∙ key_kept (stays keep whole) whole.schema.key whole.rows ((λ j. list_all (λ row. keep (changed_name s catalog t j) row.number) (clash_rows clash)) ∙ kept)
 
   -- the rows that stood are needed, and the others stay
   safe_kept : (rows : List TableRow) → list_all (safe keep t) rows ≡ true
-      → KeepsNeeded keep (map (key_row t) (filter (stood t) rows)) → list_all (stays keep t) rows ≡ true
+      → KeepsNeeded keep (map (key_row t) (filter (had_row t) rows)) → list_all (stays keep t) rows ≡ true
   safe_kept [] all k = refl
   safe_kept (row ∷ rows) all k =
       let both = and-parts (safe keep t row) (list_all (safe keep t) rows) all in
-      elim (cases-bool (stood t row)) [
+      elim (cases-bool (had_row t row)) [
         | inl in_table ↦
-            let kk : KeepsNeeded keep (key_row t row ∷ map (key_row t) (filter (stood t) rows)) = rw in_table at k in
+            let kk : KeepsNeeded keep (key_row t row ∷ map (key_row t) (filter (had_row t) rows)) = rw in_table at k in
             (λ j. kk.0 j && safe_kept rows both.1 kk.1 j)
         | inr fresh ↦
-            let kk : KeepsNeeded keep (map (key_row t) (filter (stood t) rows)) = rw fresh at k in
+            let kk : KeepsNeeded keep (map (key_row t) (filter (had_row t) rows)) = rw fresh at k in
             let here : keep t.name row.number ≡ true = sym (ap (λ (b : Bool). b || keep t.name row.number) fresh) ∙ both.0 in
             (λ j. here j && safe_kept rows both.1 kk j)
       ]
@@ -80,7 +80,7 @@ module _ (keep : Keep) (t : Table) (catalog : Catalog) (s : Statement) (new : Ke
   keys_same : list_all (stays keep t) (clash_rows clash) ≡ true
       → key_rows s catalog (Some less) ≡ key_rows s catalog (Some t)
   keys_same kept =
-      (λ j. map (key_row t) (filter (stood less) (clash_rows (clash_same kept j))))
+      (λ j. map (key_row t) (filter (had_row less) (clash_rows (clash_same kept j))))
       ∙ ap (map (key_row t)) (stood_same keep t (clash_rows clash) kept)
 
   -- ---- by what is refused
@@ -99,7 +99,7 @@ module _ (keep : Keep) (t : Table) (catalog : Catalog) (s : Statement) (new : Ke
   lacks_by : lacks_value s catalog t ≡ true → Matches → Alike
   lacks_by lacks m = record {
     refusal = Some NotNull;
-    less = less_is ∙ ap (λ (b : Bool). first_of b (key_clash (changed s catalog less)) (is_full s t)) (lacks_same keep t catalog s m ∙ lacks);
+    less = less_is ∙ ap (λ (b : Bool). first_of b (key_clash (table_after s catalog less)) (is_full s t)) (lacks_same keep t catalog s m ∙ lacks);
     more = more_is true lacks clash refl (is_full s t) refl;
     needs = rows_same m;
     count = tt;

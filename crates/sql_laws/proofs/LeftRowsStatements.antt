@@ -8,9 +8,9 @@ use Rattle.ldv_value.proofs.Lists.{found-all, list_all-map}
 use Rattle.sql_laws.specs.Types.{Catalog, P, SqlRefusal, NoTable, NoColumn, TypeClash, Statement, TheQuery, TheInsert, TheUpdate, TheDelete, Table}
 use Rattle.sql_model.proofs.Databases.{parents_of_database, valid_of_database}
 use Rattle.sql_model.proofs.ValidTables.{table-parts}
-use Rattle.sql_model.specs.Changes.{changed, changed_in, matched, new_rows, target_of, or_else, change_refusal}
+use Rattle.sql_model.specs.Changes.{table_after, changed_in, matched, new_rows, target_of, or_else, change_refusal}
 use Rattle.sql_model.specs.Needs.{is_asked, table_name, matched_row, parent_rows, child_row, child_rows, sorted_needs, needs_by, need_of}
-use Rattle.sql_model.specs.References.{Missing, Orphan, first_in, missing_parents, is_lost, is_changed, parents_of, tables_after, first_missing, first_orphan, parents_needed}
+use Rattle.sql_model.specs.References.{MissingParent, Orphan, first_in, missing_parents, is_lost, is_changed, parents_of, tables_after, first_missing_parent, first_orphan, parents_needed}
 use Rattle.sql_laws.specs.QueryLaw.{Keep, cut_table, cut_tables, KeepsNeeded}
 use Rattle.sql_model.specs.Refusals.{lacks_table, lacks_column, clashes, check_refusal}
 use Rattle.sql_model.specs.Scope.{is_table, table_at, catalog_of}
@@ -40,14 +40,14 @@ target_found (TheDelete delete) db t is = named_found delete.table db t is
 
 module _ (keep : Keep) (s : Statement) (catalog : Catalog) (t : Table) (db : List Table) where
   -- parent rows are needed whatever references refuse
-  pub parents_first : (m : Option Missing) (n : Option Orphan) → KeepsNeeded keep (refs_at (refs_of m n) s catalog (Some t) db)
+  pub parents_first : (m : Option MissingParent) (n : Option Orphan) → KeepsNeeded keep (refs_at (refs_of m n) s catalog (Some t) db)
       → KeepsNeeded keep (parent_rows s catalog (Some t) db)
   parents_first (Some x) n k = k
   parents_first None (Some y) k = (needed_split keep (parent_rows s catalog (Some t) db) (child_rows s catalog (Some t) db) k).0
   parents_first None None k = k
 
   -- where no parent is missing, the first child is
-  pub child_kept : (m : Option Missing) (n : Option Orphan) → m ≡ None
+  pub child_kept : (m : Option MissingParent) (n : Option Orphan) → m ≡ None
       → KeepsNeeded keep (refs_at (refs_of m n) s catalog (Some t) db)
       → (orphan : Orphan) → n ≡ Some orphan → first_orphan s catalog t db ≡ Some orphan → keep orphan.table orphan.row ≡ true
   child_kept (Some x) n none k orphan some is = cc
@@ -150,7 +150,7 @@ module _ (keep : Keep) where
   module _ (s : Statement) (db : List Table) (valid : is_database db ≡ true) (new : KeepsAllNew keep db)
       (t : Table) (found : table_at t.name db ≡ Some t) (fresh : KeepsNew keep t)
       (matched_stays : KeepsNeeded keep (map (matched_row t) (matched s (catalog_of db) t)))
-      (k : KeepsNeeded keep (refs_at (refs_of (first_missing s (catalog_of db) t db) (first_orphan s (catalog_of db) t db)) s (catalog_of db) (Some t) db)) where
+      (k : KeepsNeeded keep (refs_at (refs_of (first_missing_parent s (catalog_of db) t db) (first_orphan s (catalog_of db) t db)) s (catalog_of db) (Some t) db)) where
     abbrev cat : Catalog
     cat = catalog_of db
 
@@ -165,7 +165,7 @@ module _ (keep : Keep) where
 
     parents_kept : all_kept keep (parents_of db later t.schema.foreign (new_rows s cat t)) ≡ true
     parents_kept = needed_kept keep P (parents_of db later t.schema.foreign (new_rows s cat t))
-        (parents_first keep s cat t db (first_missing s cat t db) (first_orphan s cat t db) k)
+        (parents_first keep s cat t db (first_missing_parent s cat t db) (first_orphan s cat t db) k)
 
     rows_are : new_rows s cat t_less ≡ new_rows s cat t
     rows_are = new_same keep t cat s (matched_same keep t cat s matched_stays)
@@ -176,7 +176,7 @@ module _ (keep : Keep) where
     safe_all : (name : List ℕ) → SafeIn keep (table_at name db) (table_at name later)
     safe_all name = safe_changed keep s cat (target_of s) db new name
 
-    missing_is : first_missing s cat t_less less ≡ first_missing s cat t db
+    missing_is : first_missing_parent s cat t_less less ≡ first_missing_parent s cat t db
     missing_is =
         (λ j. first_in (missing_parents (after_are j) t.schema.foreign (rows_are j)))
         ∙ ap first_in (missing_cut keep db later safe_all t.schema.foreign (new_rows s cat t) parents_kept)
@@ -186,17 +186,17 @@ module _ (keep : Keep) where
         (λ j. parents_of less (after_are j) t.schema.foreign (rows_are j))
         ∙ parents_cut keep db later safe_all t.schema.foreign (new_rows s cat t) parents_kept
 
-    orphan_is : first_missing s cat t db ≡ None → first_orphan s cat t_less less ≡ first_orphan s cat t db
+    orphan_is : first_missing_parent s cat t db ≡ None → first_orphan s cat t_less less ≡ first_orphan s cat t db
     orphan_is none = elim (cases-bool (length t.schema.key == 0)) [
       | inl bare ↦
           let away : list_all (all_elsewhere t.name) db ≡ true = elsewhere db t (parents_of_database db valid) found bare in
           let too : list_all (all_elsewhere t.name) less ≡ true = list_all-map (all_elsewhere t.name) (cut_table keep) db ∙ away in
-          ap first_in (no_orphans t.name (is_lost t.schema.key t_less.rows (changed s cat t_less).rows) (is_changed s cat) less too)
-          ∙ sym (ap first_in (no_orphans t.name (is_lost t.schema.key t.rows (changed s cat t).rows) (is_changed s cat) db away))
+          ap first_in (no_orphans t.name (is_lost t.schema.key t_less.rows (table_after s cat t_less).rows) (is_changed s cat) less too)
+          ∙ sym (ap first_in (no_orphans t.name (is_lost t.schema.key t.rows (table_after s cat t).rows) (is_changed s cat) db away))
       | inr keyed ↦
           let fits : is_valid_table t ≡ true = found-all (is_table t.name) is_valid_table db t (valid_of_database db valid) found in
           orphans_cut keep s cat t db fresh keyed (table-parts t fits).keys (matched_stay keep t cat (matched s cat t) matched_stays)
-          (λ orphan is. child_kept keep s cat t db (first_missing s cat t db) (first_orphan s cat t db) none k orphan is is)
+          (λ orphan is. child_kept keep s cat t db (first_missing_parent s cat t db) (first_orphan s cat t db) none k orphan is is)
     ]
 
     pub refs_cut : SameRefs s cat cat (Some t_less) (Some t) less db

@@ -12,7 +12,7 @@ use Rattle.sql_laws.specs.Types.{Value}
 use Rattle.sql_laws.proofs.QueryKeeps.{all_kept, kept_row, lineage_kept}
 use Rattle.sql_laws.proofs.QueryMerging.{merged_kept}
 use Rattle.sql_model.proofs.OriginSets.{has_origin-lineage, rows-lineage, rows-values}
-use Rattle.sql_model.specs.QueryAnswer.{Origin, AnswerRow, SortKey, order_by, answer_values, lineage_of, distinct, has_values, merged_row, merge, sort_rows}
+use Rattle.sql_model.specs.QueryAnswer.{Origin, AnswerRow, SortKey, order_by, answer_values, lineage_of, distinct_values, has_values, merged_row, merge, sort_rows}
 use Rattle.sql_model.specs.Keys.{same_values}
 use Rattle.sql_model.specs.Origins.{is_origin, has_origin, SameSet, SameRows}
 use Rattle.sql_model.specs.Sorting.{put_sorted, sorted_by}
@@ -47,7 +47,7 @@ none_merged o rows none =
     let has : AnswerRow → Bool = λ row. has_origin o row.lineage in
     let among : list_any has rows ≡ false = sym (has_origin-lineage o rows) ∙ none in
     let each : (v : List Value) → has (merged_row rows v) ≡ false = λ v. has_origin-lineage o (filter (has_values v) rows) ∙ any_filter has (has_values v) rows among in
-    has_origin-lineage o (merge rows) ∙ by has each (distinct (map answer_values rows))
+    has_origin-lineage o (merge rows) ∙ by has each (distinct_values (map answer_values rows))
   where
     by : (has : AnswerRow → Bool) → ((v : List Value) → has (merged_row rows v) ≡ false) → (vs : List (List Value))
         → list_any has (map (merged_row rows) vs) ≡ false
@@ -108,8 +108,8 @@ merged_same a b same (v ∷ vs) =
 
 pub merge_sets_law : MergeSetsLaw
 merge_sets_law a b same =
-    subst (λ vs. SameRows (merge a) (map (merged_row b) vs)) (ap distinct (rows-values a b same))
-    (merged_same a b same (distinct (map answer_values a)))
+    subst (λ vs. SameRows (merge a) (map (merged_row b) vs)) (ap distinct_values (rows-values a b same))
+    (merged_same a b same (distinct_values (map answer_values a)))
 
 -- ---- sorting
 

@@ -7,7 +7,7 @@ use Rattle.ldv_value.proofs.Booleans.{or-false}
 use Rattle.ldv_value.proofs.Lists.{list_any-append, filter-filter}
 use Rattle.sql_model.proofs.ReferenceLists.{any_fewer, any_split, any_replaced, lost_same}
 use Rattle.sql_model.proofs.UniqueRows.{values_in, apart_from}
-use Rattle.sql_model.specs.Changes.{is_matched, inserted, updated_row, matched, changed}
+use Rattle.sql_model.specs.Changes.{is_matched, rows_of_insert, updated_row, matched, table_after}
 use Rattle.sql_model.specs.References.{has_key, is_lost}
 use Rattle.sql_model.specs.Scope.{own_scope}
 use Rattle.sql_model.specs.Tables.{are_keys_unique}
@@ -32,7 +32,7 @@ module _ (keep : Keep) (t : Table) (catalog : Catalog) (new : KeepsNew keep t) (
   small = cut_table keep t
 
   abbrev lost_of : Statement → Table → List Value → Bool
-  lost_of s table key = is_lost table.schema.key table.rows (changed s catalog table).rows key
+  lost_of s table key = is_lost table.schema.key table.rows (table_after s catalog table).rows key
 
   module _ (q : TableRow → Bool) (matched_stay : list_all (stays keep t) (filter q t.rows) ≡ true) (key : List Value) where
     abbrev p : TableRow → Bool
@@ -81,10 +81,10 @@ module _ (keep : Keep) (t : Table) (catalog : Catalog) (new : KeepsNew keep t) (
   lost_cut (TheQuery query) stay key = both_false (list_any (has_key t.schema.key key) small.rows) ∙ sym (both_false (list_any (has_key t.schema.key key) t.rows))
   lost_cut (TheInsert insert) stay key =
       let p : TableRow → Bool = has_key t.schema.key key in
-      (λ j. list_any p small.rows && not (list_any-append p small.rows (inserted insert small) j))
-      ∙ append_lost (list_any p small.rows) (list_any p (inserted insert small))
-      ∙ sym (append_lost (list_any p t.rows) (list_any p (inserted insert t)))
-      ∙ sym (λ j. list_any p t.rows && not (list_any-append p t.rows (inserted insert t) j))
+      (λ j. list_any p small.rows && not (list_any-append p small.rows (rows_of_insert insert small) j))
+      ∙ append_lost (list_any p small.rows) (list_any p (rows_of_insert insert small))
+      ∙ sym (append_lost (list_any p t.rows) (list_any p (rows_of_insert insert t)))
+      ∙ sym (λ j. list_any p t.rows && not (list_any-append p t.rows (rows_of_insert insert t) j))
   lost_cut (TheUpdate update) stay key =
       updated_lost (is_matched (own_scope update.table catalog) update.pick) stay key (updated_row (own_scope update.table catalog) update t.schema.columns)
   lost_cut (TheDelete delete) stay key =

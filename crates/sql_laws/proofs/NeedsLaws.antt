@@ -16,7 +16,7 @@ use Rattle.sql_laws.specs.LineageLaw.{NeedsLaw}
 use Rattle.sql_laws.specs.Types.{Rule}
 use Rattle.sql_model.specs.QueryAnswer.{Origin}
 use Rattle.sql_model.specs.Needs.{NeededRow, needed_row, needed_by, is_same_row, is_earlier_row, put_row, sorted_needs}
-use Rattle.sql_model.specs.Origins.{is_origin, has_origin, Needing, all_needing, SameNeedings}
+use Rattle.sql_model.specs.Origins.{is_origin, has_origin, RuleOrigins, rows_by_rules, SameRuleOrigins}
 
 -- ---- as entries of a map
 
@@ -128,15 +128,15 @@ found-needing rule (o ∷ os) rest k =
     (λ j. cond (key_is k o j) (Some rule) (found-needing rule os rest k j))
     ∙ either_found (is_origin (origin_at k) o) (has_origin (origin_at k) os) rule (find key_cmp k (entries_of rest))
 
-found-same : (a b : List Needing) → SameNeedings a b → (k : RowKey)
-    → find key_cmp k (entries_of (all_needing a)) ≡ find key_cmp k (entries_of (all_needing b))
+found-same : (a b : List RuleOrigins) → SameRuleOrigins a b → (k : RowKey)
+    → find key_cmp k (entries_of (rows_by_rules a)) ≡ find key_cmp k (entries_of (rows_by_rules b))
 found-same [] [] same k = refl
 found-same [] (n ∷ ns) same k = absurd same
 found-same (m ∷ ms) [] same k = absurd same
 found-same (m ∷ ms) (n ∷ ns) same k =
-    found-needing m.rule m.origins (all_needing ms) k
+    found-needing m.rule m.origins (rows_by_rules ms) k
     ∙ (λ j. cond (same.1 (origin_at k) j) (Some (same.0 j)) (found-same ms ns same.2 k j))
-    ∙ sym (found-needing n.rule n.origins (all_needing ns) k)
+    ∙ sym (found-needing n.rule n.origins (rows_by_rules ns) k)
 
 pub needs_law : NeedsLaw
-needs_law a b same = rising-same (all_needing a) (all_needing b) (found-same a b same)
+needs_law a b same = rising-same (rows_by_rules a) (rows_by_rules b) (found-same a b same)

@@ -19,8 +19,8 @@ use Rattle.sql_model.specs.declared.statement.Core.{Core}
 use Rattle.sql_model.specs.declared.statement.FromItem.{FromItem}
 use Rattle.sql_model.specs.declared.statement.Query.{Query}
 use Rattle.sql_model.specs.declared.statement.Statement.TheVariants.{Query as TheQuery, Insert as TheInsert, Update as TheUpdate, Delete as TheDelete}
-use Rattle.sql_model.specs.QueryAnswer.{Origin, AnswerRow, answer_values, lineage_of, Combination, combinations, combination_rows, meets_all, row_environment, picked, distinct, has_values, merged_row, merge, group_key, has_key, groups_of, is_kept, group_row, single, rows_in_scope, once, core_rows, rejected, united, rows_after, union_rows, sort_key, order_by, sorted_rows, limit_of, first_rows, other_rows, answer, cut}
-use Rattle.sql_model.specs.Changes.{key_clash, changed, is_matched, matched, new_rows, stood}
+use Rattle.sql_model.specs.QueryAnswer.{Origin, AnswerRow, answer_values, lineage_of, Combination, combinations, combination_rows, meets_all, row_environment, picked, distinct_values, has_values, merged_row, merge, group_key, has_key, groups_of, is_kept, group_row, one_combination, rows_in_scope, once, core_rows, rejected, union_answers, rows_after, union_rows, sort_key, order_by, sorted_rows, limit_of, first_rows, other_rows, answer, cut}
+use Rattle.sql_model.specs.Changes.{key_clash, table_after, is_matched, matched, new_rows, had_row}
 use Rattle.sql_model.specs.Needs.{NeededRow, needed_by, is_same_row, is_earlier_row, put_row, sorted_needs, lineage_rows, matched_row, matched_rows, sums_up, cut_rows, hidden_rows, clash_rows, key_row, key_rows, parent_rows, child_row, child_rows, accepted_needs, needs_by, need_of}
 use Rattle.sql_model.specs.References.{reference, has_key as has_foreign_key, Child, Orphan, first_in, is_lost, orphan_by, orphans_of, other_rows as other_rows_of, child_of, children, orphans, is_changed, parents_in, parents_by, parents_of, tables_after, first_orphan, parents_needed}
 use Rattle.sql_model.specs.Refusals.{groups, answer_titles}
@@ -120,7 +120,7 @@ module _ (P : List ℕ → ℕ → Type 0) (db : List Table) (sound : (name : Li
   groups_good from scope [] all h = (h, tt)
   groups_good from scope (c ∷ cs) all h =
       each_map (Group from) (λ key. filter (has_key scope (c ∷ cs) key) all)
-      (λ key. all_filter (AllOf from) (has_key scope (c ∷ cs) key) all h) (distinct (map (group_key scope (c ∷ cs)) all))
+      (λ key. all_filter (AllOf from) (has_key scope (c ∷ cs) key) all h) (distinct_values (map (group_key scope (c ∷ cs)) all))
 
   group_lineage : (from : List FromItem) (group : List Combination) → Group from group
       → AllByRecursion Comes (flat_map (combination_rows from) group)
@@ -137,9 +137,9 @@ module _ (P : List ℕ → ℕ → Type 0) (db : List Table) (sound : (name : Li
   all_groups scope core (g ∷ gs) h = (group_lineage core.from g h.0, all_groups scope core gs h.1)
 
   all_singles : (scope : List InScope) (core : Core) (all : List Combination) → Group core.from all
-      → AllByRecursion Row (map (λ rows. group_row scope core (single rows)) all)
+      → AllByRecursion Row (map (λ rows. group_row scope core (one_combination rows)) all)
   all_singles scope core [] h = tt
-  all_singles scope core (rows ∷ all) h = (group_lineage core.from (single rows) (h.0, tt), all_singles scope core all h.1)
+  all_singles scope core (rows ∷ all) h = (group_lineage core.from (one_combination rows) (h.0, tt), all_singles scope core all h.1)
 
   rows_good : (scope : List InScope) (core : Core) (all : List Combination) → Group core.from all
       → AllByRecursion Row (rows_in_scope scope core all)
@@ -156,7 +156,7 @@ module _ (P : List ℕ → ℕ → Type 0) (db : List Table) (sound : (name : Li
   merge_good : (rows : List AnswerRow) → AllByRecursion Row rows → AllByRecursion Row (merge rows)
   merge_good rows h =
       each_map Row (merged_row rows) (λ values. lineage_good (filter (has_values values) rows) (all_filter Row (has_values values) rows h))
-      (distinct (map answer_values rows))
+      (distinct_values (map answer_values rows))
 
   once_good : (b : Bool) (rows : List AnswerRow) → AllByRecursion Row rows → AllByRecursion Row (once b rows)
   once_good false rows h = h
@@ -168,14 +168,14 @@ module _ (P : List ℕ → ℕ → Type 0) (db : List Table) (sound : (name : Li
       once_good core.distinct (rows_in_scope scope core (picked core db)) (rows_good scope core (picked core db) (picked_good core))
 
   united_good : (all : Bool) (rows more : List AnswerRow) → AllByRecursion Row rows → AllByRecursion Row more
-      → AllByRecursion Row (united all rows more)
+      → AllByRecursion Row (union_answers all rows more)
   united_good true rows more h k = all_append Row rows more h k
   united_good false rows more h k = merge_good (rows ++ more) (all_append Row rows more h k)
 
   after_good : (cores : List Core) (rows : List AnswerRow) → AllByRecursion Row rows → AllByRecursion Row (rows_after db rows cores)
   after_good [] rows h = h
   after_good (core ∷ cores) rows h =
-      after_good cores (united core.joined_all rows (core_rows db core)) (united_good core.joined_all rows (core_rows db core) h (core_good core))
+      after_good cores (union_answers core.joined_all rows (core_rows db core)) (united_good core.joined_all rows (core_rows db core) h (core_good core))
 
   union_good : (cores : List Core) → AllByRecursion Row (union_rows db cores)
   union_good [] = tt
@@ -281,9 +281,9 @@ module _ (P : List ℕ → ℕ → Type 0) (db : List Table) (sound : (name : Li
 
   -- a row of a clash is needed where it stood
   stood_good : (t : Table) (rows : List TableRow) → AllByRecursion (λ row. P t.name row.number) t.rows
-      → AllByRecursion Needed (map (key_row t) (filter (stood t) rows))
+      → AllByRecursion Needed (map (key_row t) (filter (had_row t) rows))
   stood_good t [] h = tt
-  stood_good t (row ∷ rows) h = elim (cases_Bool (stood t row)) [
+  stood_good t (row ∷ rows) h = elim (cases_Bool (had_row t row)) [
     | inl there ↦
         let one : P t.name row.number = all_any (λ old. P t.name old.number) (λ old. old.number == row.number) (P t.name row.number)
         (λ old same good. subst (P t.name) (nat_eq-true old.number row.number same) good) t.rows h there in
@@ -293,17 +293,17 @@ module _ (P : List ℕ → ℕ → Type 0) (db : List Table) (sound : (name : Li
 
   keys_good : (s : Statement) (catalog : Catalog) (o : Option Table) → TableGood o → AllByRecursion Needed (key_rows s catalog o)
   keys_good s catalog None h = tt
-  keys_good s catalog (Some t) h = stood_good t (clash_rows (key_clash (changed s catalog t))) h
+  keys_good s catalog (Some t) h = stood_good t (clash_rows (key_clash (table_after s catalog t))) h
 
   -- ---- parent rows
 
   -- of some rows those that stood in a table
   origins_good : (name : List ℕ) (b : Table) → AllByRecursion (λ row. P name row.number) b.rows → (p : TableRow → Bool) (rows : List TableRow)
-      → AllByRecursion Comes (map (origin_in name) (filter (λ row. p row && stood b row) rows))
+      → AllByRecursion Comes (map (origin_in name) (filter (λ row. p row && had_row b row) rows))
   origins_good name b h p [] = tt
-  origins_good name b h p (row ∷ rows) = elim (cases_Bool (p row && stood b row)) [
+  origins_good name b h p (row ∷ rows) = elim (cases_Bool (p row && had_row b row)) [
     | inl hit ↦
-        let there : stood b row ≡ true = (and-parts (p row) (stood b row) hit).1 in
+        let there : had_row b row ≡ true = (and-parts (p row) (had_row b row) hit).1 in
         let one : P name row.number = all_any (λ old. P name old.number) (λ old. old.number == row.number) (P name row.number)
         (λ old same good. subst (P name) (nat_eq-true old.number row.number same) good) b.rows h there in
         rw hit (one, origins_good name b h p rows)
@@ -403,9 +403,9 @@ module _ (P : List ℕ → ℕ → Type 0) (db : List Table) (sound : (name : Li
     child_rows_good : (s : Statement) (catalog : Catalog) (o : Option Table) → AllByRecursion Needed (child_rows s catalog o db)
     child_rows_good s catalog None = tt
     child_rows_good s catalog (Some t) =
-        let lost : List Value → Bool = is_lost t.schema.key t.rows (changed s catalog t).rows in
+        let lost : List Value → Bool = is_lost t.schema.key t.rows (table_after s catalog t).rows in
         child_good (first_orphan s catalog t db)
-        (first_good_in (orphans (is_changed s catalog) t (changed s catalog t) db)
+        (first_good_in (orphans (is_changed s catalog) t (table_after s catalog t) db)
         (all_orphans t.name lost (children (is_changed s catalog) t.name db) (children_good (is_changed s catalog) t.name db each)))
 
   -- ---- what is needed, by the refusal

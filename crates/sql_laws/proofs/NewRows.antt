@@ -14,7 +14,7 @@ use Rattle.sql_laws.specs.Types.{Value, Null, Int, Text, Kind, IntKind, TextKind
 use Rattle.sql_laws.proofs.KindLaws.{kind_law, row_law}
 use Rattle.sql_model.specs.Changes.{plain_value, value_given, new_values, sets_column, value_set, updated_value, updated_values}
 use Rattle.sql_model.specs.Keys.{repeats}
-use Rattle.sql_model.specs.Kinds.{kind_of_column, comparable, row_kind, is_of_kind}
+use Rattle.sql_model.specs.Kinds.{kind_of_column, are_comparable, row_kind, is_of_kind}
 use Rattle.sql_model.specs.Refusals.{takes, takes_value, row_fits, columns_named, target_columns, takes_set, set_fits}
 use Rattle.sql_model.specs.Scope.{InScope, same_text, is_column, has_column, environment}
 use Rattle.sql_model.specs.Meaning.{Environment, eval}
@@ -36,7 +36,7 @@ kind_column c v = by c.text v
     by false (Text t) = refl
 
 -- a value of a kind that fits a column is of the column's kind
-column_kind : (text : Bool) (k : Kind) (v : Value) → comparable (if text then TextKind else IntKind) k ≡ true
+column_kind : (text : Bool) (k : Kind) (v : Value) → are_comparable (if text then TextKind else IntKind) k ≡ true
     → is_of_kind k v ≡ true → is_of_kind (if text then TextKind else IntKind) v ≡ true
 column_kind true IntKind v fit is = cc
 column_kind true TextKind v fit is = is

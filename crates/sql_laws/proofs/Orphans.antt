@@ -7,7 +7,7 @@ use Rattle.ldv_value.proofs.Booleans.{and-parts, and-from, or-left, or-right}
 use Rattle.ldv_value.proofs.SameBytes.{bytes_eq-itself}
 use Rattle.ldv_value.proofs.Lists.{filter-filter, filter-append, list_all-append}
 use Rattle.ldv_value.proofs.Options.{same-some}
-use Rattle.sql_model.specs.Changes.{matched, changed}
+use Rattle.sql_model.specs.Changes.{matched, table_after}
 use Rattle.sql_model.specs.Scope.{same_text, is_table}
 use Rattle.sql_model.specs.Tables.{are_keys_unique, row_values}
 use Rattle.sql_model.specs.References.{reference, is_lost, Child, Orphan, orphan_by, orphans_of, is_changed, other_rows, child_of, children, orphans, first_in, first_orphan}
@@ -106,7 +106,7 @@ module _ (keep : Keep) where
       → ((orphan : Orphan) → first_orphan s catalog t db ≡ Some orphan → orphan_stays orphan ≡ true)
       → first_orphan s catalog (cut_table keep t) (cut_tables keep db) ≡ first_orphan s catalog t db
   orphans_cut s catalog t db new keyed unique stay kept =
-      let lost : List Value → Bool = is_lost t.schema.key t.rows (changed s catalog t).rows in
+      let lost : List Value → Bool = is_lost t.schema.key t.rows (table_after s catalog t).rows in
       let f : Child → List Orphan = orphans_of t.name lost in
       (λ j. first_in (flat_map (orphans_of t.name (λ key. lost_cut keep t catalog new keyed unique s stay key j)) (children_cut (is_changed s catalog) t.name db j)))
       ∙ first_kept child_stays orphan_stays f

@@ -8,9 +8,9 @@ use Rattle.ldv_value.proofs.Cases.{cases-bool}
 use Rattle.ldv_value.proofs.Lists.{list_all-append, found-passes}
 use Rattle.ldv_value.proofs.SameBytes.{bytes_eq-true}
 use Rattle.sql_model.proofs.Equations.{changed_name}
-use Rattle.sql_model.specs.Changes.{stood, changed_in}
+use Rattle.sql_model.specs.Changes.{had_row, changed_in}
 use Rattle.sql_model.specs.QueryAnswer.{Origin}
-use Rattle.sql_model.specs.References.{reference, has_key, Missing, missing_key, missing_by, missing_parents, parents_in, parents_by, parents_of}
+use Rattle.sql_model.specs.References.{reference, has_key, MissingParent, missing_key, missing_by, missing_parents, parents_in, parents_by, parents_of}
 use Rattle.sql_model.specs.Scope.{same_text, is_table, table_at}
 use Rattle.sql_laws.specs.Types.{Value, Catalog, Foreign, Statement, Table, TableRow}
 use Rattle.sql_laws.specs.QueryLaw.{Keep, stays, cut_table, cut_tables}
@@ -39,7 +39,7 @@ all_head k q x xs hit all =
 pub found_named : (name : List ℕ) (db : List Table) (t : Table) → table_at name db ≡ Some t → t.name ≡ name
 found_named name db t found = bytes_eq-true t.name name (found-passes (is_table name) db t found)
 
-abbrev missing_if : Foreign → List Value → Bool → Option Missing
+abbrev missing_if : Foreign → List Value → Bool → Option MissingParent
 missing_if foreign key has = if has then None else Some (record { parent = foreign.parent; key = key })
 
 abbrev origin_of : Foreign → TableRow → Origin
@@ -57,17 +57,17 @@ module _ (keep : Keep) where
 
   -- of rows that stood or stay those that pass stay, where those do that stood
   safe_stay : (t : Table) (p : TableRow → Bool) (rows : List TableRow) → list_all (safe keep t) rows ≡ true
-      → list_all (stays keep t) (filter (λ row. p row && stood t row) rows) ≡ true
+      → list_all (stays keep t) (filter (λ row. p row && had_row t row) rows) ≡ true
       → list_all (stays keep t) (filter p rows) ≡ true
   safe_stay t p [] all kept = refl
   safe_stay t p (row ∷ rows) all kept =
       let both = and-parts (safe keep t row) (list_all (safe keep t) rows) all in
-      let later : list_all (stays keep t) (filter (λ r. p r && stood t r) rows) ≡ true = all_tail (stays keep t) (λ r. p r && stood t r) row rows kept in
+      let later : list_all (stays keep t) (filter (λ r. p r && had_row t r) rows) ≡ true = all_tail (stays keep t) (λ r. p r && had_row t r) row rows kept in
       let more : list_all (stays keep t) (filter p rows) ≡ true = safe_stay t p rows both.1 later in
       elim (cases-bool (p row)) [
         | inl hit ↦
-            let here : keep t.name row.number ≡ true = elim (cases-bool (stood t row)) [
-              | inl there ↦ all_head (stays keep t) (λ r. p r && stood t r) row rows (λ j. hit j && there j) kept
+            let here : keep t.name row.number ≡ true = elim (cases-bool (had_row t row)) [
+              | inl there ↦ all_head (stays keep t) (λ r. p r && had_row t r) row rows (λ j. hit j && there j) kept
               | inr fresh ↦ sym (ap (λ (b : Bool). b || keep t.name row.number) fresh) ∙ both.0
             ] in
             rw hit (λ j. here j && more j)
@@ -76,20 +76,20 @@ module _ (keep : Keep) where
 
   -- of rows that stay those that pass and stood
   stood_fewer : (b a : Table) → a.name ≡ b.name → (p : TableRow → Bool) (rows : List TableRow)
-      → list_all (stays keep a) (filter (λ row. p row && stood b row) rows) ≡ true
-      → filter (λ row. p row && stood (cut_table keep b) row) (filter (stays keep a) rows)
-      ≡ filter (λ row. p row && stood b row) rows
+      → list_all (stays keep a) (filter (λ row. p row && had_row b row) rows) ≡ true
+      → filter (λ row. p row && had_row (cut_table keep b) row) (filter (stays keep a) rows)
+      ≡ filter (λ row. p row && had_row b row) rows
   stood_fewer b a named p [] kept = refl
   stood_fewer b a named p (row ∷ rows) kept =
-      let later : list_all (stays keep a) (filter (λ r. p r && stood b r) rows) ≡ true = all_tail (stays keep a) (λ r. p r && stood b r) row rows kept in
+      let later : list_all (stays keep a) (filter (λ r. p r && had_row b r) rows) ≡ true = all_tail (stays keep a) (λ r. p r && had_row b r) row rows kept in
       let more = stood_fewer b a named p rows later in
       elim (cases-bool (keep a.name row.number)) [
         | inl here ↦
             let too : keep b.name row.number ≡ true = ap (λ (n : List ℕ). keep n row.number) (sym named) ∙ here in
-            let same : stood (cut_table keep b) row ≡ stood b row = number_stays keep b row.number too b.rows in
+            let same : had_row (cut_table keep b) row ≡ had_row b row = number_stays keep b row.number too b.rows in
             rw here (λ j. if p row && same j then row ∷ more j else more j)
-        | inr goes ↦ elim (cases-bool (p row && stood b row)) [
-          | inl hit ↦ absurd (true≢false (sym (all_head (stays keep a) (λ r. p r && stood b r) row rows hit kept) ∙ goes))
+        | inr goes ↦ elim (cases-bool (p row && had_row b row)) [
+          | inl hit ↦ absurd (true≢false (sym (all_head (stays keep a) (λ r. p r && had_row b r) row rows hit kept) ∙ goes))
           | inr miss ↦ rw (goes, miss) more
         ]
       ]
@@ -121,7 +121,7 @@ module _ (keep : Keep) where
     missing_in (Some b) (Some a) named safe None k = refl
     missing_in (Some b) (Some a) named safe (Some key) k =
         let p : TableRow → Bool = has_key a.schema.key key in
-        let own : list_all (stays keep b) (filter (λ row. p row && stood b row) a.rows) ≡ true = origins_stay foreign b named (filter (λ row. p row && stood b row) a.rows) k in
+        let own : list_all (stays keep b) (filter (λ row. p row && had_row b row) a.rows) ≡ true = origins_stay foreign b named (filter (λ row. p row && had_row b row) a.rows) k in
         let all : list_all (stays keep b) (filter p a.rows) ≡ true = safe_stay b p a.rows safe.1 own in
         let kept : list_all (stays keep a) (filter p a.rows) ≡ true = (λ j. list_all (λ row. keep (safe.0 j) row.number) (filter p a.rows)) ∙ all in
         ap (missing_if foreign key) (any_kept p (stays keep a) a.rows kept)
@@ -136,7 +136,7 @@ module _ (keep : Keep) where
     parents_cut_in (Some b) (Some a) named safe None k = refl
     parents_cut_in (Some b) (Some a) named safe (Some key) k =
         let p : TableRow → Bool = has_key a.schema.key key in
-        let rows : List TableRow = filter (λ row. p row && stood b row) a.rows in
+        let rows : List TableRow = filter (λ row. p row && had_row b row) a.rows in
         let own : list_all (stays keep b) rows ≡ true = origins_stay foreign b named rows k in
         let kept : list_all (stays keep a) rows ≡ true = (λ j. list_all (λ row. keep (safe.0 j) row.number) rows) ∙ own in
         ap (map (origin_of foreign)) (stood_fewer b a safe.0 p a.rows kept)

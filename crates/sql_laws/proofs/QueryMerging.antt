@@ -9,7 +9,7 @@ use Rattle.ldv_value.proofs.Booleans.{and-parts}
 use Rattle.ldv_value.proofs.Cases.{cases-bool}
 use Rattle.ldv_value.proofs.Lists.{list_all-map, list_all-weaker}
 use Rattle.sql_laws.specs.Types.{Value}
-use Rattle.sql_model.specs.QueryAnswer.{AnswerRow, answer_values, has_values, merged_row, distinct, merge}
+use Rattle.sql_model.specs.QueryAnswer.{AnswerRow, answer_values, has_values, merged_row, distinct_values, merge}
 use Rattle.sql_model.specs.KeyOrder.{order_total}
 use Rattle.sql_model.specs.Keys.{same_values}
 use Rattle.sql_laws.specs.QueryLaw.{Keep}
@@ -35,11 +35,11 @@ module _ (q : List Value → Bool) (alike : (v w : List Value) → same_values w
   ]
 
   -- what each of the values passes all of them pass
-  distinct_all : (vs : List (List Value)) → list_all q (distinct vs) ≡ true → list_all q vs ≡ true
+  distinct_all : (vs : List (List Value)) → list_all q (distinct_values vs) ≡ true → list_all q vs ≡ true
   distinct_all [] all = refl
   distinct_all (v ∷ vs) all =
-      let both = and-parts (q v) (list_all q (filter (λ other. not (same_values other v)) (distinct vs))) all in
-      (λ j. both.0 j && distinct_all vs (same_too v (distinct vs) both.0 both.1) j)
+      let both = and-parts (q v) (list_all q (filter (λ other. not (same_values other v)) (distinct_values vs))) all in
+      (λ j. both.0 j && distinct_all vs (same_too v (distinct_values vs) both.0 both.1) j)
 
 -- ---- items that are taken together by their values
 
@@ -82,7 +82,7 @@ module _ {X : Type 0} (values_of : X → List Value) (p : X → Bool) where
       (λ j. first_passes item items both.0 j && each_passes items more j)
 
   -- where all items of each of the values pass, all pass
-  pub parts_pass : (items : List X) → list_all (all_pass items) (distinct (map values_of items)) ≡ true
+  pub parts_pass : (items : List X) → list_all (all_pass items) (distinct_values (map values_of items)) ≡ true
       → list_all p items ≡ true
   parts_pass items all = each_passes items (distinct_all (all_pass items) (pass_alike items) (map values_of items) all)
 
@@ -93,6 +93,6 @@ module _ (keep : Keep) where
       → list_all (kept_row keep) rows ≡ true
   merged_kept rows all =
       let values : List (List Value) = map answer_values rows in
-      let mapped : list_all (kept_row keep) (merge rows) ≡ list_all (λ v. kept_row keep (merged_row rows v)) (distinct values) = list_all-map (kept_row keep) (merged_row rows) (distinct values) in
-      let tested : list_all (λ v. kept_row keep (merged_row rows v)) (distinct values) ≡ list_all (all_pass answer_values (kept_row keep) rows) (distinct values) = (λ j. list_all (λ v. lineage_kept keep (filter (has_values v) rows) j) (distinct values)) in
+      let mapped : list_all (kept_row keep) (merge rows) ≡ list_all (λ v. kept_row keep (merged_row rows v)) (distinct_values values) = list_all-map (kept_row keep) (merged_row rows) (distinct_values values) in
+      let tested : list_all (λ v. kept_row keep (merged_row rows v)) (distinct_values values) ≡ list_all (all_pass answer_values (kept_row keep) rows) (distinct_values values) = (λ j. list_all (λ v. lineage_kept keep (filter (has_values v) rows) j) (distinct_values values)) in
       parts_pass answer_values (kept_row keep) rows (sym tested ∙ sym mapped ∙ all)

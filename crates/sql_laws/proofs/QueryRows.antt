@@ -8,7 +8,7 @@ use Rattle.ldv_value.proofs.Booleans.{and-parts, or-parts}
 use Rattle.ldv_value.proofs.Cases.{cases-bool}
 use Rattle.ldv_value.proofs.Lists.{list_all-append, list_all-map}
 use Rattle.sql_laws.specs.Types.{Value, ColumnName, Core, FromItem, Table}
-use Rattle.sql_model.specs.QueryAnswer.{Origin, AnswerRow, Combination, combination_rows, picked, distinct, group_key, has_key, groups_of, is_kept, group_row, single, rows_in_scope, once, core_rows, rejected_in_scope, rejected, united, rows_after, union_rows}
+use Rattle.sql_model.specs.QueryAnswer.{Origin, AnswerRow, Combination, combination_rows, picked, distinct_values, group_key, has_key, groups_of, is_kept, group_row, one_combination, rows_in_scope, once, core_rows, rejected_in_scope, rejected, union_answers, rows_after, union_rows}
 use Rattle.sql_laws.specs.QueryLaw.{Keep, cut_tables}
 use Rattle.sql_model.specs.Refusals.{groups}
 use Rattle.sql_model.specs.Scope.{InScope, catalog_of, scope_of}
@@ -38,7 +38,7 @@ either_kept p q (x ∷ xs) these those = elim (cases-bool (q x)) [
 
 -- a row for each combination
 abbrev plain_rows : List InScope → Core → List Combination → List AnswerRow
-plain_rows scope core all = map (λ rows. group_row scope core (single rows)) all
+plain_rows scope core all = map (λ rows. group_row scope core (one_combination rows)) all
 
 rows_plain : (scope : List InScope) (core : Core) (all : List Combination) → groups core ≡ false
     → rows_in_scope scope core all ≡ plain_rows scope core all
@@ -60,13 +60,13 @@ module _ (keep : Keep) where
   -- ---- the rows of combinations
 
   row_kept : (scope : List InScope) (core : Core) (rows : Combination)
-      → kept_row keep (group_row scope core (single rows)) ≡ kept_combination keep core.from rows
+      → kept_row keep (group_row scope core (one_combination rows)) ≡ kept_combination keep core.from rows
   row_kept scope core rows = ap (all_kept keep) (append-nil (combination_rows core.from rows))
 
   plain_kept : (scope : List InScope) (core : Core) (all : List Combination)
       → list_all (kept_row keep) (plain_rows scope core all) ≡ list_all (kept_combination keep core.from) all
   plain_kept scope core all =
-      list_all-map (kept_row keep) (λ rows. group_row scope core (single rows)) all
+      list_all-map (kept_row keep) (λ rows. group_row scope core (one_combination rows)) all
       ∙ (λ j. list_all (λ rows. row_kept scope core rows j) all)
 
   plain_part : (scope : List InScope) (core : Core) (all : List Combination)
@@ -74,10 +74,10 @@ module _ (keep : Keep) where
   plain_part scope core [] = refl
   plain_part scope core (rows ∷ all) = elim (cases-bool (kept_combination keep core.from rows)) [
     | inl hit ↦
-        let too : kept_row keep (group_row scope core (single rows)) ≡ true = row_kept scope core rows ∙ hit in
-        rw (hit, too) (λ j. group_row scope core (single rows) ∷ plain_part scope core all j)
+        let too : kept_row keep (group_row scope core (one_combination rows)) ≡ true = row_kept scope core rows ∙ hit in
+        rw (hit, too) (λ j. group_row scope core (one_combination rows) ∷ plain_part scope core all j)
     | inr miss ↦
-        let too : kept_row keep (group_row scope core (single rows)) ≡ false = row_kept scope core rows ∙ miss in
+        let too : kept_row keep (group_row scope core (one_combination rows)) ≡ false = row_kept scope core rows ∙ miss in
         rw (miss, too) (plain_part scope core all)
   ]
 
@@ -109,7 +109,7 @@ module _ (keep : Keep) where
       → list_all (kept_combination keep from) all ≡ true
   groups_kept scope from [] all kept = (and-parts (kept_group from all) true kept).0
   groups_kept scope from (c ∷ cs) all kept =
-      let keys : List (List Value) = distinct (map (group_key scope (c ∷ cs)) all) in
+      let keys : List (List Value) = distinct_values (map (group_key scope (c ∷ cs)) all) in
       parts_pass (group_key scope (c ∷ cs)) (kept_combination keep from) all
       (sym (list_all-map (kept_group from) (λ key. filter (has_key scope (c ∷ cs) key) all) keys) ∙ kept)
 
@@ -174,7 +174,7 @@ module _ (keep : Keep) where
     appended_kept : (rows more : List AnswerRow) → list_all (kept_row keep) (rows ++ more) ≡ true → BothKept rows more
     appended_kept rows more all = and-parts (list_all (kept_row keep) rows) (list_all (kept_row keep) more) (sym (list_all-append (kept_row keep) rows more) ∙ all)
 
-    united_kept : (b : Bool) (rows more : List AnswerRow) → list_all (kept_row keep) (united b rows more) ≡ true
+    united_kept : (b : Bool) (rows more : List AnswerRow) → list_all (kept_row keep) (union_answers b rows more) ≡ true
         → BothKept rows more
     united_kept true rows more all = appended_kept rows more all
     united_kept false rows more all = appended_kept rows more (merged_kept keep (rows ++ more) all)
@@ -195,11 +195,11 @@ module _ (keep : Keep) where
     after_whole rows [] gone all = (all, refl, refl)
     after_whole rows (core ∷ cores) gone all =
         let parts = rejected_parts core cores gone in
-        let more = after_whole (united core.joined_all rows (core_rows db core)) cores parts.1 all in
+        let more = after_whole (union_answers core.joined_all rows (core_rows db core)) cores parts.1 all in
         let both = united_kept core.joined_all rows (core_rows db core) more.0 in
         let here : SameCore core = core_whole core both.1 parts.0 in (
           both.0,
-          (λ j. rows_after (cut_tables keep db) (united core.joined_all rows (here.0 j)) cores) ∙ more.1,
+          (λ j. rows_after (cut_tables keep db) (union_answers core.joined_all rows (here.0 j)) cores) ∙ more.1,
           (λ j. here.1 j ++ more.2 j),
         )
 
@@ -239,12 +239,12 @@ module _ (keep : Keep) where
         let joins = and-parts core.joined_all (list_all (λ other. other.joined_all) cores) joined in
         let more : List AnswerRow = core_rows db core in
         let here : core_rows (cut_tables keep db) core ≡ filter (kept_row keep) more = core_part core own.0 own.1 in
-        let whole : united core.joined_all rows more ≡ rows ++ more = ap (λ (b : Bool). united b rows more) joins.0 in
-        let part : united core.joined_all (filter (kept_row keep) rows) (core_rows (cut_tables keep db) core) ≡ filter (kept_row keep) (united core.joined_all rows more) =
-        (λ j. united (joins.0 j) (filter (kept_row keep) rows) (here j))
+        let whole : union_answers core.joined_all rows more ≡ rows ++ more = ap (λ (b : Bool). union_answers b rows more) joins.0 in
+        let part : union_answers core.joined_all (filter (kept_row keep) rows) (core_rows (cut_tables keep db) core) ≡ filter (kept_row keep) (union_answers core.joined_all rows more) =
+        (λ j. union_answers (joins.0 j) (filter (kept_row keep) rows) (here j))
         ∙ sym (filter-append (kept_row keep) rows more)
         ∙ sym (ap (filter (kept_row keep)) whole) in
-        (λ j. rows_after (cut_tables keep db) (part j) cores) ∙ after_part (united core.joined_all rows more) cores parts.1 joins.1
+        (λ j. rows_after (cut_tables keep db) (part j) cores) ∙ after_part (union_answers core.joined_all rows more) cores parts.1 joins.1
 
     -- UNION ALL stands before each core but the first
     pub union_part : (core : Core) (cores : List Core) → list_any sums_rows (core ∷ cores) ≡ false

@@ -5,10 +5,10 @@ use Rattle.std.specs.Prelude.{Option, Some, None, option_map, option_to_list, ma
 use Rattle.sql_laws.specs.Types.{Catalog, Reply, Changed, SqlRefusal, Syntax, NoTable, NoColumn, TypeClash, NotNull, KeyTaken, Full, NoParent, HasChild, P, Delete, Insert, Statement, TheInsert, TheUpdate, TheDelete, Update, Table}
 pub use Rattle.sql_model.proofs.Equations.{after_is}
 use Rattle.sql_model.proofs.Equations.{reply_is, need_is}
-use Rattle.sql_model.specs.Changes.{KeyClash, key_clash, key_refusal, changed, lacks_value, is_full, or_else, refusal_if, change_refusal}
+use Rattle.sql_model.specs.Changes.{KeyClash, key_clash, key_refusal, table_after, lacks_value, is_full, or_else, refusal_if, change_refusal}
 use Rattle.sql_model.specs.Needs.{NeededRow, needed_by, sorted_needs, matched_rows, key_rows, parent_rows, child_row, child_rows, needs_by, need_of}
 use Rattle.sql_model.specs.QueryAnswer.{Origin}
-use Rattle.sql_model.specs.References.{Missing, Orphan, first_missing, first_orphan, parents_needed}
+use Rattle.sql_model.specs.References.{MissingParent, Orphan, first_missing_parent, first_orphan, parents_needed}
 use Rattle.sql_model.specs.Refusals.{lacks_table, lacks_column, clashes, check_refusal}
 use Rattle.sql_model.specs.Scope.{catalog_of}
 use Rattle.sql_model.specs.Statements.{target, parent_refusal, child_refusal, reference_refusal, refusal_of, matched_count, accepted_reply, reply_or, reply_of}
@@ -191,7 +191,7 @@ module _ (statement : Statement) (change : IsChange statement) (small whole : Li
 -- ---- references
 
 -- what a missing parent and a child refuse
-abbrev pub refs_of : Option Missing → Option Orphan → Option SqlRefusal
+abbrev pub refs_of : Option MissingParent → Option Orphan → Option SqlRefusal
 refs_of m n = or_else (option_map parent_refusal m) (option_map child_refusal n)
 
 abbrev parents_of_rows : List Origin → List NeededRow
@@ -211,11 +211,11 @@ pub no_refs : (s : Statement) (c1 c2 : Catalog) (small whole : List Table) → S
 no_refs s c1 c2 small whole = record { refusal = None; less = refl; more = refl; needs = refl }
 
 module _ (s : Statement) (c1 c2 : Catalog) (t1 t2 : Table) (small whole : List Table) where
-  abbrev missing_less : Option Missing
-  missing_less = first_missing s c1 t1 small
+  abbrev missing_less : Option MissingParent
+  missing_less = first_missing_parent s c1 t1 small
 
-  abbrev missing_more : Option Missing
-  missing_more = first_missing s c2 t2 whole
+  abbrev missing_more : Option MissingParent
+  missing_more = first_missing_parent s c2 t2 whole
 
   abbrev orphan_less : Option Orphan
   orphan_less = first_orphan s c1 t1 small
@@ -230,17 +230,17 @@ module _ (s : Statement) (c1 c2 : Catalog) (t1 t2 : Table) (small whole : List T
     by_child None none = ap parents_of_rows parents
     by_child (Some y) none = λ j. parents_of_rows (parents j) ++ child_of_row (orphan none j)
 
-    by_missing : (m : Option Missing) → missing_more ≡ m → SameRefs s c1 c2 (Some t1) (Some t2) small whole
+    by_missing : (m : Option MissingParent) → missing_more ≡ m → SameRefs s c1 c2 (Some t1) (Some t2) small whole
     by_missing (Some x) is = record {
       refusal = Some (parent_refusal x);
-      less = ap (λ (m : Option Missing). refs_of m orphan_less) (missing ∙ is);
-      more = ap (λ (m : Option Missing). refs_of m orphan_more) is;
+      less = ap (λ (m : Option MissingParent). refs_of m orphan_less) (missing ∙ is);
+      more = ap (λ (m : Option MissingParent). refs_of m orphan_more) is;
       needs = ap parents_of_rows parents;
     }
     by_missing None none = record {
       refusal = option_map child_refusal orphan_more;
       less = λ j. refs_of ((missing ∙ none) j) (orphan none j);
-      more = ap (λ (m : Option Missing). refs_of m orphan_more) none;
+      more = ap (λ (m : Option MissingParent). refs_of m orphan_more) none;
       needs = by_child orphan_more none;
     }
 
@@ -260,14 +260,14 @@ IsReference (Some Full) = ⊥
 IsReference (Some (NoParent name key)) = Unit {0}
 IsReference (Some (HasChild name key)) = Unit {0}
 
-refs_of_is : (m : Option Missing) (n : Option Orphan) → IsReference (refs_of m n)
+refs_of_is : (m : Option MissingParent) (n : Option Orphan) → IsReference (refs_of m n)
 refs_of_is (Some x) n = tt
 refs_of_is None (Some y) = tt
 refs_of_is None None = tt
 
 pub reference_is : (s : Statement) (c : Catalog) (o : Option Table) (db : List Table) → IsReference (reference_refusal s c o db)
 reference_is s c None db = tt
-reference_is s c (Some t) db = refs_of_is (first_missing s c t db) (first_orphan s c t db)
+reference_is s c (Some t) db = refs_of_is (first_missing_parent s c t db) (first_orphan s c t db)
 
 -- then the matched rows are needed of the own table
 pub reference_needs : (r : Option SqlRefusal) → IsReference r → (s : Statement) (c : Catalog) (o : Option Table)
@@ -318,9 +318,9 @@ own_key t (Some clash) = tt
 own_changed : (s : Statement) (c : Catalog) (o : Option Table) → IsOwn (change_refusal s c o)
 own_changed s c None = tt
 own_changed s c (Some t) =
-    own_else (refusal_if (lacks_value s c t) NotNull) (or_else (key_refusal t (key_clash (changed s c t))) (refusal_if (is_full s t) Full))
+    own_else (refusal_if (lacks_value s c t) NotNull) (or_else (key_refusal t (key_clash (table_after s c t))) (refusal_if (is_full s t) Full))
     (own_if (lacks_value s c t) NotNull tt)
-    (own_else (key_refusal t (key_clash (changed s c t))) (refusal_if (is_full s t) Full) (own_key t (key_clash (changed s c t))) (own_if (is_full s t) Full tt))
+    (own_else (key_refusal t (key_clash (table_after s c t))) (refusal_if (is_full s t) Full) (own_key t (key_clash (table_after s c t))) (own_if (is_full s t) Full tt))
 
 pub own_is : (s : Statement) (c : Catalog) (o : Option Table) → IsOwn (refusal_at s c o)
 own_is s c o =

@@ -4,7 +4,7 @@ use Rattle.std.specs.List.{list_any}
 use Rattle.sql_model.specs.QueryAnswer.{Origin, AnswerRow, SortKey, lineage_of, has_values, merged_row, merge}
 use Rattle.sql_model.specs.QueryAnswer.{sort_rows}
 use Rattle.sql_model.specs.Needs.{sorted_needs}
-use Rattle.sql_model.specs.Origins.{has_origin, SameSet, SameRows, Needing, all_needing, SameNeedings}
+use Rattle.sql_model.specs.Origins.{has_origin, SameSet, SameRows, RuleOrigins, rows_by_rules, SameRuleOrigins}
 use Rattle.sql_laws.specs.Types.{Value}
 
 -- merging rows of the same values unites their lineages, and no row is lost
@@ -38,4 +38,5 @@ CutSetsLaw = (n : ℕ) (a b : List AnswerRow) → SameRows a b
 -- a list of needed rows is sorted, each row once with its first rule: it looks at lineages as sets
 abbrev pub NeedsLaw : Type 0
 NeedsLaw =
-    (a b : List Needing) → SameNeedings a b → sorted_needs (all_needing a) ≡ sorted_needs (all_needing b)
+    (a b : List RuleOrigins) → SameRuleOrigins a b
+    → sorted_needs (rows_by_rules a) ≡ sorted_needs (rows_by_rules b)

@@ -1,7 +1,7 @@
 -- What definitions that are closed elsewhere are, and what is found by a name.
 use Rattle.std.proofs.Common.{◌≡◌, ℕ, List, [], ◌∷◌, refl, Bool, true, false}
 use Rattle.std.specs.Prelude.{Option, Some, option_map, map, find, zip, if◌then◌else◌}
-use Rattle.sql_model.specs.Changes.{changed}
+use Rattle.sql_model.specs.Changes.{table_after}
 use Rattle.sql_model.specs.Needs.{needs_by, needs_of_reading, need_of, Versions, made_unless, made_by, updated_unless, updated_rows}
 use Rattle.sql_model.specs.Scope.{table_at, is_table, catalog_of, is_schema, schema_in, schema_at}
 use Rattle.sql_model.specs.Statements.{refusal_of, reply_or, reply_of, after_unless, after}
@@ -47,7 +47,7 @@ refused_needs query db (HasChild table key) = refl
 
 -- ---- a change keeps a table's name
 
-pub changed_name : (s : Statement) (catalog : Catalog) (table : Table) → (changed s catalog table).name ≡ table.name
+pub changed_name : (s : Statement) (catalog : Catalog) (table : Table) → (table_after s catalog table).name ≡ table.name
 changed_name (TheQuery query) catalog table = refl
 changed_name (TheInsert insert) catalog table = refl
 changed_name (TheUpdate update) catalog table = refl

@@ -9,7 +9,7 @@ use Rattle.sql_model.specs.declared.expr.Expr.TheViews.{roll-Expr}
 use Rattle.sql_model.specs.Evaluation.{EvaluatedAt, eval_at, eval_at_step, evaluated_as, negate_at, not_at, IsValue, IsTruth}
 use Rattle.sql_model.specs.Kinds.{names_in, names_step}
 use Rattle.sql_model.specs.Scope.{InScope, places_in, place_of, environment}
-use Rattle.sql_model.specs.Meaning.{Environment, Meaning, of_value, of_truth, eval, eval_step, both, null_test, folded, known_values}
+use Rattle.sql_model.specs.Meaning.{Environment, Meaning, of_value, of_truth, eval, eval_step, both, null_test, aggregate_of, known_values}
 
 module _ (row : List Value) (scope : List InScope) where
   abbrev env : List Environment
@@ -46,7 +46,7 @@ module _ (row : List Value) (scope : List InScope) where
       ∙ ap (λ (p : EvaluatedAt). evaluated_as (both op (eval a.0 env) p.meaning) p.rest) (b.1 more))
   step (open_expr.IsNull e negative) = λ more. layer (open_expr.IsNull e.0 negative) more (ap (λ (p : EvaluatedAt). evaluated_as (of_truth (null_test negative p.meaning.value)) p.rest) (e.1 more))
   step (open_expr.Aggregate f None) = λ more. layer (open_expr.Aggregate f None) more refl
-  step (open_expr.Aggregate f (Some e)) = λ more. layer (open_expr.Aggregate f (Some e.0)) more (ap (λ (p : EvaluatedAt). evaluated_as (of_value (folded f (known_values (p.meaning.value ∷ [])))) p.rest) (e.1 more))
+  step (open_expr.Aggregate f (Some e)) = λ more. layer (open_expr.Aggregate f (Some e.0)) more (ap (λ (p : EvaluatedAt). evaluated_as (of_value (aggregate_of f (known_values (p.meaning.value ∷ [])))) p.rest) (e.1 more))
 
   pub is_eval_at : (e : Expr) → IsEvalAt e
   is_eval_at = ind-Expr IsEvalAt (λ x y is. subst (λ (z : Expr-F Expr). IsEvalAt (roll-Expr z)) is (step y))

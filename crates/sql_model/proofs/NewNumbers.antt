@@ -9,7 +9,7 @@ use Rattle.ldv_value.specs.Limits.{max_next}
 use Rattle.ldv_value.specs.Sorted.{is_strictly_sorted}
 use Rattle.sql_model.specs.Types.{Value, TableRow}
 use Rattle.sql_model.proofs.SortedLists.{sorted-all, sorted-from, sorted-tail, sorted-filter}
-use Rattle.sql_model.specs.Changes.{numbered}
+use Rattle.sql_model.specs.Changes.{numbered_rows}
 use Rattle.sql_model.specs.Tables.{numbers_test}
 
 abbrev number_of : TableRow → ℕ
@@ -29,50 +29,50 @@ row-trans a b c first second =
 
 -- ---- new rows
 
-over_numbered : (m n : ℕ) → m < n → (rows : List (List Value)) → list_all (λ row. nat_lt m row.number) (numbered n rows) ≡ true
+over_numbered : (m n : ℕ) → m < n → (rows : List (List Value)) → list_all (λ row. nat_lt m row.number) (numbered_rows n rows) ≡ true
 over_numbered m n less [] = refl
 over_numbered m n less (values ∷ rows) =
-    and-from (nat_lt m n) (list_all (λ (row : TableRow). nat_lt m row.number) (numbered (n + 1) rows))
+    and-from (nat_lt m n) (list_all (λ (row : TableRow). nat_lt m row.number) (numbered_rows (n + 1) rows))
     ((Decides-ltb m n).1 less) (over_numbered m (n + 1) (omega (arith, less)) rows)
 
-numbered_sorted : (n : ℕ) (rows : List (List Value)) → is_strictly_sorted row_precedes (numbered n rows) ≡ true
+numbered_sorted : (n : ℕ) (rows : List (List Value)) → is_strictly_sorted row_precedes (numbered_rows n rows) ≡ true
 numbered_sorted n [] = refl
 numbered_sorted n (values ∷ rows) =
-    sorted-from row_precedes row-trans (record { number = n; values = values }) (numbered (n + 1) rows)
+    sorted-from row_precedes row-trans (record { number = n; values = values }) (numbered_rows (n + 1) rows)
     (over_numbered n (n + 1) (omega arith) rows) (numbered_sorted (n + 1) rows)
 
-under_numbered : (n m : ℕ) (rows : List (List Value)) → n + length rows ≤ m → list_all (is_under m) (numbered n rows) ≡ true
+under_numbered : (n m : ℕ) (rows : List (List Value)) → n + length rows ≤ m → list_all (is_under m) (numbered_rows n rows) ≡ true
 under_numbered n m [] fit = refl
 under_numbered n m (values ∷ rows) fit =
     let long : length (values ∷ rows) ≡ suc (length rows) = refl in
-    and-from (nat_lt n m) (list_all (is_under m) (numbered (n + 1) rows))
+    and-from (nat_lt n m) (list_all (is_under m) (numbered_rows (n + 1) rows))
     ((Decides-ltb n m).1 (omega (arith, fit, long))) (under_numbered (n + 1) m rows (omega (arith, fit, long)))
 
 joined_sorted : (next : ℕ) (rows : List TableRow) (more : List (List Value)) → list_all (is_under next) rows ≡ true
     → is_strictly_sorted row_precedes rows ≡ true
-    → is_strictly_sorted row_precedes (rows ++ numbered next more) ≡ true
+    → is_strictly_sorted row_precedes (rows ++ numbered_rows next more) ≡ true
 joined_sorted next [] more under sorted = numbered_sorted next more
 joined_sorted next (row ∷ rows) more under sorted =
     let both = and-parts (is_under next row) (list_all (is_under next) rows) under in
     let less : row.number < next = (Decides-ltb row.number next).0 both.0 in
-    sorted-from row_precedes row-trans row (rows ++ numbered next more)
-    (list_all-append (row_precedes row) rows (numbered next more)
-    ∙ and-from (list_all (row_precedes row) rows) (list_all (row_precedes row) (numbered next more))
+    sorted-from row_precedes row-trans row (rows ++ numbered_rows next more)
+    (list_all-append (row_precedes row) rows (numbered_rows next more)
+    ∙ and-from (list_all (row_precedes row) rows) (list_all (row_precedes row) (numbered_rows next more))
     (sorted-all row_precedes row-trans row rows sorted) (over_numbered row.number next less more))
     (joined_sorted next rows more both.1 (sorted-tail row_precedes row-trans row rows sorted))
 
 pub numbers-insert : (next : ℕ) (rows : List TableRow) (more : List (List Value))
     → numbers_test number_of next rows ≡ true
-    → numbers_test number_of (next + length more) (rows ++ numbered next more) ≡ true
+    → numbers_test number_of (next + length more) (rows ++ numbered_rows next more) ≡ true
 numbers-insert next rows more is =
     let both = and-parts (is_strictly_sorted row_precedes rows) (list_all (is_under next) rows) is in
     let later : list_all (is_under (next + length more)) rows ≡ true =
     list_all-weaker (is_under next) (is_under (next + length more))
     (λ row under. let less : row.number < next = (Decides-ltb row.number next).0 under in (Decides-ltb row.number (next + length more)).1 (omega (arith, less))) rows both.1 in
-    and-from (is_strictly_sorted row_precedes (rows ++ numbered next more)) (list_all (is_under (next + length more)) (rows ++ numbered next more))
+    and-from (is_strictly_sorted row_precedes (rows ++ numbered_rows next more)) (list_all (is_under (next + length more)) (rows ++ numbered_rows next more))
     (joined_sorted next rows more both.1 both.0)
-    (list_all-append (is_under (next + length more)) rows (numbered next more)
-    ∙ and-from (list_all (is_under (next + length more)) rows) (list_all (is_under (next + length more)) (numbered next more))
+    (list_all-append (is_under (next + length more)) rows (numbered_rows next more)
+    ∙ and-from (list_all (is_under (next + length more)) rows) (list_all (is_under (next + length more)) (numbered_rows next more))
     later (under_numbered next (next + length more) more (omega arith)))
 
 -- ---- rows that keep their numbers, and fewer rows

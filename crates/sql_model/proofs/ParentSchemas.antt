@@ -5,7 +5,7 @@ use Rattle.std.specs.List.{flat_map, filter_map, list_any, list_all, cons_option
 use Rattle.std.proofs.lemmas.Bool.{ne_eqb}
 use Rattle.sql_model.specs.Keys.{values_at}
 use Rattle.sql_model.specs.Meaning.{is_null}
-use Rattle.sql_model.specs.References.{Missing, has_key, missing_key, missing_by, missing_parents, has_parent, all_have_parents}
+use Rattle.sql_model.specs.References.{MissingParent, has_key, missing_key, missing_by, missing_parents, has_parent, all_have_parents}
 use Rattle.sql_model.specs.Scope.{same_text, is_schema, schema_in, schema_at}
 use Rattle.sql_model.specs.Types.{Value, Foreign, Schema, Table, TableRow}
 
@@ -88,7 +88,7 @@ none_missing tables foreigns rows =
 
 -- ---- one foreign key
 
-abbrev missing_if : Foreign → List Value → Bool → Option Missing
+abbrev missing_if : Foreign → List Value → Bool → Option MissingParent
 missing_if foreign key b = if b then None else Some (record { parent = foreign.parent; key = key })
 
 module _ (foreign : Foreign) (row : TableRow) where

@@ -12,7 +12,7 @@ use Rattle.ldv_value.proofs.Booleans.{and-parts, true≢false}
 use Rattle.ldv_value.proofs.Cases.{cases-bool}
 use Rattle.ldv_value.specs.Order.{order}
 use Rattle.sql_model.specs.KeyOrder.{order_total}
-use Rattle.sql_model.specs.QueryAnswer.{SortKey, directed, order_by}
+use Rattle.sql_model.specs.QueryAnswer.{SortKey, order_in_direction, order_by}
 use Rattle.sql_model.specs.Scope.{value_at}
 use Rattle.sql_model.specs.Sorting.{put_sorted, sorted_by}
 use Rattle.sql_model.specs.Types.{Value}
@@ -243,7 +243,7 @@ module _ {A : Type 0} (cmp : A → A → Ordering) where
 -- ---- the order of answer rows
 
 directed_total : (place : ℕ) (descending : Bool)
-    → IsTotalOrder (λ (a b : List Value). directed descending (order (value_at a place) (value_at b place)))
+    → IsTotalOrder (λ (a b : List Value). order_in_direction descending (order (value_at a place) (value_at b place)))
 directed_total place false = on_total (λ (values : List Value). value_at values place) order_total
 directed_total place true =
     let back : IsTotalOrder (λ (a b : List Value). order (value_at b place) (value_at a place)) = back_total (on_total (λ (values : List Value). value_at values place) order_total) in

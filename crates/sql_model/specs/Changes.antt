@@ -41,13 +41,15 @@ abbrev pub new_values : Option (List (List ℕ)) → List Column → List Expr �
 new_values None columns exprs = map plain_value exprs
 new_values (Some names) columns exprs = map (value_given (zip names exprs)) columns
 
-abbrev pub numbered : ℕ → List (List Value) → List TableRow
-numbered number [] = []
-numbered number (values ∷ rest) = record { number = number; values = values } ∷ numbered (number + 1) rest
+abbrev pub numbered_rows : ℕ → List (List Value) → List TableRow
+numbered_rows number [] = []
+numbered_rows number (values
+    ∷ rest) = record { number = number; values = values } ∷ numbered_rows (number + 1) rest
 
 -- the new rows, with numbers from `next` on
-abbrev pub inserted : Insert → Table → List TableRow
-inserted insert table = numbered table.next (map (new_values insert.columns table.schema.columns) insert.rows)
+abbrev pub rows_of_insert : Insert → Table → List TableRow
+rows_of_insert insert table = numbered_rows table.next
+    (map (new_values insert.columns table.schema.columns) insert.rows)
 
 -- ---- UPDATE
 
@@ -82,7 +84,7 @@ with_rows table rows next = record { name = table.name; schema = table.schema; r
 
 abbrev pub after_insert : Insert → Table → Table
 after_insert insert table =
-    with_rows table (table.rows ++ inserted insert table) (table.next + length insert.rows)
+    with_rows table (table.rows ++ rows_of_insert insert table) (table.next + length insert.rows)
 
 abbrev pub after_update : List InScope → Update → Table → Table
 after_update scope update table =
@@ -92,11 +94,11 @@ abbrev pub after_delete : List InScope → Delete → Table → Table
 after_delete scope delete table =
     with_rows table (filter (λ row. not (is_matched scope delete.pick row)) table.rows) table.next
 
-abbrev pub changed : Statement → Catalog → Table → Table
-changed (TheQuery query) catalog table = table
-changed (TheInsert insert) catalog table = after_insert insert table
-changed (TheUpdate update) catalog table = after_update (own_scope update.table catalog) update table
-changed (TheDelete delete) catalog table = after_delete (own_scope delete.table catalog) delete table
+abbrev pub table_after : Statement → Catalog → Table → Table
+table_after (TheQuery query) catalog table = table
+table_after (TheInsert insert) catalog table = after_insert insert table
+table_after (TheUpdate update) catalog table = after_update (own_scope update.table catalog) update table
+table_after (TheDelete delete) catalog table = after_delete (own_scope delete.table catalog) delete table
 
 -- the name of the table that a statement changes
 abbrev pub target_of : Statement → Option (List ℕ)
@@ -112,7 +114,7 @@ table_of (Some name) db = table_at name db
 abbrev pub changed_in : Option (List ℕ) → Statement → Catalog → List Table → List Table
 changed_in None statement catalog db = db
 changed_in (Some name) statement catalog db =
-    map (λ table. if is_table name table then changed statement catalog table else table) db
+    map (λ table. if is_table name table then table_after statement catalog table else table) db
 
 -- ---- the rows that a statement changes
 
@@ -126,15 +128,15 @@ matched (TheDelete delete) catalog table = matched_in (own_scope delete.table ca
 -- those that are inserted or matched, as they are after it
 abbrev pub new_rows : Statement → Catalog → Table → List TableRow
 new_rows (TheQuery query) catalog table = []
-new_rows (TheInsert insert) catalog table = inserted insert table
+new_rows (TheInsert insert) catalog table = rows_of_insert insert table
 new_rows (TheUpdate update) catalog table =
     map (updated_row (own_scope update.table catalog) update table.schema.columns)
     (matched (TheUpdate update) catalog table)
 new_rows (TheDelete delete) catalog table = []
 
 -- a row of its number stood in the table
-abbrev pub stood : Table → TableRow → Bool
-stood table row = list_any (λ old. old.number == row.number) table.rows
+abbrev pub had_row : Table → TableRow → Bool
+had_row table row = list_any (λ old. old.number == row.number) table.rows
 
 -- ---- code 5
 
@@ -201,5 +203,5 @@ abbrev pub change_refusal : Statement → Catalog → Option Table → Option Sq
 change_refusal statement catalog None = None
 change_refusal statement catalog (Some table) =
     or_else (refusal_if (lacks_value statement catalog table) NotNull)
-    (or_else (key_refusal table (key_clash (changed statement catalog table)))
+    (or_else (key_refusal table (key_clash (table_after statement catalog table)))
     (refusal_if (is_full statement table) Full))

@@ -7,8 +7,8 @@ use Rattle.sql_model.specs.declared.expr.Expr.TheOpen as open_expr
 use Rattle.sql_model.specs.declared.expr.Expr.TheFolds.{fold-Expr}
 use Rattle.sql_model.specs.Kinds.{names_in}
 use Rattle.sql_model.specs.Scope.{InScope, places_in, value_at, environment}
-use Rattle.sql_model.specs.Meaning.{Meaning, of_value, of_truth, negated, truth_not, both, null_test}
-use Rattle.sql_model.specs.Meaning.{counted_one, folded, known_values, eval}
+use Rattle.sql_model.specs.Meaning.{Meaning, of_value, of_truth, negation_of, truth_not, both, null_test}
+use Rattle.sql_model.specs.Meaning.{counted_one, aggregate_of, known_values, eval}
 
 -- what an expression means, and the places that it leaves
 pub record EvaluatedAt : Type 0 where
@@ -30,7 +30,7 @@ abbrev pub column_at : List Value → List ℕ → EvaluatedAt
 column_at row places = evaluated_as (of_value (first_value row places)) (other_places places)
 
 abbrev pub negate_at : EvaluatedAt → EvaluatedAt
-negate_at e = evaluated_as (of_value (negated e.meaning.value)) e.rest
+negate_at e = evaluated_as (of_value (negation_of e.meaning.value)) e.rest
 
 abbrev pub not_at : EvaluatedAt → EvaluatedAt
 not_at e = evaluated_as (of_truth (truth_not e.meaning.truth)) e.rest
@@ -47,7 +47,7 @@ eval_at_step row (open_expr.IsNull e negative) places =
     evaluated_as (of_truth (null_test negative (e places).meaning.value)) (e places).rest
 eval_at_step row (open_expr.Aggregate f None) places = evaluated_as (of_value counted_one) places
 eval_at_step row (open_expr.Aggregate f (Some e)) places =
-    evaluated_as (of_value (folded f (known_values ((e places).meaning.value ∷ [])))) (e places).rest
+    evaluated_as (of_value (aggregate_of f (known_values ((e places).meaning.value ∷ [])))) (e places).rest
 
 abbrev pub eval_at : List Value → Expr → List ℕ → EvaluatedAt
 eval_at row = fold-Expr (List ℕ → EvaluatedAt) (eval_at_step row)

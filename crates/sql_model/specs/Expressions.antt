@@ -25,7 +25,7 @@ use Rattle.sql_model.specs.Columns.{column_after}
 use Rattle.ldv_value.specs.Options.{◌>>=◌, only_if}
 use Rattle.sql_model.specs.Levels.{operator_level, right_of}
 use Rattle.sql_model.specs.Operators.{joins}
-use Rattle.sql_model.specs.Reader.{starts, tail, passed, after_word, reads_token, name_in, repeat}
+use Rattle.sql_model.specs.Reader.{starts, tail, tokens_past, after_word, reads_token, name_in, repeat}
 
 -- HOW AN OPERAND BEGINS
 
@@ -82,16 +82,16 @@ inside_level Minus = 7
 inside_level Bracket = 1
 inside_level (FoldOf f) = 1
 
-abbrev pub whole : Expr → ParsedExpr
-whole e = record { expr = e; depth = 1; level = 8 }
+abbrev pub primary_expr : Expr → ParsedExpr
+primary_expr e = record { expr = e; depth = 1; level = 8 }
 
 -- a prefix form around its operand
-abbrev pub closed : Prefix → ParsedExpr → List Token → Option (ParsedExpr × List Token)
-closed Not d ts = Some (record { expr = expr.Not d.expr; depth = d.depth + 1; level = 3 }, ts)
-closed Minus d ts = Some (record { expr = expr.Negate d.expr; depth = d.depth + 1; level = 7 }, ts)
-closed Bracket d ts = after_word (codes ")") ts
+abbrev pub with_prefix : Prefix → ParsedExpr → List Token → Option (ParsedExpr × List Token)
+with_prefix Not d ts = Some (record { expr = expr.Not d.expr; depth = d.depth + 1; level = 3 }, ts)
+with_prefix Minus d ts = Some (record { expr = expr.Negate d.expr; depth = d.depth + 1; level = 7 }, ts)
+with_prefix Bracket d ts = after_word (codes ")") ts
     >>= λ ts. Some (record { expr = d.expr; depth = d.depth + 1; level = 8 }, ts)
-closed (FoldOf f) d ts = after_word (codes ")") ts
+with_prefix (FoldOf f) d ts = after_word (codes ")") ts
     >>= λ ts. Some (record { expr = expr.Aggregate f (Some d.expr); depth = d.depth + 1; level = 8 }, ts)
 
 -- WHAT FOLLOWS AN OPERAND
@@ -101,7 +101,7 @@ abbrev pub null_tested : ParsedExpr → Bool → ParsedExpr
 null_tested d negated = record { expr = expr.IsNull d.expr negated; depth = d.depth + 1; level = 4 }
 
 abbrev pub null_test : ParsedExpr → List Token → Option (ParsedExpr × List Token)
-null_test d ts = after_word (codes "null") (passed (codes "not") ts)
+null_test d ts = after_word (codes "null") (tokens_past (codes "not") ts)
     >>= λ rest. Some (null_tested d (starts (codes "not") ts), rest)
 
 abbrev pub pair : Operator → ParsedExpr → ParsedExpr → ParsedExpr
@@ -112,8 +112,8 @@ pair op a b =
 module _ (read : ℕ → List Token → Option (ParsedExpr × List Token)) where
   -- an operand, or the form that it begins
   abbrev pub operand_at : Opening → List Token → Option (ParsedExpr × List Token)
-  operand_at (Leaf e) ts = Some (whole e, ts)
-  operand_at (Nested w) ts = read (inside_level w) ts >>= λ r. closed w r.0 r.1
+  operand_at (Leaf e) ts = Some (primary_expr e, ts)
+  operand_at (Nested w) ts = read (inside_level w) ts >>= λ r. with_prefix w r.0 r.1
 
   abbrev pub operand : ℕ → List Token → Option (ParsedExpr × List Token)
   operand least ts = opening least ts >>= λ r. operand_at r.0 r.1

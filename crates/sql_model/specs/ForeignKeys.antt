@@ -37,21 +37,21 @@ have_parents catalog = list_all (has_parents catalog) catalog.schemas
 -- ---- tables with their parents
 
 -- a table's name and its schema
-abbrev pub Named : Type 0
-Named = List ℕ × Schema
+abbrev pub NamedSchema : Type 0
+NamedSchema = List ℕ × Schema
 
-abbrev pub name_of : Named → List ℕ
+abbrev pub name_of : NamedSchema → List ℕ
 name_of named = named.0
 
-abbrev pub is_among : List (List ℕ) → Named → Bool
+abbrev pub is_among : List (List ℕ) → NamedSchema → Bool
 is_among names named = list_any (same_text named.0) names
 
-abbrev pub parent_names : List Named → List (List ℕ)
+abbrev pub parent_names : List NamedSchema → List (List ℕ)
 parent_names tables = flat_map (λ named. map (λ foreign. foreign.parent) named.1.foreign) tables
 
 -- From the tables that are left those of some names are taken, then those of their parents, again and again.
 -- As many turns are enough as there are tables.
-abbrev pub close : ℕ → List (List ℕ) → List Named → List (List ℕ)
+abbrev pub close : ℕ → List (List ℕ) → List NamedSchema → List (List ℕ)
 close zero names rest = []
 close (suc n) names rest =
     map name_of (filter (is_among names) rest)

@@ -52,24 +52,25 @@ Optionally s Form (Some x) ts = After s (Form x) ts
 Optionally s Form None ts = ts ≡ []
 
 -- one form after another
-abbrev pub Repeated : {A : Type 0} → (A → List Token → Type 0) → List A → List Token → Type 0
-Repeated Form [] ts = ts ≡ []
-Repeated Form (x ∷ xs) ts = Then (Form x) (Repeated Form xs) ts
+abbrev pub IsRepetition : {A : Type 0} → (A → List Token → Type 0) → List A → List Token → Type 0
+IsRepetition Form [] ts = ts ≡ []
+IsRepetition Form (x ∷ xs) ts = Then (Form x) (IsRepetition Form xs) ts
 
 -- a form, and any number of further ones, each after a word or symbol
-abbrev pub Separated : {A : Type 0} → String → (A → List Token → Type 0) → (A → List Token → Type 0) → List A
+abbrev pub IsSeparatedBy : {A : Type 0} → String
+    → (A → List Token → Type 0) → (A → List Token → Type 0) → List A
     → List Token → Type 0
-Separated s First Form [] ts = ⊥
-Separated s First Form (x ∷ xs) ts = Then (First x) (Repeated (λ y. After s (Form y)) xs) ts
+IsSeparatedBy s First Form [] ts = ⊥
+IsSeparatedBy s First Form (x ∷ xs) ts = Then (First x) (IsRepetition (λ y. After s (Form y)) xs) ts
 
 -- one form at least, and commas between
-abbrev pub Listed : {A : Type 0} → (A → List Token → Type 0) → List A → List Token → Type 0
-Listed Form xs ts = Separated "," Form Form xs ts
+abbrev pub IsCommaList : {A : Type 0} → (A → List Token → Type 0) → List A → List Token → Type 0
+IsCommaList Form xs ts = IsSeparatedBy "," Form Form xs ts
 
 -- NAMES AND EXPRESSIONS
 
-abbrev pub Named : List ℕ → List Token → Type 0
-Named name ts = (ts ≡ Word name ∷ []) × IsName name
+abbrev pub IsNameToken : List ℕ → List Token → Type 0
+IsNameToken name ts = (ts ≡ Word name ∷ []) × IsName name
 
 -- an expression has a depth of at most 64
 abbrev pub IsExpression : Expr → List Token → Type 0
@@ -78,24 +79,24 @@ IsExpression e ts = (level : ℕ) × (depth : ℕ) × (depth ≤ max_depth) × I
 -- CORES
 
 abbrev pub IsItem : Item → List Token → Type 0
-IsItem item ts = Then (IsExpression item.expr) (Optionally "as" Named item.name) ts
+IsItem item ts = Then (IsExpression item.expr) (Optionally "as" IsNameToken item.name) ts
 
 -- `*`, or items
 abbrev pub AreItems : Option (List Item) → List Token → Type 0
 AreItems None ts = Only "*" ts
-AreItems (Some items) ts = Listed IsItem items ts
+AreItems (Some items) ts = IsCommaList IsItem items ts
 
 -- the second name of a source, with AS or without; without one the source has its table's name
 abbrev pub IsSecondName : FromItem → List Token → Type 0
-IsSecondName source ts = ((ts ≡ []) × (source.name ≡ source.table)) ⊎ Named source.name ts
-    ⊎ After "as" (Named source.name) ts
+IsSecondName source ts = ((ts ≡ []) × (source.name ≡ source.table)) ⊎ IsNameToken source.name ts
+    ⊎ After "as" (IsNameToken source.name) ts
 
 abbrev pub IsSource : FromItem → List Token → Type 0
-IsSource source ts = Then (Named source.table) (IsSecondName source) ts
+IsSource source ts = Then (IsNameToken source.table) (IsSecondName source) ts
 
 -- a further source, and its condition where it is joined by JOIN
-abbrev pub Joined : Type 0
-Joined = FromItem × Option Expr
+abbrev pub JoinedSource : Type 0
+JoinedSource = FromItem × Option Expr
 
 abbrev pub IsConditioned : FromItem → Expr → List Token → Type 0
 IsConditioned source pick ts = Then (IsSource source) (After "on" (IsExpression pick)) ts
@@ -105,21 +106,21 @@ IsJoinedBy source None ts = After "," (IsSource source) ts
 IsJoinedBy source (Some pick) ts = After "join" (IsConditioned source pick) ts
     ⊎ After "inner" (After "join" (IsConditioned source pick)) ts
 
-abbrev pub IsJoined : Joined → List Token → Type 0
+abbrev pub IsJoined : JoinedSource → List Token → Type 0
 IsJoined joined ts = IsJoinedBy joined.0 joined.1 ts
 
-abbrev pub source_of : Joined → FromItem
+abbrev pub source_of : JoinedSource → FromItem
 source_of joined = joined.0
 
 -- the conditions after ON, in the order of the text
-abbrev pub conditions : List Joined → List Expr
+abbrev pub conditions : List JoinedSource → List Expr
 conditions [] = []
 conditions (joined ∷ more) = option_to_list joined.1 ++ conditions more
 
 -- a core has at most max_sources sources
 abbrev pub AreSources : List FromItem → List Expr → List Token → Type 0
-AreSources from picks ts = (first : FromItem) × (more : List Joined)
-    × Then (IsSource first) (Repeated IsJoined more) ts
+AreSources from picks ts = (first : FromItem) × (more : List JoinedSource)
+    × Then (IsSource first) (IsRepetition IsJoined more) ts
     × (from ≡ first ∷ map source_of more) × (picks ≡ conditions more) × (length from ≤ max_sources)
 
 -- GROUP BY and columns, or nothing
@@ -128,7 +129,7 @@ IsColumnAt column ts = IsColumn ts column
 
 abbrev pub IsGroup : List ColumnName → List Token → Type 0
 IsGroup [] ts = ts ≡ []
-IsGroup (column ∷ columns) ts = After "group" (After "by" (Listed IsColumnAt (column ∷ columns))) ts
+IsGroup (column ∷ columns) ts = After "group" (After "by" (IsCommaList IsColumnAt (column ∷ columns))) ts
 
 -- What stands after the sources. The conditions of a core are those after ON and the one after WHERE.
 abbrev pub IsCoreEnd : Core → Option Expr → List Token → Type 0
@@ -155,11 +156,11 @@ abbrev pub IsUnited : Core → List Token → Type 0
 IsUnited core ts = Then (Flag "all" core.joined_all) (IsCore core) ts
 
 abbrev pub AreCores : List Core → List Token → Type 0
-AreCores cores ts = Separated "union" IsFirstCore IsUnited cores ts
+AreCores cores ts = IsSeparatedBy "union" IsFirstCore IsUnited cores ts
 
 -- a name, or the number of a column of the answer
 abbrev pub IsKey : OrderKey → List Token → Type 0
-IsKey (Name name) ts = Named name ts
+IsKey (Name name) ts = IsNameToken name ts
 IsKey (Place place) ts = ts ≡ Number (pos place) ∷ []
 
 abbrev pub IsDirection : Bool → List Token → Type 0
@@ -172,7 +173,7 @@ IsOrder order ts = Then (IsKey order.key) (IsDirection order.descending) ts
 -- ORDER BY, or nothing
 abbrev pub AreOrders : List Order → List Token → Type 0
 AreOrders [] ts = ts ≡ []
-AreOrders (order ∷ orders) ts = After "order" (After "by" (Listed IsOrder (order ∷ orders))) ts
+AreOrders (order ∷ orders) ts = After "order" (After "by" (IsCommaList IsOrder (order ∷ orders))) ts
 
 -- a number, or the value of a parameter
 abbrev pub IsBound : Value → List Token → Type 0
@@ -187,27 +188,29 @@ IsQuery query ts =
 -- the columns of an INSERT in parentheses, or nothing
 abbrev pub AreColumns : Option (List (List ℕ)) → List Token → Type 0
 AreColumns None ts = ts ≡ []
-AreColumns (Some names) ts = After "(" (Then (Listed Named names) (Only ")")) ts
+AreColumns (Some names) ts = After "(" (Then (IsCommaList IsNameToken names) (Only ")")) ts
 
 abbrev pub IsTuple : List Expr → List Token → Type 0
-IsTuple tuple ts = After "(" (Then (Listed IsExpression tuple) (Only ")")) ts
+IsTuple tuple ts = After "(" (Then (IsCommaList IsExpression tuple) (Only ")")) ts
 
 abbrev pub IsInsert : Insert → List Token → Type 0
 IsInsert insert ts =
-    After "insert" (After "into" (Then (Named insert.table) (Then (AreColumns insert.columns) (After "values"
-    (Listed IsTuple insert.rows))))) ts
+    After "insert" (After "into"
+    (Then (IsNameToken insert.table) (Then (AreColumns insert.columns) (After "values"
+    (IsCommaList IsTuple insert.rows))))) ts
 
 abbrev pub IsSet : Set → List Token → Type 0
-IsSet set ts = Then (Named set.column) (After "=" (IsExpression set.expr)) ts
+IsSet set ts = Then (IsNameToken set.column) (After "=" (IsExpression set.expr)) ts
 
 abbrev pub IsUpdate : Update → List Token → Type 0
 IsUpdate update ts =
-    After "update" (Then (Named update.table) (After "set" (Then (Listed IsSet update.sets)
+    After "update" (Then (IsNameToken update.table) (After "set" (Then (IsCommaList IsSet update.sets)
     (Optionally "where" IsExpression update.pick)))) ts
 
 abbrev pub IsDelete : Delete → List Token → Type 0
 IsDelete delete ts =
-    After "delete" (After "from" (Then (Named delete.table) (Optionally "where" IsExpression delete.pick))) ts
+    After "delete" (After "from"
+    (Then (IsNameToken delete.table) (Optionally "where" IsExpression delete.pick))) ts
 
 -- STATEMENTS
 

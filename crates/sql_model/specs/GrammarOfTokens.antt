@@ -6,7 +6,7 @@ use Rattle.std.specs.List.{AllByRecursion}
 use Rattle.ldv_value.specs.Limits.{text_limit}
 use Rattle.sql_model.specs.declared.token.Token.{Token}
 use Rattle.sql_model.specs.declared.token.Token.TheVariants.{Word, Number, Quoted, Given}
-use Rattle.sql_model.specs.TextBytes.{is_blank, is_digit, is_letter, folded}
+use Rattle.sql_model.specs.TextBytes.{is_blank, is_digit, is_letter, lower_case_of}
 
 abbrev pub AreBlanks : List ℕ → Type 0
 AreBlanks = AllByRecursion (λ b. IsTrue (is_blank b))
@@ -38,9 +38,10 @@ digits_from n [] = n
 digits_from n (d ∷ ds) = digits_from (n * 10 + (d - 48)) ds
 
 -- a text as it stands between its quotes: each quote in it is written twice
-abbrev pub doubled : List ℕ → List ℕ
-doubled [] = []
-doubled (b ∷ bs) = if is_quote b then 39 ∷ 39 ∷ doubled bs else b ∷ doubled bs
+abbrev pub with_doubled_quotes : List ℕ → List ℕ
+with_doubled_quotes [] = []
+with_doubled_quotes (b ∷ bs) = if is_quote b then 39 ∷ 39
+    ∷ with_doubled_quotes bs else b ∷ with_doubled_quotes bs
 
 abbrev pub symbols : List (List ℕ)
 symbols =
@@ -63,11 +64,12 @@ IsWhole piece (b ∷ bs) = ¬ IsSymbol (piece ++ b ∷ [])
 -- The bytes of a piece are a token, where the bytes of the rest stand directly after it. After a word or a
 -- number stands no letter, digit or `_`: two of them in a row need a blank.
 abbrev pub IsToken : List ℕ → List ℕ → Token → Type 0
-IsToken piece rest (Word w) = (IsWord piece × (w ≡ map folded piece) × BeginsNot is_inside rest)
+IsToken piece rest (Word w) = (IsWord piece × (w ≡ map lower_case_of piece) × BeginsNot is_inside rest)
     ⊎ (IsSymbol piece × (w ≡ piece) × IsWhole piece rest)
 IsToken piece rest (Number z) = AreDigits piece × (z ≡ pos (digits_from 0 piece))
     × (digits_from 0 piece ≤ 9223372036854775807) × BeginsNot is_inside rest
-IsToken piece rest (Quoted text) = (piece ≡ 39 ∷ doubled text ++ 39 ∷ []) × (length text ≤ text_limit)
+IsToken piece rest (Quoted text) = (piece ≡ 39 ∷ with_doubled_quotes text ++ 39 ∷ [])
+    × (length text ≤ text_limit)
     × BeginsNot is_quote rest
 IsToken piece rest (Given v) = ⊥
 

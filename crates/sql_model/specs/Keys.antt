@@ -17,14 +17,14 @@ repeats same [] = false
 repeats same (x ∷ xs) = list_any (same x) xs || repeats same xs
 
 -- the same as the first item, where there is one
-abbrev pub first_same : {X : Type 0} → (X → X → Bool) → X → List X → Bool
-first_same same x [] = false
-first_same same x (y ∷ ys) = same x y
+abbrev pub matches_first : {X : Type 0} → (X → X → Bool) → X → List X → Bool
+matches_first same x [] = false
+matches_first same x (y ∷ ys) = same x y
 
 -- some item is the same as the next one
 abbrev pub has_same_neighbours : {X : Type 0} → (X → X → Bool) → List X → Bool
 has_same_neighbours same [] = false
-has_same_neighbours same (x ∷ xs) = first_same same x xs || has_same_neighbours same xs
+has_same_neighbours same (x ∷ xs) = matches_first same x xs || has_same_neighbours same xs
 
 -- a row's values at some places
 abbrev pub values_at : List ℕ → List Value → List Value

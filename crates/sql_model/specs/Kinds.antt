@@ -30,20 +30,20 @@ is_logical AnyKind = false
 is_logical TruthKind = true
 
 -- neither is a truth, and a number doesn't meet a text
-abbrev pub comparable : Kind → Kind → Bool
-comparable IntKind IntKind = true
-comparable IntKind TextKind = false
-comparable IntKind AnyKind = true
-comparable IntKind TruthKind = false
-comparable TextKind IntKind = false
-comparable TextKind TextKind = true
-comparable TextKind AnyKind = true
-comparable TextKind TruthKind = false
-comparable AnyKind IntKind = true
-comparable AnyKind TextKind = true
-comparable AnyKind AnyKind = true
-comparable AnyKind TruthKind = false
-comparable TruthKind b = false
+abbrev pub are_comparable : Kind → Kind → Bool
+are_comparable IntKind IntKind = true
+are_comparable IntKind TextKind = false
+are_comparable IntKind AnyKind = true
+are_comparable IntKind TruthKind = false
+are_comparable TextKind IntKind = false
+are_comparable TextKind TextKind = true
+are_comparable TextKind AnyKind = true
+are_comparable TextKind TruthKind = false
+are_comparable AnyKind IntKind = true
+are_comparable AnyKind TextKind = true
+are_comparable AnyKind AnyKind = true
+are_comparable AnyKind TruthKind = false
+are_comparable TruthKind b = false
 
 abbrev pub kind_if : Bool → Kind → Option Kind
 kind_if b k = if b then Some k else None
@@ -52,7 +52,7 @@ abbrev pub kind_both : Operator → Kind → Kind → Option Kind
 kind_both Add a b = kind_if (is_number a && is_number b) IntKind
 kind_both Subtract a b = kind_if (is_number a && is_number b) IntKind
 kind_both Multiply a b = kind_if (is_number a && is_number b) IntKind
-kind_both (Compare c) a b = kind_if (comparable a b) TruthKind
+kind_both (Compare c) a b = kind_if (are_comparable a b) TruthKind
 kind_both And a b = kind_if (is_logical a && is_logical b) TruthKind
 kind_both Or a b = kind_if (is_logical a && is_logical b) TruthKind
 
@@ -160,14 +160,14 @@ aggregate_step (open_expr.Aggregate f e) = true
 abbrev pub has_aggregate : Expr → Bool
 has_aggregate = fold-Expr Bool aggregate_step
 
-pub record Counting : Type 0 where
+pub record CountUse : Type 0 where
   -- the expression names a column
   pub names_column : Bool
   -- it has a COUNT, or a SUM whose argument names no column
   pub counts_rows : Bool
 
-abbrev pub counting : Bool → Bool → Counting
-counting names_column counts_rows = record { names_column = names_column; counts_rows = counts_rows }
+abbrev pub count_use : Bool → Bool → CountUse
+count_use names_column counts_rows = record { names_column = names_column; counts_rows = counts_rows }
 
 -- an aggregate whose argument names a column, or doesn't
 abbrev pub fold_counts : Fold → Bool → Bool
@@ -176,20 +176,20 @@ fold_counts Sum names_column = not names_column
 fold_counts Min names_column = false
 fold_counts Max names_column = false
 
-abbrev pub counting_step : Expr-F Counting → Counting
-counting_step (open_expr.Constant v) = counting false false
-counting_step (open_expr.Column c) = counting true false
-counting_step (open_expr.Negate e) = e
-counting_step (open_expr.Not e) = e
-counting_step (open_expr.Both op a b) =
-    counting (a.names_column || b.names_column) (a.counts_rows || b.counts_rows)
-counting_step (open_expr.IsNull e negative) = e
-counting_step (open_expr.Aggregate f None) = counting false true
-counting_step (open_expr.Aggregate f (Some e)) =
-    counting e.names_column (e.counts_rows || fold_counts f e.names_column)
+abbrev pub count_use_step : Expr-F CountUse → CountUse
+count_use_step (open_expr.Constant v) = count_use false false
+count_use_step (open_expr.Column c) = count_use true false
+count_use_step (open_expr.Negate e) = e
+count_use_step (open_expr.Not e) = e
+count_use_step (open_expr.Both op a b) =
+    count_use (a.names_column || b.names_column) (a.counts_rows || b.counts_rows)
+count_use_step (open_expr.IsNull e negative) = e
+count_use_step (open_expr.Aggregate f None) = count_use false true
+count_use_step (open_expr.Aggregate f (Some e)) =
+    count_use e.names_column (e.counts_rows || fold_counts f e.names_column)
 
-abbrev pub counting_of : Expr → Counting
-counting_of = fold-Expr Counting counting_step
+abbrev pub count_use_of : Expr → CountUse
+count_use_of = fold-Expr CountUse count_use_step
 
 -- ---- the name of an answer column
 

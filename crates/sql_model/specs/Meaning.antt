@@ -11,7 +11,7 @@ use Rattle.std.specs.List.{reduce}
 use Rattle.std.specs.Ordering.{is_lt, is_gt}
 use Rattle.sql_model.specs.Types.{Value, Null, Int, Text, Truth, True, False, Unknown, ColumnName, Operator}
 use Rattle.sql_model.specs.Types.{Add, Subtract, Multiply, Compare, And, Or, Fold, Expr, Expr-F}
-use Rattle.ldv_value.specs.Order.{order, test_of, known}
+use Rattle.ldv_value.specs.Order.{order, test_of, truth_of_bool}
 use Rattle.sql_model.specs.declared.expr.Fold.TheVariants.{Count, Sum, Min, Max}
 use Rattle.sql_model.specs.declared.expr.Expr.TheOpen as open_expr
 use Rattle.sql_model.specs.declared.expr.Expr.TheFolds.{fold-Expr}
@@ -41,10 +41,10 @@ with_numbers f (Int m) (Int n) = number_value (f m n)
 with_numbers f (Int m) (Text t) = Null
 with_numbers f (Text s) b = Null
 
-abbrev pub negated : Value → Value
-negated Null = Null
-negated (Int n) = number_value (neg_ℤ n)
-negated (Text t) = Null
+abbrev pub negation_of : Value → Value
+negation_of Null = Null
+negation_of (Int n) = number_value (neg_ℤ n)
+negation_of (Text t) = Null
 
 -- three-valued logic
 abbrev pub truth_not : Truth → Truth
@@ -94,8 +94,8 @@ both op a b = record { value = value_both op a.value b.value; truth = truth_both
 
 -- IS NULL, or IS NOT NULL where the flag is set
 abbrev pub null_test : Bool → Value → Truth
-null_test false v = known (is_null v)
-null_test true v = known (not (is_null v))
+null_test false v = truth_of_bool (is_null v)
+null_test true v = truth_of_bool (not (is_null v))
 
 -- ---- aggregates
 
@@ -108,30 +108,30 @@ abbrev pub total : List Value → ℤ
 total [] = pos 0
 total (v ∷ vs) = number_in v +ℤ total vs
 
-abbrev pub lesser : Value → Value → Value
-lesser a b = if is_lt (order b a) then b else a
+abbrev pub lesser_of : Value → Value → Value
+lesser_of a b = if is_lt (order b a) then b else a
 
-abbrev pub greater : Value → Value → Value
-greater a b = if is_gt (order b a) then b else a
+abbrev pub greater_of : Value → Value → Value
+greater_of a b = if is_gt (order b a) then b else a
 
 abbrev pub or_null : Option Value → Value
 or_null None = Null
 or_null (Some v) = v
 
 -- over the values that aren't NULL: the exact count and the exact sum, NULL outside 64 bits
-abbrev pub folded : Fold → List Value → Value
-folded Count vs = number_value (pos (length vs))
-folded Sum [] = Null
-folded Sum (v ∷ vs) = number_value (total (v ∷ vs))
-folded Min vs = or_null (reduce lesser vs)
-folded Max vs = or_null (reduce greater vs)
+abbrev pub aggregate_of : Fold → List Value → Value
+aggregate_of Count vs = number_value (pos (length vs))
+aggregate_of Sum [] = Null
+aggregate_of Sum (v ∷ vs) = number_value (total (v ∷ vs))
+aggregate_of Min vs = or_null (reduce lesser_of vs)
+aggregate_of Max vs = or_null (reduce greater_of vs)
 
 abbrev pub known_values : List Value → List Value
 known_values vs = filter (λ v. not (is_null v)) vs
 
 -- COUNT(*) counts the rows
-abbrev pub counted : List Environment → Value
-counted group = number_value (pos (length group))
+abbrev pub count_value : List Environment → Value
+count_value group = number_value (pos (length group))
 
 -- over one row
 abbrev pub counted_one : Value
@@ -146,13 +146,13 @@ in_first (env ∷ rest) c = env c
 abbrev pub eval_step : Expr-F (List Environment → Meaning) → List Environment → Meaning
 eval_step (open_expr.Constant v) group = of_value v
 eval_step (open_expr.Column c) group = of_value (in_first group c)
-eval_step (open_expr.Negate e) group = of_value (negated (e group).value)
+eval_step (open_expr.Negate e) group = of_value (negation_of (e group).value)
 eval_step (open_expr.Not e) group = of_truth (truth_not (e group).truth)
 eval_step (open_expr.Both op a b) group = both op (a group) (b group)
 eval_step (open_expr.IsNull e negative) group = of_truth (null_test negative (e group).value)
-eval_step (open_expr.Aggregate f None) group = of_value (counted group)
+eval_step (open_expr.Aggregate f None) group = of_value (count_value group)
 eval_step (open_expr.Aggregate f (Some e)) group =
-    of_value (folded f (known_values (map (λ env. (e (env ∷ [])).value) group)))
+    of_value (aggregate_of f (known_values (map (λ env. (e (env ∷ [])).value) group)))
 
 abbrev pub eval : Expr → List Environment → Meaning
 eval = fold-Expr (List Environment → Meaning) eval_step

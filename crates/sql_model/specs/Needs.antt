@@ -12,8 +12,8 @@ use Rattle.sql_model.specs.Types.{NoColumn, TypeClash, NotNull, KeyTaken, Full, 
 use Rattle.sql_model.specs.Types.{Query, Statement, TheQuery, TheInsert, TheUpdate, TheDelete, Table}
 use Rattle.sql_model.specs.Types.{TableRow}
 use Rattle.sql_model.specs.QueryAnswer.{Origin, lineage_of, rejected, answer, cut}
-use Rattle.sql_model.specs.Changes.{KeyClash, key_clash, changed, matched, inserted}
-pub use Rattle.sql_model.specs.Changes.{stood}
+use Rattle.sql_model.specs.Changes.{KeyClash, key_clash, table_after, matched, rows_of_insert}
+pub use Rattle.sql_model.specs.Changes.{had_row}
 use Rattle.sql_model.specs.ForeignKeys.{with_parents}
 use Rattle.sql_model.specs.References.{Orphan, first_orphan, parents_needed}
 use Rattle.sql_model.specs.Refusals.{tables_of, groups}
@@ -98,7 +98,8 @@ key_row table row = needed_row K table.name row.number
 abbrev pub key_rows : Statement → Catalog → Option Table → List NeededRow
 key_rows statement catalog None = []
 key_rows statement catalog (Some table) =
-    map (key_row table) (filter (stood table) (clash_rows (key_clash (changed statement catalog table))))
+    map (key_row table)
+    (filter (had_row table) (clash_rows (key_clash (table_after statement catalog table))))
 
 -- ---- rule P: the row stood before, and has after the statement a key to which an inserted or matched row
 -- refers there
@@ -196,7 +197,8 @@ next_member versions table row =
 abbrev pub members_made : Versions → Statement → Catalog → Option Table → List Member
 members_made versions statement catalog None = []
 members_made versions (TheQuery query) catalog (Some table) = []
-members_made versions (TheInsert insert) catalog (Some table) = map (new_member table) (inserted insert table)
+members_made versions (TheInsert insert) catalog (Some table) = map
+    (new_member table) (rows_of_insert insert table)
 members_made versions (TheUpdate update) catalog (Some table) =
     map (next_member versions table) (matched (TheUpdate update) catalog table)
 members_made versions (TheDelete delete) catalog (Some table) =

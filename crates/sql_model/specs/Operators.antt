@@ -24,8 +24,8 @@ comparison_of w =
     else if pointwise nat_eq w (codes ">=") then Some Ge
     else None
 
-abbrev pub compared : List ℕ → Option Infix
-compared w = comparison_of w >>= λ cmp. Some (Both (Compare cmp))
+abbrev pub comparison_infix : List ℕ → Option Infix
+comparison_infix w = comparison_of w >>= λ cmp. Some (Both (Compare cmp))
 
 -- what the word or symbol is between operands
 abbrev pub joint_in : List ℕ → Option Infix
@@ -36,7 +36,7 @@ joint_in w =
     else if pointwise nat_eq w (codes "+") then Some (Both Add)
     else if pointwise nat_eq w (codes "-") then Some (Both Subtract)
     else if pointwise nat_eq w (codes "*") then Some (Both Multiply)
-    else compared w
+    else comparison_infix w
 
 abbrev pub joint_of : List Token → Option Infix
 joint_of [] = None

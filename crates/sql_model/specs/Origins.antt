@@ -27,20 +27,20 @@ SameRows (r ∷ rs) (s ∷ ss) = (r.values ≡ s.values) × SameSet r.lineage s.
 -- ---- needs by lineages
 
 -- rows that are needed by a rule
-pub record Needing : Type 0 where
+pub record RuleOrigins : Type 0 where
   pub rule : Rule
   pub origins : List Origin
 
-abbrev pub rows_needing : Needing → List NeededRow
-rows_needing needing = map (needed_by needing.rule) needing.origins
+abbrev pub rows_by_rule : RuleOrigins → List NeededRow
+rows_by_rule needing = map (needed_by needing.rule) needing.origins
 
 -- of several rules, the first before the next
-abbrev pub all_needing : List Needing → List NeededRow
-all_needing needings = flat_map rows_needing needings
+abbrev pub rows_by_rules : List RuleOrigins → List NeededRow
+rows_by_rules needings = flat_map rows_by_rule needings
 
 -- the same rules in the same order, each of the same rows
-abbrev pub SameNeedings : List Needing → List Needing → Type 0
-SameNeedings [] [] = Unit {0}
-SameNeedings [] (n ∷ ns) = ⊥
-SameNeedings (m ∷ ms) [] = ⊥
-SameNeedings (m ∷ ms) (n ∷ ns) = (m.rule ≡ n.rule) × SameSet m.origins n.origins × SameNeedings ms ns
+abbrev pub SameRuleOrigins : List RuleOrigins → List RuleOrigins → Type 0
+SameRuleOrigins [] [] = Unit {0}
+SameRuleOrigins [] (n ∷ ns) = ⊥
+SameRuleOrigins (m ∷ ms) [] = ⊥
+SameRuleOrigins (m ∷ ms) (n ∷ ns) = (m.rule ≡ n.rule) × SameSet m.origins n.origins × SameRuleOrigins ms ns

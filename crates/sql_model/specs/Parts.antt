@@ -15,13 +15,13 @@ another read made ts =
     else Some ((made, false), ts)
 
 -- one part and more of them, with commas between
-abbrev pub listed : {A : Type 0} → (List Token → Option (A × List Token)) → List Token
+abbrev pub list_of_parts : {A : Type 0} → (List Token → Option (A × List Token)) → List Token
     → Option (List A × List Token)
-listed read ts = read ts >>= λ r. repeat (another read) (length ts) (r.0 ∷ []) r.1
+list_of_parts read ts = read ts >>= λ r. repeat (another read) (length ts) (r.0 ∷ []) r.1
 
 -- a name in a list
 abbrev pub reads_names : List Token → Option (List (List ℕ) × List Token)
-reads_names = listed reads_name
+reads_names = list_of_parts reads_name
 
 -- the expression after a word, where the word is there
 abbrev pub reads_optional : List ℕ → List Token → Option (Option Expr × List Token)
@@ -30,5 +30,5 @@ reads_optional word ts = if starts word ts then (reads_expr (tail ts) >>= λ r. 
 
 -- a tuple of VALUES
 abbrev pub reads_tuple : List Token → Option (List Expr × List Token)
-reads_tuple ts = after_word (codes "(") ts >>= λ inside. listed reads_expr inside
+reads_tuple ts = after_word (codes "(") ts >>= λ inside. list_of_parts reads_expr inside
     >>= λ r. after_word (codes ")") r.1 >>= λ rest. Some (r.0, rest)

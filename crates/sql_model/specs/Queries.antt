@@ -20,8 +20,8 @@ use Rattle.sql_model.specs.Columns.{reads_column}
 use Rattle.sql_model.specs.declared.expr.Expr.{Expr}
 use Rattle.sql_model.specs.Expressions.{reads_expr}
 use Rattle.ldv_value.specs.Options.{◌>>=◌}
-use Rattle.sql_model.specs.Parts.{listed, reads_optional}
-use Rattle.sql_model.specs.Reader.{starts, tail, passed, after_word, reads_token, name_in, reads_name, repeat}
+use Rattle.sql_model.specs.Parts.{list_of_parts, reads_optional}
+use Rattle.sql_model.specs.Reader.{starts, tail, tokens_past, after_word, reads_token, name_in, reads_name, repeat}
 
 -- ITEMS
 
@@ -35,7 +35,7 @@ reads_item ts = reads_expr ts >>= λ e. reads_alias e.1 >>= λ n. Some (record {
 -- `*`, or items
 abbrev pub reads_items : List Token → Option (Option (List Item) × List Token)
 reads_items ts = if starts (codes "*") ts then Some (None, tail ts)
-    else (listed reads_item ts >>= λ r. Some (Some r.0, r.1))
+    else (list_of_parts reads_item ts >>= λ r. Some (Some r.0, r.1))
 
 -- SOURCES
 
@@ -88,7 +88,7 @@ reads_sources most ts =
 
 abbrev pub reads_group : List Token → Option (List ColumnName × List Token)
 reads_group ts = if starts (codes "group") ts
-    then (after_word (codes "by") (tail ts) >>= λ rest. listed reads_column rest) else Some ([], ts)
+    then (after_word (codes "by") (tail ts) >>= λ rest. list_of_parts reads_column rest) else Some ([], ts)
 
 -- a core of its parts: the conditions are those after ON, and then the one after WHERE
 abbrev pub core_with : Bool → Bool → Option (List Item) → Sources → Option Expr → List ColumnName
@@ -118,12 +118,12 @@ core_rest all distinct ts =
 
 abbrev pub reads_core : Bool → List Token → Option (Core × List Token)
 reads_core all ts = after_word (codes "select") ts
-    >>= λ rest. core_rest all (starts (codes "distinct") rest) (passed (codes "distinct") rest)
+    >>= λ rest. core_rest all (starts (codes "distinct") rest) (tokens_past (codes "distinct") rest)
 
 -- one more core, after UNION
 abbrev pub another_core : List Core → List Token → Option ((List Core × Bool) × List Token)
 another_core made ts =
-    if starts (codes "union") ts then (reads_core (starts (codes "all") (tail ts)) (passed (codes "all")
+    if starts (codes "union") ts then (reads_core (starts (codes "all") (tail ts)) (tokens_past (codes "all")
     (tail ts)) >>= λ r. Some ((made ++ r.0 ∷ [], true), r.1))
     else Some ((made, false), ts)
 
@@ -146,16 +146,17 @@ abbrev pub reads_key : List Token → Option (OrderKey × List Token)
 reads_key ts = reads_token ts >>= λ t. key_of t.0 >>= λ k. Some (k, t.1)
 
 -- what follows ASC or DESC
-abbrev pub directed : List Token → List Token
-directed ts = if starts (codes "asc") ts then tail ts else passed (codes "desc") ts
+abbrev pub tokens_after_direction : List Token → List Token
+tokens_after_direction ts = if starts (codes "asc") ts then tail ts else tokens_past (codes "desc") ts
 
 abbrev pub reads_order : List Token → Option (Order × List Token)
 reads_order ts =
-    reads_key ts >>= λ k. Some (record { key = k.0; descending = starts (codes "desc") k.1 }, directed k.1)
+    reads_key ts >>= λ k. Some
+    (record { key = k.0; descending = starts (codes "desc") k.1 }, tokens_after_direction k.1)
 
 abbrev pub reads_orders : List Token → Option (List Order × List Token)
 reads_orders ts = if starts (codes "order") ts
-    then (after_word (codes "by") (tail ts) >>= λ rest. listed reads_order rest) else Some ([], ts)
+    then (after_word (codes "by") (tail ts) >>= λ rest. list_of_parts reads_order rest) else Some ([], ts)
 
 abbrev pub bound_of : Token → Option Value
 bound_of (Word w) = None

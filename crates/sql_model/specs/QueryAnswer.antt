@@ -73,9 +73,10 @@ picked core db =
 -- ---- rows of the same values; NULL is the same as NULL
 
 -- each once, in order of first appearance
-abbrev pub distinct : List (List Value) → List (List Value)
-distinct [] = []
-distinct (values ∷ rest) = values ∷ filter (λ other. not (same_values other values)) (distinct rest)
+abbrev pub distinct_values : List (List Value) → List (List Value)
+distinct_values [] = []
+distinct_values (values ∷ rest) = values
+    ∷ filter (λ other. not (same_values other values)) (distinct_values rest)
 
 abbrev pub has_values : List Value → AnswerRow → Bool
 has_values values row = same_values row.values values
@@ -85,7 +86,7 @@ merged_row rows values = record { values = values; lineage = lineage_of (filter 
 
 -- one row for all of the same values, at the place of the first, with the lineages of them all
 abbrev pub merge : List AnswerRow → List AnswerRow
-merge rows = map (merged_row rows) (distinct (map answer_values rows))
+merge rows = map (merged_row rows) (distinct_values (map answer_values rows))
 
 -- ---- groups
 
@@ -100,7 +101,8 @@ has_key scope group key rows = same_values (group_key scope group rows) key
 abbrev pub groups_of : List InScope → List ColumnName → List Combination → List (List Combination)
 groups_of scope [] all = all ∷ []
 groups_of scope (c ∷ cs) all =
-    map (λ key. filter (has_key scope (c ∷ cs) key) all) (distinct (map (group_key scope (c ∷ cs)) all))
+    map (λ key. filter (has_key scope (c ∷ cs) key) all)
+    (distinct_values (map (group_key scope (c ∷ cs)) all))
 
 abbrev pub environments : List InScope → List Combination → List Environment
 environments scope group = map (row_environment scope) group
@@ -129,14 +131,14 @@ group_row scope core group =
       lineage = flat_map (combination_rows core.from) group;
     }
 
-abbrev pub single : Combination → List Combination
-single rows = rows ∷ []
+abbrev pub one_combination : Combination → List Combination
+one_combination rows = rows ∷ []
 
 abbrev pub rows_in_scope : List InScope → Core → List Combination → List AnswerRow
 rows_in_scope scope core all =
     if groups core
     then map (group_row scope core) (filter (is_kept scope core.having) (groups_of scope core.group all))
-    else map (λ rows. group_row scope core (single rows)) all
+    else map (λ rows. group_row scope core (one_combination rows)) all
 
 abbrev pub once : Bool → List AnswerRow → List AnswerRow
 once false rows = rows
@@ -160,13 +162,14 @@ rejected db core = rejected_in_scope (scope_of core.from (catalog_of db)) core (
 -- ---- UNION
 
 -- UNION ALL appends, and UNION merges then
-abbrev pub united : Bool → List AnswerRow → List AnswerRow → List AnswerRow
-united true rows more = rows ++ more
-united false rows more = merge (rows ++ more)
+abbrev pub union_answers : Bool → List AnswerRow → List AnswerRow → List AnswerRow
+union_answers true rows more = rows ++ more
+union_answers false rows more = merge (rows ++ more)
 
 abbrev pub rows_after : List Table → List AnswerRow → List Core → List AnswerRow
 rows_after db rows [] = rows
-rows_after db rows (core ∷ cores) = rows_after db (united core.joined_all rows (core_rows db core)) cores
+rows_after db rows (core ∷ cores) = rows_after db
+    (union_answers core.joined_all rows (core_rows db core)) cores
 
 -- the cores are taken from the left
 abbrev pub union_rows : List Table → List Core → List AnswerRow
@@ -183,15 +186,15 @@ pub record SortKey : Type 0 where
 abbrev pub sort_key : List (Option (List ℕ)) → Order → SortKey
 sort_key titles part = record { place = key_place titles part.key; descending = part.descending }
 
-abbrev pub directed : Bool → Ordering → Ordering
-directed false o = o
-directed true o = ordering_reverse o
+abbrev pub order_in_direction : Bool → Ordering → Ordering
+order_in_direction false o = o
+order_in_direction true o = ordering_reverse o
 
 -- by the first column, and where that is the same by the next ones
 abbrev pub order_by : List SortKey → List Value → List Value → Ordering
 order_by [] a b = Equal
 order_by (key ∷ keys) a b =
-    ordering_then (directed key.descending (order (value_at a key.place) (value_at b key.place)))
+    ordering_then (order_in_direction key.descending (order (value_at a key.place) (value_at b key.place)))
     (order_by keys a b)
 
 abbrev pub sort_rows : List SortKey → List AnswerRow → List AnswerRow

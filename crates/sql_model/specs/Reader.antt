@@ -24,8 +24,8 @@ tail [] = []
 tail (t ∷ ts) = ts
 
 -- the tokens without this first one, where they start with it
-abbrev pub passed : List ℕ → List Token → List Token
-passed text ts = if starts text ts then tail ts else ts
+abbrev pub tokens_past : List ℕ → List Token → List Token
+tokens_past text ts = if starts text ts then tail ts else ts
 
 -- what follows this first one
 abbrev pub after_word : List ℕ → List Token → Option (List Token)

@@ -7,7 +7,7 @@ use Rattle.std.specs.Prelude.{Some, None, if◌then◌else◌, is_none}
 use Rattle.std.specs.List.{flat_map, filter_map, list_any, list_all}
 use Rattle.sql_model.specs.Types.{Value, Catalog, Foreign, Statement, TheQuery, TheInsert, TheUpdate}
 use Rattle.sql_model.specs.Types.{TheDelete, Table, TableRow}
-use Rattle.sql_model.specs.Changes.{is_matched, changed, changed_in, new_rows, stood, target_of}
+use Rattle.sql_model.specs.Changes.{is_matched, table_after, changed_in, new_rows, had_row, target_of}
 use Rattle.sql_model.specs.Keys.{same_values, values_at}
 use Rattle.sql_model.specs.Meaning.{is_null}
 use Rattle.sql_model.specs.QueryAnswer.{Origin}
@@ -31,23 +31,23 @@ first_in (x ∷ xs) = Some x
 -- ---- parents that are missing
 
 -- a key to which a row refers and that no row of the parent has
-pub record Missing : Type 0 where
+pub record MissingParent : Type 0 where
   pub parent : List ℕ
   pub key : List Value
 
-abbrev pub missing_key : Option Table → Foreign → Option (List Value) → Option Missing
+abbrev pub missing_key : Option Table → Foreign → Option (List Value) → Option MissingParent
 missing_key parent foreign None = None
 missing_key None foreign (Some key) = Some (record { parent = foreign.parent; key = key })
 missing_key (Some parent) foreign (Some key) =
     if list_any (has_key parent.schema.key key) parent.rows then None
     else Some (record { parent = foreign.parent; key = key })
 
-abbrev pub missing_by : List Table → List Value → Foreign → Option Missing
+abbrev pub missing_by : List Table → List Value → Foreign → Option MissingParent
 missing_by tables values foreign =
     missing_key (table_at foreign.parent tables) foreign (reference foreign values)
 
 -- row by row, and in each in the order of the schema
-abbrev pub missing_parents : List Table → List Foreign → List TableRow → List Missing
+abbrev pub missing_parents : List Table → List Foreign → List TableRow → List MissingParent
 missing_parents tables foreigns rows =
     flat_map (λ row. filter_map (missing_by tables row.values) foreigns) rows
 
@@ -125,7 +125,7 @@ parents_in None after foreign (Some key) = []
 parents_in (Some before) None foreign (Some key) = []
 parents_in (Some before) (Some after) foreign (Some key) =
     map (λ row. record { table = foreign.parent; row = row.number })
-    (filter (λ row. has_key after.schema.key key row && stood before row) after.rows)
+    (filter (λ row. has_key after.schema.key key row && had_row before row) after.rows)
 
 abbrev pub parents_by : List Table → List Table → List Value → Foreign → List Origin
 parents_by before after values foreign =
@@ -143,8 +143,8 @@ abbrev pub tables_after : Statement → Catalog → List Table → List Table
 tables_after statement catalog db = changed_in (target_of statement) statement catalog db
 
 -- the first parent that rows lack which it inserts or matches, as they are after it
-abbrev pub first_missing : Statement → Catalog → Table → List Table → Option Missing
-first_missing statement catalog table db = first_in
+abbrev pub first_missing_parent : Statement → Catalog → Table → List Table → Option MissingParent
+first_missing_parent statement catalog table db = first_in
     (missing_parents (tables_after statement catalog db) table.schema.foreign
     (new_rows statement catalog table))
 
@@ -158,7 +158,7 @@ is_changed (TheDelete delete) catalog row = is_matched (own_scope delete.table c
 -- the first other row that loses its parent
 abbrev pub first_orphan : Statement → Catalog → Table → List Table → Option Orphan
 first_orphan statement catalog table db =
-    first_in (orphans (is_changed statement catalog) table (changed statement catalog table) db)
+    first_in (orphans (is_changed statement catalog) table (table_after statement catalog table) db)
 
 -- the parent rows of these that stood before
 abbrev pub parents_needed : Statement → Catalog → Table → List Table → List Origin

@@ -10,8 +10,8 @@ use Rattle.sql_model.specs.Types.{Value, Null, Int, Text, Catalog, ColumnName, E
 use Rattle.sql_model.specs.Types.{AnyKind, TruthKind, SqlRefusal, NoTable, NoColumn, TypeClash, Core, Delete}
 use Rattle.sql_model.specs.Types.{Insert, Item, OrderKey, Name, Place, Query, Set, Update, Statement}
 use Rattle.sql_model.specs.Types.{TheQuery, TheInsert, TheUpdate, TheDelete, Column}
-use Rattle.sql_model.specs.Kinds.{kind_of_column, is_logical, comparable, row_kind, group_kind, is_condition}
-use Rattle.sql_model.specs.Kinds.{names_in, outer_names, has_aggregate, counting_of, own_name}
+use Rattle.sql_model.specs.Kinds.{kind_of_column, is_logical, are_comparable, row_kind, group_kind, is_condition}
+use Rattle.sql_model.specs.Kinds.{names_in, outer_names, has_aggregate, count_use_of, own_name}
 use Rattle.sql_model.specs.Keys.{repeats}
 use Rattle.sql_model.specs.Scope.{InScope, same_text, schema_at, columns_of, is_column, has_column, scope_of}
 use Rattle.sql_model.specs.Scope.{own_scope, resolves, places_in}
@@ -80,8 +80,8 @@ lacks_table statement catalog =
 -- ---- code 3
 
 -- a name means no column, or more than one
-abbrev pub unresolved : List InScope → List ColumnName → Bool
-unresolved scope names = not (list_all (resolves scope) names)
+abbrev pub has_unresolved_name : List InScope → List ColumnName → Bool
+has_unresolved_name scope names = not (list_all (resolves scope) names)
 
 -- the places of the columns that stand outside aggregates in the items, `*` being all columns
 abbrev pub item_places : List InScope → Option (List Item) → List ℕ
@@ -96,14 +96,14 @@ abbrev pub is_grouped : List InScope → Core → ℕ → Bool
 is_grouped scope core place = list_any (λ p. p == place) (places_in scope core.group)
 
 -- in a core that groups, a column outside aggregates isn't in GROUP BY
-abbrev pub ungrouped : List InScope → Core → Bool
-ungrouped scope core =
+abbrev pub has_ungrouped_column : List InScope → Core → Bool
+has_ungrouped_column scope core =
     groups core
     && not (list_all (is_grouped scope core)
     (item_places scope core.items ++ having_places scope core.having))
 
 abbrev pub lacks_in_scope : List InScope → Core → Bool
-lacks_in_scope scope core = unresolved scope (core_names core) || ungrouped scope core
+lacks_in_scope scope core = has_unresolved_name scope (core_names core) || has_ungrouped_column scope core
 
 abbrev pub core_lacks_column : Catalog → Core → Bool
 core_lacks_column catalog core = lacks_in_scope (scope_of core.from catalog) core
@@ -139,12 +139,13 @@ query_lacks_column query catalog =
 -- VALUES has no scope
 abbrev pub insert_lacks_column : Insert → List Column → Bool
 insert_lacks_column insert columns =
-    not (list_all (has_column columns) (unwrap_or insert.columns [])) || unresolved [] (insert_names insert)
+    not (list_all (has_column columns) (unwrap_or insert.columns []))
+    || has_unresolved_name [] (insert_names insert)
 
 abbrev pub update_lacks_column : Update → List Column → List InScope → Bool
 update_lacks_column update columns scope =
     not (list_all (λ set. has_column columns set.column) update.sets)
-    || unresolved scope (update_names update)
+    || has_unresolved_name scope (update_names update)
 
 abbrev pub lacks_column : Statement → Catalog → Bool
 lacks_column (TheQuery query) catalog = query_lacks_column query catalog
@@ -152,7 +153,8 @@ lacks_column (TheInsert insert) catalog =
     insert_lacks_column insert (columns_of (schema_at insert.table catalog))
 lacks_column (TheUpdate update) catalog =
     update_lacks_column update (columns_of (schema_at update.table catalog)) (own_scope update.table catalog)
-lacks_column (TheDelete delete) catalog = unresolved (own_scope delete.table catalog) (delete_names delete)
+lacks_column (TheDelete delete) catalog = has_unresolved_name
+    (own_scope delete.table catalog) (delete_names delete)
 
 -- ---- code 4
 
@@ -164,7 +166,7 @@ is_having scope expr = is_condition (group_kind scope expr)
 
 -- a COUNT, or a SUM whose argument names no column
 abbrev pub counts : Expr → Bool
-counts expr = (counting_of expr).counts_rows
+counts expr = (count_use_of expr).counts_rows
 
 -- where there is more than one source, neither is allowed
 abbrev pub counts_joined : Core → Bool
@@ -246,7 +248,7 @@ query_clashes query catalog = is_none (query_kinds catalog query.cores) || not (
 
 abbrev pub takes : Column → Option Kind → Bool
 takes column None = false
-takes column (Some k) = comparable (kind_of_column column) k
+takes column (Some k) = are_comparable (kind_of_column column) k
 
 abbrev pub takes_value : Column × Expr → Bool
 takes_value pair = takes pair.0 (row_kind [] pair.1)

@@ -4,8 +4,8 @@ use Rattle.std.specs.List.{list_any}
 use Rattle.ldv_value.specs.Names.{word_test}
 
 -- the words of the language, which name no table and no column
-abbrev pub reserved : List (List ℕ)
-reserved =
+abbrev pub reserved_words : List (List ℕ)
+reserved_words =
     codes "all" ∷ codes "and" ∷ codes "as" ∷ codes "asc" ∷ codes "by" ∷ codes "count" ∷ codes "delete"
     ∷ codes "desc" ∷ codes "distinct" ∷ codes "from" ∷ codes "group" ∷ codes "having" ∷ codes "inner"
     ∷ codes "insert" ∷ codes "into" ∷ codes "is" ∷ codes "join" ∷ codes "limit" ∷ codes "max"
@@ -13,7 +13,7 @@ reserved =
     ∷ codes "set" ∷ codes "sum" ∷ codes "union" ∷ codes "update" ∷ codes "values" ∷ codes "where" ∷ []
 
 abbrev pub is_reserved : List ℕ → Bool
-is_reserved text = list_any (bytes_eq text) reserved
+is_reserved text = list_any (bytes_eq text) reserved_words
 
 -- a lower-case word of 1 to 63 bytes that isn't reserved
 abbrev pub sql_name_test : List ℕ → Bool

@@ -5,7 +5,7 @@ use Rattle.sql_model.specs.Types.{HasChild, Statement}
 use Rattle.sql_model.specs.Types.{TheQuery, TheInsert, TheUpdate, TheDelete, Table}
 use Rattle.sql_model.specs.QueryAnswer.{answer_rows}
 use Rattle.sql_model.specs.Changes.{target_of, table_of, changed_in, matched, or_else, change_refusal}
-use Rattle.sql_model.specs.References.{Missing, Orphan, first_missing, first_orphan}
+use Rattle.sql_model.specs.References.{MissingParent, Orphan, first_missing_parent, first_orphan}
 use Rattle.sql_model.specs.Refusals.{check_refusal}
 use Rattle.sql_model.specs.Scope.{catalog_of}
 
@@ -16,7 +16,7 @@ abbrev pub target : Statement → List Table → Option Table
 target statement db = table_of (target_of statement) db
 
 -- code 8
-abbrev pub parent_refusal : Missing → SqlRefusal
+abbrev pub parent_refusal : MissingParent → SqlRefusal
 parent_refusal missing = NoParent missing.parent missing.key
 
 -- code 9
@@ -27,7 +27,7 @@ child_refusal orphan = HasChild orphan.table orphan.key
 abbrev pub reference_refusal : Statement → Catalog → Option Table → List Table → Option SqlRefusal
 reference_refusal statement catalog None db = None
 reference_refusal statement catalog (Some table) db =
-    or_else (option_map parent_refusal (first_missing statement catalog table db))
+    or_else (option_map parent_refusal (first_missing_parent statement catalog table db))
     (option_map child_refusal (first_orphan statement catalog table db))
 
 -- what the text, the schemas and the rows of the own table refuse

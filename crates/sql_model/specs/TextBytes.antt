@@ -16,5 +16,5 @@ abbrev pub is_letter : ℕ → Bool
 is_letter b = is_upper b || nat_le 97 b && nat_le b 122 || b == 95
 
 -- a letter in its lower case, and any other byte as it is
-abbrev pub folded : ℕ → ℕ
-folded b = if is_upper b then b + 32 else b
+abbrev pub lower_case_of : ℕ → ℕ
+lower_case_of b = if is_upper b then b + 32 else b

@@ -7,7 +7,7 @@ use Rattle.sql_model.specs.declared.token.Token.TheVariants.{Word, Number, Quote
 use Rattle.sql_model.specs.declared.reading.LexState.{LexState}
 use Rattle.sql_model.specs.declared.reading.LexState.TheVariants.{Between, InWord, InNumber, InText, AfterQuote}
 use Rattle.sql_model.specs.declared.reading.LexState.TheVariants.{InSymbol, Ended}
-use Rattle.sql_model.specs.TextBytes.{is_blank, is_digit, is_letter, folded}
+use Rattle.sql_model.specs.TextBytes.{is_blank, is_digit, is_letter, lower_case_of}
 use Rattle.ldv_value.specs.Scan.{tokens_from as scanned}
 use Rattle.ldv_value.specs.Texts.{text_of}
 use Rattle.ldv_value.specs.Options.{◌>>=◌}
@@ -45,14 +45,14 @@ abbrev pub short_symbol : ℕ → Option Token
 short_symbol b = if b == 33 then None else symbol_token (b ∷ [])
 
 -- the number with one more digit, or 2 ^ 64 - 1 where it is more
-abbrev pub longer : ℕ → ℕ → ℕ
-longer n b = min (min (n * 10) (2 ^ 64 - 1) + (b - 48)) (2 ^ 64 - 1)
+abbrev pub with_digit : ℕ → ℕ → ℕ
+with_digit n b = min (min (n * 10) (2 ^ 64 - 1) + (b - 48)) (2 ^ 64 - 1)
 
 -- the state after a byte that starts something new
 abbrev pub start : ℕ → Option LexState
 start b =
     if is_blank b then Some Between
-    else if is_letter b then Some (InWord (folded b ∷ []))
+    else if is_letter b then Some (InWord (lower_case_of b ∷ []))
     else if is_digit b then Some (InNumber (b - 48))
     else if b == 39 then Some (InText [])
     else if begins_symbol b then Some (InSymbol b)
@@ -68,12 +68,12 @@ abbrev pub step_between : ℕ → Option (LexState × Option Token)
 step_between b = start b >>= λ place. Some (place, None)
 
 abbrev pub step_in_word : List ℕ → ℕ → Option (LexState × Option Token)
-step_in_word w b = if is_letter b || is_digit b then Some (InWord (w ++ folded b ∷ []), None)
+step_in_word w b = if is_letter b || is_digit b then Some (InWord (w ++ lower_case_of b ∷ []), None)
     else (word_token w >>= λ t. ends t b)
 
 -- a word doesn't follow a number without a blank
 abbrev pub step_in_number : ℕ → ℕ → Option (LexState × Option Token)
-step_in_number n b = if is_digit b then Some (InNumber (longer n b), None) else if is_letter b then None
+step_in_number n b = if is_digit b then Some (InNumber (with_digit n b), None) else if is_letter b then None
     else (number_token n >>= λ t. ends t b)
 
 abbrev pub step_in_text : List ℕ → ℕ → Option (LexState × Option Token)

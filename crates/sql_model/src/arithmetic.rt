@@ -61,7 +61,7 @@ pub(crate) fn product(left: &Value, right: &Value) -> Value
 }
 
 #[tactic(auto, using(crate::proofs::CheckedNumbers::checked_numbers))]
-pub(crate) fn opposite(number: i64) -> Value
+pub(crate) fn negate(number: i64) -> Value
     ensures { result ≡ number_value (neg_ℤ number) }
 {
     number_or_null(number.checked_neg())

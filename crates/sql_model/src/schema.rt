@@ -8,7 +8,7 @@ ghost use Rattle.sql_model.specs.Tables.{foreign_key_test, foreign_test, key_not
 ghost use Rattle.sql_model.specs.Tables.{schema_test};
 
 use crate::foreign::MAX_FOREIGN;
-use crate::names::is_sql_name;
+use crate::sql_names::is_sql_name;
 use crate::repeats::has_twice;
 use crate::table::{Columns, Foreigns, Schema};
 use ldv_value::{MAX_COLUMNS, Places};

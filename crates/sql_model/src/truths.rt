@@ -1,7 +1,7 @@
 //! Three-valued logic.
 
 ghost use Rattle.std.specs.Prelude.{◌≡◌};
-ghost use Rattle.ldv_value.specs.Order.{known, test_of};
+ghost use Rattle.ldv_value.specs.Order.{truth_of_bool, test_of};
 ghost use Rattle.sql_model.specs.Meaning.{truth_not, truth_and, truth_or, is_null, null_test};
 
 use ldv_value::{Cmp, Truth, Value, holds};
@@ -45,7 +45,7 @@ pub(crate) fn or_truth(left: Truth, right: Truth) -> Truth
 }
 
 // Unknown where a side is NULL.
-pub(crate) fn compared(test: Cmp, left: &Value, right: &Value) -> Truth
+pub(crate) fn comparison_truth(test: Cmp, left: &Value, right: &Value) -> Truth
     ensures { result ≡ test_of test left.now right.now }
 {
     match left {
@@ -86,7 +86,7 @@ pub fn is_null(value: &Value) -> bool
 }
 
 fn known_truth(test: bool) -> Truth
-    ensures { result ≡ known test }
+    ensures { result ≡ truth_of_bool test }
 {
     if test { Truth::True } else { Truth::False }
 }

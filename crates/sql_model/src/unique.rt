@@ -8,7 +8,7 @@ ghost use Rattle.std.specs.Ordering.{eq_by_cmp};
 ghost use Rattle.std.proofs.Common.{rules};
 ghost use Rattle.ldv_value.specs.Order.{order};
 ghost use Rattle.ldv_value.specs.declared.value.Value.{Value};
-ghost use Rattle.sql_model.specs.Keys.{first_same, has_same_neighbours, has_two_of_a_key, repeats, values_at};
+ghost use Rattle.sql_model.specs.Keys.{matches_first, has_same_neighbours, has_two_of_a_key, repeats, values_at};
 ghost use Rattle.sql_model.specs.KeyOrder.{values_order, values_total};
 ghost use Rattle.sql_model.specs.Scope.{value_at};
 ghost use Rattle.ldv_value.specs.declared.value.Value.TheVariants.{Null};
@@ -224,7 +224,7 @@ fn has_same_neighbours<K: Ord>(items: &[K]) -> bool
 }
 
 fn is_first<K: Ord>(item: &K, rest: &[K]) -> bool
-    ensures { result ≡ first_same (eq_by_cmp K.cmp) item.now rest.now }
+    ensures { result ≡ matches_first (eq_by_cmp K.cmp) item.now rest.now }
 {
     match rest {
         [] => false,

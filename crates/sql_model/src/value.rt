@@ -3,12 +3,12 @@
 ghost use Rattle.std.specs.Prelude.{◌≡◌, ◌∷◌, [], drop, IfOk, OnOk};
 ghost use Rattle.ldv_value.specs.Order.{test_of};
 ghost use Rattle.sql_model.specs.Evaluation.{eval_at, column_at, IsValue, IsTruth};
-ghost use Rattle.sql_model.specs.Meaning.{negated, value_both, folded, known_values};
+ghost use Rattle.sql_model.specs.Meaning.{negation_of, value_both, aggregate_of, known_values};
 
-use crate::arithmetic::{difference, number_or_null, opposite, product, sum};
+use crate::arithmetic::{difference, number_or_null, negate, product, sum};
 use crate::expr::{Expr, Fold, Operator};
 use crate::key::value_at;
-use crate::truths::{and_truth, compared, not_truth, null_truth, or_truth};
+use crate::truths::{and_truth, comparison_truth, not_truth, null_truth, or_truth};
 use ldv_value::{Cmp, CopyItem, Places, Truth, Value, Values};
 use std::alloc::{AllocError, Global};
 
@@ -70,7 +70,7 @@ fn value_in(
         Expr::Both(operator, left, right) => {
             let left = value_in(alloc, left.get(), row, places, at)?;
             let right = value_in(alloc, right.get(), row, places, at)?;
-            Ok(calculated(*operator, &left, &right))
+            Ok(calculate(*operator, &left, &right))
         }
         Expr::IsNull(inner, _) => {
             let _value = value_in(alloc, inner.get(), row, places, at)?;
@@ -164,7 +164,7 @@ fn comparison(
 {
     let left = value_in(alloc, left, row, places, at)?;
     let right = value_in(alloc, right, row, places, at)?;
-    Ok(compared(test, &left, &right))
+    Ok(comparison_truth(test, &left, &right))
 }
 
 // The value at the next place.
@@ -189,16 +189,16 @@ fn next_value(
 }
 
 fn minus(value: &Value) -> Value
-    ensures { result ≡ negated value.now }
+    ensures { result ≡ negation_of value.now }
 {
     match value {
         Value::Null => Value::Null,
-        Value::Int(number) => opposite(*number),
+        Value::Int(number) => negate(*number),
         Value::Text(_) => Value::Null,
     }
 }
 
-fn calculated(operator: Operator, left: &Value, right: &Value) -> Value
+fn calculate(operator: Operator, left: &Value, right: &Value) -> Value
     ensures { result ≡ value_both operator left.now right.now }
 {
     match operator {
@@ -214,7 +214,7 @@ fn calculated(operator: Operator, left: &Value, right: &Value) -> Value
 // An aggregate over one row.
 #[tactic(auto, using(crate::proofs::CheckedNumbers::checked_numbers))]
 fn folded_one(fold: Fold, value: Value) -> Value
-    ensures { result ≡ folded fold (known_values (value ∷ [])) }
+    ensures { result ≡ aggregate_of fold (known_values (value ∷ [])) }
 {
     match value {
         Value::Null => match fold {

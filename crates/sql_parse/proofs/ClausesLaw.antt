@@ -3,9 +3,9 @@ use Rattle.std.proofs.Common.{◌≡◌, ℕ, ◌≤◌, List, [], ◌∷◌, �
 use Rattle.std.specs.Prelude.{Option, Some, ◌↔◌, if◌then◌else◌, codes}
 use Prim.Native.String.{String}
 use Rattle.ldv_value.specs.Options.{◌>>=◌}
-use Rattle.sql_model.specs.GrammarOfStatements.{After, Listed}
+use Rattle.sql_model.specs.GrammarOfStatements.{After, IsCommaList}
 use Rattle.sql_model.specs.declared.token.Token.{Token}
-use Rattle.sql_model.specs.Parts.{listed}
+use Rattle.sql_model.specs.Parts.{list_of_parts}
 use Rattle.sql_model.specs.Reader.{starts, tail, after_word}
 use Rattle.sql_parse.proofs.Follows.{among, all_words, lacks, ends_lack}
 use Rattle.sql_parse.proofs.Laws.{Law, state_law, nothing_law, after_law, either_law}
@@ -14,7 +14,7 @@ use Rattle.sql_parse.proofs.PartsLaw.{comma, listed_law}
 module _ {X : Type 0} (first second : String) (Item : X → List Token → Type 0) where
   -- the words, and then one item at least
   abbrev pub WordsAndList : List X → List Token → Type 0
-  WordsAndList xs ts = After first (λ ts. After second (λ ts. Listed Item xs ts) ts) ts
+  WordsAndList xs ts = After first (λ ts. After second (λ ts. IsCommaList Item xs ts) ts) ts
 
   abbrev ClauseForm : List X → List Token → Type 0
   ClauseForm xs ts = WordsAndList xs ts ⊎ ((xs ≡ []) × (ts ≡ []))
@@ -25,9 +25,9 @@ module _ {X : Type 0} (first second : String) (Item : X → List Token → Type 
       → ((x : X) (xs : List X) (ts : List Token) → Clause (x ∷ xs) ts ↔ WordsAndList (x ∷ xs) ts)
       → Law Item (comma ∷ ws) read → ((x : X) (ts : List Token) → Item x ts → 1 ≤ length ts)
       → lacks comma ws ≡ true → all_words (among (comma ∷ ws)) ws ≡ true → lacks (codes first) ws ≡ true
-      → Law Clause ws (λ ts. if starts (codes first) ts then (after_word (codes second) (tail ts) >>= λ rest. listed read rest) else Some ([], ts))
+      → Law Clause ws (λ ts. if starts (codes first) ts then (after_word (codes second) (tail ts) >>= λ rest. list_of_parts read rest) else Some ([], ts))
   clause_law {read = read} ws Clause none some law filled commas less lack =
-      state_law ClauseForm Clause ws (λ ts. if starts (codes first) ts then (after_word (codes second) (tail ts) >>= λ rest. listed read rest) else Some ([], ts))
+      state_law ClauseForm Clause ws (λ ts. if starts (codes first) ts then (after_word (codes second) (tail ts) >>= λ rest. list_of_parts read rest) else Some ([], ts))
       (either_law first (after_law second (listed_law ws law filled commas less)) (nothing_law [] ws)
       (λ xs front rest form e. ap (λ (l : List Token). starts (codes first) (l ++ rest)) form.1 ∙ ends_lack (codes first) ws rest lack e))
       to from

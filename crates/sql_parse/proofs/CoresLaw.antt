@@ -9,7 +9,7 @@ use Rattle.sql_model.specs.declared.reading.Sources.{Sources}
 use Rattle.sql_model.specs.declared.token.Token.{Token}
 use Rattle.sql_model.specs.GrammarOfStatements.{Then, After, Flag, Optionally, IsExpression, AreItems, IsColumnAt, IsGroup, IsCore, IsFirstCore, IsUnited, AreCores}
 use Rattle.sql_model.specs.Queries.{reads_group, core_end, core_rest, reads_core, reads_cores}
-use Rattle.sql_model.specs.Reader.{starts, passed}
+use Rattle.sql_model.specs.Reader.{starts, tokens_past}
 use Rattle.sql_parse.proofs.ClausesLaw.{clause_law}
 use Rattle.sql_parse.proofs.Follows.{Follows, follows_after, follows_nothing, follows_optional, follows_then}
 use Rattle.sql_parse.proofs.Laws.{Law, state_law, after_law, then_law, made_law, optional_law, flag_law}
@@ -115,7 +115,7 @@ abbrev UnitedForm : Core → List Token → Type 0
 UnitedForm core ts = (b : Bool) × Then (Flag "all" b) (λ ts. IsCoreOf b core ts) ts
 
 abbrev reads_united : List Token → Option (Core × List Token)
-reads_united ts = reads_core (starts (codes "all") ts) (passed (codes "all") ts)
+reads_united ts = reads_core (starts (codes "all") ts) (tokens_past (codes "all") ts)
 
 united_to : (core : Core) (ts : List Token) → UnitedForm core ts → IsUnited core ts
 united_to core ts (b, (front, back, e, flag, (joined, form))) = (front, back, e, subst (λ (c : Bool). Flag "all" c front) (sym joined) flag, form)

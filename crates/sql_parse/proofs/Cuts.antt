@@ -8,8 +8,8 @@ use Rattle.ldv_value.proofs.Booleans.{and-parts, false-not}
 use Rattle.sql_model.specs.declared.reading.LexState.{LexState}
 use Rattle.sql_model.specs.declared.reading.LexState.TheVariants.{Between, InWord, InNumber, InText, AfterQuote, InSymbol}
 use Rattle.sql_model.specs.GrammarOfTokens.{BeginsNot, is_inside, is_quote}
-use Rattle.sql_model.specs.TextBytes.{is_blank, is_digit, is_letter, folded}
-use Rattle.sql_model.specs.Tokens.{begins_symbol, is_pair, is_whole_symbol, longer, number_token, short_symbol, start, symbol_token, text_token, tokens_from, word_token}
+use Rattle.sql_model.specs.TextBytes.{is_blank, is_digit, is_letter, lower_case_of}
+use Rattle.sql_model.specs.Tokens.{begins_symbol, is_pair, is_whole_symbol, with_digit, number_token, short_symbol, start, symbol_token, text_token, tokens_from, word_token}
 use Rattle.sql_parse.specs.Lexing.{blank_at, content_at, digit_at, inside_at, letter_at, next_at, pair_at, put_at, quote_at, tokens_at}
 use Rattle.sql_parse.proofs.Symbols.{begins_cases, whole_cases}
 use Rattle.sql_parse.proofs.TokensRead.{letter_starts, digit_starts}
@@ -41,15 +41,15 @@ piece_more bs i j on h =
     ∙ ap (λ (b : ℕ). take (j - i) (drop i bs) ++ b ∷ []) (get_or-drop i bs (j - i) 0 ∙ ap (λ (n : ℕ). get_or bs n 0) back)
 
 folded_more : (bs : List ℕ) (i j : ℕ) → i < j → j < length bs
-    → map folded (take (j + 1 - i) (drop i bs)) ≡ map folded (take (j - i) (drop i bs)) ++ folded (get_or bs j 0) ∷ []
-folded_more bs i j on h = ap (map folded) (piece_more bs i j on h) ∙ map-append folded (take (j - i) (drop i bs)) (get_or bs j 0 ∷ [])
+    → map lower_case_of (take (j + 1 - i) (drop i bs)) ≡ map lower_case_of (take (j - i) (drop i bs)) ++ lower_case_of (get_or bs j 0) ∷ []
+folded_more bs i j on h = ap (map lower_case_of) (piece_more bs i j on h) ∙ map-append lower_case_of (take (j - i) (drop i bs)) (get_or bs j 0 ∷ [])
 
 -- a word is cut out of the text in lower case
-pub word_cut : (text : List ℕ) (i n : ℕ) → take n (drop i (map folded text)) ≡ map folded (take n (drop i text))
-word_cut text i n = ap (take n) (drop-map folded i text) ∙ take-map folded n (drop i text)
+pub word_cut : (text : List ℕ) (i n : ℕ) → take n (drop i (map lower_case_of text)) ≡ map lower_case_of (take n (drop i text))
+word_cut text i n = ap (take n) (drop-map lower_case_of i text) ∙ take-map lower_case_of n (drop i text)
 
-pub lower_long : (text lower : List ℕ) → lower ≡ map folded text → length lower ≡ length text
-lower_long text lower is = ap length is ∙ length-map text folded
+pub lower_long : (text lower : List ℕ) → lower ≡ map lower_case_of text → length lower ≡ length text
+lower_long text lower is = ap length is ∙ length-map text lower_case_of
 
 -- ---- tests at a place
 
@@ -124,18 +124,18 @@ no_token bs i h blank letter digit quote first whole =
 -- ---- a word
 
 pub word_begins : (bs : List ℕ) (i : ℕ) → i < length bs → is_letter (get_or bs i 0) ≡ true
-    → tokens_at bs i Between ≡ tokens_at bs (i + 1) (InWord (map folded (take (i + 1 - i) (drop i bs))))
+    → tokens_at bs i Between ≡ tokens_at bs (i + 1) (InWord (map lower_case_of (take (i + 1 - i) (drop i bs))))
 unfolding tokens_at
 word_begins bs i h letter =
-    begins bs i (InWord (folded (get_or bs i 0) ∷ [])) h (letter_starts (get_or bs i 0) letter)
-    ∙ ap (λ (w : List ℕ). tokens_from (drop (i + 1) bs) (InWord w)) (sym (ap (map folded) (piece_one bs i h)))
+    begins bs i (InWord (lower_case_of (get_or bs i 0) ∷ [])) h (letter_starts (get_or bs i 0) letter)
+    ∙ ap (λ (w : List ℕ). tokens_from (drop (i + 1) bs) (InWord w)) (sym (ap (map lower_case_of) (piece_one bs i h)))
 
 pub word_more : (bs : List ℕ) (i j : ℕ) → i < j → inside_at bs j ≡ true
-    → tokens_at bs j (InWord (map folded (take (j - i) (drop i bs)))) ≡ tokens_at bs (j + 1) (InWord (map folded (take (j + 1 - i) (drop i bs))))
+    → tokens_at bs j (InWord (map lower_case_of (take (j - i) (drop i bs)))) ≡ tokens_at bs (j + 1) (InWord (map lower_case_of (take (j + 1 - i) (drop i bs))))
 unfolding inside_at tokens_at
 word_more bs i j on h =
     let inside : j < length bs = below j (length bs) (is_inside (get_or bs j 0)) h in
-    let w : List ℕ = map folded (take (j - i) (drop i bs)) in
+    let w : List ℕ = map lower_case_of (take (j - i) (drop i bs)) in
     ap (λ (l : List ℕ). tokens_from l (InWord w)) (at_drop bs j inside)
     ∙ word_goes w (get_or bs j 0) (drop (j + 1) bs) (met j (length bs) (is_inside (get_or bs j 0)) h)
     ∙ ap (λ (v : List ℕ). tokens_from (drop (j + 1) bs) (InWord v)) (sym (folded_more bs i j on inside))
@@ -152,7 +152,7 @@ pub number_begins : (bs : List ℕ) (i : ℕ) → i < length bs → is_digit (ge
 unfolding tokens_at
 number_begins bs i h digit = begins bs i (InNumber (get_or bs i 0 - 48)) h (digit_starts (get_or bs i 0) digit)
 
-pub number_more : (bs : List ℕ) (j n : ℕ) → digit_at bs j ≡ true → tokens_at bs j (InNumber n) ≡ tokens_at bs (j + 1) (InNumber (longer n (get_or bs j 0)))
+pub number_more : (bs : List ℕ) (j n : ℕ) → digit_at bs j ≡ true → tokens_at bs j (InNumber n) ≡ tokens_at bs (j + 1) (InNumber (with_digit n (get_or bs j 0)))
 unfolding digit_at tokens_at
 number_more bs j n h =
     ap (λ (l : List ℕ). tokens_from l (InNumber n)) (at_drop bs j (below j (length bs) (is_digit (get_or bs j 0)) h))

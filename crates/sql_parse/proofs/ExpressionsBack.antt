@@ -24,7 +24,7 @@ use Rattle.sql_model.specs.declared.reading.Infix.TheVariants.{Both, IsNull}
 use Rattle.sql_model.specs.declared.token.Token.{Token}
 use Rattle.sql_model.specs.declared.token.Token.TheVariants.{Word, Number, Quoted, Given}
 use Rattle.sql_model.specs.Columns.{column_after}
-use Rattle.sql_model.specs.Expressions.{word_opening, opening, inside_level, closed, pair, operand_at, operand, joined, goes_on, joins_more, within, reads_expr}
+use Rattle.sql_model.specs.Expressions.{word_opening, opening, inside_level, with_prefix, pair, operand_at, operand, joined, goes_on, joins_more, within, reads_expr}
 use Rattle.ldv_value.specs.Options.{◌>>=◌, only_if}
 use Rattle.sql_model.specs.Grammar.{word, fold_word, GoesNotOn, GoesOnWith, Writes, IsName, IsConstant, IsColumn, IsExpr}
 use Rattle.sql_model.specs.Levels.{operator_level, operator_left, right_of}
@@ -285,7 +285,7 @@ form_opens Minus least ts low no_star = refl
 form_opens Bracket least ts low no_star = refl
 form_opens (FoldOf f) least ts low no_star = fold_opens f least ts no_star
 
-form_closes : (w : Prefix) (level depth : ℕ) (e : Expr) (rest : List Token) → closed w (deep level depth e) (finishes w ++ rest) ≡ Some (deep (form_level w) (depth + 1) (form_of w e), rest)
+form_closes : (w : Prefix) (level depth : ℕ) (e : Expr) (rest : List Token) → with_prefix w (deep level depth e) (finishes w ++ rest) ≡ Some (deep (form_level w) (depth + 1) (form_of w e), rest)
 form_closes Not level depth e rest = refl
 form_closes Minus level depth e rest = refl
 form_closes Bracket level depth e rest = refl
@@ -327,7 +327,7 @@ form_operand : (w : Prefix) (level depth : ℕ) (ts : List Token) (e : Expr) (m 
 form_operand w level depth ts e m least rest inside is shallow low ends =
     ap (operand (within m) least) (form_grouped w ts rest)
     ∙ ap (λ o. o >>= λ r. operand_at (within m) r.0 r.1) (form_opens w least (ts ++ (finishes w ++ rest)) low (is.no_star (finishes w ++ rest)))
-    ∙ ap (λ o. o >>= λ r. closed w r.0 r.1) (read_whole level depth ts e is m (inside_level w) (finishes w ++ rest) shallow inside (form_ends w rest ends))
+    ∙ ap (λ o. o >>= λ r. with_prefix w r.0 r.1) (read_whole level depth ts e is m (inside_level w) (finishes w ++ rest) shallow inside (form_ends w rest ends))
     ∙ form_closes w level depth e rest
 
 form_readable : (w : Prefix) (level depth : ℕ) (ts : List Token) (e : Expr) → inside_level w ≤ level → Readable level depth ts e → Readable (form_level w) (depth + 1) (begins w ++ (ts ++ finishes w)) (form_of w e)

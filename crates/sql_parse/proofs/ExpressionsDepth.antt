@@ -11,11 +11,11 @@ use Rattle.sql_model.specs.declared.reading.Prefix.TheVariants.{Not, Minus, Brac
 use Rattle.sql_model.specs.declared.reading.Infix.{Infix}
 use Rattle.sql_model.specs.declared.reading.Infix.TheVariants.{Both, IsNull}
 use Rattle.sql_model.specs.declared.token.Token.{Token}
-use Rattle.sql_model.specs.Expressions.{opening, inside_level, closed, null_test, pair, operand_at, operand, joined, joined_within, goes_on, joins_more, within}
+use Rattle.sql_model.specs.Expressions.{opening, inside_level, with_prefix, null_test, pair, operand_at, operand, joined, joined_within, goes_on, joins_more, within}
 use Rattle.ldv_value.specs.Options.{◌>>=◌}
 use Rattle.sql_model.specs.Levels.{right_of}
 use Rattle.sql_model.specs.Operators.{joins}
-use Rattle.sql_model.specs.Reader.{starts, passed, after_word, tail, repeat}
+use Rattle.sql_model.specs.Reader.{starts, tokens_past, after_word, tail, repeat}
 use Rattle.ldv_value.proofs.Options.{bind-some, only_if-some, same-some}
 use Rattle.sql_parse.proofs.Repeat.{after, repeat_none, repeat_suc}
 use Rattle.sql_parse.proofs.Within.{within_none, within_suc}
@@ -29,20 +29,20 @@ after_depth w d ts q h =
     let b : (x : List Token) × (after_word w ts ≡ Some x) × (Some (d, x) ≡ Some q) = bind-some (after_word w ts) (λ rest. Some (d, rest)) q h in
     depth_is d b.0 q b.2
 
-closed_depth : (w : Prefix) (d : ParsedExpr) (ts : List Token) (q : ParsedExpr × List Token) → closed w d ts ≡ Some q → q.0.depth ≡ d.depth + 1
+closed_depth : (w : Prefix) (d : ParsedExpr) (ts : List Token) (q : ParsedExpr × List Token) → with_prefix w d ts ≡ Some q → q.0.depth ≡ d.depth + 1
 closed_depth Not d ts q h = depth_is (record { expr = expr.Not d.expr; depth = d.depth + 1; level = 3 }) ts q h
 closed_depth Minus d ts q h = depth_is (record { expr = expr.Negate d.expr; depth = d.depth + 1; level = 7 }) ts q h
 closed_depth Bracket d ts q h = after_depth (codes ")") (record { expr = d.expr; depth = d.depth + 1; level = 8 }) ts q h
 closed_depth (FoldOf f) d ts q h = after_depth (codes ")") (record { expr = expr.Aggregate f (Some d.expr); depth = d.depth + 1; level = 8 }) ts q h
 
 null_depth : (d : ParsedExpr) (ts : List Token) (q : ParsedExpr × List Token) → null_test d ts ≡ Some q → q.0.depth ≡ d.depth + 1
-null_depth d ts q h = after_depth (codes "null") (record { expr = expr.IsNull d.expr (starts (codes "not") ts); depth = d.depth + 1; level = 4 }) (passed (codes "not") ts) q h
+null_depth d ts q h = after_depth (codes "null") (record { expr = expr.IsNull d.expr (starts (codes "not") ts); depth = d.depth + 1; level = 4 }) (tokens_past (codes "not") ts) q h
 
 module _ (limit : ℕ) (read : ℕ → List Token → Option (ParsedExpr × List Token)) (shallow : (l : ℕ) (ts : List Token) (q : ParsedExpr × List Token) → read l ts ≡ Some q → q.0.depth ≤ limit) where
   operand_at_depth : (o : Opening) (ts : List Token) (q : ParsedExpr × List Token) → operand_at read o ts ≡ Some q → q.0.depth ≤ suc limit
   operand_at_depth (Leaf e) ts q h = let one : q.0.depth ≡ 1 = depth_is _ ts q h in omega (arith, one)
   operand_at_depth (Nested w) ts q h =
-      let b : (r : ParsedExpr × List Token) × (read (inside_level w) ts ≡ Some r) × (closed w r.0 r.1 ≡ Some q) = bind-some (read (inside_level w) ts) (λ r. closed w r.0 r.1) q h in
+      let b : (r : ParsedExpr × List Token) × (read (inside_level w) ts ≡ Some r) × (with_prefix w r.0 r.1 ≡ Some q) = bind-some (read (inside_level w) ts) (λ r. with_prefix w r.0 r.1) q h in
       omega (arith, shallow (inside_level w) ts b.0 b.1, closed_depth w b.0.0 b.0.1 q b.2)
 
   operand_depth : (least : ℕ) (ts : List Token) (q : ParsedExpr × List Token) → operand read least ts ≡ Some q → q.0.depth ≤ suc limit

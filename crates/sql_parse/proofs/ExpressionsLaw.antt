@@ -20,13 +20,13 @@ use Rattle.sql_model.specs.declared.reading.Prefix.TheVariants.{Not, Minus, Brac
 use Rattle.sql_model.specs.declared.reading.Infix.{Infix}
 use Rattle.sql_model.specs.declared.reading.Infix.TheVariants.{Both, IsNull}
 use Rattle.sql_model.specs.Levels.{right_of}
-use Rattle.sql_model.specs.Operators.{comparison_of, compared, joint_in, joint_of, level_of, left_of, may_join, joins}
+use Rattle.sql_model.specs.Operators.{comparison_of, comparison_infix, joint_in, joint_of, level_of, left_of, may_join, joins}
 use Rattle.sql_model.specs.declared.expr.Operator.{Operator}
 use Rattle.sql_model.specs.declared.expr.Operator.TheVariants.{Add, Subtract, Multiply, Compare, And, Or}
 use Rattle.ldv_value.specs.declared.value.Cmp.{Cmp}
 use Rattle.sql_model.specs.declared.token.Token.{Token}
 use Rattle.sql_model.specs.declared.token.Token.TheVariants.{Word, Number, Quoted, Given}
-use Rattle.sql_model.specs.Expressions.{leaf, negation, fold_opening, count_inside, count_opening, column_opening, word_opening, opening, inside_level, closed, null_test, pair, operand_at, operand, joined, joined_within, goes_on, joins_more, within, reads_expr}
+use Rattle.sql_model.specs.Expressions.{leaf, negation, fold_opening, count_inside, count_opening, column_opening, word_opening, opening, inside_level, with_prefix, null_test, pair, operand_at, operand, joined, joined_within, goes_on, joins_more, within, reads_expr}
 use Rattle.sql_model.specs.Columns.{column_after}
 use Rattle.ldv_value.specs.Options.{◌>>=◌, only_if}
 use Rattle.sql_model.specs.Grammar.{word, fold_word, Writes, IsName, IsConstant, IsColumn, IsExpr}
@@ -71,7 +71,7 @@ abbrev pub Closes : Prefix → List Token → ParsedExpr → List Token → Type
 Closes w inside d front = IsExpr (form_level w) d.depth (begins w ++ (inside ++ front)) d.expr × (d.level ≡ form_level w)
 
 pub closed_sound : (w : Prefix) (d made : ParsedExpr) (inside ts rest : List Token) → inside_level w ≤ d.level → IsExpr d.level d.depth inside d.expr
-    → closed w d ts ≡ Some (made, rest) → (back : List Token) × (ts ≡ back ++ rest) × Closes w inside made back
+    → with_prefix w d ts ≡ Some (made, rest) → (back : List Token) × (ts ≡ back ++ rest) × Closes w inside made back
 closed_sound Not d made inside ts rest least is h =
     let same : (record { expr = expr.Not d.expr; depth = d.depth + 1; level = 3 }, ts) ≡ (made, rest) = same-some _ _ h in
     ([], ap (λ p. p.1) same, subst (λ (m : ParsedExpr). Closes Not inside m []) (ap (λ p. p.0) same) (subst (λ (l : List Token). IsExpr 3 (d.depth + 1) (word "not" ∷ l) (expr.Not d.expr)) (sym (append-nil inside)) (IsExpr.ANot d.level d.depth inside d.expr least is), refl))
@@ -188,7 +188,7 @@ module _ (read : ℕ → List Token → Option (ParsedExpr × List Token)) (soun
   operand_at_sound least (Leaf e) ts0 ts q le opened h =
       subst (Reading least ts0) (same-some _ _ h) (record { front = opened.0; cut = opened.1; is = opened.2; level = omega (arith, le) })
   operand_at_sound least (Nested w) ts0 ts q le opened h =
-      let b : (r : ParsedExpr × List Token) × (read (inside_level w) ts ≡ Some r) × (closed w r.0 r.1 ≡ Some q) = bind-some (read (inside_level w) ts) (λ r. closed w r.0 r.1) q h in
+      let b : (r : ParsedExpr × List Token) × (read (inside_level w) ts ≡ Some r) × (with_prefix w r.0 r.1 ≡ Some q) = bind-some (read (inside_level w) ts) (λ r. with_prefix w r.0 r.1) q h in
       let inside : Reading (inside_level w) ts b.0 = sound (inside_level w) ts b.0 (inside_bound w) b.1 in
       let made : (back : List Token) × (b.0.1 ≡ back ++ q.1) × Closes w inside.front q.0 back = closed_sound w b.0.0 q.0 inside.front b.0.1 q.1 inside.level inside.is b.2 in
       record {
@@ -220,7 +220,7 @@ comparison_sound w c h =
     choose _ _ _ c h6 (λ is made. subst (λ (k : Cmp). Writes (Compare k) (Word w)) (same-some _ _ made) (ap Word (text_is w (codes ">=") is))) (λ h7.
     (let none : None ≡ Some c = h7 in cc))))))))
 
-compared_sound : (w : List ℕ) (j : Infix) → compared w ≡ Some j → JointWrites j (Word w)
+compared_sound : (w : List ℕ) (j : Infix) → comparison_infix w ≡ Some j → JointWrites j (Word w)
 compared_sound w j h =
     let b : (c : Cmp) × (comparison_of w ≡ Some c) × (Some (Both (Compare c)) ≡ Some j) = bind-some (comparison_of w) (λ c. Some (Both (Compare c))) j h in
     subst (λ (k : Infix). JointWrites k (Word w)) (same-some _ _ b.2) (comparison_sound w b.0 b.1)

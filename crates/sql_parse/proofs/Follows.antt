@@ -8,10 +8,10 @@ use Rattle.std.proofs.lemmas.Slice.Eq.{bytes_eq-Decides}
 use Rattle.sql_model.specs.SqlNames.{sql_name_test}
 use Rattle.sql_model.specs.declared.token.Token.{Token}
 use Rattle.sql_model.specs.declared.token.Token.TheVariants.{Word, Number, Quoted, Given}
-use Rattle.sql_model.specs.GrammarOfStatements.{Then, After, Optionally, Repeated}
+use Rattle.sql_model.specs.GrammarOfStatements.{Then, After, Optionally, IsRepetition}
 use Rattle.sql_model.specs.Queries.{names}
 use Rattle.ldv_value.specs.Options.{only_if}
-use Rattle.sql_model.specs.Reader.{starts, passed, after_word}
+use Rattle.sql_model.specs.Reader.{starts, tokens_past, after_word}
 use Rattle.sql_parse.proofs.Choices.{or_go}
 use Rattle.sql_parse.proofs.ExpressionsLaw.{text_is}
 use Rattle.ldv_value.proofs.Booleans.{and-parts}
@@ -91,7 +91,7 @@ follows_then ws us vs one two ts rest (front, back, e, first, second) h =
     ap (λ (l : List Token). ends_by vs (l ++ rest)) e ∙ ap (ends_by vs) (append_assoc front back rest) ∙ one front (back ++ rest) first (two back rest second h)
 
 pub follows_repeated : {A : Type 0} (Form : A → List Token → Type 0) (ws vs : List (List ℕ)) (xs : List A) → all_words (among vs) ws ≡ true
-    → ((x : A) (ts rest : List Token) → Form x ts → ends_by vs (ts ++ rest) ≡ true) → Follows (Repeated Form xs) ws vs
+    → ((x : A) (ts rest : List Token) → Form x ts → ends_by vs (ts ++ rest) ≡ true) → Follows (IsRepetition Form xs) ws vs
 follows_repeated Form ws vs [] less begins ts rest none h = follows_nothing ws vs less ts rest none h
 follows_repeated Form ws vs (x ∷ xs) less begins ts rest (front, back, e, first, second) h =
     ap (λ (l : List Token). ends_by vs (l ++ rest)) e ∙ ap (ends_by vs) (append_assoc front back rest) ∙ begins x front (back ++ rest) first
@@ -104,5 +104,5 @@ starts_self w ts = self_text w
 pub after_self : (w : List ℕ) (ts : List Token) → after_word w (Word w ∷ ts) ≡ Some ts
 after_self w ts = ap (λ b. only_if b (Some ts)) (self_text w)
 
-pub passed_self : (w : List ℕ) (ts : List Token) → passed w (Word w ∷ ts) ≡ ts
+pub passed_self : (w : List ℕ) (ts : List Token) → tokens_past w (Word w ∷ ts) ≡ ts
 passed_self w ts = rw (self_text w) refl

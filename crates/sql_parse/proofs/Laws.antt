@@ -6,8 +6,8 @@ use Rattle.sql_model.specs.declared.token.Token.{Token}
 use Rattle.sql_model.specs.declared.token.Token.TheVariants.{Word}
 use Rattle.ldv_value.specs.Options.{◌>>=◌, only_if}
 use Rattle.sql_model.specs.Grammar.{word, IsName}
-use Rattle.sql_model.specs.GrammarOfStatements.{Then, After, Flag, Optionally, Named}
-use Rattle.sql_model.specs.Reader.{starts, tail, passed, after_word, reads_token, reads_name}
+use Rattle.sql_model.specs.GrammarOfStatements.{Then, After, Flag, Optionally, IsNameToken}
+use Rattle.sql_model.specs.Reader.{starts, tail, tokens_past, after_word, reads_token, reads_name}
 use Rattle.sql_parse.proofs.Choices.{choose}
 use Rattle.sql_parse.proofs.ExpressionsLaw.{starts_is, after_is}
 use Rattle.sql_parse.proofs.Named.{name_taken}
@@ -151,7 +151,7 @@ optional_law {A = A} {Form = Form} {ws = ws} {read = read} s law lack =
 -- a word that may stand there, and then a form that knows whether it does
 pub flag_law : {X : Type 0} {Form : Bool → X → List Token → Type 0} {ws : List (List ℕ)} {next : Bool → List Token → Option (X × List Token)} (s : String) → ((b : Bool) → Law (Form b) ws (next b))
     → ((x : X) (front rest : List Token) → Form false x front → ends_by ws rest ≡ true → starts (codes s) (front ++ rest) ≡ false)
-    → Law (λ x ts. (b : Bool) × Then (Flag s b) (Form b x) ts) ws (λ ts. next (starts (codes s) ts) (passed (codes s) ts))
+    → Law (λ x ts. (b : Bool) × Then (Flag s b) (Form b x) ts) ws (λ ts. next (starts (codes s) ts) (tokens_past (codes s) ts))
 flag_law {X = X} {Form = Form} {ws = ws} {next = next} s laws apart = record { sound = flag_sound; complete = flag_complete }
   where
     flag_read : Bool → List Token → Option (X × List Token)
@@ -166,17 +166,17 @@ flag_law {X = X} {Form = Form} {ws = ws} {next = next} s laws apart = record { s
         let q = (laws false).sound ts x rest h in
         (q.0, q.1, (false, ([], q.0, refl, refl, q.2)))
 
-    flag_sound : (ts : List Token) (x : X) (rest : List Token) → next (starts (codes s) ts) (passed (codes s) ts) ≡ Some (x, rest) → (front : List Token) × (ts ≡ front ++ rest) × ((b : Bool) × Then (Flag s b) (Form b x) front)
+    flag_sound : (ts : List Token) (x : X) (rest : List Token) → next (starts (codes s) ts) (tokens_past (codes s) ts) ≡ Some (x, rest) → (front : List Token) × (ts ≡ front ++ rest) × ((b : Bool) × Then (Flag s b) (Form b x) front)
     flag_sound ts x rest h = flag_at ts x rest (starts (codes s) ts) refl h
 
-    flag_complete : (front rest : List Token) (x : X) → ((b : Bool) × Then (Flag s b) (Form b x) front) → ends_by ws rest ≡ true → next (starts (codes s) (front ++ rest)) (passed (codes s) (front ++ rest)) ≡ Some (x, rest)
+    flag_complete : (front rest : List Token) (x : X) → ((b : Bool) × Then (Flag s b) (Form b x) front) → ends_by ws rest ≡ true → next (starts (codes s) (front ++ rest)) (tokens_past (codes s) (front ++ rest)) ≡ Some (x, rest)
     flag_complete front rest x (true, (one, back, e, is, form)) ends =
         let same : front ≡ word s ∷ back = e ∙ ap (λ l. l ++ back) is in
-        ap (λ l. next (starts (codes s) (l ++ rest)) (passed (codes s) (l ++ rest))) same
+        ap (λ l. next (starts (codes s) (l ++ rest)) (tokens_past (codes s) (l ++ rest))) same
         ∙ ap (λ b. next b (if b then back ++ rest else (word s ∷ back) ++ rest)) (starts_self (codes s) (back ++ rest)) ∙ (laws true).complete back rest x form ends
     flag_complete front rest x (false, (one, back, e, is, form)) ends =
         let same : front ≡ back = e ∙ ap (λ l. l ++ back) is in
-        ap (λ l. next (starts (codes s) (l ++ rest)) (passed (codes s) (l ++ rest))) same
+        ap (λ l. next (starts (codes s) (l ++ rest)) (tokens_past (codes s) (l ++ rest))) same
         ∙ ap (λ b. next b (if b then tail (back ++ rest) else back ++ rest)) (apart x back rest form ends) ∙ (laws false).complete back rest x form ends
 
 -- ---- names
@@ -184,7 +184,7 @@ flag_law {X = X} {Form = Form} {ws = ws} {next = next} s laws apart = record { s
 pub name_read : (x : List ℕ) (rest : List Token) → IsName x → reads_name (Word x ∷ rest) ≡ Some (x, rest)
 name_read x rest is = ap (λ b. only_if b (Some x) >>= λ n. Some (n, rest)) is
 
-pub name_law : (ws : List (List ℕ)) → Law Named ws reads_name
+pub name_law : (ws : List (List ℕ)) → Law IsNameToken ws reads_name
 name_law ws = record {
   sound = λ ts x rest h. let p = name_taken ts x rest h in (Word x ∷ [], p.0, (refl, p.1));
   complete = λ front rest x form e. ap (λ (l : List Token). reads_name (l ++ rest)) form.0 ∙ name_read x rest form.1;
@@ -192,7 +192,7 @@ name_law ws = record {
 
 -- a name, and then a form, whatever that begins with
 pub named_law : {X : Type 0} {Form : List ℕ → X → List Token → Type 0} {ws : List (List ℕ)} {next : List ℕ → List Token → Option (X × List Token)} → ((n : List ℕ) → Law (Form n) ws (next n))
-    → Law (λ x ts. (n : List ℕ) × Then (Named n) (Form n x) ts) ws (λ ts. reads_name ts >>= λ r. next r.0 r.1)
+    → Law (λ x ts. (n : List ℕ) × Then (IsNameToken n) (Form n x) ts) ws (λ ts. reads_name ts >>= λ r. next r.0 r.1)
 named_law {X = X} {Form = Form} {ws = ws} {next = next} laws = record {
   sound = λ ts x rest h.
       let p : (r : List ℕ × List Token) × (reads_name ts ≡ Some r) × (next r.0 r.1 ≡ Some (x, rest)) = bind-some (reads_name ts) (λ r. next r.0 r.1) (x, rest) h in

@@ -18,9 +18,9 @@ use Rattle.sql_model.specs.Columns.{column_after, reads_column}
 use Rattle.sql_model.specs.Expressions.{reads_expr}
 use Rattle.ldv_value.specs.Options.{◌>>=◌}
 use Rattle.sql_model.specs.Grammar.{word, fold_word, IsName, IsConstant, IsColumn, IsExpr}
-use Rattle.sql_model.specs.GrammarOfStatements.{Then, After, Only, Optionally, Listed, Named, IsExpression, IsColumnAt, IsItem, AreItems, AreColumns, IsTuple}
+use Rattle.sql_model.specs.GrammarOfStatements.{Then, After, Only, Optionally, IsCommaList, IsNameToken, IsExpression, IsColumnAt, IsItem, AreItems, AreColumns, IsTuple}
 use Rattle.sql_model.specs.Operators.{joint_in, joint_of}
-use Rattle.sql_model.specs.Parts.{listed, reads_tuple}
+use Rattle.sql_model.specs.Parts.{list_of_parts, reads_tuple}
 use Rattle.sql_model.specs.Queries.{reads_item, reads_items}
 use Rattle.sql_model.specs.Reader.{starts, after_word}
 use Rattle.sql_model.specs.Texts.{reads_columns}
@@ -130,7 +130,7 @@ expr_filled e ts (level, depth, shallow, is) = filled ts (expr_begins level dept
 pub then_filled : {First Second : List Token → Type 0} (ts : List Token) → ((front : List Token) → First front → 1 ≤ length front) → Then First Second ts → 1 ≤ length ts
 then_filled ts some (front, back, e, first, second) = omega (arith, ap length e, length-append front back, some front first)
 
-pub named_filled : (x : List ℕ) (ts : List Token) → Named x ts → 1 ≤ length ts
+pub named_filled : (x : List ℕ) (ts : List Token) → IsNameToken x ts → 1 ≤ length ts
 named_filled x ts h = omega (arith, ap length h.0)
 
 pub after_filled : {Form : List Token → Type 0} (s : String) (ts : List Token) → After s Form ts → 1 ≤ length ts
@@ -142,7 +142,7 @@ abbrev pub comma : List ℕ
 comma = codes ","
 
 pub listed_law : {X : Type 0} {Form : X → List Token → Type 0} {read : List Token → Option (X × List Token)} (ws : List (List ℕ)) → Law Form (comma ∷ ws) read → ((x : X) (ts : List Token) → Form x ts → 1 ≤ length ts)
-    → lacks comma ws ≡ true → all_words (among (comma ∷ ws)) ws ≡ true → Law (λ xs ts. Listed Form xs ts) ws (λ ts. listed read ts)
+    → lacks comma ws ≡ true → all_words (among (comma ∷ ws)) ws ≡ true → Law (λ xs ts. IsCommaList Form xs ts) ws (λ ts. list_of_parts read ts)
 listed_law ws law some lack less = separated_law "," ws law law some lack less refl
 
 -- a form with a closing parenthesis after it
@@ -154,25 +154,25 @@ only_close : {X : Type 0} (x y : X) (ts : List Token) → After ")" (λ ts. (x �
 only_close x y ts (more, e, (same, none)) = (same, e ∙ ap (λ (l : List Token). word ")" ∷ l) none)
 
 pub exprs_law : (ws : List (List ℕ)) → all_words no_joint (comma ∷ ws) ≡ true → lacks (codes ".") (comma ∷ ws) ≡ true → lacks comma ws ≡ true → all_words (among (comma ∷ ws)) ws ≡ true
-    → Law (λ es ts. Listed IsExpression es ts) ws (λ ts. listed reads_expr ts)
+    → Law (λ es ts. IsCommaList IsExpression es ts) ws (λ ts. list_of_parts reads_expr ts)
 exprs_law ws joints dots lack less = listed_law ws (expr_law (comma ∷ ws) joints dots) expr_filled lack less
 
-tuple_to : (es : List Expr) (ts : List Token) → After "(" (λ ts. (a : List Expr) × Then (λ ts. Listed IsExpression a ts) (λ ts. After ")" (λ ts. (es ≡ a) × (ts ≡ [])) ts) ts) ts → IsTuple es ts
+tuple_to : (es : List Expr) (ts : List Token) → After "(" (λ ts. (a : List Expr) × Then (λ ts. IsCommaList IsExpression a ts) (λ ts. After ")" (λ ts. (es ≡ a) × (ts ≡ [])) ts) ts) ts → IsTuple es ts
 tuple_to es ts (more, e, (a, (front, back, is, list, close))) =
     let p = only_close es a back close in
-    (more, e, (front, back, is, subst (λ (l : List Expr). Listed IsExpression l front) (sym p.0) list, p.1))
+    (more, e, (front, back, is, subst (λ (l : List Expr). IsCommaList IsExpression l front) (sym p.0) list, p.1))
 
-tuple_from : (es : List Expr) (ts : List Token) → IsTuple es ts → After "(" (λ ts. (a : List Expr) × Then (λ ts. Listed IsExpression a ts) (λ ts. After ")" (λ ts. (es ≡ a) × (ts ≡ [])) ts) ts) ts
+tuple_from : (es : List Expr) (ts : List Token) → IsTuple es ts → After "(" (λ ts. (a : List Expr) × Then (λ ts. IsCommaList IsExpression a ts) (λ ts. After ")" (λ ts. (es ≡ a) × (ts ≡ [])) ts) ts) ts
 tuple_from es ts (more, e, (front, back, is, list, close)) = (more, e, (es, (front, back, is, list, ([], close, (refl, refl)))))
 
 pub tuple_law : (ws : List (List ℕ)) → Law IsTuple ws reads_tuple
 tuple_law ws =
-    state_law (λ es ts. After "(" (λ ts. (a : List Expr) × Then (λ ts. Listed IsExpression a ts) (λ ts. After ")" (λ ts. (es ≡ a) × (ts ≡ [])) ts) ts) ts) IsTuple ws reads_tuple
+    state_law (λ es ts. After "(" (λ ts. (a : List Expr) × Then (λ ts. IsCommaList IsExpression a ts) (λ ts. After ")" (λ ts. (es ≡ a) × (ts ≡ [])) ts) ts) ts) IsTuple ws reads_tuple
     (after_law "(" (inside_law ws (λ es. es) (exprs_law (codes ")" ∷ []) refl refl refl refl))) tuple_to tuple_from
 
 -- the columns of an INSERT
 abbrev ColumnsForm : Option (List (List ℕ)) → List Token → Type 0
-ColumnsForm o ts = After "(" (λ ts. (a : List (List ℕ)) × Then (λ ts. Listed Named a ts) (λ ts. After ")" (λ ts. (o ≡ Some a) × (ts ≡ [])) ts) ts) ts ⊎ ((o ≡ None) × (ts ≡ []))
+ColumnsForm o ts = After "(" (λ ts. (a : List (List ℕ)) × Then (λ ts. IsCommaList IsNameToken a ts) (λ ts. After ")" (λ ts. (o ≡ Some a) × (ts ≡ [])) ts) ts) ts ⊎ ((o ≡ None) × (ts ≡ []))
 
 columns_to : (o : Option (List (List ℕ))) (ts : List Token) → ColumnsForm o ts → AreColumns o ts
 columns_to o ts (inl (more, e, (a, (front, back, is, list, close)))) =
@@ -194,7 +194,7 @@ columns_law ws lack =
 -- ---- columns
 
 abbrev AfterForm : List ℕ → ColumnName → List Token → Type 0
-AfterForm n c ts = After "." (λ ts. (m : List ℕ) × (c ≡ record { table = Some n; name = m }) × Named m ts) ts ⊎ ((c ≡ record { table = None; name = n }) × (ts ≡ []))
+AfterForm n c ts = After "." (λ ts. (m : List ℕ) × (c ≡ record { table = Some n; name = m }) × IsNameToken m ts) ts ⊎ ((c ≡ record { table = None; name = n }) × (ts ≡ []))
 
 after_column_law : (n : List ℕ) (ws : List (List ℕ)) → lacks (codes ".") ws ≡ true → Law (AfterForm n) ws (λ ts. column_after n ts)
 after_column_law n ws lack =
@@ -202,7 +202,7 @@ after_column_law n ws lack =
     (λ c front rest form e. ap (λ (l : List Token). starts (codes ".") (l ++ rest)) form.1 ∙ ends_lack (codes ".") ws rest lack e)
 
 abbrev ColumnForm : ColumnName → List Token → Type 0
-ColumnForm c ts = (n : List ℕ) × Then (Named n) (AfterForm n c) ts
+ColumnForm c ts = (n : List ℕ) × Then (IsNameToken n) (AfterForm n c) ts
 
 column_to : (c : ColumnName) (ts : List Token) → ColumnForm c ts → IsColumnAt c ts
 column_to c ts (n, (front, back, e, (is, named), inl (more, dot, (m, made, (only, also))))) =
@@ -226,7 +226,7 @@ column_filled c ts (inr (source, e, some, named, also)) = omega (arith, ap lengt
 -- ---- items
 
 abbrev ItemForm : Item → List Token → Type 0
-ItemForm i ts = (e : Expr) × Then (IsExpression e) (λ ts. (n : Option (List ℕ)) × (i ≡ record { expr = e; name = n }) × Optionally "as" Named n ts) ts
+ItemForm i ts = (e : Expr) × Then (IsExpression e) (λ ts. (n : Option (List ℕ)) × (i ≡ record { expr = e; name = n }) × Optionally "as" IsNameToken n ts) ts
 
 item_to : (i : Item) (ts : List Token) → ItemForm i ts → IsItem i ts
 item_to i ts (e, (front, back, is, expr, (n, made, alias))) = subst (λ (j : Item). IsItem j ts) (sym made) (front, back, is, expr, alias)
@@ -238,21 +238,21 @@ pub item_law : Law IsItem (comma ∷ codes "from" ∷ []) reads_item
 item_law =
     state_law ItemForm IsItem (comma ∷ codes "from" ∷ []) reads_item
     (then_law (expr_law (codes "as" ∷ comma ∷ codes "from" ∷ []) refl refl) (λ e. made_law (λ (n : Option (List ℕ)). record { expr = e; name = n }) (optional_law "as" (name_law (comma ∷ codes "from" ∷ [])) refl))
-    (λ e i ts rest form h. follows_optional Named "as" (comma ∷ codes "from" ∷ []) (codes "as" ∷ comma ∷ codes "from" ∷ []) form.0 refl refl ts rest form.2 h))
+    (λ e i ts rest form h. follows_optional IsNameToken "as" (comma ∷ codes "from" ∷ []) (codes "as" ∷ comma ∷ codes "from" ∷ []) form.0 refl refl ts rest form.2 h))
     item_to item_from
 
 item_filled : (i : Item) (ts : List Token) → IsItem i ts → 1 ≤ length ts
 item_filled i ts h = then_filled ts (expr_filled i.expr) h
 
 -- items begin with no such word
-pub listed_apart : (v : List ℕ) (items : List Item) (front rest : List Token) → opens_expr v ≡ false → Listed IsItem items front → starts v (front ++ rest) ≡ false
+pub listed_apart : (v : List ℕ) (items : List Item) (front rest : List Token) → opens_expr v ≡ false → IsCommaList IsItem items front → starts v (front ++ rest) ≡ false
 listed_apart v [] front rest not h = absurd h
 listed_apart v (i ∷ items) front rest not (first, others, e, (expr, alias, is, form, name), more) =
     ap (λ (l : List Token). starts v (l ++ rest)) (e ∙ ap (λ (l : List Token). l ++ others) is ∙ append_assoc expr alias others)
     ∙ ap (starts v) (append_assoc expr (alias ++ others) rest) ∙ expr_apart v i.expr expr ((alias ++ others) ++ rest) not form
 
 abbrev ItemsForm : Option (List Item) → List Token → Type 0
-ItemsForm o ts = After "*" (λ ts. (o ≡ None) × (ts ≡ [])) ts ⊎ ((a : List Item) × (o ≡ Some a) × Listed IsItem a ts)
+ItemsForm o ts = After "*" (λ ts. (o ≡ None) × (ts ≡ [])) ts ⊎ ((a : List Item) × (o ≡ Some a) × IsCommaList IsItem a ts)
 
 items_to : (o : Option (List Item)) (ts : List Token) → ItemsForm o ts → AreItems o ts
 items_to o ts (inl (more, e, (is, none))) = subst (λ (p : Option (List Item)). AreItems p ts) (sym is) (e ∙ ap (λ (l : List Token). word "*" ∷ l) none)

@@ -13,8 +13,8 @@ use Rattle.sql_model.specs.declared.token.Token.TheVariants.{Word, Number, Quote
 use Rattle.ldv_value.specs.Options.{◌>>=◌, only_if}
 use Rattle.sql_model.specs.Grammar.{word, IsName}
 use Rattle.sql_model.specs.GrammarOfStatements.{Then, Optionally, AreCores, IsKey, IsDirection, IsOrder, AreOrders, IsBound, IsQuery}
-use Rattle.sql_model.specs.Queries.{place_of, key_of, reads_key, directed, reads_order, reads_orders, bound_of, reads_bound, reads_limit, reads_query}
-use Rattle.sql_model.specs.Reader.{starts, tail, passed, name_in}
+use Rattle.sql_model.specs.Queries.{place_of, key_of, reads_key, tokens_after_direction, reads_order, reads_orders, bound_of, reads_bound, reads_limit, reads_query}
+use Rattle.sql_model.specs.Reader.{starts, tail, tokens_past, name_in}
 use Rattle.sql_parse.proofs.ClausesLaw.{clause_law}
 use Rattle.sql_parse.proofs.ExpressionsLaw.{starts_is}
 use Rattle.sql_parse.proofs.Follows.{ends_by, ends_lack, Follows, follows_after, follows_nothing, follows_optional, follows_then}
@@ -74,11 +74,11 @@ key_filled (Place n) ts e = omega (arith, ap length e)
 -- ---- ASC and DESC
 
 abbrev Directed : List Token → Type 0
-Directed ts = (front : List Token) × (ts ≡ front ++ directed ts) × IsDirection (starts (codes "desc") ts) front
+Directed ts = (front : List Token) × (ts ≡ front ++ tokens_after_direction ts) × IsDirection (starts (codes "desc") ts) front
 
-undirected : (ts : List Token) → starts (codes "asc") ts ≡ false → starts (codes "desc") ts ≡ false → directed ts ≡ ts
+undirected : (ts : List Token) → starts (codes "asc") ts ≡ false → starts (codes "desc") ts ≡ false → tokens_after_direction ts ≡ ts
 undirected ts no_asc no_desc =
-    ap (λ b. if b then tail ts else passed (codes "desc") ts) no_asc ∙ ap (λ b. if b then tail ts else ts) no_desc
+    ap (λ b. if b then tail ts else tokens_past (codes "desc") ts) no_asc ∙ ap (λ b. if b then tail ts else ts) no_desc
 
 direction_read : (ts : List Token) → Directed ts
 direction_read ts = elim (cases_Bool (starts (codes "asc") ts)) [
@@ -89,29 +89,29 @@ direction_read ts = elim (cases_Bool (starts (codes "asc") ts)) [
   ]
 ]
 
-direction_back : (d : Bool) (front rest : List Token) → IsDirection d front → ends_by after_order rest ≡ true → (starts (codes "desc") (front ++ rest) ≡ d) × (directed (front ++ rest) ≡ rest)
-direction_back true front rest e ends = (ap (λ (l : List Token). starts (codes "desc") (l ++ rest)) e, ap (λ (l : List Token). directed (l ++ rest)) e)
+direction_back : (d : Bool) (front rest : List Token) → IsDirection d front → ends_by after_order rest ≡ true → (starts (codes "desc") (front ++ rest) ≡ d) × (tokens_after_direction (front ++ rest) ≡ rest)
+direction_back true front rest e ends = (ap (λ (l : List Token). starts (codes "desc") (l ++ rest)) e, ap (λ (l : List Token). tokens_after_direction (l ++ rest)) e)
 direction_back false front rest (inl e) ends =
     let no_asc : starts (codes "asc") rest ≡ false = ends_lack (codes "asc") after_order rest refl ends in
     let no_desc : starts (codes "desc") rest ≡ false = ends_lack (codes "desc") after_order rest refl ends in
-    (ap (λ (l : List Token). starts (codes "desc") (l ++ rest)) e ∙ no_desc, ap (λ (l : List Token). directed (l ++ rest)) e ∙ undirected rest no_asc no_desc)
-direction_back false front rest (inr e) ends = (ap (λ (l : List Token). starts (codes "desc") (l ++ rest)) e, ap (λ (l : List Token). directed (l ++ rest)) e)
+    (ap (λ (l : List Token). starts (codes "desc") (l ++ rest)) e ∙ no_desc, ap (λ (l : List Token). tokens_after_direction (l ++ rest)) e ∙ undirected rest no_asc no_desc)
+direction_back false front rest (inr e) ends = (ap (λ (l : List Token). starts (codes "desc") (l ++ rest)) e, ap (λ (l : List Token). tokens_after_direction (l ++ rest)) e)
 
 abbrev DirectedForm : OrderKey → Order → List Token → Type 0
 DirectedForm k o ts = (o.key ≡ k) × IsDirection o.descending ts
 
 abbrev directs : OrderKey → List Token → Option (Order × List Token)
-directs k ts = Some (record { key = k; descending = starts (codes "desc") ts }, directed ts)
+directs k ts = Some (record { key = k; descending = starts (codes "desc") ts }, tokens_after_direction ts)
 
 direction_law : (k : OrderKey) → Law (DirectedForm k) after_order (directs k)
 direction_law k = record {
   sound = λ ts o rest h.
-      let same : (record { key = k; descending = starts (codes "desc") ts }, directed ts) ≡ (o, rest) = same-some _ _ h in
+      let same : (record { key = k; descending = starts (codes "desc") ts }, tokens_after_direction ts) ≡ (o, rest) = same-some _ _ h in
       let d : Directed ts = direction_read ts in
       subst (λ (p : Order × List Token). (front : List Token) × (ts ≡ front ++ p.1) × DirectedForm k p.0 front) same (d.0, d.1, (refl, d.2));
   complete = λ front rest o form ends.
       let d = direction_back o.descending front rest form.1 ends in
-      ap (λ (b : Bool). Some (record { key = k; descending = b }, directed (front ++ rest))) d.0 ∙ ap (λ (l : List Token). Some (record { key = k; descending = o.descending }, l)) d.1
+      ap (λ (b : Bool). Some (record { key = k; descending = b }, tokens_after_direction (front ++ rest))) d.0 ∙ ap (λ (l : List Token). Some (record { key = k; descending = o.descending }, l)) d.1
       ∙ ap (λ (j : OrderKey). Some (record { key = j; descending = o.descending }, rest)) (sym form.0);
 }
 

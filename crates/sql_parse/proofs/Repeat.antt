@@ -1,8 +1,8 @@
 -- Steps, one after another.
 use Rattle.std.proofs.Common.{◌≡◌, ℕ, suc, ◌+◌, ◌-◌, ◌<◌, ◌≤◌, List, refl, ap, ◌∙◌, sym, subst, Some, None, Bool, true, false, arith}
 use Rattle.std.specs.Prelude.{Option, if◌then◌else◌}
-use Rattle.sql_parse.specs.declared.stop.ParseStop.{ParseStop}
-use Rattle.sql_parse.specs.declared.stop.ParseStop.TheVariants.{Syntax, NoMemory}
+use Rattle.sql_parse.specs.declared.error.ParseStop.{ParseStop}
+use Rattle.sql_parse.specs.declared.error.ParseStop.TheVariants.{Syntax, NoMemory}
 use Rattle.sql_model.specs.declared.token.Token.{Token}
 use Rattle.ldv_value.specs.Options.{◌>>=◌}
 use Rattle.sql_parse.specs.Gives.{Fails}

@@ -6,7 +6,7 @@ use Rattle.std.proofs.lemmas.List.{length-append}
 use Rattle.sql_model.specs.declared.token.Token.{Token}
 use Rattle.ldv_value.specs.Options.{◌>>=◌}
 use Rattle.sql_model.specs.Grammar.{word}
-use Rattle.sql_model.specs.GrammarOfStatements.{After, Repeated, Separated}
+use Rattle.sql_model.specs.GrammarOfStatements.{After, IsRepetition, IsSeparatedBy}
 use Rattle.sql_model.specs.Reader.{starts, tail, repeat}
 use Rattle.sql_parse.proofs.Choices.{choose}
 use Rattle.sql_parse.proofs.ExpressionsLaw.{starts_is}
@@ -34,7 +34,7 @@ pub record StepLaw {A X : Type 0} (add : A → X → A) (Form : X → List Token
 
 -- what so many steps make
 abbrev pub Made : {A X : Type 0} → (A → X → A) → (X → List Token → Type 0) → ℕ → A → List Token → A × List Token → Type 0
-Made {X = X} add Form k a ts q = (xs : List X) × (front : List Token) × (ts ≡ front ++ q.1) × Repeated Form xs front × (q.0 ≡ added add a xs) × (length xs < k)
+Made {X = X} add Form k a ts q = (xs : List X) × (front : List Token) × (ts ≡ front ++ q.1) × IsRepetition Form xs front × (q.0 ≡ added add a xs) × (length xs < k)
 
 module _ {A X : Type 0} (add : A → X → A) (Form : X → List Token → Type 0) (ws vs : List (List ℕ)) (step : A → List Token → Option ((A × Bool) × List Token)) (law : StepLaw add Form ws vs step) where
   one_more : (k : ℕ) (a : A) (ts : List Token) (r : (A × Bool) × List Token) (q : A × List Token) → Steps add Form a ts r → ((b : A) → repeat step k b r.1 ≡ Some q → Made add Form k b r.1 q)
@@ -57,7 +57,7 @@ module _ {A X : Type 0} (add : A → X → A) (Form : X → List Token → Type 
       bind-some (step a ts) (λ r. if r.0.1 then repeat step k r.0.0 r.1 else Some (r.0.0, r.1)) q (sym (repeat_suc step k a ts) ∙ h) in
       one_more k a ts p.0 q (law.makes a ts p.0 p.1) (λ b e. repeat_sound k b p.0.1 q e) p.2
 
-  pub repeat_complete : (xs : List X) (k : ℕ) (a : A) (front rest : List Token) → Repeated Form xs front → length xs < k → ends_by ws rest ≡ true → repeat step k a (front ++ rest) ≡ Some (added add a xs, rest)
+  pub repeat_complete : (xs : List X) (k : ℕ) (a : A) (front rest : List Token) → IsRepetition Form xs front → length xs < k → ends_by ws rest ≡ true → repeat step k a (front ++ rest) ≡ Some (added add a xs, rest)
   repeat_complete xs zero a front rest form fits ends = absurd (omega (arith, fits))
   repeat_complete [] (suc k) a front rest form fits ends =
       ap (λ (l : List Token). repeat step (suc k) a (l ++ rest)) form ∙ repeat_suc step k a rest ∙ ap (after step k) (law.stops a rest ends)
@@ -106,7 +106,7 @@ more_law {X = X} {Form = Form} {read = read} s ws law lack less self = record {
     stopped a ts r made = subst (Steps put_last (λ x ts. After s (Form x) ts) a ts) (same-some _ _ made) (inr (refl, refl, refl))
 
 -- as many forms after words have as many tokens at least
-repeated_length : {X : Type 0} (Form : X → List Token → Type 0) (s : String) (xs : List X) (ts : List Token) → Repeated (λ y. After s (Form y)) xs ts → length xs ≤ length ts
+repeated_length : {X : Type 0} (Form : X → List Token → Type 0) (s : String) (xs : List X) (ts : List Token) → IsRepetition (λ y. After s (Form y)) xs ts → length xs ≤ length ts
 repeated_length Form s [] ts h = omega arith
 repeated_length Form s (x ∷ xs) ts (front, back, e, (more, is, form), others) =
     omega (arith, ap length e, length-append front back, ap length is, repeated_length Form s xs back others)
@@ -114,7 +114,7 @@ repeated_length Form s (x ∷ xs) ts (front, back, e, (more, is, form), others) 
 pub separated_law : {X : Type 0} {First Form : X → List Token → Type 0} {first read : List Token → Option (X × List Token)} (s : String) (ws : List (List ℕ))
     → Law First (codes s ∷ ws) first → Law Form (codes s ∷ ws) read → ((x : X) (ts : List Token) → First x ts → 1 ≤ length ts)
     → lacks (codes s) ws ≡ true → all_words (among (codes s ∷ ws)) ws ≡ true → among (codes s ∷ ws) (codes s) ≡ true
-    → Law (λ xs ts. Separated s First Form xs ts) ws (λ ts. first ts >>= λ r. repeat (more_of s read) (length ts) (r.0 ∷ []) r.1)
+    → Law (λ xs ts. IsSeparatedBy s First Form xs ts) ws (λ ts. first ts >>= λ r. repeat (more_of s read) (length ts) (r.0 ∷ []) r.1)
 separated_law {X = X} {First = First} {Form = Form} {first = first} {read = read} s ws one law some lack less self = record {
   sound = λ ts xs rest h.
       let p : (r : X × List Token) × (first ts ≡ Some r) × (repeat (more_of s read) (length ts) (r.0 ∷ []) r.1 ≡ Some (xs, rest)) =
@@ -123,11 +123,11 @@ separated_law {X = X} {First = First} {Form = Form} {first = first} {read = read
       let m : Made put_last (λ x ts. After s (Form x) ts) (length ts) (p.0.0 ∷ []) p.0.1 (xs, rest) =
       repeat_sound put_last (λ x ts. After s (Form x) ts) ws (codes s ∷ ws) (more_of s read) (more_law s ws law lack less self) (length ts) (p.0.0 ∷ []) p.0.1 (xs, rest) p.2 in
       let all : xs ≡ p.0.0 ∷ m.0 = m.4 ∙ put_all (p.0.0 ∷ []) m.0 in
-      (q.0 ++ m.1, q.1 ∙ ap (λ l. q.0 ++ l) m.2 ∙ sym (append_assoc q.0 m.1 rest), subst (λ ys. Separated s First Form ys (q.0 ++ m.1)) (sym all) (q.0, m.1, refl, q.2, m.3));
+      (q.0 ++ m.1, q.1 ∙ ap (λ l. q.0 ++ l) m.2 ∙ sym (append_assoc q.0 m.1 rest), subst (λ ys. IsSeparatedBy s First Form ys (q.0 ++ m.1)) (sym all) (q.0, m.1, refl, q.2, m.3));
   complete = separated_complete;
 }
   where
-    separated_complete : (front rest : List Token) (xs : List X) → Separated s First Form xs front → ends_by ws rest ≡ true
+    separated_complete : (front rest : List Token) (xs : List X) → IsSeparatedBy s First Form xs front → ends_by ws rest ≡ true
         → (first (front ++ rest) >>= λ r. repeat (more_of s read) (length (front ++ rest)) (r.0 ∷ []) r.1) ≡ Some (xs, rest)
     separated_complete front rest [] form ends = absurd form
     separated_complete front rest (x ∷ xs) (begin, back, e, is, others) ends =

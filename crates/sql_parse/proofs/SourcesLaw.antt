@@ -12,7 +12,7 @@ use Rattle.sql_model.specs.declared.token.Token.{Token}
 use Rattle.sql_model.specs.declared.token.Token.TheVariants.{Word}
 use Rattle.ldv_value.specs.Options.{◌>>=◌}
 use Rattle.sql_model.specs.Grammar.{word, IsName}
-use Rattle.sql_model.specs.GrammarOfStatements.{Then, After, Named, IsExpression, IsSecondName, IsSource, Joined, IsConditioned, IsJoinedBy, IsJoined, source_of, conditions, AreSources}
+use Rattle.sql_model.specs.GrammarOfStatements.{Then, After, IsNameToken, IsExpression, IsSecondName, IsSource, JoinedSource, IsConditioned, IsJoinedBy, IsJoined, source_of, conditions, AreSources}
 use Rattle.sql_model.specs.Queries.{names, second_name, reads_source, plain_source, joined_source, another_source, reads_sources}
 use Rattle.sql_model.specs.Reader.{starts, tail, after_word, reads_name, repeat}
 use Rattle.sql_parse.proofs.Choices.{choose}
@@ -43,7 +43,7 @@ name_apart v x not is = elim (cases_Bool (pointwise nat_eq x v)) [
 ]
 
 abbrev BareForm : List ℕ → List ℕ → List Token → Type 0
-BareForm table n ts = Named n ts ⊎ ((n ≡ table) × (ts ≡ []))
+BareForm table n ts = IsNameToken n ts ⊎ ((n ≡ table) × (ts ≡ []))
 
 abbrev bare_name : List ℕ → List Token → Option (List ℕ × List Token)
 bare_name table ts = if names ts then reads_name ts else Some (table, ts)
@@ -71,13 +71,13 @@ bare_apart table n front rest (inl (e, named)) ends = ap (λ (l : List Token). s
 bare_apart table n front rest (inr (same, e)) ends = ap (λ (l : List Token). starts (codes "as") (l ++ rest)) e ∙ ends_lack (codes "as") after_names rest refl ends
 
 abbrev SecondForm : List ℕ → List ℕ → List Token → Type 0
-SecondForm table n ts = After "as" (Named n) ts ⊎ BareForm table n ts
+SecondForm table n ts = After "as" (IsNameToken n) ts ⊎ BareForm table n ts
 
 second_law : (table : List ℕ) → Law (SecondForm table) after_names (second_name table)
 second_law table = either_law "as" (name_law after_names) (bare_law table) (bare_apart table)
 
 abbrev SourceForm : FromItem → List Token → Type 0
-SourceForm s ts = (t : List ℕ) × Then (Named t) (λ ts. (n : List ℕ) × (s ≡ record { table = t; name = n }) × SecondForm t n ts) ts
+SourceForm s ts = (t : List ℕ) × Then (IsNameToken t) (λ ts. (n : List ℕ) × (s ≡ record { table = t; name = n }) × SecondForm t n ts) ts
 
 second_to : (t n : List ℕ) (ts : List Token) → SecondForm t n ts → IsSecondName (record { table = t; name = n }) ts
 second_to t n ts (inl form) = inr (inr form)
@@ -112,7 +112,7 @@ abbrev pub with_source : Sources → FromItem → Option Expr → Sources
 with_source made s None = with_plain made s
 with_source made s (Some e) = with_joined made s e
 
-abbrev pub add_source : Sources → Joined → Sources
+abbrev pub add_source : Sources → JoinedSource → Sources
 add_source made j = with_source made j.0 j.1
 
 abbrev Going : Type 0
@@ -207,7 +207,7 @@ source_step = record {
 
 -- ---- all of them
 
-abbrev pub with_more : Sources → List Joined → Sources
+abbrev pub with_more : Sources → List JoinedSource → Sources
 with_more made js = record { from = made.from ++ map source_of js; picks = made.picks ++ conditions js }
 
 abbrev sources : List FromItem → List Expr → Sources
@@ -216,7 +216,7 @@ sources from picks = record { from = from; picks = picks }
 sources_same : (a b : List FromItem) (p q : List Expr) → a ≡ b → p ≡ q → sources a p ≡ sources b q
 sources_same a b p q e f = ap (λ (l : List FromItem). sources l p) e ∙ ap (λ (l : List Expr). sources b l) f
 
-added_sources : (js : List Joined) (made : Sources) → added add_source made js ≡ with_more made js
+added_sources : (js : List JoinedSource) (made : Sources) → added add_source made js ≡ with_more made js
 added_sources [] made = sources_same _ _ _ _ (sym (append-nil made.from)) (sym (append-nil made.picks))
 added_sources ((s, None) ∷ js) made = added_sources js (with_plain made s) ∙ sources_same _ _ _ _ (append_assoc made.from (s ∷ []) (map source_of js)) refl
 added_sources ((s, Some e) ∷ js) made = added_sources js (with_joined made s e) ∙ sources_same _ _ _ _ (append_assoc made.from (s ∷ []) (map source_of js)) (append_assoc made.picks (e ∷ []) (conditions js))

@@ -16,11 +16,11 @@ use Rattle.sql_model.specs.declared.token.Token.{Token}
 use Rattle.sql_model.specs.declared.token.Token.TheVariants.{Word, Number, Quoted, Given}
 use Rattle.ldv_value.specs.Options.{◌>>=◌, only_if}
 use Rattle.sql_model.specs.Grammar.{word}
-use Rattle.sql_model.specs.GrammarOfStatements.{Then, After, Optionally, Listed, Named, IsExpression, AreColumns, IsTuple, IsSet, IsStatement, IsEnd, IsWhole, IsGiven, Reads}
+use Rattle.sql_model.specs.GrammarOfStatements.{Then, After, Optionally, IsCommaList, IsNameToken, IsExpression, AreColumns, IsTuple, IsSet, IsStatement, IsEnd, IsWhole, IsGiven, Reads}
 use Rattle.sql_model.specs.Parts.{reads_optional}
 use Rattle.sql_model.specs.Queries.{reads_query}
 use Rattle.sql_model.specs.Reader.{is_word, starts, tail}
-use Rattle.sql_model.specs.Texts.{reads_insert, reads_set, reads_update, reads_delete, reads_statement, placed, is_end, whole_statement, statement_of}
+use Rattle.sql_model.specs.Texts.{reads_insert, reads_set, reads_update, reads_delete, reads_statement, with_parameters, is_end, whole_statement, statement_of}
 use Rattle.sql_model.specs.Tokens.{tokens_of}
 use Rattle.sql_parse.proofs.Choices.{choose}
 use Rattle.sql_parse.proofs.ExpressionsLaw.{starts_is, text_is}
@@ -35,17 +35,17 @@ use Rattle.sql_parse.proofs.TokensSound.{tokens_sound}
 -- ---- INSERT
 
 abbrev RowsForm : List ℕ → Option (List (List ℕ)) → Insert → List Token → Type 0
-RowsForm t c i ts = (r : List (List Expr)) × (i ≡ record { table = t; columns = c; rows = r }) × Listed IsTuple r ts
+RowsForm t c i ts = (r : List (List Expr)) × (i ≡ record { table = t; columns = c; rows = r }) × IsCommaList IsTuple r ts
 
 abbrev ValuesForm : List ℕ → Insert → List Token → Type 0
 ValuesForm t i ts = (c : Option (List (List ℕ))) × Then (AreColumns c) (λ ts. After "values" (λ ts. RowsForm t c i ts) ts) ts
 
 abbrev InsertForm : Insert → List Token → Type 0
-InsertForm i ts = After "into" (λ ts. (t : List ℕ) × Then (Named t) (λ ts. ValuesForm t i ts) ts) ts
+InsertForm i ts = After "into" (λ ts. (t : List ℕ) × Then (IsNameToken t) (λ ts. ValuesForm t i ts) ts) ts
 
 -- what stands after the word INSERT
 abbrev InsertRest : Insert → List Token → Type 0
-InsertRest i ts = After "into" (Then (Named i.table) (Then (AreColumns i.columns) (After "values" (Listed IsTuple i.rows)))) ts
+InsertRest i ts = After "into" (Then (IsNameToken i.table) (Then (AreColumns i.columns) (After "values" (IsCommaList IsTuple i.rows)))) ts
 
 insert_to : (i : Insert) (ts : List Token) → InsertForm i ts → InsertRest i ts
 insert_to i ts (more, e, (t, (f1, b1, e1, named, (c, (f2, b2, e2, columns, (m3, e3, (r, made, list))))))) =
@@ -72,7 +72,7 @@ abbrev after_sets : List (List ℕ)
 after_sets = codes "where" ∷ after_all
 
 abbrev SetForm : Set → List Token → Type 0
-SetForm s ts = (n : List ℕ) × Then (Named n) (λ ts. After "=" (λ ts. (e : Expr) × (s ≡ record { column = n; expr = e }) × IsExpression e ts) ts) ts
+SetForm s ts = (n : List ℕ) × Then (IsNameToken n) (λ ts. After "=" (λ ts. (e : Expr) × (s ≡ record { column = n; expr = e }) × IsExpression e ts) ts) ts
 
 set_to : (s : Set) (ts : List Token) → SetForm s ts → IsSet s ts
 set_to s ts (n, (front, back, e, named, (more, is, (x, made, expr)))) = subst (λ (r : Set). IsSet r ts) (sym made) (front, back, e, named, (more, is, expr))
@@ -95,13 +95,13 @@ abbrev PickForm : List ℕ → List Set → Update → List Token → Type 0
 PickForm t s u ts = (w : Option Expr) × (u ≡ record { table = t; sets = s; pick = w }) × Optionally "where" IsExpression w ts
 
 abbrev SetsForm : List ℕ → Update → List Token → Type 0
-SetsForm t u ts = (s : List Set) × Then (Listed IsSet s) (λ ts. PickForm t s u ts) ts
+SetsForm t u ts = (s : List Set) × Then (IsCommaList IsSet s) (λ ts. PickForm t s u ts) ts
 
 abbrev UpdateForm : Update → List Token → Type 0
-UpdateForm u ts = (t : List ℕ) × Then (Named t) (λ ts. After "set" (λ ts. SetsForm t u ts) ts) ts
+UpdateForm u ts = (t : List ℕ) × Then (IsNameToken t) (λ ts. After "set" (λ ts. SetsForm t u ts) ts) ts
 
 abbrev UpdateRest : Update → List Token → Type 0
-UpdateRest u ts = Then (Named u.table) (After "set" (Then (Listed IsSet u.sets) (Optionally "where" IsExpression u.pick))) ts
+UpdateRest u ts = Then (IsNameToken u.table) (After "set" (Then (IsCommaList IsSet u.sets) (Optionally "where" IsExpression u.pick))) ts
 
 update_to : (u : Update) (ts : List Token) → UpdateForm u ts → UpdateRest u ts
 update_to u ts (t, (f1, b1, e1, named, (more, e, (s, (f2, b2, e2, sets, (w, made, pick)))))) =
@@ -123,10 +123,10 @@ update_law =
 -- ---- DELETE
 
 abbrev DeleteForm : Delete → List Token → Type 0
-DeleteForm d ts = After "from" (λ ts. (t : List ℕ) × Then (Named t) (λ ts. (w : Option Expr) × (d ≡ record { table = t; pick = w }) × Optionally "where" IsExpression w ts) ts) ts
+DeleteForm d ts = After "from" (λ ts. (t : List ℕ) × Then (IsNameToken t) (λ ts. (w : Option Expr) × (d ≡ record { table = t; pick = w }) × Optionally "where" IsExpression w ts) ts) ts
 
 abbrev DeleteRest : Delete → List Token → Type 0
-DeleteRest d ts = After "from" (Then (Named d.table) (Optionally "where" IsExpression d.pick)) ts
+DeleteRest d ts = After "from" (Then (IsNameToken d.table) (Optionally "where" IsExpression d.pick)) ts
 
 delete_to : (d : Delete) (ts : List Token) → DeleteForm d ts → DeleteRest d ts
 delete_to d ts (more, e, (t, (f1, b1, e1, named, (w, made, pick)))) = subst (λ (x : Delete). DeleteRest x ts) (sym made) (more, e, (f1, b1, e1, named, pick))
@@ -268,9 +268,9 @@ plus_one : (n : ℕ) → n + 1 ≡ suc n
 plus_one n = omega arith
 
 abbrev placed_rest : List Value → List Token → Token × ℕ → Option (List Token)
-placed_rest params ts r = placed params r.1 ts >>= λ rest. Some (r.0 ∷ rest)
+placed_rest params ts r = with_parameters params r.1 ts >>= λ rest. Some (r.0 ∷ rest)
 
-given_sound : (ts : List Token) (params : List Value) (place : ℕ) (given : List Token) → placed params place ts ≡ Some given → IsGiven (drop place params) ts given
+given_sound : (ts : List Token) (params : List Value) (place : ℕ) (given : List Token) → with_parameters params place ts ≡ Some given → IsGiven (drop place params) ts given
 given_sound [] params place given h =
     let p : (place == length params ≡ true) × (Some [] ≡ Some given) = only_if-some (place == length params) (Some []) given h in
     (drop_nothing params place (eqb-true place (length params) p.0), sym (same-some _ _ p.1))
@@ -283,17 +283,17 @@ given_sound (t ∷ ts) params place given h = elim (cases_Bool (is_word (codes "
       let q : (v : Value) × (slice_get params place ≡ Some v) × (Some (Given v, place + 1) ≡ Some p.0) = bind-some (slice_get params place) (λ v. Some (Given v, place + 1)) p.0 p.1 in
       let next : (Given q.0, place + 1) ≡ p.0 = same-some _ _ q.2 in
       let h3 : placed_rest params ts (Given q.0, place + 1) ≡ Some given = ap (λ (r : Token × ℕ). placed_rest params ts r) next ∙ p.2 in
-      let r : (rest : List Token) × (placed params (place + 1) ts ≡ Some rest) × (Some (Given q.0 ∷ rest) ≡ Some given) = bind-some (placed params (place + 1) ts) (λ rest. Some (Given q.0 ∷ rest)) given h3 in
+      let r : (rest : List Token) × (with_parameters params (place + 1) ts ≡ Some rest) × (Some (Given q.0 ∷ rest) ≡ Some given) = bind-some (with_parameters params (place + 1) ts) (λ rest. Some (Given q.0 ∷ rest)) given h3 in
       let others : IsGiven (drop (suc place) params) ts r.0 = subst (λ (n : ℕ). IsGiven (drop n params) ts r.0) (plus_one place) (given_sound ts params (place + 1) r.0 r.1) in
       inl (word_is_mark t mark, (q.0, drop (suc place) params, r.0, drop_some params place q.0 q.1, sym (same-some _ _ r.2), others))
   | inr other ↦
       let h2 : placed_rest params ts (t, place) ≡ Some given =
       sym (ap (λ b. (if b then (slice_get params place >>= λ v. Some (Given v, place + 1)) else Some (t, place)) >>= λ r. placed_rest params ts r) other) ∙ h in
-      let r : (rest : List Token) × (placed params place ts ≡ Some rest) × (Some (t ∷ rest) ≡ Some given) = bind-some (placed params place ts) (λ rest. Some (t ∷ rest)) given h2 in
+      let r : (rest : List Token) × (with_parameters params place ts ≡ Some rest) × (Some (t ∷ rest) ≡ Some given) = bind-some (with_parameters params place ts) (λ rest. Some (t ∷ rest)) given h2 in
       inr (mark_not t other, (r.0, sym (same-some _ _ r.2), given_sound ts params place r.0 r.1))
 ]
 
-given_complete : (ts : List Token) (params : List Value) (place : ℕ) (given : List Token) → place ≤ length params → IsGiven (drop place params) ts given → placed params place ts ≡ Some given
+given_complete : (ts : List Token) (params : List Value) (place : ℕ) (given : List Token) → place ≤ length params → IsGiven (drop place params) ts given → with_parameters params place ts ≡ Some given
 given_complete [] params place given within (none, e) =
     ap (λ b. only_if b (Some [])) (eq-eqb place (length params) (drop_ends params place within none)) ∙ ap (λ (l : List Token). Some l) (sym e)
 given_complete (t ∷ ts) params place given within (inl (mark, (v, more, rest, some, e, others))) =
@@ -316,12 +316,12 @@ drop_none (p ∷ params) = refl
 
 pub reading_sound : (text : List ℕ) (params : List Value) (s : Statement) → statement_of text params ≡ Some s → Reads text params s
 reading_sound text params s h =
-    let p : (ts : List Token) × (tokens_of text ≡ Some ts) × ((placed params 0 ts >>= λ given. whole_statement given) ≡ Some s) = bind-some (tokens_of text) (λ ts. placed params 0 ts >>= λ given. whole_statement given) s h in
-    let q : (given : List Token) × (placed params 0 p.0 ≡ Some given) × (whole_statement given ≡ Some s) = bind-some (placed params 0 p.0) (λ given. whole_statement given) s p.2 in
+    let p : (ts : List Token) × (tokens_of text ≡ Some ts) × ((with_parameters params 0 ts >>= λ given. whole_statement given) ≡ Some s) = bind-some (tokens_of text) (λ ts. with_parameters params 0 ts >>= λ given. whole_statement given) s h in
+    let q : (given : List Token) × (with_parameters params 0 p.0 ≡ Some given) × (whole_statement given ≡ Some s) = bind-some (with_parameters params 0 p.0) (λ given. whole_statement given) s p.2 in
     (p.0, q.0, tokens_sound text Between p.0 p.1, subst (λ (l : List Value). IsGiven l p.0 q.0) (drop_none params) (given_sound p.0 params 0 q.0 q.1), whole_sound q.0 s q.2)
 
 pub reading_complete : (text : List ℕ) (params : List Value) (s : Statement) → IsUtf8 text → Reads text params s → statement_of text params ≡ Some s
 reading_complete text params s u (ts, given, spells, gives, whole) =
     let start : IsGiven (drop 0 params) ts given = subst (λ (l : List Value). IsGiven l ts given) (sym (drop_none params)) gives in
-    ap (λ (o : Option (List Token)). o >>= λ ts. placed params 0 ts >>= λ given. whole_statement given) (tokens_complete ts text u spells)
+    ap (λ (o : Option (List Token)). o >>= λ ts. with_parameters params 0 ts >>= λ given. whole_statement given) (tokens_complete ts text u spells)
     ∙ ap (λ (o : Option (List Token)). o >>= λ given. whole_statement given) (given_complete ts params 0 given (omega arith) start) ∙ whole_complete given s whole

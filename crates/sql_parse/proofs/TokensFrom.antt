@@ -8,14 +8,14 @@ use Rattle.ldv_value.specs.Scan.{before}
 use Rattle.ldv_value.proofs.Scanning.{before-none}
 use Rattle.sql_model.specs.declared.reading.LexState.TheVariants.{Between}
 use Rattle.sql_model.specs.declared.token.Token.{Token}
-use Rattle.sql_model.specs.Texts.{placed_token, placed, statement_of, whole_statement}
+use Rattle.sql_model.specs.Texts.{placed_token, with_parameters, statement_of, whole_statement}
 use Rattle.sql_model.specs.Tokens.{tokens_from}
 use Rattle.sql_parse.specs.Lexing.{given_from, given_of, next_at, statement_from, tokens_at}
 use Rattle.sql_parse.proofs.Placed.{placed_first}
 
 pub given_begins : (text : List ℕ) (params : List Value) → given_from params [] 0 (tokens_at text 0 Between) ≡ given_of text params
 unfolding given_from given_of tokens_at
-given_begins text params = before-none (tokens_from text Between >>= λ ts. placed params 0 ts)
+given_begins text params = before-none (tokens_from text Between >>= λ ts. with_parameters params 0 ts)
 
 pub given_none : (params : List Value) (front : List Token) (place : ℕ) → given_from params front place None ≡ None
 unfolding given_from
@@ -45,7 +45,7 @@ pub ruleset given_rules = (given_begins, given_none, given_goes, given_ends, no_
 -- ---- the statement of the tokens
 
 in_turn : (o : Option (List Token)) (params : List Value)
-    → ((o >>= λ ts. placed params 0 ts) >>= λ given. whole_statement given) ≡ (o >>= λ ts. placed params 0 ts >>= λ given. whole_statement given)
+    → ((o >>= λ ts. with_parameters params 0 ts) >>= λ given. whole_statement given) ≡ (o >>= λ ts. with_parameters params 0 ts >>= λ given. whole_statement given)
 in_turn None params = refl
 in_turn (Some ts) params = refl
 

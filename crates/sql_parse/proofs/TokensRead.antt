@@ -12,11 +12,11 @@ use Rattle.sql_model.specs.declared.token.Token.TheVariants.{Word, Number, Quote
 use Rattle.sql_model.specs.declared.reading.LexState.{LexState}
 use Rattle.sql_model.specs.declared.reading.LexState.TheVariants.{Between, InWord, InNumber, InText, InSymbol, Ended}
 use Rattle.ldv_value.specs.Options.{◌>>=◌}
-use Rattle.sql_model.specs.GrammarOfTokens.{AreBlanks, BeginsNot, is_inside, is_quote, digits_from, doubled, IsSymbol, IsWhole, IsToken, Spells}
-use Rattle.sql_model.specs.TextBytes.{is_blank, is_letter, is_upper, is_digit, folded}
+use Rattle.sql_model.specs.GrammarOfTokens.{AreBlanks, BeginsNot, is_inside, is_quote, digits_from, with_doubled_quotes, IsSymbol, IsWhole, IsToken, Spells}
+use Rattle.sql_model.specs.TextBytes.{is_blank, is_letter, is_upper, is_digit, lower_case_of}
 use Rattle.ldv_value.specs.Limits.{text_limit}
 use Rattle.ldv_value.specs.Scan.{before}
-use Rattle.sql_model.specs.Tokens.{begins_symbol, is_pair, longer, word_token, number_token, text_token, symbol_token, short_symbol, start, step, finish, tokens_from, tokens_of}
+use Rattle.sql_model.specs.Tokens.{begins_symbol, is_pair, with_digit, word_token, number_token, text_token, symbol_token, short_symbol, start, step, finish, tokens_from, tokens_of}
 use Rattle.ldv_value.proofs.Scanning.{stays-run, stays-only}
 use Rattle.sql_parse.proofs.Choices.{or_go}
 use Rattle.sql_parse.proofs.Symbols.{pair_symbol, symbol_low}
@@ -58,19 +58,19 @@ digit_no_letter b h = not-so (is_letter b) (λ is. omega (arith, (letter_range b
 inside_low : (b : ℕ) → IsTrue (is_inside b) → b ≤ 122
 inside_low b h = or_go _ _ h (λ e. (letter_range b e).1) (λ e. omega (arith, (digit_range b e).1))
 
-folded_low : (b : ℕ) → IsTrue (is_inside b) → folded b < 128
+folded_low : (b : ℕ) → IsTrue (is_inside b) → lower_case_of b < 128
 folded_low b h = elim (cases_Bool (is_upper b)) [
-  | inl upper ↦ let is : folded b ≡ b + 32 = rw upper refl in omega (arith, is, (within 65 90 b upper).1)
-  | inr other ↦ let is : folded b ≡ b = rw other refl in omega (arith, is, inside_low b h)
+  | inl upper ↦ let is : lower_case_of b ≡ b + 32 = rw upper refl in omega (arith, is, (within 65 90 b upper).1)
+  | inr other ↦ let is : lower_case_of b ≡ b = rw other refl in omega (arith, is, inside_low b h)
 ]
 
-all_ascii : (piece : List ℕ) → AreInside piece → IsAscii (map folded piece)
+all_ascii : (piece : List ℕ) → AreInside piece → IsAscii (map lower_case_of piece)
 all_ascii [] h = IsAscii-nil
-all_ascii (b ∷ piece) h = IsAscii-cons (folded b) (map folded piece) (folded_low b h.0) (all_ascii piece h.1)
+all_ascii (b ∷ piece) h = IsAscii-cons (lower_case_of b) (map lower_case_of piece) (folded_low b h.0) (all_ascii piece h.1)
 
 -- ---- where a token begins
 
-pub letter_starts : (b : ℕ) → is_letter b ≡ true → start b ≡ Some (InWord (folded b ∷ []))
+pub letter_starts : (b : ℕ) → is_letter b ≡ true → start b ≡ Some (InWord (lower_case_of b ∷ []))
 letter_starts b h = rw (letter_no_blank b h, h) refl
 
 pub digit_starts : (b : ℕ) → is_digit b ≡ true → start b ≡ Some (InNumber (b - 48))
@@ -87,29 +87,29 @@ blank_stays b h = let blank : is_blank b ≡ true = h in rw blank refl
 
 -- ---- the bytes of a token
 
-word_run : (piece w rest : List ℕ) → AreInside piece → BeginsNot is_inside rest → tokens_from (piece ++ rest) (InWord w) ≡ put (word_token (w ++ map folded piece)) rest
+word_run : (piece w rest : List ℕ) → AreInside piece → BeginsNot is_inside rest → tokens_from (piece ++ rest) (InWord w) ≡ put (word_token (w ++ map lower_case_of piece)) rest
 word_run [] w rest all ends = word_closes w rest ends ∙ ap (λ (l : List ℕ). put (word_token l) rest) (sym (append-nil w))
 word_run (b ∷ piece) w rest all ends =
-    word_goes w b (piece ++ rest) all.0 ∙ word_run piece (w ++ folded b ∷ []) rest all.1 ends
-    ∙ ap (λ (l : List ℕ). put (word_token l) rest) (append_assoc w (folded b ∷ []) (map folded piece))
+    word_goes w b (piece ++ rest) all.0 ∙ word_run piece (w ++ lower_case_of b ∷ []) rest all.1 ends
+    ∙ ap (λ (l : List ℕ). put (word_token l) rest) (append_assoc w (lower_case_of b ∷ []) (map lower_case_of piece))
 
 number_run : (piece : List ℕ) (n m : ℕ) (rest : List ℕ) → n ≡ min m LIMIT → AreAllDigits piece → BeginsNot is_inside rest
     → tokens_from (piece ++ rest) (InNumber n) ≡ put (number_token (min (digits_from m piece) LIMIT)) rest
 number_run [] n m rest same all ends = number_closes n rest ends ∙ ap (λ (x : ℕ). put (number_token x) rest) same
 number_run (b ∷ piece) n m rest same all ends =
-    number_goes n b (piece ++ rest) all.0 ∙ number_run piece (longer n b) (m * 10 + (b - 48)) rest (longer_is n m b same) all.1 ends
+    number_goes n b (piece ++ rest) all.0 ∙ number_run piece (with_digit n b) (m * 10 + (b - 48)) rest (longer_is n m b same) all.1 ends
 
-text_run : (text t rest : List ℕ) → BeginsNot is_quote rest → tokens_from (doubled text ++ 39 ∷ rest) (InText t) ≡ put (text_token (t ++ text)) rest
+text_run : (text t rest : List ℕ) → BeginsNot is_quote rest → tokens_from (with_doubled_quotes text ++ 39 ∷ rest) (InText t) ≡ put (text_token (t ++ text)) rest
 text_run [] t rest ends = text_quote t rest ∙ quote_closes t rest ends ∙ ap (λ (l : List ℕ). put (text_token l) rest) (sym (append-nil t))
 text_run (b ∷ text) t rest ends = elim (cases_Bool (is_quote b)) [
   | inl quote ↦
-      let more : List ℕ = doubled text ++ 39 ∷ rest in
+      let more : List ℕ = with_doubled_quotes text ++ 39 ∷ rest in
       let run : tokens_from (39 ∷ 39 ∷ more) (InText t) ≡ put (text_token (t ++ 39 ∷ text)) rest =
       text_quote t (39 ∷ more) ∙ quote_quote t more ∙ text_run text (t ++ 39 ∷ []) rest ends ∙ ap (λ (l : List ℕ). put (text_token l) rest) (append_assoc t (39 ∷ []) text) in
-      subst (λ (c : ℕ). tokens_from (doubled (c ∷ text) ++ 39 ∷ rest) (InText t) ≡ put (text_token (t ++ c ∷ text)) rest) (sym (eqb-true b 39 quote)) run
+      subst (λ (c : ℕ). tokens_from (with_doubled_quotes (c ∷ text) ++ 39 ∷ rest) (InText t) ≡ put (text_token (t ++ c ∷ text)) rest) (sym (eqb-true b 39 quote)) run
   | inr other ↦
-      let same : doubled (b ∷ text) ≡ b ∷ doubled text = ap (λ c. cond c (39 ∷ 39 ∷ doubled text) (b ∷ doubled text)) other in
-      ap (λ (l : List ℕ). tokens_from (l ++ 39 ∷ rest) (InText t)) same ∙ text_goes t b (doubled text ++ 39 ∷ rest) other
+      let same : with_doubled_quotes (b ∷ text) ≡ b ∷ with_doubled_quotes text = ap (λ c. cond c (39 ∷ 39 ∷ with_doubled_quotes text) (b ∷ with_doubled_quotes text)) other in
+      ap (λ (l : List ℕ). tokens_from (l ++ 39 ∷ rest) (InText t)) same ∙ text_goes t b (with_doubled_quotes text ++ 39 ∷ rest) other
       ∙ text_run text (t ++ b ∷ []) rest ends ∙ ap (λ (l : List ℕ). put (text_token l) rest) (append_assoc t (b ∷ []) text)
 ]
 
@@ -177,11 +177,11 @@ symbol_run piece rest (inr (inr (inr (inr (inr (inr (inr (inr (inr (inr (inr (in
 token_run : (t : Token) (piece rest : List ℕ) → IsUtf8 (piece ++ rest) → IsToken piece rest t → tokens_from (piece ++ rest) Between ≡ before (t ∷ []) (tokens_from rest Between)
 token_run (Word w) [] rest u (inl (is, e, ends)) = absurd is
 token_run (Word w) (b ∷ piece) rest u (inl (is, e, ends)) =
-    let short : length (folded b ∷ map folded piece) ≤ 63 = omega (arith, is.2, length-map piece folded) in
-    let low : folded b < 128 = folded_low b (rw is.0 refl) in
-    let made : word_token (folded b ∷ map folded piece) ≡ Some (Word w) =
-    word_made (folded b ∷ map folded piece) (IsAscii-cons (folded b) (map folded piece) low (all_ascii piece is.1)) short ∙ ap (λ (l : List ℕ). Some (Word l)) (sym e) in
-    begin b (piece ++ rest) (InWord (folded b ∷ [])) (letter_starts b is.0) ∙ word_run piece (folded b ∷ []) rest is.1 ends ∙ ap (λ o. put o rest) made
+    let short : length (lower_case_of b ∷ map lower_case_of piece) ≤ 63 = omega (arith, is.2, length-map piece lower_case_of) in
+    let low : lower_case_of b < 128 = folded_low b (rw is.0 refl) in
+    let made : word_token (lower_case_of b ∷ map lower_case_of piece) ≡ Some (Word w) =
+    word_made (lower_case_of b ∷ map lower_case_of piece) (IsAscii-cons (lower_case_of b) (map lower_case_of piece) low (all_ascii piece is.1)) short ∙ ap (λ (l : List ℕ). Some (Word l)) (sym e) in
+    begin b (piece ++ rest) (InWord (lower_case_of b ∷ [])) (letter_starts b is.0) ∙ word_run piece (lower_case_of b ∷ []) rest is.1 ends ∙ ap (λ o. put o rest) made
 token_run (Word w) piece rest u (inr (is, e, whole)) = symbol_run piece rest is whole ∙ ap (λ (l : List ℕ). before (Word l ∷ []) (tokens_from rest Between)) (sym e)
 token_run (Number z) [] rest u (are, e, fits, ends) = absurd (are.0 refl)
 token_run (Number z) (b ∷ piece) rest u (are, e, fits, ends) =
@@ -190,11 +190,11 @@ token_run (Number z) (b ∷ piece) rest u (are, e, fits, ends) =
     let made : number_token (min (digits_from (0 * 10 + (b - 48)) piece) LIMIT) ≡ Some (Number z) = number_made (digits_from (0 * 10 + (b - 48)) piece) fits ∙ ap (λ x. Some (Number x)) (sym e) in
     begin b (piece ++ rest) (InNumber (b - 48)) (digit_starts b are.1.0) ∙ number_run piece (b - 48) (0 * 10 + (b - 48)) rest small are.1.1 ends ∙ ap (λ o. put o rest) made
 token_run (Quoted text) piece rest u (e, short, ends) =
-    let u2 : IsUtf8 (39 ∷ doubled text ++ 39 ∷ rest) = subst IsUtf8 (ap (λ (l : List ℕ). l ++ rest) e ∙ ap (λ (l : List ℕ). 39 ∷ l) (append_assoc (doubled text) (39 ∷ []) rest)) u in
-    let inner : IsUtf8 (doubled text) = (utf8-cut (doubled text) 39 rest (omega arith) (utf8-tail 39 (doubled text ++ 39 ∷ rest) (omega arith) u2)).0 in
+    let u2 : IsUtf8 (39 ∷ with_doubled_quotes text ++ 39 ∷ rest) = subst IsUtf8 (ap (λ (l : List ℕ). l ++ rest) e ∙ ap (λ (l : List ℕ). 39 ∷ l) (append_assoc (with_doubled_quotes text) (39 ∷ []) rest)) u in
+    let inner : IsUtf8 (with_doubled_quotes text) = (utf8-cut (with_doubled_quotes text) 39 rest (omega arith) (utf8-tail 39 (with_doubled_quotes text ++ 39 ∷ rest) (omega arith) u2)).0 in
     ap (λ (l : List ℕ). tokens_from (l ++ rest) Between) e
-    ∙ begin 39 ((doubled text ++ 39 ∷ []) ++ rest) (InText []) refl
-    ∙ ap (λ (l : List ℕ). tokens_from l (InText [])) (append_assoc (doubled text) (39 ∷ []) rest)
+    ∙ begin 39 ((with_doubled_quotes text ++ 39 ∷ []) ++ rest) (InText []) refl
+    ∙ ap (λ (l : List ℕ). tokens_from l (InText [])) (append_assoc (with_doubled_quotes text) (39 ∷ []) rest)
     ∙ text_run text [] rest ends ∙ ap (λ o. put o rest) (short_text-made Quoted text (doubled_utf8 text inner) text_limit short)
 token_run (Given v) piece rest u is = absurd is
 
@@ -218,8 +218,8 @@ after_token (Word w) (b ∷ piece) rest u (inl (is, e, ends)) = utf8-rest (b ∷
 after_token (Word w) piece rest u (inr (is, e, whole)) = utf8-rest piece rest (symbol_low piece is) u
 after_token (Number z) piece rest u (are, e, fits, ends) = utf8-rest piece rest (digit_bytes piece are.1) u
 after_token (Quoted text) piece rest u (e, short, ends) =
-    let u2 : IsUtf8 (39 ∷ doubled text ++ 39 ∷ rest) = subst IsUtf8 (ap (λ (l : List ℕ). l ++ rest) e ∙ ap (λ (l : List ℕ). 39 ∷ l) (append_assoc (doubled text) (39 ∷ []) rest)) u in
-    utf8-tail 39 rest (omega arith) (utf8-cut (doubled text) 39 rest (omega arith) (utf8-tail 39 (doubled text ++ 39 ∷ rest) (omega arith) u2)).1
+    let u2 : IsUtf8 (39 ∷ with_doubled_quotes text ++ 39 ∷ rest) = subst IsUtf8 (ap (λ (l : List ℕ). l ++ rest) e ∙ ap (λ (l : List ℕ). 39 ∷ l) (append_assoc (with_doubled_quotes text) (39 ∷ []) rest)) u in
+    utf8-tail 39 rest (omega arith) (utf8-cut (with_doubled_quotes text) 39 rest (omega arith) (utf8-tail 39 (with_doubled_quotes text ++ 39 ∷ rest) (omega arith) u2)).1
 after_token (Given v) piece rest u is = absurd is
 
 -- ---- all of them

@@ -11,10 +11,10 @@ use Rattle.sql_model.specs.declared.token.Token.TheVariants.{Word, Number, Quote
 use Rattle.sql_model.specs.declared.reading.LexState.{LexState}
 use Rattle.sql_model.specs.declared.reading.LexState.TheVariants.{Between, InWord, InNumber, InText, AfterQuote, InSymbol, Ended}
 use Rattle.ldv_value.specs.Options.{◌>>=◌}
-use Rattle.sql_model.specs.GrammarOfTokens.{BeginsNot, is_inside, is_quote, digits_from, doubled, IsSymbol, IsWhole, IsToken, Spells}
-use Rattle.sql_model.specs.TextBytes.{is_blank, is_letter, is_digit, folded}
+use Rattle.sql_model.specs.GrammarOfTokens.{BeginsNot, is_inside, is_quote, digits_from, with_doubled_quotes, IsSymbol, IsWhole, IsToken, Spells}
+use Rattle.sql_model.specs.TextBytes.{is_blank, is_letter, is_digit, lower_case_of}
 use Rattle.ldv_value.specs.Texts.{text_of}
-use Rattle.sql_model.specs.Tokens.{is_whole_symbol, begins_symbol, is_pair, longer, word_token, number_token, text_token, symbol_token, short_symbol, start, tokens_from}
+use Rattle.sql_model.specs.Tokens.{is_whole_symbol, begins_symbol, is_pair, with_digit, word_token, number_token, text_token, symbol_token, short_symbol, start, tokens_from}
 use Rattle.sql_parse.proofs.Choices.{choose}
 use Rattle.ldv_value.proofs.Options.{bind-some, same-some}
 use Rattle.sql_parse.proofs.Symbols.{symbol_form, whole_cases, begins_cases, whole_symbol, less_symbol, more_symbol, pair_symbol}
@@ -73,14 +73,14 @@ AreAllDigits = AllByRecursion (λ b. IsTrue (is_digit b))
 -- what the tokens are from a place on
 abbrev pub WordMeans : List ℕ → List ℕ → List Token → Type 0
 WordMeans w bs ts = (piece : List ℕ) × (rest : List ℕ) × (k : Token) × (more : List Token) × (bs ≡ piece ++ rest) × AreInside piece × BeginsNot is_inside rest
-    × (word_token (w ++ map folded piece) ≡ Some k) × (ts ≡ k ∷ more) × Spells rest more
+    × (word_token (w ++ map lower_case_of piece) ≡ Some k) × (ts ≡ k ∷ more) × Spells rest more
 
 abbrev pub NumberMeans : ℕ → List ℕ → List Token → Type 0
 NumberMeans n bs ts = (m : ℕ) → n ≡ min m LIMIT → (piece : List ℕ) × (rest : List ℕ) × (k : Token) × (more : List Token) × (bs ≡ piece ++ rest) × AreAllDigits piece
     × BeginsNot is_inside rest × (number_token (min (digits_from m piece) LIMIT) ≡ Some k) × (ts ≡ k ∷ more) × Spells rest more
 
 abbrev pub TextMeans : List ℕ → List ℕ → List Token → Type 0
-TextMeans t bs ts = (text : List ℕ) × (rest : List ℕ) × (k : Token) × (more : List Token) × (bs ≡ doubled text ++ 39 ∷ rest) × BeginsNot is_quote rest
+TextMeans t bs ts = (text : List ℕ) × (rest : List ℕ) × (k : Token) × (more : List Token) × (bs ≡ with_doubled_quotes text ++ 39 ∷ rest) × BeginsNot is_quote rest
     × (text_token (t ++ text) ≡ Some k) × (ts ≡ k ∷ more) × Spells rest more
 
 abbrev pub QuoteMeans : List ℕ → List ℕ → List Token → Type 0
@@ -113,10 +113,10 @@ blank_more b bs (t ∷ ts) blank (front, piece, rest, e, blanks, is, more) = (b 
 one : (bytes piece rest : List ℕ) (k : Token) (ts more : List Token) → bytes ≡ piece ++ rest → IsToken piece rest k → ts ≡ k ∷ more → Spells rest more → Spells bytes ts
 one bytes piece rest k ts more e is are spells = subst (Spells bytes) (sym are) ([], piece, rest, e, tt, is, spells)
 
-word_starts : (b : ℕ) (bs : List ℕ) (ts : List Token) → is_letter b ≡ true → WordMeans (folded b ∷ []) bs ts → Spells (b ∷ bs) ts
+word_starts : (b : ℕ) (bs : List ℕ) (ts : List Token) → is_letter b ≡ true → WordMeans (lower_case_of b ∷ []) bs ts → Spells (b ∷ bs) ts
 word_starts b bs ts letter (piece, rest, k, more, e, all, ends, is, are, spells) =
-    let w : (length (folded b ∷ map folded piece) ≤ 63) × (k ≡ Word (folded b ∷ map folded piece)) = word_is (folded b ∷ map folded piece) k is in
-    let short : length (b ∷ piece) ≤ 63 = omega (arith, w.0, length-map piece folded) in
+    let w : (length (lower_case_of b ∷ map lower_case_of piece) ≤ 63) × (k ≡ Word (lower_case_of b ∷ map lower_case_of piece)) = word_is (lower_case_of b ∷ map lower_case_of piece) k is in
+    let short : length (b ∷ piece) ≤ 63 = omega (arith, w.0, length-map piece lower_case_of) in
     one (b ∷ bs) (b ∷ piece) rest k ts more (ap (λ (l : List ℕ). b ∷ l) e) (subst (IsToken (b ∷ piece) rest) (sym w.1) (inl ((letter, all, short), refl, ends))) are spells
 
 number_starts : (b : ℕ) (bs : List ℕ) (ts : List Token) → is_digit b ≡ true → NumberMeans (b - 48) bs ts → Spells (b ∷ bs) ts
@@ -139,8 +139,8 @@ number_starts b bs ts digit means =
 text_starts : (bs : List ℕ) (ts : List Token) → TextMeans [] bs ts → Spells (39 ∷ bs) ts
 text_starts bs ts (text, rest, k, more, e, ends, is, are, spells) =
     let t : (length text ≤ 65536) × (k ≡ Quoted text) = text_is_token text k is in
-    one (39 ∷ bs) (39 ∷ doubled text ++ 39 ∷ []) rest k ts more (ap (λ (l : List ℕ). 39 ∷ l) (e ∙ sym (append_assoc (doubled text) (39 ∷ []) rest)))
-    (subst (IsToken (39 ∷ doubled text ++ 39 ∷ []) rest) (sym t.1) (refl, t.0, ends)) are spells
+    one (39 ∷ bs) (39 ∷ with_doubled_quotes text ++ 39 ∷ []) rest k ts more (ap (λ (l : List ℕ). 39 ∷ l) (e ∙ sym (append_assoc (with_doubled_quotes text) (39 ∷ []) rest)))
+    (subst (IsToken (39 ∷ with_doubled_quotes text ++ 39 ∷ []) rest) (sym t.1) (refl, t.0, ends)) are spells
 
 -- a symbol of one byte is whole where no pair begins with it
 whole_one : (a : ℕ) (bs : List ℕ) → BeginsNot (is_pair a) bs → IsWhole (a ∷ []) bs
@@ -174,7 +174,7 @@ starts : (b : ℕ) (bs : List ℕ) (ts : List Token) (p : LexState) → start b 
 starts b bs ts p h means =
     let at : (q : LexState) → Some q ≡ Some p → Means q bs ts = λ q e. subst (λ (r : LexState). Means r bs ts) (sym (same-some q p e)) means in
     choose (is_blank b) _ _ p h (λ is made. blank_more b bs ts is (at Between made)) (λ n1 h1.
-    choose (is_letter b) _ _ p h1 (λ is made. word_starts b bs ts is (at (InWord (folded b ∷ [])) made)) (λ n2 h2.
+    choose (is_letter b) _ _ p h1 (λ is made. word_starts b bs ts is (at (InWord (lower_case_of b ∷ [])) made)) (λ n2 h2.
     choose (is_digit b) _ _ p h2 (λ is made. number_starts b bs ts is (at (InNumber (b - 48)) made)) (λ n3 h3.
     choose (b == 39) _ _ p h3 (λ is made. subst (λ (c : ℕ). Spells (c ∷ bs) ts) (sym (eqb-true b 39 is)) (text_starts bs ts (at (InText []) made))) (λ n4 h4.
     choose (begins_symbol b) _ _ p h4 (λ is made. symbol_starts b bs ts is (at (InSymbol b) made)) (λ n5 h5.
@@ -215,22 +215,22 @@ ended_ends k bs ts after_word h =
     let p = put_some (Some k) bs ts (sym (ended_closes k bs) ∙ h) in
     (p.2, p.3 ∙ ap (λ (t : Token). t ∷ p.2) (sym (same-some k p.0 p.1)), after_word p.2 p.4)
 
-word_more : (w : List ℕ) (b : ℕ) (bs : List ℕ) (ts : List Token) → IsTrue (is_inside b) → WordMeans (w ++ folded b ∷ []) bs ts → WordMeans w (b ∷ bs) ts
+word_more : (w : List ℕ) (b : ℕ) (bs : List ℕ) (ts : List Token) → IsTrue (is_inside b) → WordMeans (w ++ lower_case_of b ∷ []) bs ts → WordMeans w (b ∷ bs) ts
 word_more w b bs ts inside (piece, rest, k, more, e, all, ends, is, are, spells) =
-    (b ∷ piece, rest, k, more, ap (λ (l : List ℕ). b ∷ l) e, (inside, all), ends, ap word_token (sym (append_assoc w (folded b ∷ []) (map folded piece))) ∙ is, are, spells)
+    (b ∷ piece, rest, k, more, ap (λ (l : List ℕ). b ∷ l) e, (inside, all), ends, ap word_token (sym (append_assoc w (lower_case_of b ∷ []) (map lower_case_of piece))) ∙ is, are, spells)
 
 -- one more digit
-pub longer_is : (n m b : ℕ) → n ≡ min m LIMIT → longer n b ≡ min (m * 10 + (b - 48)) LIMIT
+pub longer_is : (n m b : ℕ) → n ≡ min m LIMIT → with_digit n b ≡ min (m * 10 + (b - 48)) LIMIT
 longer_is n m b h = omega (arith, h)
 
-number_more : (n b : ℕ) (bs : List ℕ) (ts : List Token) → IsTrue (is_digit b) → NumberMeans (longer n b) bs ts → NumberMeans n (b ∷ bs) ts
+number_more : (n b : ℕ) (bs : List ℕ) (ts : List Token) → IsTrue (is_digit b) → NumberMeans (with_digit n b) bs ts → NumberMeans n (b ∷ bs) ts
 number_more n b bs ts digit means m same =
     let p = means (m * 10 + (b - 48)) (longer_is n m b same) in
     (b ∷ p.0, p.1, p.2, p.3, ap (λ (l : List ℕ). b ∷ l) p.4, (digit, p.5), p.6, p.7, p.8, p.9)
 
 text_more : (t : List ℕ) (b : ℕ) (bs : List ℕ) (ts : List Token) → is_quote b ≡ false → TextMeans (t ++ b ∷ []) bs ts → TextMeans t (b ∷ bs) ts
 text_more t b bs ts other (text, rest, k, more, e, ends, is, are, spells) =
-    let same : doubled (b ∷ text) ≡ b ∷ doubled text = ap (λ c. cond c (39 ∷ 39 ∷ doubled text) (b ∷ doubled text)) other in
+    let same : with_doubled_quotes (b ∷ text) ≡ b ∷ with_doubled_quotes text = ap (λ c. cond c (39 ∷ 39 ∷ with_doubled_quotes text) (b ∷ with_doubled_quotes text)) other in
     (b ∷ text, rest, k, more, ap (λ (l : List ℕ). b ∷ l) e ∙ ap (λ (l : List ℕ). l ++ 39 ∷ rest) (sym same), ends, ap text_token (sym (append_assoc t (b ∷ []) text)) ∙ is, are, spells)
 
 text_quoted : (t bs : List ℕ) (ts : List Token) → QuoteMeans t bs ts → TextMeans t (39 ∷ bs) ts
@@ -251,11 +251,11 @@ between_sound b bs ih ts h =
 more_sound : (b : ℕ) (bs : List ℕ) → Sound bs → Sound (b ∷ bs)
 more_sound b bs ih Between ts h = between_sound b bs ih ts h
 more_sound b bs ih (InWord w) ts h = elim (cases_Bool (is_inside b)) [
-  | inl inside ↦ word_more w b bs ts inside (ih (InWord (w ++ folded b ∷ [])) ts (sym (word_goes w b bs inside) ∙ h))
+  | inl inside ↦ word_more w b bs ts inside (ih (InWord (w ++ lower_case_of b ∷ [])) ts (sym (word_goes w b bs inside) ∙ h))
   | inr outside ↦ word_ends w (b ∷ bs) ts (false-not (is_inside b) outside) (between_sound b bs ih) h
 ]
 more_sound b bs ih (InNumber n) ts h = elim (cases_Bool (is_digit b)) [
-  | inl digit ↦ number_more n b bs ts digit (ih (InNumber (longer n b)) ts (sym (number_goes n b bs digit) ∙ h))
+  | inl digit ↦ number_more n b bs ts digit (ih (InNumber (with_digit n b)) ts (sym (number_goes n b bs digit) ∙ h))
   | inr other ↦ elim (cases_Bool (is_letter b)) [
     | inl letter ↦ let none : None ≡ Some ts = sym (number_stops n b bs other letter) ∙ h in absurd cc
     | inr outside ↦ number_ends n (b ∷ bs) ts (false-not (is_inside b) (rw (outside, other) refl)) (between_sound b bs ih) h

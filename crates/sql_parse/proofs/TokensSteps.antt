@@ -6,9 +6,9 @@ use Rattle.sql_model.specs.declared.reading.LexState.{LexState}
 use Rattle.sql_model.specs.declared.reading.LexState.TheVariants.{Between, InWord, InNumber, InText, AfterQuote, InSymbol, Ended}
 use Rattle.ldv_value.specs.Options.{◌>>=◌}
 use Rattle.sql_model.specs.GrammarOfTokens.{BeginsNot, is_inside, is_quote}
-use Rattle.sql_model.specs.TextBytes.{is_letter, is_digit, folded}
+use Rattle.sql_model.specs.TextBytes.{is_letter, is_digit, lower_case_of}
 use Rattle.ldv_value.specs.Scan.{before}
-use Rattle.sql_model.specs.Tokens.{is_pair, longer, word_token, number_token, text_token, symbol_token, short_symbol, start, ends, tokens_from}
+use Rattle.sql_model.specs.Tokens.{is_pair, with_digit, word_token, number_token, text_token, symbol_token, short_symbol, start, ends, tokens_from}
 use Rattle.ldv_value.proofs.Options.{bind-some, same-some}
 use Rattle.ldv_value.proofs.Booleans.{not-so, or-parts}
 use Rattle.ldv_value.proofs.Scanning.{before-none}
@@ -52,13 +52,13 @@ ends_here (Some k) = refl
 pub word_closes : (w bs : List ℕ) → BeginsNot is_inside bs → tokens_from bs (InWord w) ≡ put (word_token w) bs
 word_closes w [] h = ends_here (word_token w)
 word_closes w (b ∷ bs) h =
-    ap (λ t. on bs (cond t (Some (InWord (w ++ folded b ∷ []), None)) (word_token w >>= λ k. ends k b))) (not-so (is_inside b) h) ∙ ends_goes (word_token w) b bs
+    ap (λ t. on bs (cond t (Some (InWord (w ++ lower_case_of b ∷ []), None)) (word_token w >>= λ k. ends k b))) (not-so (is_inside b) h) ∙ ends_goes (word_token w) b bs
 
 pub number_closes : (n : ℕ) (bs : List ℕ) → BeginsNot is_inside bs → tokens_from bs (InNumber n) ≡ put (number_token n) bs
 number_closes n [] h = ends_here (number_token n)
 number_closes n (b ∷ bs) h =
     let both : (is_letter b ≡ false) × (is_digit b ≡ false) = or-parts (is_letter b) (is_digit b) (not-so (is_inside b) h) in
-    ap (λ t. on bs (cond t (Some (InNumber (longer n b), None)) (cond (is_letter b) None (number_token n >>= λ k. ends k b)))) both.1
+    ap (λ t. on bs (cond t (Some (InNumber (with_digit n b), None)) (cond (is_letter b) None (number_token n >>= λ k. ends k b)))) both.1
     ∙ ap (λ t. on bs (cond t None (number_token n >>= λ k. ends k b))) both.0 ∙ ends_goes (number_token n) b bs
 
 pub quote_closes : (t bs : List ℕ) → BeginsNot is_quote bs → tokens_from bs (AfterQuote t) ≡ put (text_token t) bs
@@ -78,18 +78,18 @@ ended_closes k (b ∷ bs) = ends_goes (Some k) b bs
 
 -- ---- a token goes on
 
-pub word_goes : (w : List ℕ) (b : ℕ) (bs : List ℕ) → is_inside b ≡ true → tokens_from (b ∷ bs) (InWord w) ≡ tokens_from bs (InWord (w ++ folded b ∷ []))
+pub word_goes : (w : List ℕ) (b : ℕ) (bs : List ℕ) → is_inside b ≡ true → tokens_from (b ∷ bs) (InWord w) ≡ tokens_from bs (InWord (w ++ lower_case_of b ∷ []))
 word_goes w b bs h =
-    ap (λ t. on bs (cond t (Some (InWord (w ++ folded b ∷ []), None)) (word_token w >>= λ k. ends k b))) h ∙ before-none (tokens_from bs (InWord (w ++ folded b ∷ [])))
+    ap (λ t. on bs (cond t (Some (InWord (w ++ lower_case_of b ∷ []), None)) (word_token w >>= λ k. ends k b))) h ∙ before-none (tokens_from bs (InWord (w ++ lower_case_of b ∷ [])))
 
-pub number_goes : (n b : ℕ) (bs : List ℕ) → is_digit b ≡ true → tokens_from (b ∷ bs) (InNumber n) ≡ tokens_from bs (InNumber (longer n b))
+pub number_goes : (n b : ℕ) (bs : List ℕ) → is_digit b ≡ true → tokens_from (b ∷ bs) (InNumber n) ≡ tokens_from bs (InNumber (with_digit n b))
 number_goes n b bs h =
-    ap (λ t. on bs (cond t (Some (InNumber (longer n b), None)) (cond (is_letter b) None (number_token n >>= λ k. ends k b)))) h ∙ before-none (tokens_from bs (InNumber (longer n b)))
+    ap (λ t. on bs (cond t (Some (InNumber (with_digit n b), None)) (cond (is_letter b) None (number_token n >>= λ k. ends k b)))) h ∙ before-none (tokens_from bs (InNumber (with_digit n b)))
 
 -- a word doesn't follow a number
 pub number_stops : (n b : ℕ) (bs : List ℕ) → is_digit b ≡ false → is_letter b ≡ true → tokens_from (b ∷ bs) (InNumber n) ≡ None
 number_stops n b bs h l =
-    ap (λ t. on bs (cond t (Some (InNumber (longer n b), None)) (cond (is_letter b) None (number_token n >>= λ k. ends k b)))) h
+    ap (λ t. on bs (cond t (Some (InNumber (with_digit n b), None)) (cond (is_letter b) None (number_token n >>= λ k. ends k b)))) h
     ∙ ap (λ t. on bs (cond t None (number_token n >>= λ k. ends k b))) l
 
 pub text_goes : (t : List ℕ) (b : ℕ) (bs : List ℕ) → is_quote b ≡ false → tokens_from (b ∷ bs) (InText t) ≡ tokens_from bs (InText (t ++ b ∷ []))

@@ -1,7 +1,7 @@
 -- How a call that may run out of memory gives what a definition gives.
 use Rattle.std.specs.Prelude.{◌≡◌, List, Option, Some, None, Result, Ok, Err}
-use Rattle.sql_parse.specs.declared.stop.ParseStop.{ParseStop}
-use Rattle.sql_parse.specs.declared.stop.ParseStop.TheVariants.{Syntax, NoMemory}
+use Rattle.sql_parse.specs.declared.error.ParseStop.{ParseStop}
+use Rattle.sql_parse.specs.declared.error.ParseStop.TheVariants.{Syntax, NoMemory}
 use Rattle.sql_model.specs.declared.token.Token.{Token}
 
 abbrev pub Fails : {X : Type 0} → ParseStop → Option X → Type 0
@@ -9,14 +9,14 @@ Fails Syntax due = due ≡ None
 Fails NoMemory due = Unit {0}
 
 -- the result is the value that is due, or `Syntax` where none is, or out of memory
-abbrev pub Gives : {X : Type 0} → Result X ParseStop → Option X → Type 0
-Gives (Ok x) due = due ≡ Some x
-Gives (Err e) due = Fails e due
+abbrev pub GivesParsed : {X : Type 0} → Result X ParseStop → Option X → Type 0
+GivesParsed (Ok x) due = due ≡ Some x
+GivesParsed (Err e) due = Fails e due
 
 -- the same of a call that reads from the front of tokens and leaves a rest of them
-abbrev pub Reads : {X : Type 0} → Result X ParseStop → List Token → Option (X × List Token) → Type 0
-Reads (Ok x) rest due = due ≡ Some (x, rest)
-Reads (Err e) rest due = Fails e due
+abbrev pub ReadsPart : {X : Type 0} → Result X ParseStop → List Token → Option (X × List Token) → Type 0
+ReadsPart (Ok x) rest due = due ≡ Some (x, rest)
+ReadsPart (Err e) rest due = Fails e due
 
 -- the same of a call whose one result is the rest
 abbrev pub Passes : {X : Type 0} → Result X ParseStop → List Token → Option (List Token) → Type 0

@@ -10,9 +10,9 @@ use Rattle.sql_model.specs.declared.statement.Statement.{Statement}
 use Rattle.sql_model.specs.declared.token.Token.{Token}
 use Rattle.sql_model.specs.GrammarOfTokens.{is_inside, is_quote}
 use Rattle.sql_model.specs.TextBytes.{is_blank, is_digit, is_letter}
-use Rattle.sql_model.specs.Texts.{placed, whole_statement}
+use Rattle.sql_model.specs.Texts.{with_parameters, whole_statement}
 use Rattle.sql_model.specs.Tokens.{is_pair, tokens_from, tokens_of}
-use Rattle.sql_parse.specs.declared.stop.ParseStop.{ParseStop}
+use Rattle.sql_parse.specs.declared.error.ParseStop.{ParseStop}
 use Rattle.sql_parse.specs.Gives.{Fails}
 
 -- A byte of such a kind stands at a place.
@@ -64,11 +64,11 @@ LexesTo (Err e) text due = Fails e due
 
 -- the tokens of a text, with these parameters
 unfoldable pub given_of : List ℕ → List Value → Option (List Token)
-given_of text params = tokens_of text >>= λ ts. placed params 0 ts
+given_of text params = tokens_of text >>= λ ts. with_parameters params 0 ts
 
 -- these tokens, and then those of the rest, with the parameters from a place on
 unfoldable pub given_from : List Value → List Token → ℕ → Option (List Token) → Option (List Token)
-given_from params front place rest = before front (rest >>= λ ts. placed params place ts)
+given_from params front place rest = before front (rest >>= λ ts. with_parameters params place ts)
 
 -- the statement that tokens are
 abbrev pub statement_from : Option (List Token) → Option Statement

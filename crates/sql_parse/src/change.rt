@@ -1,25 +1,25 @@
 //! Statements that change a table.
 
-ghost use Rattle.sql_parse.specs.Gives.{Reads};
+ghost use Rattle.sql_parse.specs.Gives.{ReadsPart};
 ghost use Rattle.sql_model.specs.Texts.{reads_columns, reads_insert, reads_set, reads_update, reads_delete};
 
 use crate::expression::expression;
-use crate::part::{Part, listed, optional};
+use crate::part_list::{Part, parse_list, optional_expression};
 use crate::reader::Reader;
-use crate::stop::ParseStop;
+use crate::error::ParseStop;
 use ldv_value::{Names, Utf8};
 use sql_model::{Delete, Exprs, Insert, Set, Update};
 use std::alloc::Global;
 
 /// What follows INSERT.
 pub(crate) fn insert(alloc: Global, reader: &mut Reader) -> Result<Insert, ParseStop>
-    ensures { Reads result reader.new (reads_insert reader.old) }
+    ensures { ReadsPart result reader.new (reads_insert reader.old) }
 {
     reader.expect("into")?;
     let table = reader.name(alloc)?;
     let columns = columns(alloc, reader)?;
     reader.expect("values")?;
-    let rows = listed::<Exprs>(alloc, reader)?;
+    let rows = parse_list::<Exprs>(alloc, reader)?;
     Ok(Insert {
         table,
         columns,
@@ -29,25 +29,25 @@ pub(crate) fn insert(alloc: Global, reader: &mut Reader) -> Result<Insert, Parse
 
 // The names of columns in parentheses, where they stand.
 fn columns(alloc: Global, reader: &mut Reader) -> Result<Option<Names>, ParseStop>
-    ensures { Reads result reader.new (reads_columns reader.old) }
+    ensures { ReadsPart result reader.new (reads_columns reader.old) }
 {
     if !reader.starts("(") {
         return Ok(None);
     }
     reader.skip();
-    let names = listed::<Utf8>(alloc, reader)?;
+    let names = parse_list::<Utf8>(alloc, reader)?;
     reader.expect(")")?;
     Ok(Some(names))
 }
 
 /// What follows UPDATE.
 pub(crate) fn update(alloc: Global, reader: &mut Reader) -> Result<Update, ParseStop>
-    ensures { Reads result reader.new (reads_update reader.old) }
+    ensures { ReadsPart result reader.new (reads_update reader.old) }
 {
     let table = reader.name(alloc)?;
     reader.expect("set")?;
-    let sets = listed::<Set>(alloc, reader)?;
-    let pick = optional(alloc, reader, "where")?;
+    let sets = parse_list::<Set>(alloc, reader)?;
+    let pick = optional_expression(alloc, reader, "where")?;
     Ok(Update { table, sets, pick })
 }
 
@@ -64,10 +64,10 @@ impl Part for Set {
 
 /// What follows DELETE.
 pub(crate) fn delete(alloc: Global, reader: &mut Reader) -> Result<Delete, ParseStop>
-    ensures { Reads result reader.new (reads_delete reader.old) }
+    ensures { ReadsPart result reader.new (reads_delete reader.old) }
 {
     reader.expect("from")?;
     let table = reader.name(alloc)?;
-    let pick = optional(alloc, reader, "where")?;
+    let pick = optional_expression(alloc, reader, "where")?;
     Ok(Delete { table, pick })
 }

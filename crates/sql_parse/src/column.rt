@@ -1,17 +1,17 @@
 //! Names of columns.
 
-ghost use Rattle.sql_parse.specs.Gives.{Reads};
+ghost use Rattle.sql_parse.specs.Gives.{ReadsPart};
 ghost use Rattle.sql_model.specs.Columns.{column_after, reads_column};
 
 use crate::reader::Reader;
-use crate::stop::ParseStop;
+use crate::error::ParseStop;
 use ldv_value::Utf8;
 use sql_model::ColumnName;
 use std::alloc::Global;
 
 /// A column.
 pub(crate) fn column(alloc: Global, reader: &mut Reader) -> Result<ColumnName, ParseStop>
-    ensures { Reads result reader.new (reads_column reader.old) }
+    ensures { ReadsPart result reader.new (reads_column reader.old) }
 {
     let name = reader.name(alloc)?;
     column_after(alloc, reader, name)
@@ -23,7 +23,7 @@ pub(crate) fn column_after(
     reader: &mut Reader,
     name: Utf8,
 ) -> Result<ColumnName, ParseStop>
-    ensures { Reads result reader.new (column_after name reader.old) }
+    ensures { ReadsPart result reader.new (column_after name reader.old) }
 {
     if reader.starts(".") {
         reader.skip();

@@ -2,15 +2,15 @@
 
 ghost use Rattle.std.specs.Prelude.{◌≡◌, ◌≤◌, ◌<◌, ◌+◌, ◌-◌, IfOk, Some};
 ghost use Rattle.ldv_value.specs.Limits.{max_depth};
-ghost use Rattle.sql_parse.specs.Gives.{Gives, Reads};
-ghost use Rattle.sql_model.specs.Expressions.{whole, closed, null_test, pair, operand_at, operand, joined};
+ghost use Rattle.sql_parse.specs.Gives.{GivesParsed, ReadsPart};
+ghost use Rattle.sql_model.specs.Expressions.{primary_expr, with_prefix, null_test, pair, operand_at, operand, joined};
 ghost use Rattle.sql_model.specs.Expressions.{joined_within, goes_on, joins_more, within, reads_expr};
 ghost use Rattle.sql_model.specs.Reader.{repeat};
 
 use crate::opening::{inside_level, read_opening};
 use crate::operator::{joins, operator_level, right_of};
 use crate::reader::Reader;
-use crate::stop::ParseStop;
+use crate::error::ParseStop;
 use ldv_value::MAX_DEPTH;
 use sql_model::{Expr, Infix, Opening, Operator, ParsedExpr, Prefix};
 use sqlite_items::Boxed;
@@ -18,7 +18,7 @@ use std::alloc::Global;
 
 /// An expression.
 pub(crate) fn expression(alloc: Global, reader: &mut Reader) -> Result<Expr, ParseStop>
-    ensures { Reads result reader.new (reads_expr reader.old) }
+    ensures { ReadsPart result reader.new (reads_expr reader.old) }
 {
     let deep = within(alloc, reader, MAX_DEPTH, 1)?;
     let ParsedExpr {
@@ -39,7 +39,7 @@ fn within(
     least: u8,
 ) -> Result<ParsedExpr, ParseStop>
     requires { limit ≤ max_depth }
-    ensures read { Reads result reader.new (within limit least reader.old) }
+    ensures read { ReadsPart result reader.new (within limit least reader.old) }
     ensures depth { IfOk result (λ deep. deep.depth ≤ limit) }
 {
     if limit == 0 {
@@ -59,7 +59,7 @@ fn operand(
     least: u8,
 ) -> Result<ParsedExpr, ParseStop>
     requires { limit < max_depth }
-    ensures read { Reads result reader.new (operand (within limit) least reader.old) }
+    ensures read { ReadsPart result reader.new (operand (within limit) least reader.old) }
     ensures depth { IfOk result (λ deep. deep.depth ≤ limit + 1) }
 {
     match read_opening(alloc, reader, least)? {
@@ -70,7 +70,7 @@ fn operand(
         }),
         Opening::Nested(wrap) => {
             let inside = within(alloc, reader, limit, inside_level(wrap))?;
-            closed(alloc, reader, wrap, inside)
+            close_prefix(alloc, reader, wrap, inside)
         }
     }
 }
@@ -88,7 +88,8 @@ fn chain(
     requires some { 0 < limit }
     requires most { limit ≤ max_depth }
     requires depth { first.depth ≤ limit }
-    ensures read { Reads result reader.new (repeat (joins_more (within (limit - 1)) (limit - 1) least) limit
+    ensures read { ReadsPart result reader.new
+        (repeat (joins_more (within (limit - 1)) (limit - 1) least) limit
         first reader.old) }
     ensures depth { IfOk result (λ deep. deep.depth ≤ limit) }
 {
@@ -115,7 +116,7 @@ fn joins_more(
 ) -> Result<(ParsedExpr, bool), ParseStop>
     requires most { limit < max_depth }
     requires depth { left.depth ≤ limit + 1 }
-    ensures read { Reads result reader.new (joins_more (within limit) limit least left reader.old) }
+    ensures read { ReadsPart result reader.new (joins_more (within limit) limit least left reader.old) }
     ensures depth { IfOk result (λ r. r.0.depth ≤ limit + 1) }
 {
     match joins(reader, least, left.level) {
@@ -139,7 +140,7 @@ fn joined_within(
     left: ParsedExpr,
 ) -> Result<ParsedExpr, ParseStop>
     requires { limit < max_depth }
-    ensures read { Reads result reader.new (joined_within (within limit) limit joint left reader.old) }
+    ensures read { ReadsPart result reader.new (joined_within (within limit) limit joint left reader.old) }
     ensures depth { IfOk result (λ deep. deep.depth ≤ limit + 1) }
 {
     if left.depth > limit {
@@ -155,14 +156,14 @@ fn joined_within(
 }
 
 // Closes a prefix form around its parsed operand.
-fn closed(
+fn close_prefix(
     alloc: Global,
     reader: &mut Reader,
     wrap: Prefix,
     inside: ParsedExpr,
 ) -> Result<ParsedExpr, ParseStop>
     requires { inside.depth ≤ max_depth }
-    ensures read { Reads result reader.new (closed wrap inside reader.old) }
+    ensures read { ReadsPart result reader.new (with_prefix wrap inside reader.old) }
     ensures depth { IfOk result (λ deep. deep.depth ≡ inside.depth + 1) }
 {
     let ParsedExpr {
@@ -211,7 +212,7 @@ fn closed(
 // What follows IS.
 fn null_test(alloc: Global, reader: &mut Reader, left: ParsedExpr) -> Result<ParsedExpr, ParseStop>
     requires { left.depth ≤ max_depth }
-    ensures read { Reads result reader.new (null_test left reader.old) }
+    ensures read { ReadsPart result reader.new (null_test left reader.old) }
     ensures depth { IfOk result (λ deep. deep.depth ≡ left.depth + 1) }
 {
     let negated = reader.pass("not");
@@ -238,7 +239,7 @@ fn pair(
 ) -> Result<ParsedExpr, ParseStop>
     requires left { left.depth ≤ max_depth }
     requires right { right.depth ≤ max_depth }
-    ensures { Gives result (Some (pair operator left right)) }
+    ensures { GivesParsed result (Some (pair operator left right)) }
 {
     let depth = left.depth.max(right.depth) + 1;
     let a = Boxed::new(alloc, left.expr)?;

@@ -1,10 +1,10 @@
 //! The values of parameters in the places of their `?`.
 
-ghost use Rattle.sql_parse.specs.Gives.{Gives};
+ghost use Rattle.sql_parse.specs.Gives.{GivesParsed};
 ghost use Rattle.sql_model.specs.Texts.{placed_token};
 
 use crate::reader::is_word;
-use crate::stop::ParseStop;
+use crate::error::ParseStop;
 use crate::token::{Lent, Lexeme};
 use ldv_value::Values;
 
@@ -14,7 +14,7 @@ pub(crate) fn placed_token<'a>(
     place: usize,
     token: Lexeme<'a>,
 ) -> Result<(Lexeme<'a>, usize), ParseStop>
-    ensures { Gives result (placed_token params.now place token.entry) }
+    ensures { GivesParsed result (placed_token params.now place token.entry) }
 {
     if !is_word(&token, "?") {
         return Ok((token, place));

@@ -1,13 +1,13 @@
 //! How an operand begins.
 
 ghost use Rattle.std.specs.Prelude.{◌≡◌};
-ghost use Rattle.sql_parse.specs.Gives.{Gives, Reads};
+ghost use Rattle.sql_parse.specs.Gives.{GivesParsed, ReadsPart};
 ghost use Rattle.sql_model.specs.Expressions.{negation, fold_opening, count_inside, count_opening};
 ghost use Rattle.sql_model.specs.Expressions.{column_opening, word_opening, opens, opening, inside_level};
 
 use crate::column::column_after;
 use crate::reader::{Reader, name_in};
-use crate::stop::ParseStop;
+use crate::error::ParseStop;
 use crate::token::{Lent, Lexeme};
 use ldv_value::{CopyItem, Value};
 use sql_model::{Expr, Fold, Opening, Prefix};
@@ -19,14 +19,14 @@ pub(crate) fn read_opening(
     reader: &mut Reader,
     least: u8,
 ) -> Result<Opening, ParseStop>
-    ensures { Reads result reader.new (opening least reader.old) }
+    ensures { ReadsPart result reader.new (opening least reader.old) }
 {
     let token = reader.token()?;
     opens(alloc, reader, least, token)
 }
 
 fn opens(alloc: Global, reader: &mut Reader, least: u8, token: Lexeme) -> Result<Opening, ParseStop>
-    ensures { Reads result reader.new (opens least token.entry reader.old) }
+    ensures { ReadsPart result reader.new (opens least token.entry reader.old) }
 {
     match token.into_lent() {
         Lent::Word(word) => word_opening(alloc, reader, least, word),
@@ -45,7 +45,7 @@ fn word_opening(
     least: u8,
     word: &str,
 ) -> Result<Opening, ParseStop>
-    ensures { Reads result reader.new (word_opening least word.now reader.old) }
+    ensures { ReadsPart result reader.new (word_opening least word.now reader.old) }
 {
     if word == "not" {
         let opening = negation(least)?;
@@ -70,7 +70,7 @@ fn word_opening(
 }
 
 fn negation(least: u8) -> Result<Opening, ParseStop>
-    ensures { Gives result (negation least) }
+    ensures { GivesParsed result (negation least) }
 {
     if least <= 3 {
         Ok(Opening::Nested(Prefix::Not))
@@ -80,21 +80,21 @@ fn negation(least: u8) -> Result<Opening, ParseStop>
 }
 
 fn fold_opening(reader: &mut Reader, fold: Fold) -> Result<Opening, ParseStop>
-    ensures { Reads result reader.new (fold_opening fold reader.old) }
+    ensures { ReadsPart result reader.new (fold_opening fold reader.old) }
 {
     reader.expect("(")?;
     Ok(Opening::Nested(Prefix::FoldOf(fold)))
 }
 
 fn count_opening(reader: &mut Reader) -> Result<Opening, ParseStop>
-    ensures { Reads result reader.new (count_opening reader.old) }
+    ensures { ReadsPart result reader.new (count_opening reader.old) }
 {
     reader.expect("(")?;
     count_inside(reader)
 }
 
 fn count_inside(reader: &mut Reader) -> Result<Opening, ParseStop>
-    ensures { Reads result reader.new (count_inside reader.old) }
+    ensures { ReadsPart result reader.new (count_inside reader.old) }
 {
     if reader.starts("*") {
         reader.skip();
@@ -105,7 +105,7 @@ fn count_inside(reader: &mut Reader) -> Result<Opening, ParseStop>
 }
 
 fn column_opening(alloc: Global, reader: &mut Reader, word: &str) -> Result<Opening, ParseStop>
-    ensures { Reads result reader.new (column_opening word.now reader.old) }
+    ensures { ReadsPart result reader.new (column_opening word.now reader.old) }
 {
     let name = name_in(alloc, word)?;
     let column = column_after(alloc, reader, name)?;

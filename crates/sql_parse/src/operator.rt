@@ -3,7 +3,7 @@
 ghost use Rattle.std.specs.Prelude.{◌≡◌, ◌∷◌, List};
 ghost use Rattle.sql_model.specs.declared.token.Token.{Token};
 ghost use Rattle.sql_model.specs.Levels.{operator_level, operator_left, right_of};
-ghost use Rattle.sql_model.specs.Operators.{comparison_of, compared, joint_in, joint_of, level_of, left_of};
+ghost use Rattle.sql_model.specs.Operators.{comparison_of, comparison_infix, joint_in, joint_of, level_of, left_of};
 ghost use Rattle.sql_model.specs.Operators.{may_join, joins};
 
 use crate::reader::Reader;
@@ -60,12 +60,12 @@ fn joint_in(word: &str) -> Option<Infix>
     } else if word == "*" {
         Some(Infix::Both(Operator::Multiply))
     } else {
-        compared(word)
+        comparison_infix(word)
     }
 }
 
-fn compared(word: &str) -> Option<Infix>
-    ensures { result ≡ compared word.now }
+fn comparison_infix(word: &str) -> Option<Infix>
+    ensures { result ≡ comparison_infix word.now }
 {
     let cmp = comparison(word)?;
     Some(Infix::Both(Operator::Compare(cmp)))

@@ -1,17 +1,17 @@
 //! Queries.
 
 ghost use Rattle.std.specs.Prelude.{◌≡◌, codes};
-ghost use Rattle.sql_parse.specs.Gives.{Gives, Reads};
-ghost use Rattle.sql_model.specs.Queries.{another_core, reads_cores, place_of, key_of, reads_key, directed};
+ghost use Rattle.sql_parse.specs.Gives.{GivesParsed, ReadsPart};
+ghost use Rattle.sql_model.specs.Queries.{another_core, reads_cores, place_of, key_of, reads_key, tokens_after_direction};
 ghost use Rattle.sql_model.specs.Queries.{reads_order, reads_orders, bound_of, reads_bound, reads_limit};
 ghost use Rattle.sql_model.specs.Queries.{reads_query};
 ghost use Rattle.sql_model.specs.Reader.{starts};
 
-use crate::part::{Part, listed};
+use crate::part_list::{Part, parse_list};
 use crate::reader::{Reader, name_in};
 use crate::select::core;
 use crate::steps::{Steps, all_steps};
-use crate::stop::ParseStop;
+use crate::error::ParseStop;
 use crate::token::{Lent, Lexeme};
 use ldv_value::{CopyItem, Value};
 use sql_model::{Cores, Order, OrderKey, Orders, Query};
@@ -19,7 +19,7 @@ use std::alloc::Global;
 
 /// A query.
 pub(crate) fn query(alloc: Global, reader: &mut Reader) -> Result<Query, ParseStop>
-    ensures { Reads result reader.new (reads_query reader.old) }
+    ensures { ReadsPart result reader.new (reads_query reader.old) }
 {
     let cores = cores(alloc, reader)?;
     let order = orders(alloc, reader)?;
@@ -32,7 +32,7 @@ pub(crate) fn query(alloc: Global, reader: &mut Reader) -> Result<Query, ParseSt
 }
 
 fn cores(alloc: Global, reader: &mut Reader) -> Result<Cores, ParseStop>
-    ensures { Reads result reader.new (reads_cores reader.old) }
+    ensures { ReadsPart result reader.new (reads_cores reader.old) }
 {
     let most = reader.len();
     let first = core(alloc, reader, false)?;
@@ -43,7 +43,7 @@ fn cores(alloc: Global, reader: &mut Reader) -> Result<Cores, ParseStop>
 
 // One more core, where UNION follows.
 fn another_core(alloc: Global, reader: &mut Reader, made: Cores) -> Result<(Cores, bool), ParseStop>
-    ensures { Reads result reader.new (another_core made reader.old) }
+    ensures { ReadsPart result reader.new (another_core made reader.old) }
 {
     if !reader.starts("union") {
         return Ok((made, false));
@@ -65,14 +65,14 @@ impl Steps for Cores {
 }
 
 fn orders(alloc: Global, reader: &mut Reader) -> Result<Orders, ParseStop>
-    ensures { Reads result reader.new (reads_orders reader.old) }
+    ensures { ReadsPart result reader.new (reads_orders reader.old) }
 {
     if !reader.starts("order") {
         return Ok(Orders::new(alloc));
     }
     reader.skip();
     reader.expect("by")?;
-    listed::<Order>(alloc, reader)
+    parse_list::<Order>(alloc, reader)
 }
 
 impl Part for Order {
@@ -80,15 +80,15 @@ impl Part for Order {
 
     fn read(alloc: Global, reader: &mut Reader) -> Result<Self, ParseStop> {
         let key = key(alloc, reader)?;
-        let descending = descending(reader);
+        let descending = take_direction(reader);
         Ok(Order { key, descending })
     }
 }
 
 // Goes past ASC or DESC, and says whether it is DESC.
-fn descending(reader: &mut Reader) -> bool
+fn take_direction(reader: &mut Reader) -> bool
     ensures test { result ≡ starts (codes "desc") reader.old }
-    ensures rest { reader.new ≡ directed reader.old }
+    ensures rest { reader.new ≡ tokens_after_direction reader.old }
 {
     let descending = reader.starts("desc");
     if reader.starts("asc") {
@@ -100,7 +100,7 @@ fn descending(reader: &mut Reader) -> bool
 }
 
 fn key(alloc: Global, reader: &mut Reader) -> Result<OrderKey, ParseStop>
-    ensures { Reads result reader.new (reads_key reader.old) }
+    ensures { ReadsPart result reader.new (reads_key reader.old) }
 {
     let token = reader.token()?;
     let key = key_of(alloc, token)?;
@@ -108,7 +108,7 @@ fn key(alloc: Global, reader: &mut Reader) -> Result<OrderKey, ParseStop>
 }
 
 fn key_of(alloc: Global, token: Lexeme) -> Result<OrderKey, ParseStop>
-    ensures { Gives result (key_of token.entry) }
+    ensures { GivesParsed result (key_of token.entry) }
 {
     match token.into_lent() {
         Lent::Word(word) => {
@@ -125,7 +125,7 @@ fn key_of(alloc: Global, token: Lexeme) -> Result<OrderKey, ParseStop>
 }
 
 fn place_of(number: i64) -> Result<u64, ParseStop>
-    ensures { Gives result (place_of number) }
+    ensures { GivesParsed result (place_of number) }
 {
     if number < 0 {
         Err(ParseStop::Syntax)
@@ -135,17 +135,17 @@ fn place_of(number: i64) -> Result<u64, ParseStop>
 }
 
 fn limit(alloc: Global, reader: &mut Reader) -> Result<Option<Value>, ParseStop>
-    ensures { Reads result reader.new (reads_limit reader.old) }
+    ensures { ReadsPart result reader.new (reads_limit reader.old) }
 {
     if !reader.starts("limit") {
         return Ok(None);
     }
     reader.skip();
-    bound(alloc, reader)
+    parse_bound(alloc, reader)
 }
 
-fn bound(alloc: Global, reader: &mut Reader) -> Result<Option<Value>, ParseStop>
-    ensures { Reads result reader.new (reads_bound reader.old) }
+fn parse_bound(alloc: Global, reader: &mut Reader) -> Result<Option<Value>, ParseStop>
+    ensures { ReadsPart result reader.new (reads_bound reader.old) }
 {
     let token = reader.token()?;
     let value = bound_of(alloc, token)?;
@@ -153,7 +153,7 @@ fn bound(alloc: Global, reader: &mut Reader) -> Result<Option<Value>, ParseStop>
 }
 
 fn bound_of(alloc: Global, token: Lexeme) -> Result<Value, ParseStop>
-    ensures { Gives result (bound_of token.entry) }
+    ensures { GivesParsed result (bound_of token.entry) }
 {
     match token.into_lent() {
         Lent::Word(_) => Err(ParseStop::Syntax),

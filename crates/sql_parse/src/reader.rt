@@ -1,11 +1,11 @@
 //! Reading from the front of tokens.
 
 ghost use Rattle.std.specs.Prelude.{◌≡◌, ◌∷◌, [], length, MatchOption};
-ghost use Rattle.sql_parse.specs.Gives.{Gives, Reads, Passes};
-ghost use Rattle.sql_model.specs.Reader.{is_word, starts, tail, passed, after_word, reads_token, name_in};
+ghost use Rattle.sql_parse.specs.Gives.{GivesParsed, ReadsPart, Passes};
+ghost use Rattle.sql_model.specs.Reader.{is_word, starts, tail, tokens_past, after_word, reads_token, name_in};
 ghost use Rattle.sql_model.specs.Reader.{name_of, reads_name};
 
-use crate::stop::ParseStop;
+use crate::error::ParseStop;
 use crate::token::{Lent, Lexeme, Tokens};
 use ldv_value::Utf8;
 use sql_model::is_sql_name;
@@ -76,7 +76,7 @@ impl<'a> Reader<'a> {
     /// Goes past the next token where it is this word or symbol, and says whether it is.
     pub fn pass(&mut self, text: &str) -> bool
         ensures test { result ≡ starts text.now self.old }
-        ensures rest { self.new ≡ passed text.now self.old }
+        ensures rest { self.new ≡ tokens_past text.now self.old }
     {
         if self.starts(text) {
             self.skip();
@@ -99,7 +99,7 @@ impl<'a> Reader<'a> {
 
     /// The next token.
     pub fn token(&mut self) -> Result<Lexeme<'a>, ParseStop>
-        ensures { Reads result self.new (reads_token self.old) }
+        ensures { ReadsPart result self.new (reads_token self.old) }
     {
         match self.tokens.get(self.place) {
             None => Err(ParseStop::Syntax),
@@ -113,7 +113,7 @@ impl<'a> Reader<'a> {
 
     /// The name that the next token is.
     pub fn name(&mut self, alloc: Global) -> Result<Utf8, ParseStop>
-        ensures { Reads result self.new (reads_name self.old) }
+        ensures { ReadsPart result self.new (reads_name self.old) }
     {
         let token = self.token()?;
         name_of(alloc, token)
@@ -134,7 +134,7 @@ pub(crate) fn is_word(token: &Lexeme, text: &str) -> bool
 
 /// A word as a name.
 pub(crate) fn name_in(alloc: Global, word: &str) -> Result<Utf8, ParseStop>
-    ensures { Gives result (name_in word.now) }
+    ensures { GivesParsed result (name_in word.now) }
 {
     if !is_sql_name(word) {
         return Err(ParseStop::Syntax);
@@ -144,7 +144,7 @@ pub(crate) fn name_in(alloc: Global, word: &str) -> Result<Utf8, ParseStop>
 }
 
 fn name_of(alloc: Global, token: Lexeme) -> Result<Utf8, ParseStop>
-    ensures { Gives result (name_of token.entry) }
+    ensures { GivesParsed result (name_of token.entry) }
 {
     match token.into_lent() {
         Lent::Word(word) => name_in(alloc, word),

@@ -3,17 +3,17 @@
 ghost use Rattle.std.specs.Prelude.{◌≡◌, IfOk, IsErrOf, Some, None, length, map};
 ghost use Rattle.sql_model.specs.declared.statement.Statement.{Statement};
 ghost use Rattle.sql_model.specs.GrammarOfStatements.{Reads as ReadsAs};
-ghost use Rattle.sql_parse.specs.declared.stop.ParseStop.TheVariants.{Syntax};
-ghost use Rattle.sql_parse.specs.Gives.{Gives, Reads};
+ghost use Rattle.sql_parse.specs.declared.error.ParseStop.TheVariants.{Syntax};
+ghost use Rattle.sql_parse.specs.Gives.{GivesParsed, ReadsPart};
 ghost use Rattle.sql_parse.specs.Lexing.{given_of, statement_from};
-ghost use Rattle.sql_model.specs.TextBytes.{folded};
+ghost use Rattle.sql_model.specs.TextBytes.{lower_case_of};
 ghost use Rattle.sql_model.specs.Texts.{reads_statement, is_end, whole_statement, statement_of};
 
 use crate::change::{delete, insert, update};
 use crate::query::query;
 use crate::reader::Reader;
 use crate::scan::{lower_case, tokens};
-use crate::stop::ParseStop;
+use crate::error::ParseStop;
 use ldv_value::Values;
 use sql_model::Statement;
 use std::alloc::Global;
@@ -29,12 +29,12 @@ pub fn parse(alloc: Global, text: &str, params: &Values) -> Result<Statement, Pa
     ensures statement { IfOk result (λ statement. statement_of text.now params.now ≡ Some statement) }
     ensures syntax { IsErrOf result Syntax → statement_of text.now params.now ≡ None }
 {
-    parsed(alloc, text, params)
+    parse_statement(alloc, text, params)
 }
 
 #[tactic(auto, using(crate::proofs::TokensFrom::statement_is))]
-fn parsed(alloc: Global, text: &str, params: &Values) -> Result<Statement, ParseStop>
-    ensures { Gives result (statement_of text.now params.now) }
+fn parse_statement(alloc: Global, text: &str, params: &Values) -> Result<Statement, ParseStop>
+    ensures { GivesParsed result (statement_of text.now params.now) }
 {
     let lower = lower_case(alloc, text.as_bytes())?;
     read_lent(alloc, text.as_bytes(), lower.as_slice(), params)
@@ -47,17 +47,17 @@ fn read_lent(
     lower: &[u8],
     params: &Values,
 ) -> Result<Statement, ParseStop>
-    requires low { lower.now ≡ map folded text.now }
+    requires low { lower.now ≡ map lower_case_of text.now }
     requires long { length lower.now ≡ length text.now }
-    ensures { Gives result (statement_from (given_of text.now params.now)) }
+    ensures { GivesParsed result (statement_from (given_of text.now params.now)) }
 {
     let given = tokens(alloc, text, lower, params)?;
-    whole(alloc, Reader::new(given))
+    whole_statement(alloc, Reader::new(given))
 }
 
 // A statement that is all of its tokens, but for a `;` after it.
-fn whole(alloc: Global, tokens: Reader) -> Result<Statement, ParseStop>
-    ensures { Gives result (whole_statement tokens.entry) }
+fn whole_statement(alloc: Global, tokens: Reader) -> Result<Statement, ParseStop>
+    ensures { GivesParsed result (whole_statement tokens.entry) }
 {
     let mut reader = tokens;
     let statement = statement(alloc, &mut reader)?;
@@ -76,7 +76,7 @@ fn is_end(reader: &mut Reader) -> bool
 }
 
 fn statement(alloc: Global, reader: &mut Reader) -> Result<Statement, ParseStop>
-    ensures { Reads result reader.new (reads_statement reader.old) }
+    ensures { ReadsPart result reader.new (reads_statement reader.old) }
 {
     if reader.starts("select") {
         let query = query(alloc, reader)?;

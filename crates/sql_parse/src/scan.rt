@@ -6,17 +6,17 @@
 ghost use Rattle.std.specs.Prelude.{◌≡◌, ◌∷◌, [], ◌++◌, ◌+◌, ◌-◌, ◌<◌, ◌≤◌, List, ℕ, None, false};
 ghost use Rattle.std.specs.Prelude.{length, map, slice_index, slice_range};
 ghost use Rattle.std.specs.Prelude.{IfOk, IfSome, IsTrue, OnOk, OnSome};
-ghost use Rattle.sql_parse.specs.Gives.{Gives};
+ghost use Rattle.sql_parse.specs.Gives.{GivesParsed};
 ghost use Rattle.sql_parse.specs.Lexing.{Lexes, LexesTo, blank_at, content_at, digit_at, given_of, inside_at};
 ghost use Rattle.sql_parse.specs.Lexing.{letter_at, pair_at, put_at, quote_at, tokens_at};
 ghost use Rattle.sql_model.specs.declared.reading.LexState.TheVariants.{Between, InNumber, InText};
 ghost use Rattle.sql_model.specs.GrammarOfTokens.{is_inside};
-ghost use Rattle.sql_model.specs.TextBytes.{is_blank, is_digit, is_upper, is_letter, folded};
-ghost use Rattle.sql_model.specs.Tokens.{is_whole_symbol, begins_symbol, is_pair, short_symbol, longer};
+ghost use Rattle.sql_model.specs.TextBytes.{is_blank, is_digit, is_upper, is_letter, lower_case_of};
+ghost use Rattle.sql_model.specs.Tokens.{is_whole_symbol, begins_symbol, is_pair, short_symbol, with_digit};
 ghost use Rattle.sql_model.specs.Tokens.{word_token};
 
 use crate::given::placed_token;
-use crate::stop::ParseStop;
+use crate::error::ParseStop;
 use crate::token::{Lexeme, Tokens, number_token, symbol_token, text_token, word_token};
 use ldv_value::{Bytes, Values};
 use std::alloc::{AllocError, Global};
@@ -27,7 +27,7 @@ const ROOM: usize = 24;
 /// A text with its letters in lower case.
 #[tactic(auto, using(crate::proofs::Cuts::lower_long))]
 pub(crate) fn lower_case(alloc: Global, text: &[u8]) -> Result<Bytes, AllocError>
-    ensures low { IfOk result (λ lower. lower ≡ map folded text.now) }
+    ensures low { IfOk result (λ lower. lower ≡ map lower_case_of text.now) }
     ensures long { IfOk result (λ lower. length lower ≡ length text.now) }
 {
     let mut lower = Bytes::with_capacity(alloc, text.len())?;
@@ -46,9 +46,9 @@ pub(crate) fn tokens<'a>(
     lower: &'a [u8],
     params: &'a Values,
 ) -> Result<Tokens<'a>, ParseStop>
-    requires low { lower.now ≡ map folded text.now }
+    requires low { lower.now ≡ map lower_case_of text.now }
     requires long { length lower.now ≡ length text.now }
-    ensures { Gives result (given_of text.now params.now) }
+    ensures { GivesParsed result (given_of text.now params.now) }
 {
     let mut tokens = Tokens::with_capacity(alloc, ROOM)?;
     let mut place = 0;
@@ -93,7 +93,7 @@ fn lexeme_at<'a>(
 ) -> Result<(Lexeme<'a>, usize), ParseStop>
     requires within { at < length text.now }
     requires full { is_blank (slice_index text.now at) ≡ false }
-    requires low { lower.now ≡ map folded text.now }
+    requires low { lower.now ≡ map lower_case_of text.now }
     requires long { length lower.now ≡ length text.now }
     ensures read { LexesTo result text.now (tokens_at text.now at Between) }
     ensures on { IfOk result (λ r. at < r.1) }
@@ -123,7 +123,7 @@ fn lexeme_at<'a>(
 fn word<'a>(text: &[u8], lower: &'a [u8], at: usize) -> Result<(Lexeme<'a>, usize), ParseStop>
     requires within { at < length text.now }
     requires letter { IsTrue (is_letter (slice_index text.now at)) }
-    requires low { lower.now ≡ map folded text.now }
+    requires low { lower.now ≡ map lower_case_of text.now }
     requires long { length lower.now ≡ length text.now }
     ensures read { LexesTo result text.now (tokens_at text.now at Between) }
     ensures on { IfOk result (λ r. at < r.1) }
@@ -141,7 +141,7 @@ fn word_end(text: &[u8], at: usize) -> usize
     ensures on { at < result }
     ensures within { result ≤ length text.now }
     ensures read { tokens_at text.now at Between
-        ≡ put_at (word_token (map folded (slice_range text.now at result))) text.now result }
+        ≡ put_at (word_token (map lower_case_of (slice_range text.now at result))) text.now result }
 {
     let mut end = at + 1;
     'letters: while is_inside_at(text, end) {
@@ -162,7 +162,7 @@ fn number<'a>(text: &[u8], at: usize) -> Result<(Lexeme<'a>, usize), ParseStop>
     let mut number = value(text[at]);
     let mut end = at + 1;
     'digits: while is_digit_at(text, end) {
-        number = longer(number, text[end]);
+        number = with_digit(number, text[end]);
         end += 1;
     }
     let token = whole_number(text, number, end)?;
@@ -258,7 +258,7 @@ fn symbol<'a>(text: &'a [u8], at: usize) -> Result<(Lexeme<'a>, usize), ParseSto
 #[tactic(auto, using(crate::proofs::Cuts::piece_one))]
 fn short_symbol<'a>(text: &'a [u8], at: usize) -> Result<Lexeme<'a>, ParseStop>
     requires { at < length text.now }
-    ensures { Gives result (short_symbol (slice_index text.now at)) }
+    ensures { GivesParsed result (short_symbol (slice_index text.now at)) }
 {
     if text[at] == b'!' {
         return Err(ParseStop::Syntax);
@@ -337,9 +337,9 @@ fn value(b: u8) -> u64
     (b - b'0') as u64
 }
 
-fn longer(number: u64, b: u8) -> u64
+fn with_digit(number: u64, b: u8) -> u64
     requires { IsTrue (is_digit b) }
-    ensures { result ≡ longer number b }
+    ensures { result ≡ with_digit number b }
 {
     number.saturating_mul(10).saturating_add(value(b))
 }
@@ -356,7 +356,7 @@ fn digit(b: u8) -> bool
     b'0' <= b && b <= b'9'
 }
 
-fn upper(b: u8) -> bool
+fn is_upper(b: u8) -> bool
     ensures { result ≡ is_upper b }
 {
     b'A' <= b && b <= b'Z'
@@ -365,7 +365,7 @@ fn upper(b: u8) -> bool
 fn letter(b: u8) -> bool
     ensures { result ≡ is_letter b }
 {
-    upper(b) || b'a' <= b && b <= b'z' || b == b'_'
+    is_upper(b) || b'a' <= b && b <= b'z' || b == b'_'
 }
 
 fn inside(b: u8) -> bool
@@ -375,9 +375,9 @@ fn inside(b: u8) -> bool
 }
 
 fn fold(b: u8) -> u8
-    ensures { result ≡ folded b }
+    ensures { result ≡ lower_case_of b }
 {
-    if upper(b) { b + 32 } else { b }
+    if is_upper(b) { b + 32 } else { b }
 }
 
 fn whole_symbol(b: u8) -> bool

@@ -1,22 +1,22 @@
 //! Cores.
 
 ghost use Rattle.std.specs.Prelude.{◌≡◌, ◌++◌, OnOk, option_to_list};
-ghost use Rattle.sql_parse.specs.Gives.{Reads};
+ghost use Rattle.sql_parse.specs.Gives.{ReadsPart};
 ghost use Rattle.sql_model.specs.Queries.{reads_alias, reads_item, reads_items, reads_group, core_end};
 ghost use Rattle.sql_model.specs.Queries.{core_rest, reads_core};
 
 use crate::expression::expression;
-use crate::part::{Part, listed, optional};
+use crate::part_list::{Part, parse_list, optional_expression};
 use crate::reader::Reader;
 use crate::source::all_sources;
-use crate::stop::ParseStop;
+use crate::error::ParseStop;
 use ldv_value::{MAX_SOURCES, Utf8};
 use sql_model::{ColumnName, ColumnNames, Core, Expr, Exprs, Item, Items, Sources};
 use std::alloc::{AllocError, Global};
 
 /// Parses a core; `joined_all`: it follows UNION ALL.
 pub(crate) fn core(alloc: Global, reader: &mut Reader, joined_all: bool) -> Result<Core, ParseStop>
-    ensures { Reads result reader.new (reads_core joined_all reader.old) }
+    ensures { ReadsPart result reader.new (reads_core joined_all reader.old) }
 {
     reader.expect("select")?;
     let distinct = reader.pass("distinct");
@@ -29,7 +29,7 @@ fn core_rest(
     joined_all: bool,
     distinct: bool,
 ) -> Result<Core, ParseStop>
-    ensures { Reads result reader.new (core_rest joined_all distinct reader.old) }
+    ensures { ReadsPart result reader.new (core_rest joined_all distinct reader.old) }
 {
     let items = items(alloc, reader)?;
     reader.expect("from")?;
@@ -45,11 +45,11 @@ fn core_end(
     items: Option<Items>,
     sources: Sources,
 ) -> Result<Core, ParseStop>
-    ensures { Reads result reader.new (core_end joined_all distinct items sources reader.old) }
+    ensures { ReadsPart result reader.new (core_end joined_all distinct items sources reader.old) }
 {
-    let pick = optional(alloc, reader, "where")?;
+    let pick = optional_expression(alloc, reader, "where")?;
     let group = group(alloc, reader)?;
-    let having = optional(alloc, reader, "having")?;
+    let having = optional_expression(alloc, reader, "having")?;
     let Sources { from, mut picks } = sources;
     add(&mut picks, pick)?;
     Ok(Core {
@@ -73,24 +73,24 @@ fn add(picks: &mut Exprs, pick: Option<Expr>) -> Result<(), AllocError>
 }
 
 fn group(alloc: Global, reader: &mut Reader) -> Result<ColumnNames, ParseStop>
-    ensures { Reads result reader.new (reads_group reader.old) }
+    ensures { ReadsPart result reader.new (reads_group reader.old) }
 {
     if !reader.starts("group") {
         return Ok(ColumnNames::new(alloc));
     }
     reader.skip();
     reader.expect("by")?;
-    listed::<ColumnName>(alloc, reader)
+    parse_list::<ColumnName>(alloc, reader)
 }
 
 fn items(alloc: Global, reader: &mut Reader) -> Result<Option<Items>, ParseStop>
-    ensures { Reads result reader.new (reads_items reader.old) }
+    ensures { ReadsPart result reader.new (reads_items reader.old) }
 {
     if reader.starts("*") {
         reader.skip();
         return Ok(None);
     }
-    let items = listed::<Item>(alloc, reader)?;
+    let items = parse_list::<Item>(alloc, reader)?;
     Ok(Some(items))
 }
 
@@ -105,7 +105,7 @@ impl Part for Item {
 }
 
 fn alias(alloc: Global, reader: &mut Reader) -> Result<Option<Utf8>, ParseStop>
-    ensures { Reads result reader.new (reads_alias reader.old) }
+    ensures { ReadsPart result reader.new (reads_alias reader.old) }
 {
     if !reader.starts("as") {
         return Ok(None);

@@ -1,14 +1,14 @@
 //! Sources of a core.
 
 ghost use Rattle.std.specs.Prelude.{◌≡◌};
-ghost use Rattle.sql_parse.specs.Gives.{Reads};
+ghost use Rattle.sql_parse.specs.Gives.{ReadsPart};
 ghost use Rattle.sql_model.specs.Queries.{is_name, names, second_name, reads_source, plain_source};
 ghost use Rattle.sql_model.specs.Queries.{joined_source, another_source, reads_sources};
 
 use crate::expression::expression;
 use crate::reader::Reader;
 use crate::steps::{Steps, all_steps};
-use crate::stop::ParseStop;
+use crate::error::ParseStop;
 use crate::token::{Lent, Lexeme};
 use ldv_value::Utf8;
 use sql_model::{Exprs, FromItem, FromItems, Sources, is_sql_name};
@@ -20,7 +20,7 @@ pub(crate) fn all_sources(
     reader: &mut Reader,
     most: usize,
 ) -> Result<Sources, ParseStop>
-    ensures { Reads result reader.new (reads_sources most reader.old) }
+    ensures { ReadsPart result reader.new (reads_sources most reader.old) }
 {
     let source = source(alloc, reader)?;
     let mut from = FromItems::new(alloc);
@@ -45,7 +45,7 @@ fn another_source(
     reader: &mut Reader,
     made: Sources,
 ) -> Result<(Sources, bool), ParseStop>
-    ensures { Reads result reader.new (another_source made reader.old) }
+    ensures { ReadsPart result reader.new (another_source made reader.old) }
 {
     if reader.starts(",") {
         reader.skip();
@@ -68,7 +68,7 @@ fn plain_source(
     reader: &mut Reader,
     made: Sources,
 ) -> Result<(Sources, bool), ParseStop>
-    ensures { Reads result reader.new (plain_source made reader.old) }
+    ensures { ReadsPart result reader.new (plain_source made reader.old) }
 {
     let source = source(alloc, reader)?;
     let Sources { mut from, picks } = made;
@@ -81,7 +81,7 @@ fn joined_source(
     reader: &mut Reader,
     made: Sources,
 ) -> Result<(Sources, bool), ParseStop>
-    ensures { Reads result reader.new (joined_source made reader.old) }
+    ensures { ReadsPart result reader.new (joined_source made reader.old) }
 {
     let source = source(alloc, reader)?;
     reader.expect("on")?;
@@ -96,7 +96,7 @@ fn joined_source(
 }
 
 fn source(alloc: Global, reader: &mut Reader) -> Result<FromItem, ParseStop>
-    ensures { Reads result reader.new (reads_source reader.old) }
+    ensures { ReadsPart result reader.new (reads_source reader.old) }
 {
     let table = reader.name(alloc)?;
     let name = second_name(alloc, reader, &table)?;
@@ -105,7 +105,7 @@ fn source(alloc: Global, reader: &mut Reader) -> Result<FromItem, ParseStop>
 
 // The second name of a source, or its table's.
 fn second_name(alloc: Global, reader: &mut Reader, table: &Utf8) -> Result<Utf8, ParseStop>
-    ensures { Reads result reader.new (second_name table.now reader.old) }
+    ensures { ReadsPart result reader.new (second_name table.now reader.old) }
 {
     if reader.starts("as") {
         reader.skip();

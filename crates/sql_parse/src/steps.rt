@@ -2,11 +2,11 @@
 
 ghost use Rattle.std.specs.Prelude.{Bool, List, Option};
 ghost use Rattle.sql_model.specs.declared.token.Token.{Token};
-ghost use Rattle.sql_parse.specs.Gives.{Reads};
+ghost use Rattle.sql_parse.specs.Gives.{ReadsPart};
 ghost use Rattle.sql_model.specs.Reader.{repeat};
 
 use crate::reader::Reader;
-use crate::stop::ParseStop;
+use crate::error::ParseStop;
 use std::alloc::Global;
 
 /// What is read step by step.
@@ -16,7 +16,7 @@ pub(crate) trait Steps: Drop {
 
     /// Reads one step.
     fn read_step(self, alloc: Global, reader: &mut Reader) -> Result<(Self, bool), ParseStop>
-        ensures { Reads result reader.new (reads self reader.old) };
+        ensures { ReadsPart result reader.new (reads self reader.old) };
 }
 
 /// What is made by all steps that follow, at most so many.
@@ -27,7 +27,7 @@ pub(crate) fn all_steps<S: Steps>(
     most: usize,
     first: S,
 ) -> Result<S, ParseStop>
-    ensures { Reads result reader.new (repeat S.reads most first reader.old) }
+    ensures { ReadsPart result reader.new (repeat S.reads most first reader.old) }
 {
     let mut made = first;
     for _count in 0..most {

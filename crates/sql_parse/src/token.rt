@@ -3,11 +3,11 @@
 ghost use Rattle.std.specs.Prelude.{◌≡◌, IfOk};
 ghost use Rattle.std.specs.Str.{is_utf8};
 ghost use Rattle.ldv_value.specs.Texts.{text_of};
-ghost use Rattle.sql_parse.specs.Gives.{Gives};
+ghost use Rattle.sql_parse.specs.Gives.{GivesParsed};
 ghost use Rattle.sql_parse.specs.LentTokens.{token_of};
 ghost use Rattle.sql_model.specs.Tokens.{word_token, number_token, text_token, symbol_token};
 
-use crate::stop::ParseStop;
+use crate::error::ParseStop;
 use ldv_value::{Bytes, List, TEXT_LIMIT, Utf8, Value};
 use std::alloc::AllocError;
 use std::marker::Model;
@@ -84,7 +84,7 @@ impl<'a> Lexeme<'a> {
 
 /// The token of a word's bytes.
 pub(crate) fn word_token<'a>(bytes: &'a [u8]) -> Result<Lexeme<'a>, ParseStop>
-    ensures { Gives result (word_token bytes.now) }
+    ensures { GivesParsed result (word_token bytes.now) }
 {
     if bytes.len() > WORD_LIMIT {
         return Err(ParseStop::Syntax);
@@ -94,7 +94,7 @@ pub(crate) fn word_token<'a>(bytes: &'a [u8]) -> Result<Lexeme<'a>, ParseStop>
 
 /// The token of a number's value.
 pub(crate) fn number_token<'a>(number: u64) -> Result<Lexeme<'a>, ParseStop>
-    ensures { Gives result (number_token number) }
+    ensures { GivesParsed result (number_token number) }
 {
     if number < 1 << 63 {
         Ok(Lexeme::of(Lent::Number(number as i64)))
@@ -105,7 +105,7 @@ pub(crate) fn number_token<'a>(number: u64) -> Result<Lexeme<'a>, ParseStop>
 
 /// The token of the bytes between quotes.
 pub(crate) fn text_token<'a>(bytes: Bytes) -> Result<Lexeme<'a>, ParseStop>
-    ensures { Gives result (text_token bytes) }
+    ensures { GivesParsed result (text_token bytes) }
 {
     if bytes.len() > TEXT_LIMIT {
         return Err(ParseStop::Syntax);
@@ -117,7 +117,7 @@ pub(crate) fn text_token<'a>(bytes: Bytes) -> Result<Lexeme<'a>, ParseStop>
 /// The token of a symbol's bytes.
 #[tactic(auto, using(crate::proofs::Spelled::symbol_rules))]
 pub(crate) fn symbol_token<'a>(bytes: &'a [u8]) -> Result<Lexeme<'a>, ParseStop>
-    ensures { Gives result (symbol_token bytes.now) }
+    ensures { GivesParsed result (symbol_token bytes.now) }
 {
     match str::from_utf8(bytes) {
         Ok(word) => Ok(Lexeme::of(Lent::Word(word))),
@@ -127,7 +127,7 @@ pub(crate) fn symbol_token<'a>(bytes: &'a [u8]) -> Result<Lexeme<'a>, ParseStop>
 
 #[tactic(auto, using(ldv_value::proofs::Utf8Parts::text_rules))]
 fn text(bytes: Bytes) -> Result<Utf8, ParseStop>
-    ensures { Gives result (text_of bytes) }
+    ensures { GivesParsed result (text_of bytes) }
 {
     match String::from_utf8(bytes.into_vec()) {
         Ok(text) => Ok(Utf8::of_string(text)),

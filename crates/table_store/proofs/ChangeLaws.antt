@@ -4,13 +4,13 @@ use Rattle.std.specs.Prelude.{IsSome, find, ◌^◌}
 use Rattle.std.specs.Option.{option_map}
 use Rattle.std.proofs.lemmas.Bool.{cases_Bool, cases_eq, cases_lt, ne_eqb, eqb-true}
 use Rattle.std.proofs.lemmas.List.{length-set}
-use Rattle.row_version.specs.History.{Change, History, written, current, version, last_time, IsSorted, IsSortedFrom}
+use Rattle.row_version.specs.History.{Change, History, write_at, current_values, version, last_time, IsSorted, IsSortedFrom}
 use Rattle.row_version.proofs.Later.{current_after}
 use Rattle.table_store.specs.Types.{Value}
 use Rattle.table_store.specs.Grid.{Slot, no_slot}
 use Rattle.table_store.specs.Histories.{RowHistory, no_history, changed_by, with_change}
 use Rattle.table_store.specs.RowChains.{Chains, changes_or, history_of, histories_of, IsKept, AreChained, IsReady, HasRoom}
-use Rattle.table_store.specs.RowChanges.{change_given, changes_given, RiseFrom, AllReady, AllHaveRoom, Stands, AllStand, AllThere, AreBefore}
+use Rattle.table_store.specs.RowChanges.{change_given, changes_given, RiseFrom, AreReady, AllHaveRoom, HasRow, AllStand, AllThere, AreBefore}
 use Rattle.table_store.specs.declared.change.RowChange.{RowChange}
 use Rattle.table_store.proofs.RowLaws.{row_is, in_slots, number_is}
 
@@ -48,9 +48,9 @@ same_histories old new (slot ∷ slots) same =
 -- a chain that is opened says what the slot said
 module _ (old new : Chains) (slots : List Slot) (next slot number : ℕ) (chain : History) (chained : AreChained old slots next) (rising : Rising slots) (below : (i : ℕ) → i < length slots → (get_or slots i no_slot).number < next)
     (within : slot < length slots) (is : (get_or slots slot no_slot).number ≡ number) (none : old number ≡ None)
-    (first : chain.changes ≡ written (get_or slots slot no_slot).since (get_or slots slot no_slot).values ∷ []) (here : new number ≡ Some chain) (others : (q : ℕ) → (q == number) ≡ false → new q ≡ old q) where
-  opened_at : (k : ℕ) → k ≡ slot → chain.changes ≡ written (get_or slots k no_slot).since (get_or slots k no_slot).values ∷ []
-  opened_at k same = first ∙ ap (λ (i : ℕ). written (get_or slots i no_slot).since (get_or slots i no_slot).values ∷ []) (sym same)
+    (first : chain.changes ≡ write_at (get_or slots slot no_slot).since (get_or slots slot no_slot).values ∷ []) (here : new number ≡ Some chain) (others : (q : ℕ) → (q == number) ≡ false → new q ≡ old q) where
+  opened_at : (k : ℕ) → k ≡ slot → chain.changes ≡ write_at (get_or slots k no_slot).since (get_or slots k no_slot).values ∷ []
+  opened_at k same = first ∙ ap (λ (i : ℕ). write_at (get_or slots i no_slot).since (get_or slots i no_slot).values ∷ []) (sym same)
 
   number_at : (k : ℕ) → k ≡ slot → (get_or slots k no_slot).number ≡ number
   number_at k same = ap (λ (i : ℕ). (get_or slots i no_slot).number) same ∙ is
@@ -72,7 +72,7 @@ module _ (old new : Chains) (slots : List Slot) (next slot number : ℕ) (chain 
     | inl same ↦
         let stands : (get_or slots k no_slot).stands ≡ true = subst (λ (o : Option History). IsKept o (get_or slots k no_slot)) (ap old (number_at k same) ∙ none) (chained.kept k inside) in
         subst (λ (o : Option History). IsKept o (get_or slots k no_slot)) (sym (ap new (number_at k same) ∙ here))
-        (ap current (opened_at k same) ∙ ap (λ b. cond b (Some (get_or slots k no_slot).values) None) (sym stands))
+        (ap current_values (opened_at k same) ∙ ap (λ b. cond b (Some (get_or slots k no_slot).values) None) (sym stands))
     | inr apart ↦ subst (λ (o : Option History). IsKept o (get_or slots k no_slot)) (sym (others (get_or slots k no_slot).number apart)) (chained.kept k inside)
   ]
 
@@ -100,7 +100,7 @@ same_kept : (new old : Option History) (slot : Slot) → SameChanges new old →
 same_kept None None slot same kept = kept
 same_kept None (Some old) slot same kept = cc
 same_kept (Some new) None slot same kept = cc
-same_kept (Some new) (Some old) slot same kept = ap current (some_is same) ∙ kept where
+same_kept (Some new) (Some old) slot same kept = ap current_values (some_is same) ∙ kept where
   some_is : {a b : List Change} → Some a ≡ Some b → a ≡ b
   some_is one = cc
 
@@ -173,7 +173,7 @@ module _ (old new : Chains) (number : ℕ) (change : Change) (here : option_map 
   kept_by None None slot some is values = cc
   kept_by None (Some o) slot some is values = cc
   kept_by (Some n) None slot some is values = cc
-  kept_by (Some n) (Some o) slot some is values = ap current (some_is is) ∙ current_after o.changes change ∙ values where
+  kept_by (Some n) (Some o) slot some is values = ap current_values (some_is is) ∙ current_after o.changes change ∙ values where
     some_is : {a b : List Change} → Some a ≡ Some b → a ≡ b
     some_is one = cc
 
@@ -247,7 +247,7 @@ unchanged time [] = refl
 unchanged time (row ∷ slots) = ap (λ (l : List RowHistory). row ∷ l) (unchanged time slots)
 
 -- the others are as ready as they were
-pub still_ready : (old new : Chains) (number time low : ℕ) (rest : List RowChange) → ((q : ℕ) → (q == number) ≡ false → new q ≡ old q) → number < low → RiseFrom low rest → AllReady old time rest → AllReady new time rest
+pub still_ready : (old new : Chains) (number time low : ℕ) (rest : List RowChange) → ((q : ℕ) → (q == number) ≡ false → new q ≡ old q) → number < low → RiseFrom low rest → AreReady old time rest → AreReady new time rest
 still_ready old new number time low [] others below rise ready = tt
 still_ready old new number time low (first ∷ rest) others below rise ready =
     let same : new first.number ≡ old first.number = others first.number (ne_eqb first.number number (omega (arith, below, rise.0))) in (
@@ -267,10 +267,10 @@ pub version_by : (changes : List Change) → IsSorted changes → version change
 version_by [] sorted = omega arith
 version_by (first ∷ rest) sorted = omega (arith, count_from first rest sorted)
 
-ready_by : (o : Option History) (slot : Slot) (time : ℕ) (changes : List Change) → HasRoom o → changes_or o slot ≡ changes → IsSome (current changes) → IsSorted changes → last_time changes < time → time < 2 ^ 32 → IsReady o time
+ready_by : (o : Option History) (slot : Slot) (time : ℕ) (changes : List Change) → HasRoom o → changes_or o slot ≡ changes → IsSome (current_values changes) → IsSorted changes → last_time changes < time → time < 2 ^ 32 → IsReady o time
 ready_by None slot time changes room is some sorted before small = absurd room
 ready_by (Some chain) slot time changes room is some sorted before small =
-    subst (λ (l : List Change). IsSome (current l) × (version l < 2 ^ 32 - 1) × (last_time l < time)) (sym is)
+    subst (λ (l : List Change). IsSome (current_values l) × (version l < 2 ^ 32 - 1) × (last_time l < time)) (sym is)
     (some, omega (arith, version_by changes sorted, before, small), before)
 
 module _ (chains : Chains) (slots : List Slot) (next : ℕ) (chained : AreChained chains slots next) (seen : List RowHistory) (same : histories_of chains slots ≡ seen) where
@@ -279,7 +279,7 @@ module _ (chains : Chains) (slots : List Slot) (next : ℕ) (chained : AreChaine
       let one = stand j below in
       (one.0, in_slots chains slots next chained seen same one.0 one.1, number_is chains slots next chained seen same one.0 one.1 ∙ one.2)
 
-  one_ready : (time number : ℕ) → time < 2 ^ 32 → AreBefore time seen → Stands seen number → HasRoom (chains number) → IsReady (chains number) time
+  one_ready : (time number : ℕ) → time < 2 ^ 32 → AreBefore time seen → HasRow seen number → HasRoom (chains number) → IsReady (chains number) time
   one_ready time number small before stands room =
       let k = stands.0 in
       let slot : Slot = get_or slots k no_slot in
@@ -289,7 +289,7 @@ module _ (chains : Chains) (slots : List Slot) (next : ℕ) (chained : AreChaine
       let early = before k stands.1 in
       ready_by (chains number) slot time (get_or seen k no_history).changes room changes stands.3 early.0 early.1 small
 
-  pub all_ready : (time : ℕ) (given : List RowChange) → time < 2 ^ 32 → AreBefore time seen → AllStand seen given → AllHaveRoom chains given → AllReady chains time given
+  pub all_ready : (time : ℕ) (given : List RowChange) → time < 2 ^ 32 → AreBefore time seen → AllStand seen given → AllHaveRoom chains given → AreReady chains time given
   all_ready time [] small before stand room = tt
   all_ready time (first ∷ rest) small before stand room = (
     one_ready time first.number small before (stand 0 (omega arith)) (room 0 (omega arith)),

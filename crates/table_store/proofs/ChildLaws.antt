@@ -13,7 +13,7 @@ use Rattle.ldv_value.proofs.Booleans.{or-false}
 use Rattle.ldv_value.proofs.Lists.{list_any-append, list_any-false}
 use Rattle.ldv_value.proofs.Options.{none-some, same-some}
 use Rattle.ldv_value.proofs.SameBytes.{nat_eq-true}
-use Rattle.row_version.specs.History.{current}
+use Rattle.row_version.specs.History.{current_values}
 use Rattle.sql_model.specs.KeyOrder.{key_order}
 use Rattle.sql_model.specs.Keys.{same_values, values_at}
 use Rattle.sql_model.specs.Meaning.{is_null}
@@ -215,7 +215,7 @@ module _ (target : List ℕ) (lost : List Value → Bool) (t : Table) (slot : Ro
         let there = there-by-number (row_now slot) number named in
         sym (ap of_other there.1 ∙ ap (if_other there.0) (ap is_its (sym there.2) ∙ passed))
 
-    pub other_slot : (values : List Value) → Some values ≡ current slot.changes → is_its number ≡ false
+    pub other_slot : (values : List Value) → Some values ≡ current_values slot.changes → is_its number ≡ false
         → orphan_in_row target lost t (record { number = number; values = values }) ≡ orphan_in_slot (is_among ns) target lost t slot
     other_slot values now other =
         let row_is : row_now slot ≡ Some (numbered_row slot.number values) = ap (row_of slot.number) (sym now) in

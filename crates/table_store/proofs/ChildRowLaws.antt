@@ -10,7 +10,7 @@ use Rattle.std.proofs.lemmas.List.{take_more}
 use Rattle.ldv_value.proofs.Booleans.{and-false, or-false, or-parts, true≢false}
 use Rattle.ldv_value.proofs.Lists.{list_any-append, list_any-false}
 use Rattle.ldv_value.proofs.Options.{none-some}
-use Rattle.row_version.specs.History.{current}
+use Rattle.row_version.specs.History.{current_values}
 use Rattle.sql_model.specs.Keys.{same_values}
 use Rattle.sql_model.specs.References.{Orphan, child_of, orphan_by, reference}
 use Rattle.sql_model.specs.Scope.{is_table, same_text}
@@ -272,7 +272,7 @@ module _ (q : TableRow → Bool) (number : ℕ) where
   none_of_number [] apart = refl
   none_of_number (h ∷ slots) apart =
       in_option (row_now h) (rows_now slots)
-      ∙ (λ j. other_by h.number (apart 0 (omega arith)) (current h.changes) j || none_of_number slots (λ i below. apart (suc i) (omega (arith, below))) j)
+      ∙ (λ j. other_by h.number (apart 0 (omega arith)) (current_values h.changes) j || none_of_number slots (λ i below. apart (suc i) (omega (arith, below))) j)
 
   one_of_number : (slots : List RowHistory) (slot : ℕ) → slot < length slots → (get_or slots slot no_history).number ≡ number
       → ((i : ℕ) → i < length slots → (i ≡ slot → ⊥) → (get_or slots i no_history).number ≡ number → ⊥)
@@ -280,11 +280,11 @@ module _ (q : TableRow → Bool) (number : ℕ) where
   one_of_number [] slot within is apart = absurd (omega (arith, within))
   one_of_number (h ∷ slots) zero within is apart =
       in_option (row_now h) (rows_now slots)
-      ∙ (λ j. here_by h.number is (current h.changes) j || none_of_number slots (λ i below. apart (suc i) (omega (arith, below)) (λ same. omega (arith, same))) j)
+      ∙ (λ j. here_by h.number is (current_values h.changes) j || none_of_number slots (λ i below. apart (suc i) (omega (arith, below)) (λ same. omega (arith, same))) j)
       ∙ or-false (option_map_or q (row_now h) false)
   one_of_number (h ∷ slots) (suc slot) within is apart =
       in_option (row_now h) (rows_now slots)
-      ∙ (λ j. other_by h.number (apart 0 (omega arith) (λ same. omega (arith, same))) (current h.changes) j
+      ∙ (λ j. other_by h.number (apart 0 (omega arith) (λ same. omega (arith, same))) (current_values h.changes) j
       || one_of_number slots slot (omega (arith, within)) is (λ i below other. apart (suc i) (omega (arith, below)) (λ same. other (omega (arith, same)))) j)
 
   pub row_of_number : (slots : List RowHistory) (next slot : ℕ) → AreInOrder slots next → slot < length slots → (get_or slots slot no_history).number ≡ number

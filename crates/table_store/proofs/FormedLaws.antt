@@ -14,12 +14,12 @@ use Rattle.sql_model.specs.ForeignKeys.{have_parents}
 use Rattle.sql_model.proofs.NewNumbers.{numbers-insert, numbers-map, numbers-filter, next-within}
 use Rattle.sql_model.proofs.UniqueKeys.{unique-clash, unique-fewer}
 use Rattle.sql_model.proofs.ValidTables.{TableParts, table-parts, table-from, row_from}
-use Rattle.sql_model.specs.Changes.{KeyClash, has_null, key_clash, numbered}
+use Rattle.sql_model.specs.Changes.{KeyClash, has_null, key_clash, numbered_rows}
 use Rattle.sql_model.specs.Tables.{AreWellFormed, are_distinct, each_value, has_kind, have_distinct_columns, is_database, is_row, is_valid_table, table_precedes}
 use Rattle.table_store.specs.Stops.{has_shape, have_shape, insert_stop, is_among, key_stop, replace_stop, replaced_by, stop_if, values_of, with_inserted, with_removed, with_replaced}
 use Rattle.table_store.specs.Types.{Column, Schema, Table, TableRow, Value}
-use Rattle.table_store.specs.declared.stop.StoreStop.{StoreStop}
-use Rattle.table_store.specs.declared.stop.StoreStop.TheVariants.{NotNull, Full}
+use Rattle.table_store.specs.declared.error.StoreStop.{StoreStop}
+use Rattle.table_store.specs.declared.error.StoreStop.TheVariants.{NotNull, Full}
 
 -- ---- what no stop says
 
@@ -51,7 +51,7 @@ given_rows columns (row ∷ rows) shape null =
     (row_from columns row.values ((Decides-eqb (length row.values) (length columns)).0 one.0) one.1 parts.0)
     (given_rows columns rows both.1 parts.1)
 
-values_numbered : (n : ℕ) (rows : List (List Value)) → values_of (numbered n rows) ≡ rows
+values_numbered : (n : ℕ) (rows : List (List Value)) → values_of (numbered_rows n rows) ≡ rows
 values_numbered n [] = refl
 values_numbered n (values ∷ rows) = ap (λ (l : List (List Value)). values ∷ l) (values_numbered (n + 1) rows)
 
@@ -94,7 +94,7 @@ module _ (t : Table) (valid : is_valid_table t ≡ true) where
 
   pub inserted_valid : (rows : List (List Value)) → have_shape rows t ≡ true → insert_stop rows t ≡ None → is_valid_table (with_inserted rows t) ≡ true
   inserted_valid rows shape none =
-      let more : List TableRow = numbered t.next rows in
+      let more : List TableRow = numbered_rows t.next rows in
       let one = or_none (stop_if (list_any (has_null columns) more) NotNull) (option_or (key_stop t (key_clash (with_inserted rows t))) (stop_if (nat_lt max_next (t.next + length rows)) Full)) none in
       let two = or_none (key_stop t (key_clash (with_inserted rows t))) (stop_if (nat_lt max_next (t.next + length rows)) Full) one.1 in
       let made : all_rows columns more ≡ true = given_rows columns more (ap (list_all (has_shape columns)) (values_numbered t.next rows) ∙ shape) (if_none (list_any (has_null columns) more) NotNull one.0) in

@@ -13,11 +13,11 @@ use Rattle.sql_model.specs.KeyOrder.{key_order}
 use Rattle.sql_model.specs.Keys.{same_values, values_at, key_at}
 use Rattle.table_store.specs.Types.{Value, RowKey, TableRow}
 use Rattle.table_store.specs.Claims.{IsIndexOf, both_stop}
-use Rattle.table_store.specs.GivenKeys.{with_claims, not_given, keeper, clash_of, sooner, soonest, is_below, IsLate, HasKeyAt, IsClash, AreJudged}
-use Rattle.table_store.specs.KeyIndex.{has_key, row_of_key, Held, AreHeld}
+use Rattle.table_store.specs.GivenKeys.{with_claims, unless_given, keeper, clash_of, earlier_clash, first_clash, is_below, IsLate, HasKeyAt, IsClash, AreJudged}
+use Rattle.table_store.specs.KeyIndex.{has_key, row_of_key, HeldKeys, AreHeld}
 use Rattle.table_store.specs.Stops.{replaced_by, are_sorted_rows}
 use Rattle.table_store.specs.declared.clash.Clash.{Clash}
-use Rattle.table_store.specs.declared.stop.StoreStop.TheVariants.{KeyTaken}
+use Rattle.table_store.specs.declared.error.StoreStop.TheVariants.{KeyTaken}
 use Rattle.table_store.proofs.IndexLaws.{same_itself, same_exact, any_alike, split_at}
 use Rattle.table_store.proofs.InsertLaws.{AllRows, all_append, all_weaker, found_all, RisesFrom, apart_key, clash_front}
 use Rattle.table_store.proofs.KeptKeyLaws.{rises_replaced, all_more}
@@ -47,7 +47,7 @@ found_one P p (first ∷ rows) all row is = elim (cases_Bool (p first)) [
   | inr miss ↦ found_one P p rows all.1 row (sym (ap (λ b. cond b (Some first) (find p rows)) miss) ∙ is)
 ]
 
-found_held : (places : List ℕ) (held : Held) (p : TableRow → Bool) (rows : List TableRow) → AreHeld places held rows → (row : TableRow) → find p rows ≡ Some row → held (key_at places row.values) ≡ Some row.number
+found_held : (places : List ℕ) (held : HeldKeys) (p : TableRow → Bool) (rows : List TableRow) → AreHeld places held rows → (row : TableRow) → find p rows ≡ Some row → held (key_at places row.values) ≡ Some row.number
 found_held places held p [] are row is = cc
 found_held places held p (first ∷ rows) are row is = elim (cases_Bool (p first)) [
   | inl hit ↦ subst (λ (r : TableRow). held (key_at places r.values) ≡ Some r.number) (some_is (sym (ap (λ b. cond b (Some first) (find p rows)) hit) ∙ is)) are.0
@@ -148,7 +148,7 @@ module _ (places : List ℕ) (k : List Value) where
     | inr miss ↦ or_right (is_it number x) (list_any (is_it number) xs) (any_front number xs ys none (sym (ap (λ b. b || list_any (is_it number) (xs ++ ys)) miss) ∙ has))
   ]
 
-  module _ (held : Held) where
+  module _ (held : HeldKeys) where
     held_at : (number : ℕ) (rows : List TableRow) → AreHeld places held rows → HasKeyAt places k rows number → held (record { values = k }) ≡ Some number
     held_at number [] are has = cc
     held_at number (row ∷ rows) are has = elim (cases_Bool (is_it number row)) [
@@ -180,7 +180,7 @@ all_have places (row ∷ rows) = (
 
 -- ---- the first clash of rows
 
-module _ (places : List ℕ) (held : Held) (k : List Value) (earlier later : ℕ) (apart : earlier < later) where
+module _ (places : List ℕ) (held : HeldKeys) (k : List Value) (earlier later : ℕ) (apart : earlier < later) where
   pub clash_at : (before rows : List TableRow) (low : ℕ) → AreHeld places held before → AllRows (λ row. row.number < low) before → RisesFrom low rows
       → AllRows (λ row. nat_lt row.number later ≡ true → held (key_at places row.values) ≡ Some row.number) rows → HasKeyAt places k (before ++ rows) earlier → HasKeyAt places k rows later
       → both_stop places (clash_after places before rows) ≡ Some (KeyTaken (Some earlier) (Some later) k)
@@ -243,7 +243,7 @@ module _ (places : List ℕ) (rows given : List TableRow) where
 
   keeper_is : (k : List Value) (number : ℕ) → keeper places rows given k ≡ Some number → (find (λ one. one.number == number) given ≡ None) × HasKeyAt places k rows number
   keeper_is k number is = by (row_of_key places k rows) refl is where
-    by : (o : Option TableRow) → row_of_key places k rows ≡ o → not_given given (option_map (λ (row : TableRow). row.number) o) ≡ Some number → (find (λ one. one.number == number) given ≡ None) × HasKeyAt places k rows number
+    by : (o : Option TableRow) → row_of_key places k rows ≡ o → unless_given given (option_map (λ (row : TableRow). row.number) o) ≡ Some number → (find (λ one. one.number == number) given ≡ None) × HasKeyAt places k rows number
     by None was not_some = cc
     by (Some row) was one = alone (find (λ new. new.number == row.number) given) refl one where
       alone : (o : Option TableRow) → find (λ new. new.number == row.number) given ≡ o → (if is_some o then None else Some row.number) ≡ Some number → (find (λ one. one.number == number) given ≡ None) × HasKeyAt places k rows number
@@ -255,9 +255,9 @@ module _ (places : List ℕ) (rows given : List TableRow) where
           )
 
   -- a row that isn't given keeps its key
-  keeper_here : (old : Held) (k : List Value) (number : ℕ) → AreHeld places old rows → HasKeyAt places k rows number → find (λ one. one.number == number) given ≡ None → keeper places rows given k ≡ Some number
+  keeper_here : (old : HeldKeys) (k : List Value) (number : ℕ) → AreHeld places old rows → HasKeyAt places k rows number → find (λ one. one.number == number) given ≡ None → keeper places rows given k ≡ Some number
   keeper_here old k number are has none =
-      ap (not_given given) (found_at places k old number rows (held_at places k old number rows are has) are has)
+      ap (unless_given given) (found_at places k old number rows (held_at places k old number rows are has) are has)
       ∙ ap (λ (o : Option TableRow). if is_some o then None else Some number) none
 
 -- ---- what is held below the first clash
@@ -266,9 +266,9 @@ abbrev pub keep_low : (ℕ → Bool) → Option ℕ → Option ℕ
 keep_low low None = None
 keep_low low (Some number) = cond (low number) (Some number) None
 
-module _ (places : List ℕ) (rows given : List TableRow) (claims old : Held) (first : Option Clash) (some rest : List TableRow) (are : AreHeld places old rows) (index : IsIndexOf places claims some)
+module _ (places : List ℕ) (rows given : List TableRow) (claims old : HeldKeys) (first : Option Clash) (some rest : List TableRow) (are : AreHeld places old rows) (index : IsIndexOf places claims some)
     (late : AllByRecursion (λ row. IsLate first row.number (keeper places rows given (values_at places row.values))) some) (split : given ≡ some ++ rest) (past : AllRows (λ row. is_below first row.number ≡ false) rest) where
-  abbrev low_held : Held
+  abbrev low_held : HeldKeys
   low_held q = option_or (keep_low (is_below first) (claims q)) (old q)
 
   past_none : (number : ℕ) → is_below first number ≡ true → (others : List TableRow) → AllRows (λ row. is_below first row.number ≡ false) others → find (λ one. one.number == number) others ≡ None
@@ -335,7 +335,7 @@ module _ (places : List ℕ) (rows given : List TableRow) (claims old : Held) (f
 abbrev pick : Bool → ℕ → ℕ → List Value → Clash
 pick c a b key = if c then record { earlier = a; later = b; key = key } else record { earlier = b; later = a; key = key }
 
-below_sooner : (first : Option Clash) (clash : Clash) (number : ℕ) → is_below first number ≡ false → is_below (Some (sooner first clash)) number ≡ false
+below_sooner : (first : Option Clash) (clash : Clash) (number : ℕ) → is_below first number ≡ false → is_below (Some (earlier_clash first clash)) number ≡ false
 below_sooner None clash number high = cc
 below_sooner (Some other) clash number high = elim (cases_Bool (nat_lt clash.later other.later)) [
   | inl hit ↦
@@ -349,37 +349,37 @@ below_sooner (Some other) clash number high = elim (cases_Bool (nat_lt clash.lat
     | inr from ↦ from
   ]
 
-sooner_below : (first : Option Clash) (clash : Clash) (number : ℕ) → is_below (Some (sooner first clash)) number ≡ true → is_below first number ≡ true
+sooner_below : (first : Option Clash) (clash : Clash) (number : ℕ) → is_below (Some (earlier_clash first clash)) number ≡ true → is_below first number ≡ true
 sooner_below first clash number low = elim (cases_Bool (is_below first number)) [
   | inl is ↦ is
   | inr high ↦ absurd (false≢true (sym (below_sooner first clash number high) ∙ low))
 ]
 
-late_sooner : (first : Option Clash) (clash : Clash) (number : ℕ) (kept : Option ℕ) → IsLate first number kept → IsLate (Some (sooner first clash)) number kept
+late_sooner : (first : Option Clash) (clash : Clash) (number : ℕ) (kept : Option ℕ) → IsLate first number kept → IsLate (Some (earlier_clash first clash)) number kept
 late_sooner first clash number None late = tt
 late_sooner first clash number (Some kept) late = λ low. below_sooner first clash kept (late (sooner_below first clash number low))
 
-sooner_later : (first : Option Clash) (clash : Clash) → (sooner first clash).later ≤ clash.later
+sooner_later : (first : Option Clash) (clash : Clash) → (earlier_clash first clash).later ≤ clash.later
 sooner_later None clash = omega arith
 sooner_later (Some other) clash = elim (cases_lt clash.later other.later) [
   | inl less ↦ subst (λ (n : ℕ). n ≤ clash.later) (sym (ap (λ b. (if b then clash else other).later) (lt-ltb clash.later other.later less))) (omega arith)
   | inr from ↦ subst (λ (n : ℕ). n ≤ clash.later) (sym (ap (λ b. (if b then clash else other).later) (le-ltb clash.later other.later from))) from
 ]
 
-late_of : (first : Option Clash) (number kept : ℕ) (key : List Value) → IsLate (Some (sooner first (clash_of number kept key))) number (Some kept)
+late_of : (first : Option Clash) (number kept : ℕ) (key : List Value) → IsLate (Some (earlier_clash first (clash_of number kept key))) number (Some kept)
 late_of first number kept key low =
-    let at : (sooner first (clash_of number kept key)).later ≤ (clash_of number kept key).later = sooner_later first (clash_of number kept key) in
-    let less : number < (sooner first (clash_of number kept key)).later = ltb-true number (sooner first (clash_of number kept key)).later low in
+    let at : (earlier_clash first (clash_of number kept key)).later ≤ (clash_of number kept key).later = sooner_later first (clash_of number kept key) in
+    let less : number < (earlier_clash first (clash_of number kept key)).later = ltb-true number (earlier_clash first (clash_of number kept key)).later low in
     elim (cases_lt number kept) [
       | inl under ↦
           let is : (clash_of number kept key).later ≡ kept = ap (λ b. (pick b number kept key).later) (lt-ltb number kept under) in
-          le-ltb kept (sooner first (clash_of number kept key)).later (omega (arith, at, is))
+          le-ltb kept (earlier_clash first (clash_of number kept key)).later (omega (arith, at, is))
       | inr from ↦
           let is : (clash_of number kept key).later ≡ number = ap (λ b. (pick b number kept key).later) (le-ltb number kept from) in
           absurd (omega (arith, at, less, is))
     ]
 
-clash_sooner : (places : List ℕ) (rows : List TableRow) (first : Option Clash) (clash : Clash) → IsClash places rows first → IsClash places rows (Some clash) → IsClash places rows (Some (sooner first clash))
+clash_sooner : (places : List ℕ) (rows : List TableRow) (first : Option Clash) (clash : Clash) → IsClash places rows first → IsClash places rows (Some clash) → IsClash places rows (Some (earlier_clash first clash))
 clash_sooner places rows None clash one two = two
 clash_sooner places rows (Some other) clash one two = by (nat_lt clash.later other.later) where
   by : (b : Bool) → IsClash places rows (Some (if b then clash else other))
@@ -396,7 +396,7 @@ clash_both places rows a b key apart one two = elim (cases_lt a b) [
 ]
 
 all_late : (places : List ℕ) (rows given : List TableRow) (first : Option Clash) (clash : Clash) (some : List TableRow) → AllByRecursion (λ row. IsLate first row.number (keeper places rows given (values_at places row.values))) some
-    → AllByRecursion (λ row. IsLate (Some (sooner first clash)) row.number (keeper places rows given (values_at places row.values))) some
+    → AllByRecursion (λ row. IsLate (Some (earlier_clash first clash)) row.number (keeper places rows given (values_at places row.values))) some
 all_late places rows given first clash [] all = tt
 all_late places rows given first clash (row ∷ some) all = (late_sooner first clash row.number (keeper places rows given (values_at places row.values)) all.0, all_late places rows given first clash some all.1)
 
@@ -420,12 +420,12 @@ find_number p low (first ∷ rows) row rises is = elim (cases_Bool (p first)) [
 
 -- ---- what the first clash means
 
-pub judged_start : (places : List ℕ) (rows given : List TableRow) (claims : Held) → ((q : RowKey) → claims q ≡ None) → AreJudged places rows given claims None []
+pub judged_start : (places : List ℕ) (rows given : List TableRow) (claims : HeldKeys) → ((q : RowKey) → claims q ≡ None) → AreJudged places rows given claims None []
 judged_start places rows given claims none = record { index = index_none places claims none; late = tt; clash = tt }
 
-module _ (places : List ℕ) (rows given : List TableRow) (rise : RisesFrom 0 rows) (old : Held) (are : AreHeld places old rows) where
+module _ (places : List ℕ) (rows given : List TableRow) (rise : RisesFrom 0 rows) (old : HeldKeys) (are : AreHeld places old rows) where
   -- without one each row is held
-  pub judged_none : (claims : Held) → AreJudged places rows given claims None given → AreHeld places (with_claims claims old) (map (replaced_by given) rows)
+  pub judged_none : (claims : HeldKeys) → AreJudged places rows given claims None given → AreHeld places (with_claims claims old) (map (replaced_by given) rows)
   judged_none claims judged = by (map (replaced_by given) rows) (all_low places rows given claims old None given [] are judged.index judged.late (sym (append-nil given)) tt) where
     plain : (o n : Option ℕ) → option_or (keep_low (is_below None) o) n ≡ option_or o n
     plain None n = refl
@@ -437,24 +437,24 @@ module _ (places : List ℕ) (rows given : List TableRow) (rise : RisesFrom 0 ro
     by (row ∷ some) all = (sym (plain (claims (key_at places row.values)) (old (key_at places row.values))) ∙ all.0 refl, by some all.1)
 
   -- and so no two rows have one key
-  pub none_then : (held : Held) → AreHeld places held (map (replaced_by given) rows) → clash_after places [] (map (replaced_by given) rows) ≡ None
+  pub none_then : (held : HeldKeys) → AreHeld places held (map (replaced_by given) rows) → clash_after places [] (map (replaced_by given) rows) ≡ None
   none_then held all =
       let after : List TableRow = map (replaced_by given) rows in
       ap (clash_after places []) (sym (append-nil after)) ∙ clash_front places held (any_alike held) [] after [] 0 tt all tt (rises_replaced places given 0 rows rise)
 
-  first_is : (claims : Held) (clash : Clash) (some rest : List TableRow) → IsIndexOf places claims some → AllByRecursion (λ row. IsLate (Some clash) row.number (keeper places rows given (values_at places row.values))) some
+  first_is : (claims : HeldKeys) (clash : Clash) (some rest : List TableRow) → IsIndexOf places claims some → AllByRecursion (λ row. IsLate (Some clash) row.number (keeper places rows given (values_at places row.values))) some
       → IsClash places (map (replaced_by given) rows) (Some clash) → given ≡ some ++ rest → AllRows (λ row. is_below (Some clash) row.number ≡ false) rest
       → both_stop places (clash_after places [] (map (replaced_by given) rows)) ≡ Some (KeyTaken (Some clash.earlier) (Some clash.later) clash.key)
   first_is claims clash some rest index late is split past =
       clash_at places (λ q. option_or (keep_low (is_below (Some clash)) (claims q)) (old q)) clash.key clash.earlier clash.later is.0 [] (map (replaced_by given) rows) 0 tt tt (rises_replaced places given 0 rows rise)
       (all_low places rows given claims old (Some clash) some rest are index late split past) is.1 is.2
 
-  pub judged_first : (claims : Held) (clash : Clash) → AreJudged places rows given claims (Some clash) given
+  pub judged_first : (claims : HeldKeys) (clash : Clash) → AreJudged places rows given claims (Some clash) given
       → both_stop places (clash_after places [] (map (replaced_by given) rows)) ≡ Some (KeyTaken (Some clash.earlier) (Some clash.later) clash.key)
   judged_first claims clash judged = first_is claims clash given [] judged.index judged.late judged.clash (sym (append-nil given)) tt
 
   -- of one more given row
-  module _ (sorted : RisesFrom 0 given) (stand : list_all (λ row. list_any (λ one. one.number == row.number) rows) given ≡ true) (claims : Held) (first : Option Clash) (i : ℕ) (row : TableRow) (within : i < length given)
+  module _ (sorted : RisesFrom 0 given) (stand : list_all (λ row. list_any (λ one. one.number == row.number) rows) given ≡ true) (claims : HeldKeys) (first : Option Clash) (i : ℕ) (row : TableRow) (within : i < length given)
       (judged : AreJudged places rows given claims first (take i given)) (at : row ≡ get_or given i row) where
     abbrev now : TableRow
     now = get_or given i row
@@ -478,15 +478,15 @@ module _ (places : List ℕ) (rows given : List TableRow) (rise : RisesFrom 0 ro
     none_from None is = refl
     none_from (Some one) is = cc
 
-    next : (new : Held) → claims (key_at places now.values) ≡ None → ((q : RowKey) → new q ≡ cond (is_at (key_order (key_at places now.values)) q) (Some now.number) (claims q))
-        → AreJudged places rows given new (soonest first (keeper places rows given (values_at places now.values)) now.number (values_at places now.values)) (take (i + 1) given)
+    next : (new : HeldKeys) → claims (key_at places now.values) ≡ None → ((q : RowKey) → new q ≡ cond (is_at (key_order (key_at places now.values)) q) (Some now.number) (claims q))
+        → AreJudged places rows given new (first_clash first (keeper places rows given (values_at places now.values)) now.number (values_at places now.values)) (take (i + 1) given)
     next new free put = by (keeper places rows given (values_at places now.values)) refl where
       index : IsIndexOf places new (take (i + 1) given)
       index =
           subst (λ (l : List TableRow). IsIndexOf places new l) (sym (take_more given i row within))
           (index_more places claims new now (take i given) judged.index (none_from (row_of_key places (values_at places now.values) (take i given)) (sym (judged.index.only (key_at places now.values)) ∙ free)) put)
 
-      by : (o : Option ℕ) → keeper places rows given (values_at places now.values) ≡ o → AreJudged places rows given new (soonest first o now.number (values_at places now.values)) (take (i + 1) given)
+      by : (o : Option ℕ) → keeper places rows given (values_at places now.values) ≡ o → AreJudged places rows given new (first_clash first o now.number (values_at places now.values)) (take (i + 1) given)
       by None is = record {
         index = index;
         late = all_more (λ one. IsLate first one.number (keeper places rows given (values_at places one.values))) given i row within judged.late (subst (λ (o : Option ℕ). IsLate first now.number o) (sym is) tt);
@@ -498,20 +498,20 @@ module _ (places : List ℕ) (rows given : List TableRow) (rise : RisesFrom 0 ro
           let other : HasKeyAt places (values_at places now.values) (map (replaced_by given) rows) kept = kept_has places rows given (values_at places now.values) rows kept alone.0 alone.1 in
           record {
             index = index;
-            late = all_more (λ one. IsLate (Some (sooner first clash)) one.number (keeper places rows given (values_at places one.values))) given i row within (all_late places rows given first clash (take i given) judged.late)
-                (subst (λ (o : Option ℕ). IsLate (Some (sooner first clash)) now.number o) (sym is) (late_of first now.number kept (values_at places now.values)));
+            late = all_more (λ one. IsLate (Some (earlier_clash first clash)) one.number (keeper places rows given (values_at places one.values))) given i row within (all_late places rows given first clash (take i given) judged.late)
+                (subst (λ (o : Option ℕ). IsLate (Some (earlier_clash first clash)) now.number o) (sym is) (late_of first now.number kept (values_at places now.values)));
             clash = clash_sooner places (map (replaced_by given) rows) first clash judged.clash
                 (clash_both places (map (replaced_by given) rows) now.number kept (values_at places now.values)
                 (λ same. let wrong : None ≡ Some now = sym alone.0 ∙ ap (λ (n : ℕ). find (λ one. one.number == n) given) (sym same) ∙ now_found in cc) now_has other);
           }
 
-    pub judged_next : (new : Held) (k : RowKey) → k ≡ key_at places row.values → claims k ≡ None → ((q : RowKey) → new q ≡ cond (is_at (key_order k) q) (Some row.number) (claims q))
-        → AreJudged places rows given new (soonest first (keeper places rows given k.values) row.number k.values) (take (i + 1) given)
+    pub judged_next : (new : HeldKeys) (k : RowKey) → k ≡ key_at places row.values → claims k ≡ None → ((q : RowKey) → new q ≡ cond (is_at (key_order k) q) (Some row.number) (claims q))
+        → AreJudged places rows given new (first_clash first (keeper places rows given k.values) row.number k.values) (take (i + 1) given)
     judged_next new k key free put =
         let here : k ≡ key_at places now.values = key ∙ ap (λ (r : TableRow). key_at places r.values) at in
         let made = next new (ap claims (sym here) ∙ free) (λ q. put q ∙ (λ j. cond (is_at (key_order (here j)) q) (Some (at j).number) (claims q))) in
-        subst (λ (r : TableRow). AreJudged places rows given new (soonest first (keeper places rows given k.values) r.number k.values) (take (i + 1) given)) (sym at)
-        (subst (λ (q : RowKey). AreJudged places rows given new (soonest first (keeper places rows given q.values) now.number q.values) (take (i + 1) given)) (sym here) made)
+        subst (λ (r : TableRow). AreJudged places rows given new (first_clash first (keeper places rows given k.values) r.number k.values) (take (i + 1) given)) (sym at)
+        (subst (λ (q : RowKey). AreJudged places rows given new (first_clash first (keeper places rows given q.values) now.number q.values) (take (i + 1) given)) (sym here) made)
 
     -- the clash of a given row with an earlier given one
     clash_now : (earlier : ℕ) → claims (key_at places now.values) ≡ Some earlier → IsClash places (map (replaced_by given) rows) (Some (record { earlier = earlier; later = now.number; key = values_at places now.values }))
@@ -535,21 +535,21 @@ module _ (places : List ℕ) (rows given : List TableRow) (rise : RisesFrom 0 ro
             now_has,
           )
 
-    taken : (earlier : ℕ) → claims (key_at places now.values) ≡ Some earlier → (clash : Clash) → clash ≡ sooner first (record { earlier = earlier; later = now.number; key = values_at places now.values })
+    taken : (earlier : ℕ) → claims (key_at places now.values) ≡ Some earlier → (clash : Clash) → clash ≡ earlier_clash first (record { earlier = earlier; later = now.number; key = values_at places now.values })
         → both_stop places (clash_after places [] (map (replaced_by given) rows)) ≡ Some (KeyTaken (Some clash.earlier) (Some clash.later) clash.key)
     taken earlier is clash same =
         let one : Clash = record { earlier = earlier; later = now.number; key = values_at places now.values } in
-        let least : (sooner first one).later ≤ now.number = sooner_later first one in
+        let least : (earlier_clash first one).later ≤ now.number = sooner_later first one in
         subst (λ (c : Clash). both_stop places (clash_after places [] (map (replaced_by given) rows)) ≡ Some (KeyTaken (Some c.earlier) (Some c.later) c.key)) (sym same)
-        (first_is claims (sooner first one) (take i given) (now ∷ drop (i + 1) given) judged.index (all_late places rows given first one (take i given) judged.late)
+        (first_is claims (earlier_clash first one) (take i given) (now ∷ drop (i + 1) given) judged.index (all_late places rows given first one (take i given) judged.late)
         (clash_sooner places (map (replaced_by given) rows) first one judged.clash (clash_now earlier is)) parted (
-          le-ltb now.number (sooner first one).later least,
-          all_weaker (λ r. now.number + 1 ≤ r.number) (λ r. is_below (Some (sooner first one)) r.number ≡ false) (λ r from. le-ltb r.number (sooner first one).later (omega (arith, from, least)))
+          le-ltb now.number (earlier_clash first one).later least,
+          all_weaker (λ r. now.number + 1 ≤ r.number) (λ r. is_below (Some (earlier_clash first one)) r.number ≡ false) (λ r from. le-ltb r.number (earlier_clash first one).later (omega (arith, from, least)))
               (drop (i + 1) given) (rises_all (now.number + 1) (now.number + 1) (drop (i + 1) given) (omega arith) parts.2),
         ))
 
-    pub judged_taken : (k : RowKey) (earlier : ℕ) → k ≡ key_at places row.values → claims k ≡ Some earlier → (clash : Clash) → clash ≡ sooner first (record { earlier = earlier; later = row.number; key = k.values })
+    pub judged_taken : (k : RowKey) (earlier : ℕ) → k ≡ key_at places row.values → claims k ≡ Some earlier → (clash : Clash) → clash ≡ earlier_clash first (record { earlier = earlier; later = row.number; key = k.values })
         → both_stop places (clash_after places [] (map (replaced_by given) rows)) ≡ Some (KeyTaken (Some clash.earlier) (Some clash.later) clash.key)
     judged_taken k earlier key is clash same =
         let here : k ≡ key_at places now.values = key ∙ ap (λ (r : TableRow). key_at places r.values) at in
-        taken earlier (ap claims (sym here) ∙ is) clash (same ∙ (λ j. sooner first (record { earlier = earlier; later = (at j).number; key = (here j).values })))
+        taken earlier (ap claims (sym here) ∙ is) clash (same ∙ (λ j. earlier_clash first (record { earlier = earlier; later = (at j).number; key = (here j).values })))

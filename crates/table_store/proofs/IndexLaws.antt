@@ -16,14 +16,14 @@ use Rattle.std.proofs.lemmas.Bool.{cases_Bool, cases_lt, ne_eqb, eqb-true}
 use Rattle.ldv_value.proofs.Orderings.{is_eq-true}
 use Rattle.ldv_value.proofs.Booleans.{and-false, not-true, or-parts}
 use Rattle.ldv_value.specs.Order.{order}
-use Rattle.row_version.specs.History.{current}
+use Rattle.row_version.specs.History.{current_values}
 use Rattle.sql_model.specs.KeyOrder.{key_order, key_order_total}
 use Rattle.sql_model.specs.Keys.{same_values, values_at, key_at, repeats}
 use Rattle.sql_model.specs.Tables.{are_keys_unique}
 use Rattle.table_store.specs.Types.{Value, RowKey, TableRow}
 use Rattle.table_store.specs.Histories.{RowHistory, no_history, row_of, row_now, rows_now}
 use Rattle.table_store.specs.IndexView.{held_in}
-use Rattle.table_store.specs.KeyIndex.{has_key, Held, AreHeld, AreIndexed}
+use Rattle.table_store.specs.KeyIndex.{has_key, HeldKeys, AreHeld, AreIndexed}
 use Rattle.table_store.specs.RowOrder.{AreInOrder}
 use Rattle.table_store.specs.declared.index.Index.{Index}
 
@@ -39,10 +39,10 @@ pub same_itself : (a : List Value) → same_values a a ≡ true
 same_itself a = (eq_by_cmp_equiv key_order_total).refl (key a)
 
 -- the same keys are held alike
-pub Alike : Held → Type 0
+pub Alike : HeldKeys → Type 0
 Alike held = (a b : RowKey) → same_values a.values b.values ≡ true → held a ≡ held b
 
-pub alike_held : (held : Held) → Alike held → (a b : RowKey) → same_values a.values b.values ≡ true → held a ≡ held b
+pub alike_held : (held : HeldKeys) → Alike held → (a b : RowKey) → same_values a.values b.values ≡ true → held a ≡ held b
 unfolding Alike
 alike_held held alike = alike
 
@@ -75,7 +75,7 @@ values_exact (x ∷ xs) (y ∷ ys) is = by (order x y) refl (values_exact xs ys)
 pub same_exact : (a b : List Value) → same_values a b ≡ true → a ≡ b
 same_exact a b same = values_exact a b (is_eq-true (slice_cmp order a b) same)
 
-pub any_alike : (held : Held) → Alike held
+pub any_alike : (held : HeldKeys) → Alike held
 unfolding Alike
 any_alike held a b same = ap (λ (values : List Value). held (record { values = values })) (same_exact a.values b.values same)
 
@@ -85,7 +85,7 @@ index_alike index = any_alike (λ q. held_in index q)
 -- ---- rows that are looked up
 
 -- a key that isn't held is no row's
-pub absent_key : (places : List ℕ) (held : Held) → Alike held → (k : RowKey) (rows : List TableRow) → AreHeld places held rows → held k ≡ None → find (has_key places k.values) rows ≡ None
+pub absent_key : (places : List ℕ) (held : HeldKeys) → Alike held → (k : RowKey) (rows : List TableRow) → AreHeld places held rows → held k ≡ None → find (has_key places k.values) rows ≡ None
 unfolding Alike
 absent_key places held alike k [] are none = refl
 absent_key places held alike k (row ∷ rows) are none = elim (cases_Bool (has_key places k.values row)) [
@@ -94,7 +94,7 @@ absent_key places held alike k (row ∷ rows) are none = elim (cases_Bool (has_k
 ]
 
 -- a key that is held is at most the key of the row of that number
-pub held_key : (places : List ℕ) (held : Held) → Alike held → (k : RowKey) (number : ℕ) (rows : List TableRow) → AreHeld places held rows → held k ≡ Some number
+pub held_key : (places : List ℕ) (held : HeldKeys) → Alike held → (k : RowKey) (number : ℕ) (rows : List TableRow) → AreHeld places held rows → held k ≡ Some number
     → find (has_key places k.values) rows ≡ find (λ row. (row.number == number) && has_key places k.values row) rows
 unfolding Alike
 held_key places held alike k number [] are is = refl
@@ -120,7 +120,7 @@ found_tail p row rows none = elim (cases_Bool (p row)) [
   | inr miss ↦ (miss, sym (ap (λ b. cond b (Some row) (find p rows)) miss) ∙ none)
 ]
 
-pub still_held : (places : List ℕ) (old new : Held) (k : RowKey) (number : ℕ) (rows : List TableRow) → ((q : RowKey) → new q ≡ cond (is_at (key_order k) q) (Some number) (old q))
+pub still_held : (places : List ℕ) (old new : HeldKeys) (k : RowKey) (number : ℕ) (rows : List TableRow) → ((q : RowKey) → new q ≡ cond (is_at (key_order k) q) (Some number) (old q))
     → AreHeld places old rows → find (has_key places k.values) rows ≡ None → AreHeld places new rows
 still_held places old new k number [] put are none = tt
 still_held places old new k number (row ∷ rows) put are none =
@@ -128,12 +128,12 @@ still_held places old new k number (row ∷ rows) put are none =
     let other : is_at (key_order k) (key_at places row.values) ≡ false = same_turned k.values (values_at places row.values) ∙ apart.0 in
     (put (key_at places row.values) ∙ ap (λ b. cond b (Some number) (old (key_at places row.values))) other ∙ are.0, still_held places old new k number rows put are.1 apart.1)
 
-pub held_more : (places : List ℕ) (held : Held) (rows : List TableRow) (row : TableRow) → AreHeld places held rows → held (key_at places row.values) ≡ Some row.number → AreHeld places held (rows ++ row ∷ [])
+pub held_more : (places : List ℕ) (held : HeldKeys) (rows : List TableRow) (row : TableRow) → AreHeld places held rows → held (key_at places row.values) ≡ Some row.number → AreHeld places held (rows ++ row ∷ [])
 held_more places held [] row are is = (is, tt)
 held_more places held (first ∷ rows) row are is = (are.0, held_more places held rows row are.1 is)
 
 -- a row more, with a key that no other row has
-pub held_pushed : (places : List ℕ) (old new : Held) (row : TableRow) (rows : List TableRow) → ((q : RowKey) → new q ≡ cond (is_at (key_order (key_at places row.values)) q) (Some row.number) (old q))
+pub held_pushed : (places : List ℕ) (old new : HeldKeys) (row : TableRow) (rows : List TableRow) → ((q : RowKey) → new q ≡ cond (is_at (key_order (key_at places row.values)) q) (Some row.number) (old q))
     → AreHeld places old rows → find (has_key places (values_at places row.values)) rows ≡ None → AreHeld places new (rows ++ row ∷ [])
 held_pushed places old new row rows put are none =
     held_more places new rows row (still_held places old new (key_at places row.values) row.number rows put are none)
@@ -175,11 +175,11 @@ earlier_none places rows i d unique keyed within =
     (subst (λ (l : List TableRow). repeats same_values (map (values_at places) (map (λ (row : TableRow). row.values) l)) ≡ false) (split_at rows i d within)
     (unique_by places (map (λ (row : TableRow). row.values) rows) unique keyed))
 
-pub indexed_by : (places : List ℕ) (held : Held) (rows : List TableRow) → AreHeld places held rows → AreIndexed places held rows
+pub indexed_by : (places : List ℕ) (held : HeldKeys) (rows : List TableRow) → AreHeld places held rows → AreIndexed places held rows
 indexed_by [] held rows are = tt
 indexed_by (place ∷ places) held rows are = are
 
-pub indexed_none : (places : List ℕ) (held : Held) (rows : List TableRow) → (length places == 0) ≡ true → AreIndexed places held rows
+pub indexed_none : (places : List ℕ) (held : HeldKeys) (rows : List TableRow) → (length places == 0) ≡ true → AreIndexed places held rows
 indexed_none [] held rows is = tt
 indexed_none (place ∷ places) held rows is = absurd (omega (arith, eqb-true (length (place ∷ places)) 0 is))
 
@@ -197,13 +197,13 @@ module _ (places : List ℕ) (k : List Value) (number : ℕ) where
   is_it row = (row.number == number) && has_key places k row
 
   gone_by : (row : RowHistory) → row.number ≢ number → find is_it (option_to_list (row_now row)) ≡ None
-  gone_by row apart = by (current row.changes) where
+  gone_by row apart = by (current_values row.changes) where
     by : (now : Option (List Value)) → find is_it (option_to_list (row_of row.number now)) ≡ None
     by None = refl
     by (Some values) = ap (λ b. cond (b && has_key places k (record { number = row.number; values = values })) (Some (record { number = row.number; values = values })) None) (ne_eqb row.number number apart)
 
   here_by : (row : RowHistory) → row.number ≡ number → find is_it (option_to_list (row_now row)) ≡ find (has_key places k) (option_to_list (row_now row))
-  here_by row is = by (current row.changes) where
+  here_by row is = by (current_values row.changes) where
     by : (now : Option (List Value)) → find is_it (option_to_list (row_of row.number now)) ≡ find (has_key places k) (option_to_list (row_of row.number now))
     by None = refl
     by (Some values) = ap (λ b. cond (b && has_key places k (record { number = row.number; values = values })) (Some (record { number = row.number; values = values })) None) (eq-eqb row.number number is)
@@ -244,7 +244,7 @@ module _ (places : List ℕ) (k : List Value) (number : ℕ) where
   ])
 
 pub number_of_row : (row : RowHistory) (b : Bool) (o : Option TableRow) → o ≡ (if b then row_now row else None) → (b ≡ true → IsSome (row_now row)) → option_map (λ (one : TableRow). one.number) o ≡ (if b then Some row.number else None)
-number_of_row row b o is stands = ap (option_map (λ (one : TableRow). one.number)) is ∙ by (current row.changes) b stands where
+number_of_row row b o is stands = ap (option_map (λ (one : TableRow). one.number)) is ∙ by (current_values row.changes) b stands where
   by : (now : Option (List Value)) (b : Bool) → (b ≡ true → IsSome (row_of row.number now)) → option_map (λ (one : TableRow). one.number) (if b then row_of row.number now else None) ≡ (if b then Some row.number else None)
   by None true some = let none : false ≡ true = some refl in cc
   by None false some = refl
@@ -253,9 +253,9 @@ number_of_row row b o is stands = ap (option_map (λ (one : TableRow). one.numbe
 
 -- the key of the row in a slot, compared
 pub compared : (places : List ℕ) (k : List Value) (row : RowHistory) (o : Ordering)
-    → Some o ≡ option_map (λ values. slice_cmp order (values_at places values) k) (current row.changes)
+    → Some o ≡ option_map (λ values. slice_cmp order (values_at places values) k) (current_values row.changes)
     → find (has_key places k) (option_to_list (row_now row)) ≡ (if is_eq o then row_now row else None)
-compared places k row o is = by (current row.changes) is where
+compared places k row o is = by (current_values row.changes) is where
   by : (now : Option (List Value)) → Some o ≡ option_map (λ values. slice_cmp order (values_at places values) k) now
       → find (has_key places k) (option_to_list (row_of row.number now)) ≡ (if is_eq o then row_of row.number now else None)
   by None is = cc

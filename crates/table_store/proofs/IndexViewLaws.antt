@@ -12,7 +12,7 @@ use Rattle.ldv_value.specs.Order.{order}
 use Rattle.sql_model.specs.KeyOrder.{key_order}
 use Rattle.table_store.specs.Types.{Value, Null, Int, Text, RowKey}
 use Rattle.table_store.specs.IndexView.{held_as}
-use Rattle.table_store.specs.KeyIndex.{Held, in_place, int_key}
+use Rattle.table_store.specs.KeyIndex.{HeldKeys, in_place, int_key}
 use Rattle.table_store.proofs.IndexLaws.{same_exact}
 
 abbrev pub Ints : Type 0
@@ -60,7 +60,7 @@ int_tied key other m n one two tied =
 
 -- ---- a key that is put
 
-pub put_int : (old new : Ints) (others : Held) (k : RowKey) (n : ℤ) (number : ℕ) → int_key k.values ≡ Some n
+pub put_int : (old new : Ints) (others : HeldKeys) (k : RowKey) (n : ℤ) (number : ℕ) → int_key k.values ≡ Some n
     → ((m : ℤ) → new m ≡ cond (is_at (int_cmp n) m) (Some number) (old m))
     → (q : RowKey) → held_as new (others q) (int_key q.values) ≡ cond (is_at (key_order k) q) (Some number) (held_as old (others q) (int_key q.values))
 put_int old new others k n number is put q =
@@ -72,7 +72,7 @@ put_int old new others k n number is put q =
       by None = refl
       by (Some m) = put m
 
-pub put_other : (ints : Ints) (old new : Held) (k : RowKey) (number : ℕ) → int_key k.values ≡ None
+pub put_other : (ints : Ints) (old new : HeldKeys) (k : RowKey) (number : ℕ) → int_key k.values ≡ None
     → ((q : RowKey) → new q ≡ cond (is_at (key_order k) q) (Some number) (old q))
     → (q : RowKey) → held_as ints (new q) (int_key q.values) ≡ cond (is_at (key_order k) q) (Some number) (held_as ints (old q) (int_key q.values))
 put_other ints old new k number is put q = elim (cases_Bool (is_at (key_order k) q)) [
@@ -87,28 +87,28 @@ put_other ints old new k number is put q = elim (cases_Bool (is_at (key_order k)
 
 -- ---- both maps at once
 
-pub same_both : (old new : Ints) (others more : Held) → ((m : ℤ) → new m ≡ old m) → ((q : RowKey) → more q ≡ others q)
+pub same_both : (old new : Ints) (others more : HeldKeys) → ((m : ℤ) → new m ≡ old m) → ((q : RowKey) → more q ≡ others q)
     → (q : RowKey) → held_as new (more q) (int_key q.values) ≡ held_as old (others q) (int_key q.values)
 same_both old new others more same_ints same q = by (int_key q.values) where
   by : (o : Option ℤ) → held_as new (more q) o ≡ held_as old (others q) o
   by None = same q
   by (Some m) = same_ints m
 
-pub none_both : (ints : Ints) (others : Held) → ((m : ℤ) → ints m ≡ None) → ((q : RowKey) → others q ≡ None)
+pub none_both : (ints : Ints) (others : HeldKeys) → ((m : ℤ) → ints m ≡ None) → ((q : RowKey) → others q ≡ None)
     → (q : RowKey) → held_as ints (others q) (int_key q.values) ≡ None
 none_both ints others no_ints none q = by (int_key q.values) where
   by : (o : Option ℤ) → held_as ints (others q) o ≡ None
   by None = none q
   by (Some m) = no_ints m
 
-pub kept_both : (old new : Ints) (others more : Held) → ((m : ℤ) (n : ℕ) → old m ≡ Some n → new m ≡ Some n) → ((q : RowKey) (n : ℕ) → others q ≡ Some n → more q ≡ Some n)
+pub kept_both : (old new : Ints) (others more : HeldKeys) → ((m : ℤ) (n : ℕ) → old m ≡ Some n → new m ≡ Some n) → ((q : RowKey) (n : ℕ) → others q ≡ Some n → more q ≡ Some n)
     → (q : RowKey) (n : ℕ) → held_as old (others q) (int_key q.values) ≡ Some n → held_as new (more q) (int_key q.values) ≡ Some n
 kept_both old new others more keeps_ints keeps q n = by (int_key q.values) where
   by : (o : Option ℤ) → held_as old (others q) o ≡ Some n → held_as new (more q) o ≡ Some n
   by None is = keeps q n is
   by (Some m) is = keeps_ints m n is
 
-pub some_both : (old new : Ints) (others more : Held) → ((m : ℤ) → IsSome (old m) → IsSome (new m)) → ((q : RowKey) → IsSome (others q) → IsSome (more q))
+pub some_both : (old new : Ints) (others more : HeldKeys) → ((m : ℤ) → IsSome (old m) → IsSome (new m)) → ((q : RowKey) → IsSome (others q) → IsSome (more q))
     → (q : RowKey) → IsSome (held_as old (others q) (int_key q.values)) → IsSome (held_as new (more q) (int_key q.values))
 some_both old new others more some_ints some q = by (int_key q.values) where
   by : (o : Option ℤ) → IsSome (held_as old (others q) o) → IsSome (held_as new (more q) o)
@@ -122,7 +122,7 @@ in_place_or None b some = refl
 in_place_or (Some n) None some = let wrong : false ≡ true = some refl in cc
 in_place_or (Some n) (Some m) some = refl
 
-pub taken_both : (left old new : Ints) (others held more : Held) → ((m : ℤ) → new m ≡ in_place (left m) (old m)) → ((q : RowKey) → more q ≡ in_place (others q) (held q))
+pub taken_both : (left old new : Ints) (others held more : HeldKeys) → ((m : ℤ) → new m ≡ in_place (left m) (old m)) → ((q : RowKey) → more q ≡ in_place (others q) (held q))
     → ((q : RowKey) → IsSome (held_as left (others q) (int_key q.values)) → IsSome (held_as old (held q) (int_key q.values)))
     → (q : RowKey) → held_as new (more q) (int_key q.values) ≡ option_or (held_as left (others q) (int_key q.values)) (held_as old (held q) (int_key q.values))
 taken_both left old new others held more set_ints set some q =

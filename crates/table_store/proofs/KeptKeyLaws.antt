@@ -10,7 +10,7 @@ use Rattle.sql_model.specs.Keys.{values_at, key_at}
 use Rattle.table_store.specs.Types.{TableRow}
 use Rattle.table_store.specs.Claims.{KeepsKey}
 use Rattle.table_store.specs.Histories.{RowHistory, rows_now}
-use Rattle.table_store.specs.KeyIndex.{has_key, Held, AreHeld, AreIndexed}
+use Rattle.table_store.specs.KeyIndex.{has_key, HeldKeys, AreHeld, AreIndexed}
 use Rattle.table_store.specs.RowOrder.{AreInOrder}
 use Rattle.table_store.specs.Stops.{replaced_by}
 use Rattle.table_store.proofs.IndexLaws.{Alike, alike_held}
@@ -71,7 +71,7 @@ module _ (places : List ℕ) (given : List TableRow) where
         later_has new.number (has_key places (values_at places new.values)) row rows (omega (arith, from, same)) (keep number new (omega (arith, from, rises.0)) is)),
   )
 
-  module _ (held : Held) (alike : Alike held) where
+  module _ (held : HeldKeys) (alike : Alike held) where
     one_held : (row : TableRow) → Keeps row → held (key_at places row.values) ≡ Some row.number → held (key_at places (replaced_by given row).values) ≡ Some (replaced_by given row).number
     one_held row keeps is = by (find (λ one. one.number == row.number) given) refl ∙ ap (λ (n : ℕ). Some n) (sym (number_kept given row)) where
       by : (o : Option TableRow) → find (λ one. one.number == row.number) given ≡ o → held (key_at places (unwrap_or o row).values) ≡ Some row.number
@@ -88,7 +88,7 @@ module _ (places : List ℕ) (given : List TableRow) where
       let same : (replaced_by given row).number ≡ row.number = number_kept given row in
       (omega (arith, same, rises.0), subst (λ (n : ℕ). RisesFrom (n + 1) (map (replaced_by given) rows)) (sym same) (rises_replaced (row.number + 1) rows rises.1))
 
-module _ (given : List TableRow) (held : Held) (alike : Alike held) (slots : List RowHistory) (next : ℕ) (order : AreInOrder slots next) where
+module _ (given : List TableRow) (held : HeldKeys) (alike : Alike held) (slots : List RowHistory) (next : ℕ) (order : AreInOrder slots next) where
   rise : RisesFrom 0 (rows_now slots)
   rise = rows_rise 0 slots (λ i below. omega arith) order.rising
 

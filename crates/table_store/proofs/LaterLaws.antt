@@ -5,13 +5,13 @@ use Rattle.std.specs.List.{list_any}
 use Rattle.std.specs.Option.{option_map, option_and_then, option_or}
 use Rattle.ldv_value.proofs.Options.{same-some, none-some}
 use Rattle.ldv_value.specs.Limits.{max_next}
-use Rattle.sql_model.specs.Changes.{KeyClash, has_null, key_clash, numbered}
-use Rattle.sql_model.specs.References.{Missing, first_in, missing_parents}
+use Rattle.sql_model.specs.Changes.{KeyClash, has_null, key_clash, numbered_rows}
+use Rattle.sql_model.specs.References.{MissingParent, first_in, missing_parents}
 use Rattle.table_store.specs.Referring.{missing_stop, insert_refusal}
 use Rattle.table_store.specs.Stops.{StopsAs, insert_stop, key_stop, stop_if, with_changed, with_inserted}
 use Rattle.table_store.specs.Types.{Table, Value}
-use Rattle.table_store.specs.declared.stop.StoreStop.{StoreStop}
-use Rattle.table_store.specs.declared.stop.StoreStop.TheVariants.{NotNull, Full, NoParent, HasChild}
+use Rattle.table_store.specs.declared.error.StoreStop.{StoreStop}
+use Rattle.table_store.specs.declared.error.StoreStop.TheVariants.{NotNull, Full, NoParent, HasChild}
 
 -- what is told of a table that is there
 pub later_is : (f : Table → Option StoreStop) (o : Option Table) (t : Table) (later : Option StoreStop) → o ≡ Some t
@@ -57,24 +57,24 @@ module _ (child : List ℕ) (row : ℕ) (key : List Value) where
   never_key t None = λ wrong. none-some (HasChild child row key) wrong
   never_key t (Some clash) = λ wrong. cc
 
-  never_missing : (o : Option Missing) → Never (option_map (λ (missing : Missing). NoParent missing.parent missing.key) o)
+  never_missing : (o : Option MissingParent) → Never (option_map (λ (missing : MissingParent). NoParent missing.parent missing.key) o)
   never_missing None = λ wrong. none-some (HasChild child row key) wrong
   never_missing (Some missing) = λ wrong. cc
 
   never_own : (rows : List (List Value)) (t : Table) → Never (insert_stop rows t)
   never_own rows t =
-      never_or (stop_if (list_any (has_null t.schema.columns) (numbered t.next rows)) NotNull)
+      never_or (stop_if (list_any (has_null t.schema.columns) (numbered_rows t.next rows)) NotNull)
       (option_or (key_stop t (key_clash (with_inserted rows t))) (stop_if (nat_lt max_next (t.next + length rows)) Full))
-      (never_if (list_any (has_null t.schema.columns) (numbered t.next rows)) NotNull (λ wrong. cc))
+      (never_if (list_any (has_null t.schema.columns) (numbered_rows t.next rows)) NotNull (λ wrong. cc))
       (never_or (key_stop t (key_clash (with_inserted rows t))) (stop_if (nat_lt max_next (t.next + length rows)) Full)
       (never_key t (key_clash (with_inserted rows t))) (never_if (nat_lt max_next (t.next + length rows)) Full (λ wrong. cc)))
 
   never_whole : (rows : List (List Value)) (db : List Table) (o : Option Table) → Never (option_and_then (insert_refusal rows db) o)
   never_whole rows db None = λ wrong. none-some (HasChild child row key) wrong
   never_whole rows db (Some t) =
-      never_or (insert_stop rows t) (missing_stop t.schema.foreign (numbered t.next rows) (with_changed t.name (with_inserted rows) db))
+      never_or (insert_stop rows t) (missing_stop t.schema.foreign (numbered_rows t.next rows) (with_changed t.name (with_inserted rows) db))
       (never_own rows t)
-      (never_missing (first_in (missing_parents (with_changed t.name (with_inserted rows) db) t.schema.foreign (numbered t.next rows))))
+      (never_missing (first_in (missing_parents (with_changed t.name (with_inserted rows) db) t.schema.foreign (numbered_rows t.next rows))))
 
   pub childless : (rows : List (List Value)) (db : List Table) (o : Option Table) (stop : StoreStop)
       → StopsAs {X = ℕ} (option_and_then (insert_refusal rows db) o) (Err stop) → stop ≡ HasChild child row key → ⊥

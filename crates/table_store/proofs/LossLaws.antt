@@ -16,7 +16,7 @@ use Rattle.sql_model.specs.Scope.{is_table, same_text, table_at, catalog_of}
 use Rattle.sql_model.specs.Tables.{are_keys_unique}
 use Rattle.table_store.specs.Afterwards.{first_some, loses, is_other, refers_to, orphan_in_row, orphan_in_other, orphan_in_slot, orphan_in_table, orphan_in_tables}
 use Rattle.table_store.specs.Histories.{TableHistory, row_now, rows_now, table_now}
-use Rattle.table_store.specs.Stops.{is_among, with_removed, with_replaced, all_stood}
+use Rattle.table_store.specs.Stops.{is_among, with_removed, with_replaced, had_rows}
 use Rattle.table_store.specs.Types.{Foreign, Table, TableRow, Value}
 use Rattle.table_store.proofs.FirstLaws.{first_flat, first_filter_map, first_agree, first_filter, first_filtered, first_none, first_none_of}
 use Rattle.table_store.proofs.PutLaws.{TakesPlace, any_same, or_swap, replaced_has}
@@ -141,7 +141,7 @@ and_turned false true = refl
 and_turned false false = refl
 
 pub replaced_lost : (t : Table) → (length t.schema.key == 0) ≡ false → are_keys_unique t.schema.key (values_in t.rows) ≡ true
-    → (given : List TableRow) → TakesPlace given given → all_stood given t ≡ true → (key : List Value)
+    → (given : List TableRow) → TakesPlace given given → had_rows given t ≡ true → (key : List Value)
     → is_lost t.schema.key t.rows (with_replaced given t).rows key
     ≡ loses (λ k. list_any (has_key t.schema.key k) given) (map (λ (row : TableRow). row.number) given) t key
 replaced_lost t keyed unique given takes there key =

@@ -5,17 +5,17 @@ use Rattle.std.specs.List.{last_or}
 use Rattle.std.specs.List.Sorted.{IsNonDecreasingBy}
 use Rattle.std.specs.Option.{option_map_or}
 use Rattle.std.proofs.lemmas.List.Sorted.{IsNonDecreasingBy-short, IsNonDecreasingBy-from_all_adjacent}
-use Rattle.table_store.specs.Histories.{NextSince as Since, last_next, last_since, noted}
+use Rattle.table_store.specs.Histories.{NextSince as Since, last_next_number, last_since, nexts_with}
 use Rattle.table_store.specs.Nexts.{nexts_of, AreInTimeFrom, AreInTime}
 use Rattle.table_store.specs.declared.nexts.NextSince.{NextSince}
 
 -- ---- the last number
 
-last_from : (first : NextSince) (rest : List NextSince) → option_map_or (λ (s : NextSince). s.next) (slice_get (first ∷ rest) (length rest)) 0 ≡ last_next (nexts_of (first ∷ rest))
+last_from : (first : NextSince) (rest : List NextSince) → option_map_or (λ (s : NextSince). s.next) (slice_get (first ∷ rest) (length rest)) 0 ≡ last_next_number (nexts_of (first ∷ rest))
 last_from first [] = refl
 last_from first (next ∷ rest) = last_from next rest
 
-pub last_is : (held : List NextSince) → option_map_or (λ (s : NextSince). s.next) (slice_get held (length held - 1)) 0 ≡ last_next (nexts_of held)
+pub last_is : (held : List NextSince) → option_map_or (λ (s : NextSince). s.next) (slice_get held (length held - 1)) 0 ≡ last_next_number (nexts_of held)
 last_is [] = refl
 last_is (first ∷ rest) =
     let last : length (first ∷ rest) - 1 ≡ length rest = omega arith in
@@ -49,5 +49,5 @@ noted_from last low time next [] from later ordered = (omega (arith, from, later
 noted_from last low time next (since ∷ rest) from later ordered = (ordered.0, noted_from (Some since) since.time time next rest (omega arith) later ordered.1)
 
 -- and so it stays with a later change
-pub noted_in_time : (time next : ℕ) (nexts : List Since) → last_since nexts < time → AreInTime nexts → AreInTime (noted time next nexts)
+pub noted_in_time : (time next : ℕ) (nexts : List Since) → last_since nexts < time → AreInTime nexts → AreInTime (nexts_with time next nexts)
 noted_in_time time next nexts later ordered = noted_from None 0 time next nexts (omega arith) later ordered

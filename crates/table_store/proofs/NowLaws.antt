@@ -4,11 +4,11 @@ use Rattle.std.specs.Prelude.{find, filter, nat_le, IfSome, IsSome, IfOk, Result
 use Rattle.std.specs.List.{cons_option, last_or}
 use Rattle.std.specs.Option.{option_map, option_map_or}
 use Rattle.std.proofs.lemmas.Bool.{cases_Bool}
-use Rattle.row_version.specs.History.{current, as_of}
+use Rattle.row_version.specs.History.{current_values, as_of}
 use Rattle.row_version.proofs.Later.{as_of_now}
 use Rattle.sql_model.specs.Scope.{table_at}
 use Rattle.table_store.specs.Types.{Table, TableRow}
-use Rattle.table_store.specs.Histories.{RowHistory, NextSince, TableHistory, StoreHistory, row_of, rows_now, rows_as_of, next_as_of, last_next, last_since, table_now, tables_now, is_history, history_at}
+use Rattle.table_store.specs.Histories.{RowHistory, NextSince, TableHistory, StoreHistory, row_of, rows_now, rows_as_of, next_as_of, last_next_number, last_since, table_now, tables_now, is_history, history_at}
 use Rattle.table_store.specs.StoreView.{no_table}
 use Rattle.table_store.specs.TableView.{AreTimed}
 
@@ -49,7 +49,7 @@ pub rows_last : (last time : ℕ) (slots : List RowHistory) → AreTimed last sl
 rows_last last time [] timed past = refl
 rows_last last time (row ∷ slots) timed past =
     let one = timed 0 (omega arith) in
-    let now : as_of row.changes time ≡ current row.changes = as_of_now row.changes time one.sorted (omega (arith, one.by, past)) in
+    let now : as_of row.changes time ≡ current_values row.changes = as_of_now row.changes time one.sorted (omega (arith, one.by, past)) in
     λ j. cons_option (row_of row.number (now j)) (rows_last last time slots (λ k below. timed (suc k) (omega (arith, below))) past j)
 
 -- the last number passes where its time has come
@@ -67,7 +67,7 @@ last_passes time before after (since ∷ nexts) past same = elim (cases_Bool (na
       let wrong : true ≡ false = sym (le-leb since.time time early) ∙ miss in cc)
 ]
 
-pub next_last : (time : ℕ) (nexts : List NextSince) → last_since nexts ≤ time → next_as_of time nexts ≡ last_next nexts
+pub next_last : (time : ℕ) (nexts : List NextSince) → last_since nexts ≤ time → next_as_of time nexts ≡ last_next_number nexts
 next_last time nexts past = ap (λ (o : Option NextSince). option_map_or (λ (since : NextSince). since.next) o 0) (last_passes time None None nexts past (λ none. refl))
 
 -- ---- a table that was found

@@ -13,10 +13,10 @@ use Rattle.ldv_value.proofs.Booleans.{and-parts, and-true, not-so, or-cases, or-
 use Rattle.ldv_value.proofs.Lists.{found-passes, sorted-under}
 use Rattle.ldv_value.proofs.Options.{is_none-true, none-some, same-some}
 use Rattle.ldv_value.proofs.SameBytes.{bytes_eq-true}
-use Rattle.row_version.specs.History.{current, version}
+use Rattle.row_version.specs.History.{current_values, version}
 use Rattle.sql_model.proofs.UniqueKeys.{unique-clash}
 use Rattle.sql_model.proofs.UniqueRows.{found_same, keys_apart, repeats_map, same_both, values_in}
-use Rattle.sql_model.specs.Changes.{key_clash, numbered, stood}
+use Rattle.sql_model.specs.Changes.{key_clash, numbered_rows, had_row}
 use Rattle.sql_model.specs.KeyOrder.{key_order}
 use Rattle.sql_model.specs.Keys.{key_at, repeats, same_values, values_at}
 use Rattle.sql_model.specs.Meaning.{is_null}
@@ -26,7 +26,7 @@ use Rattle.sql_model.specs.Scope.{is_table, table_at}
 use Rattle.sql_model.specs.Tables.{AreWellFormed, are_keys_unique}
 use Rattle.table_store.specs.Afterwards.{is_keyed}
 use Rattle.table_store.specs.Histories.{RowHistory, StoreHistory, TableHistory, history_at, history_of_row, is_history, is_of_number, no_history, row_now, rows_now, slot_of_row, table_now, tables_now, version_now}
-use Rattle.table_store.specs.ParentRows.{if_stands, last_given, member_at, member_now, member_of, number_in, number_of_key, number_put, parent_by, parent_in, parent_number, parents_in_row, unless_given}
+use Rattle.table_store.specs.ParentRows.{if_stands, last_row_with, member_at, member_now, member_of, number_in, number_of_key, number_put, parent_by, parent_in, parent_number, parents_in_row, unless_given}
 use Rattle.table_store.specs.Referring.{CanBePut, IsAtVersion, are_apart, origin_now, parents_now, version_at, with_put}
 use Rattle.table_store.specs.RowOrder.{AreInOrder}
 use Rattle.table_store.specs.Stops.{are_sorted_numbers, are_sorted_rows, has_number, is_among, replaced_by, values_of, with_changed}
@@ -116,21 +116,21 @@ module _ (places : List ℕ) (key : List Value) where
   abbrev number_if : TableRow → Bool → Option ℕ
   number_if row b = if b then Some row.number else None
 
-  last_pushed : (rows : List TableRow) (row : TableRow) → last_given places (rows ++ row ∷ []) key ≡ cond (p row) (Some row.number) (last_given places rows key)
+  last_pushed : (rows : List TableRow) (row : TableRow) → last_row_with places (rows ++ row ∷ []) key ≡ cond (p row) (Some row.number) (last_row_with places rows key)
   last_pushed [] row = refl
   last_pushed (first ∷ rows) row = ap (λ (o : Option ℕ). option_or o (number_if first (p first))) (last_pushed rows row) ∙ by (p row)
     where
-      by : (b : Bool) → option_or (cond b (Some row.number) (last_given places rows key)) (number_if first (p first))
-          ≡ cond b (Some row.number) (option_or (last_given places rows key) (number_if first (p first)))
+      by : (b : Bool) → option_or (cond b (Some row.number) (last_row_with places rows key)) (number_if first (p first))
+          ≡ cond b (Some row.number) (option_or (last_row_with places rows key) (number_if first (p first)))
       by true = refl
       by false = refl
 
-  last_some : (rows : List TableRow) (n : ℕ) → last_given places rows key ≡ Some n → (g : TableRow) × AmongRows g rows × (p g ≡ true) × (g.number ≡ n)
+  last_some : (rows : List TableRow) (n : ℕ) → last_row_with places rows key ≡ Some n → (g : TableRow) × AmongRows g rows × (p g ≡ true) × (g.number ≡ n)
   last_some [] n is = cc
-  last_some (row ∷ rows) n is = by (λ more. last_some rows n more) (last_given places rows key) refl is
+  last_some (row ∷ rows) n is = by (λ more. last_some rows n more) (last_row_with places rows key) refl is
     where
-      by : (last_given places rows key ≡ Some n → (g : TableRow) × AmongRows g rows × (p g ≡ true) × (g.number ≡ n))
-          → (o : Option ℕ) → last_given places rows key ≡ o → option_or o (number_if row (p row)) ≡ Some n
+      by : (last_row_with places rows key ≡ Some n → (g : TableRow) × AmongRows g rows × (p g ≡ true) × (g.number ≡ n))
+          → (o : Option ℕ) → last_row_with places rows key ≡ o → option_or o (number_if row (p row)) ≡ Some n
           → (g : TableRow) × AmongRows g (row ∷ rows) × (p g ≡ true) × (g.number ≡ n)
       by again (Some m) later is = let g = again (later ∙ is) in (g.0, inr g.1, g.2, g.3)
       by again None later is = elim (cases_Bool (p row)) [
@@ -142,10 +142,10 @@ module _ (places : List ℕ) (key : List Value) where
             absurd (none-some n wrong)
       ]
 
-  last_none : (rows : List TableRow) → last_given places rows key ≡ None → (g : TableRow) → AmongRows g rows → p g ≡ false
+  last_none : (rows : List TableRow) → last_row_with places rows key ≡ None → (g : TableRow) → AmongRows g rows → p g ≡ false
   last_none [] is g here = absurd here
-  last_none (row ∷ rows) is g (inl same) = ap p same ∙ missed row.number (p row) (or_none (last_given places rows key) (number_if row (p row)) is).1
-  last_none (row ∷ rows) is g (inr more) = last_none rows (or_none (last_given places rows key) (number_if row (p row)) is).0 g more
+  last_none (row ∷ rows) is g (inl same) = ap p same ∙ missed row.number (p row) (or_none (last_row_with places rows key) (number_if row (p row)) is).1
+  last_none (row ∷ rows) is g (inr more) = last_none rows (or_none (last_row_with places rows key) (number_if row (p row)) is).0 g more
 
   -- ---- the only row that has it
 
@@ -168,15 +168,15 @@ module _ (places : List ℕ) (key : List Value) where
 -- one given row more
 pub last_more : (places : List ℕ) (rows : List TableRow) (i : ℕ) (row : TableRow) (old new : BTreeMap RowKey ℕ) (made : RowKey) → i < length rows
     → row ≡ get_or rows i row → made ≡ key_at places row.values → Updates key_order old new made (Some row.number)
-    → ((key : List Value) → number_in old key ≡ last_given places (take i rows) key)
-    → (key : List Value) → number_in new key ≡ last_given places (take (i + 1) rows) key
+    → ((key : List Value) → number_in old key ≡ last_row_with places (take i rows) key)
+    → (key : List Value) → number_in new key ≡ last_row_with places (take (i + 1) rows) key
 last_more places rows i row old new made within is key_is updates before key =
     updates.0 (record { values = key })
     ∙ ap (λ (k : RowKey). cond (is_at (key_order k) (record { values = key })) (Some row.number) (number_in old key)) key_is
     ∙ ap (λ (o : Option ℕ). cond (has_key places key row) (Some row.number) o) (before key)
     ∙ sym (last_pushed places key (take i rows) row)
-    ∙ ap (λ (r : TableRow). last_given places (take i rows ++ r ∷ []) key) is
-    ∙ ap (λ (l : List TableRow). last_given places l key) (sym (take_more rows i row within))
+    ∙ ap (λ (r : TableRow). last_row_with places (take i rows ++ r ∷ []) key) is
+    ∙ ap (λ (l : List TableRow). last_row_with places l key) (sym (take_more rows i row within))
 
 pub last_start : (made : BTreeMap RowKey ℕ) → IsEmpty made → (key : List Value) → number_in made key ≡ None
 last_start made empty key = ap (lookup (is_at (key_order (record { values = key })))) empty
@@ -199,7 +199,7 @@ module _ (rows : List TableRow) (t : Table) (sorted : are_sorted_rows rows ≡ t
   front = map (replaced_by rows) t.rows
 
   abbrev back : List TableRow
-  back = filter (λ row. not (stood t row)) rows
+  back = filter (λ row. not (had_row t row)) rows
 
   placed : (g : TableRow) → AmongRows g rows → (old : List TableRow) → list_any (λ (row : TableRow). row.number == g.number) old ≡ true
       → AmongRows g (map (replaced_by rows) old)
@@ -210,9 +210,9 @@ module _ (rows : List TableRow) (t : Table) (sorted : are_sorted_rows rows ≡ t
   ]
 
   given_put : (g : TableRow) → AmongRows g rows → AmongRows g (front ++ back)
-  given_put g here = elim (cases_Bool (stood t g)) [
+  given_put g here = elim (cases_Bool (had_row t g)) [
     | inl there ↦ among_left front back g (placed g here t.rows there)
-    | inr fresh ↦ among_right front back g (among_filter (λ row. not (stood t row)) rows g here (ap not fresh))
+    | inr fresh ↦ among_right front back g (among_filter (λ row. not (had_row t row)) rows g here (ap not fresh))
   ]
 
   kept_put : (r : TableRow) → AmongRows r t.rows → is_among (numbers rows) r ≡ false → AmongRows r (front ++ back)
@@ -239,7 +239,7 @@ module _ (rows : List TableRow) (t : Table) (sorted : are_sorted_rows rows ≡ t
   from_put : (r : TableRow) → AmongRows r (front ++ back) → AmongRows r rows ⊎ (AmongRows r t.rows × (is_among (numbers rows) r ≡ false))
   from_put r here = elim (among_either front back r here) [
     | inl old ↦ from_old t.rows r old
-    | inr new ↦ inl (filter_among (λ row. not (stood t row)) rows r new)
+    | inr new ↦ inl (filter_among (λ row. not (had_row t row)) rows r new)
   ]
 
   pub rows_put : IsPut rows t (with_put rows t).rows
@@ -257,13 +257,13 @@ module _ (rows : List TableRow) (t : Table) (after : List TableRow) (put : IsPut
   number o = option_map (λ (row : TableRow). row.number) o
 
   -- where no given row has the key
-  not_new : last_given t.schema.key rows key ≡ None → ((r : TableRow) → AmongRows r t.rows → is_among (numbers rows) r ≡ false → has r ≡ false) → find has after ≡ None
+  not_new : last_row_with t.schema.key rows key ≡ None → ((r : TableRow) → AmongRows r t.rows → is_among (numbers rows) r ≡ false → has r ≡ false) → find has after ≡ None
   not_new given old = none_among has after (λ r here. elim (put.from r here) [
     | inl new ↦ last_none t.schema.key key rows given r new
     | inr kept ↦ old r kept.0 kept.1
   ])
 
-  by_old : last_given t.schema.key rows key ≡ None → (o : Option TableRow) → find has t.rows ≡ o
+  by_old : last_row_with t.schema.key rows key ≡ None → (o : Option TableRow) → find has t.rows ≡ o
       → unless_given (numbers rows) (number o) ≡ number (find has after)
   by_old given None found =
       sym (ap number (not_new given (λ r here other. not-so (has r) (λ hit. true≢false (sym (any_among has t.rows r here hit) ∙ find_none has t.rows found)))))
@@ -278,15 +278,15 @@ module _ (rows : List TableRow) (t : Table) (after : List TableRow) (put : IsPut
         ∙ sym (ap number (one_among t.schema.key key after after_apart r (put.kept r (found_among has t.rows r found) stays) (found-passes has t.rows r found)))
   ]
 
-  by_given : (o : Option ℕ) → last_given t.schema.key rows key ≡ o
+  by_given : (o : Option ℕ) → last_row_with t.schema.key rows key ≡ o
       → option_or o (unless_given (numbers rows) (number_of_key t key)) ≡ number (find has after)
   by_given (Some n) given =
       let g = last_some t.schema.key key rows n given in
       sym (ap number (one_among t.schema.key key after after_apart g.0 (put.given g.0 g.1) g.2) ∙ ap (λ (m : ℕ). Some m) g.3)
   by_given None given = by_old given (find has t.rows) refl
 
-  pub put_is : number_put (last_given t.schema.key rows) (numbers rows) t key ≡ number (find has after)
-  put_is = by_given (last_given t.schema.key rows key) refl
+  pub put_is : number_put (last_row_with t.schema.key rows) (numbers rows) t key ≡ number (find has after)
+  put_is = by_given (last_row_with t.schema.key rows key) refl
 
 -- ---- the rows that stood, of those that have a key
 
@@ -300,16 +300,16 @@ filter_both p s (row ∷ rows) = by (p row) (filter_both p s rows)
     by false more = more
 
 pub stood_numbers : (t : Table) (p : TableRow → Bool) (rows : List TableRow) → option_to_list (find p rows) ≡ filter p rows
-    → numbers (filter (λ row. p row && stood t row) rows) ≡ option_to_list (if_stands t (option_map (λ (row : TableRow). row.number) (find p rows)))
-stood_numbers t p rows only = ap numbers (filter_both p (stood t) rows ∙ ap (filter (stood t)) (sym only)) ∙ by (find p rows)
+    → numbers (filter (λ row. p row && had_row t row) rows) ≡ option_to_list (if_stands t (option_map (λ (row : TableRow). row.number) (find p rows)))
+stood_numbers t p rows only = ap numbers (filter_both p (had_row t) rows ∙ ap (filter (had_row t)) (sym only)) ∙ by (find p rows)
   where
     one : (r : TableRow) (b : Bool) → numbers (cond b (r ∷ []) []) ≡ option_to_list (if b then Some r.number else None)
     one r true = refl
     one r false = refl
 
-    by : (o : Option TableRow) → numbers (filter (stood t) (option_to_list o)) ≡ option_to_list (if_stands t (option_map (λ (row : TableRow). row.number) o))
+    by : (o : Option TableRow) → numbers (filter (had_row t) (option_to_list o)) ≡ option_to_list (if_stands t (option_map (λ (row : TableRow). row.number) o))
     by None = refl
-    by (Some r) = one r (stood t r)
+    by (Some r) = one r (had_row t r)
 
 -- ---- keys that are apart
 
@@ -328,7 +328,7 @@ only_row places key rows keyed unique = only-one places key rows (apart_keys pla
 
 -- ---- given rows are sorted
 
-numbered_sorted : (n : ℕ) (values : List (List Value)) → are_sorted_rows (numbered n values) ≡ true
+numbered_sorted : (n : ℕ) (values : List (List Value)) → are_sorted_rows (numbered_rows n values) ≡ true
 numbered_sorted n [] = refl
 numbered_sorted n (one ∷ []) = refl
 numbered_sorted n (one ∷ two ∷ values) = λ j. lt-ltb n (n + 1) (omega arith) j && numbered_sorted (n + 1) (two ∷ values) j
@@ -344,7 +344,7 @@ numbers_sorted rows sorted = sorted-under nat_lt (λ (row : TableRow). row.numbe
 
 module _ (slots : List RowHistory) (next : ℕ) (order : AreInOrder slots next) (number : ℕ) where
   abbrev its : RowHistory → Bool
-  its slot = is_some (current slot.changes)
+  its slot = is_some (current_values slot.changes)
 
   any_number : list_any (λ (row : TableRow). row.number == number) (rows_now slots) ≡ is_some (find (λ (row : TableRow). (row.number == number) && has_key [] [] row) (rows_now slots))
   any_number =
@@ -352,7 +352,7 @@ module _ (slots : List RowHistory) (next : ℕ) (order : AreInOrder slots next) 
       ∙ any_found (λ row. (row.number == number) && true) (rows_now slots)
 
   in_slot : (slot : RowHistory) → is_some (find (has_key [] []) (option_to_list (row_now slot))) ≡ its slot
-  in_slot slot = by (current slot.changes)
+  in_slot slot = by (current_values slot.changes)
     where
       by : (now : Option (List Value)) → is_some (find (has_key [] []) (option_to_list (option_map (λ (values : List Value). record { number = slot.number; values = values }) now))) ≡ is_some now
       by None = refl
@@ -494,7 +494,7 @@ module _ (store : StoreHistory) (own : TableHistory) (there : history_at own.nam
   after = with_changed own.name (with_put rows) db
 
   abbrev given : List Value → Option ℕ
-  given key = last_given own.schema.key rows key
+  given key = last_row_with own.schema.key rows key
 
   own_found : table_at own.name db ≡ Some (table_now own)
   own_found = now_at own.name store own (sym there)
@@ -524,20 +524,20 @@ module _ (store : StoreHistory) (own : TableHistory) (there : history_at own.nam
 
     put_number : u ≡ table_now own → number_put given (numbers rows) u key ≡ option_map (λ (row : TableRow). row.number) (find (has_key u.schema.key key) (with_put rows u).rows)
     put_number same =
-        ap (λ (t : Table). number_put (λ k. last_given t.schema.key rows k) (numbers rows) u key) (sym same)
+        ap (λ (t : Table). number_put (λ k. last_row_with t.schema.key rows k) (numbers rows) u key) (sym same)
         ∙ put_is rows u (with_put rows u).rows (rows_put rows u sorted) key
         (apart_rows u.schema.key key u.rows keyed unique_before)
         (apart_rows u.schema.key key (with_put rows u).rows keyed (unique_put same))
 
     by_own : (b : Bool) → is_table own.name u ≡ b
-        → numbers (filter (λ row. has_key (put_if b).schema.key key row && stood u row) (put_if b).rows) ≡ option_to_list (if_stands u (number_by b))
+        → numbers (filter (λ row. has_key (put_if b).schema.key key row && had_row u row) (put_if b).rows) ≡ option_to_list (if_stands u (number_by b))
     by_own true hit =
         let same : u ≡ table_now own = own_is hit in
         stood_numbers u (has_key u.schema.key key) (with_put rows u).rows (only_row u.schema.key key (with_put rows u).rows keyed (unique_put same))
         ∙ ap (λ (o : Option ℕ). option_to_list (if_stands u o)) (sym (put_number same))
     by_own false miss = stood_numbers u (has_key u.schema.key key) u.rows (only_row u.schema.key key u.rows keyed unique_before)
 
-    pub parent_numbers : numbers (filter (λ row. has_key (put_if (is_table own.name u)).schema.key key row && stood u row) (put_if (is_table own.name u)).rows)
+    pub parent_numbers : numbers (filter (λ row. has_key (put_if (is_table own.name u)).schema.key key row && had_row u row) (put_if (is_table own.name u)).rows)
         ≡ option_to_list (if_stands u (parent_number given (numbers rows) own.name u key))
     parent_numbers = by_own (is_table own.name u) refl
 
@@ -564,7 +564,7 @@ module _ (store : StoreHistory) (own : TableHistory) (there : history_at own.nam
   by_key f keyed None is (Some key) = refl
   by_key f keyed (Some u) is None = refl
   by_key f keyed (Some u) is (Some key) =
-      at_versions f.parent (filter (λ row. has_key (put_own u).schema.key key row && stood u row) (put_own u).rows)
+      at_versions f.parent (filter (λ row. has_key (put_own u).schema.key key row && had_row u row) (put_own u).rows)
       ∙ ap (map (member_now store f.parent)) (parent_numbers u f.parent is (keyed_parent db f u keyed is) key)
       ∙ in_list f.parent (if_stands u (parent_number given (numbers rows) own.name u key))
 

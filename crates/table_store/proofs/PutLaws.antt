@@ -11,14 +11,14 @@ use Rattle.ldv_value.proofs.Options.{none-some, same-some}
 use Rattle.ldv_value.proofs.SameBytes.{bytes_eq-true, nat_eq-true}
 use Rattle.std.proofs.lemmas.Bool.Decides.{Decides-eqb}
 use Rattle.sql_model.proofs.UniqueRows.{same_both, found_same, values_in, keys_apart, repeats_map}
-use Rattle.sql_model.specs.Changes.{numbered, stood}
+use Rattle.sql_model.specs.Changes.{numbered_rows, had_row}
 use Rattle.sql_model.specs.Keys.{same_values, values_at, repeats}
 use Rattle.sql_model.specs.Meaning.{is_null}
-use Rattle.sql_model.specs.References.{Missing, first_in, reference, has_key, missing_key, missing_by, missing_parents}
+use Rattle.sql_model.specs.References.{MissingParent, first_in, reference, has_key, missing_key, missing_by, missing_parents}
 use Rattle.sql_model.specs.Scope.{same_text, is_table, table_at}
 use Rattle.sql_model.specs.Tables.{are_keys_unique}
 use Rattle.table_store.specs.Afterwards.{has_values, keeps, has_put, put_missing, missing_put, missing_in_row, missing_in_rows}
-use Rattle.table_store.specs.Stops.{replaced_by, is_among, all_stood, are_sorted_rows, with_inserted, with_changed}
+use Rattle.table_store.specs.Stops.{replaced_by, is_among, had_rows, are_sorted_rows, with_inserted, with_changed}
 use Rattle.table_store.specs.Types.{Foreign, Table, TableRow, Value}
 use Rattle.table_store.proofs.FirstLaws.{first_flat, first_filter_map, first_agree, first_agree_of, first_map}
 use Rattle.table_store.proofs.GivenKeyLaws.{given_rise}
@@ -75,7 +75,7 @@ module _ (own : List ℕ) (change : Table → Table) (named : (t : Table) → (c
     missing_one values f (Some t) is None = refl
     missing_one values f (Some t) is (Some key) = ap (missing_if f key) (right f.parent t is key)
       where
-        missing_if : Foreign → List Value → Bool → Option Missing
+        missing_if : Foreign → List Value → Bool → Option MissingParent
         missing_if f key b = if b then None else Some (record { parent = f.parent; key = key })
 
     missing_of : (values : List Value) (f : Foreign) → missing_by (with_changed own change db) values f ≡ missing_put has db values f
@@ -94,14 +94,14 @@ module _ (own : List ℕ) (change : Table → Table) (named : (t : Table) → (c
 
 -- ---- one foreign key of a row
 
-abbrev missed : Foreign → List Value → Missing
+abbrev missed : Foreign → List Value → MissingParent
 missed f key = record { parent = f.parent; key = key }
 
-abbrev missed_if : Foreign → List Value → Bool → Option Missing
+abbrev missed_if : Foreign → List Value → Bool → Option MissingParent
 missed_if f key b = if b then None else Some (missed f key)
 
 module _ (has : Table → List Value → Bool) (db : List Table) (values : List Value) (f : Foreign) where
-  abbrev of_null : Bool → Option Missing
+  abbrev of_null : Bool → Option MissingParent
   of_null b = put_missing has (table_at f.parent db) f (if b then None else Some (values_at f.columns values))
 
   none_of : (o : Option Table) → put_missing has o f None ≡ None
@@ -172,7 +172,7 @@ module _ (own : List ℕ) (numbers : List ℕ) (db : List Table) (one two : List
 -- ---- new rows
 
 numbered_keys : (places : List ℕ) (key : List Value) (next : ℕ) (rows : List (List Value))
-    → list_any (has_key places key) (numbered next rows) ≡ list_any (has_values places key) rows
+    → list_any (has_key places key) (numbered_rows next rows) ≡ list_any (has_values places key) rows
 numbered_keys places key next [] = refl
 numbered_keys places key next (values ∷ rows) = ap (λ (b : Bool). has_values places key values || b) (numbered_keys places key (next + 1) rows)
 
@@ -180,8 +180,8 @@ pub inserted_has : (rows : List (List Value)) (t : Table) (key : List Value)
     → list_any (has_key t.schema.key key) (with_inserted rows t).rows
     ≡ (list_any (has_values t.schema.key key) rows || keeps [] t key)
 inserted_has rows t key =
-    list_any-append (has_key t.schema.key key) t.rows (numbered t.next rows)
-    ∙ or_swap (list_any (has_key t.schema.key key) t.rows) (list_any (has_key t.schema.key key) (numbered t.next rows))
+    list_any-append (has_key t.schema.key key) t.rows (numbered_rows t.next rows)
+    ∙ or_swap (list_any (has_key t.schema.key key) t.rows) (list_any (has_key t.schema.key key) (numbered_rows t.next rows))
     ∙ (λ j. numbered_keys t.schema.key key t.next rows j || any_same (has_key t.schema.key key) (λ row. has_key t.schema.key key row && true) (λ row. sym (and-true (has_key t.schema.key key row))) t.rows j)
 
 -- ---- other values of rows
@@ -285,17 +285,17 @@ TakesPlace given [] = Unit {0}
 TakesPlace given (g ∷ gs) = ((row : TableRow) → (row.number == g.number) ≡ true → replaced_by given row ≡ g) × TakesPlace given gs
 
 module _ (given : List TableRow) (t : Table) where
-  given_way : (p : TableRow → Bool) (some : List TableRow) → TakesPlace given some → list_all (stood t) some ≡ true → list_any p some ≡ true
+  given_way : (p : TableRow → Bool) (some : List TableRow) → TakesPlace given some → list_all (had_row t) some ≡ true → list_any p some ≡ true
       → list_any p (map (replaced_by given) t.rows) ≡ true
   given_way p [] takes there is = cc
   given_way p (g ∷ gs) takes there is =
-      let both = and-parts (stood t g) (list_all (stood t) gs) there in
+      let both = and-parts (had_row t g) (list_all (had_row t) gs) there in
       elim (or-cases (p g) (list_any p gs) is) [
         | inl here ↦ given_there given p g takes.0 here t.rows both.0
         | inr more ↦ given_way p gs takes.1 both.1 more
       ]
 
-  pub replaced_has : TakesPlace given given → all_stood given t ≡ true → (p : TableRow → Bool)
+  pub replaced_has : TakesPlace given given → had_rows given t ≡ true → (p : TableRow → Bool)
       → list_any p (map (replaced_by given) t.rows)
       ≡ (list_any p given || list_any (λ row. p row && not (is_among (map (λ (r : TableRow). r.number) given) row)) t.rows)
   replaced_has takes there p =

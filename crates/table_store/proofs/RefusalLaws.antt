@@ -12,7 +12,7 @@ use Rattle.sql_model.proofs.Databases.{parents_of_database, valid_of_database}
 use Rattle.sql_model.proofs.Equations.{table_schema, schema_found}
 use Rattle.sql_model.proofs.UniqueRows.{values_in}
 use Rattle.sql_model.proofs.ValidTables.{table-parts}
-use Rattle.sql_model.specs.Changes.{numbered}
+use Rattle.sql_model.specs.Changes.{numbered_rows}
 use Rattle.sql_model.specs.ForeignKeys.{fits_place, fits_parent, has_parents, have_parents}
 use Rattle.sql_model.specs.References.{Orphan, has_key, is_lost}
 use Rattle.sql_model.specs.Scope.{is_table, table_at, schema_at, catalog_of}
@@ -20,9 +20,9 @@ use Rattle.sql_model.specs.Tables.{AreWellFormed, are_keys_unique, is_valid_tabl
 use Rattle.table_store.specs.Afterwards.{has_values, keeps, has_put, is_keyed, missing_in_rows, loses, orphan_in_tables, refers_to}
 use Rattle.table_store.specs.Histories.{StoreHistory, TableHistory, history_at, is_history, table_now}
 use Rattle.table_store.specs.Referring.{parent_stop, child_stop, missing_stop, orphan_stop, is_of}
-use Rattle.table_store.specs.Stops.{is_among, all_stood, are_sorted_rows, with_changed, with_inserted, with_removed, with_replaced}
+use Rattle.table_store.specs.Stops.{is_among, had_rows, are_sorted_rows, with_changed, with_inserted, with_removed, with_replaced}
 use Rattle.table_store.specs.Types.{Foreign, Table, TableRow, Value}
-use Rattle.table_store.specs.declared.stop.StoreStop.{StoreStop}
+use Rattle.table_store.specs.declared.error.StoreStop.{StoreStop}
 use Rattle.table_store.proofs.LossLaws.{away_tables, in_tables, same_lost, same_has, removed_lost, replaced_lost, bare_orphans}
 use Rattle.table_store.proofs.PutLaws.{given_same, missing_are, inserted_has, replaced_has, takes_place}
 
@@ -102,7 +102,7 @@ module _ (own : List ℕ) (change : Table → Table) (given : List Value → Boo
     | inr miss ↦ rw miss refl
   ]
 
-values_back : (next : ℕ) (rows : List (List Value)) → map (λ (row : TableRow). row.values) (numbered next rows) ≡ rows
+values_back : (next : ℕ) (rows : List (List Value)) → map (λ (row : TableRow). row.values) (numbered_rows next rows) ≡ rows
 values_back next [] = refl
 values_back next (values ∷ rows) = ap (λ (l : List (List Value)). values ∷ l) (values_back (next + 1) rows)
 
@@ -110,17 +110,17 @@ values_back next (values ∷ rows) = ap (λ (l : List (List Value)). values ∷ 
 pub insert_missing : (db : List Table) (t : Table) → table_at t.name db ≡ Some t → (rows : List (List Value)) (given : List Value → Bool)
     → ((key : List Value) → given key ≡ list_any (has_values t.schema.key key) rows)
     → option_map parent_stop (missing_in_rows (has_put given [] t.name) db t.schema.foreign rows)
-    ≡ missing_stop t.schema.foreign (numbered t.next rows) (with_changed t.name (with_inserted rows) db)
+    ≡ missing_stop t.schema.foreign (numbered_rows t.next rows) (with_changed t.name (with_inserted rows) db)
 insert_missing db t found rows given are =
     let has = has_put given [] t.name in
     ap (option_map parent_stop)
     (ap (missing_in_rows has db t.schema.foreign) (sym (values_back t.next rows))
     ∙ sym (missing_are t.name (with_inserted rows) (λ u. refl) has db
     (right t.name (with_inserted rows) given [] db t found
-    (λ key. inserted_has rows t key ∙ ap (λ (b : Bool). b || keeps [] t key) (sym (are key)))) t.schema.foreign (numbered t.next rows)))
+    (λ key. inserted_has rows t key ∙ ap (λ (b : Bool). b || keeps [] t key) (sym (are key)))) t.schema.foreign (numbered_rows t.next rows)))
 
 -- of other values of rows
-pub replace_missing : (db : List Table) (t : Table) → table_at t.name db ≡ Some t → (rows : List TableRow) → are_sorted_rows rows ≡ true → all_stood rows t ≡ true
+pub replace_missing : (db : List Table) (t : Table) → table_at t.name db ≡ Some t → (rows : List TableRow) → are_sorted_rows rows ≡ true → had_rows rows t ≡ true
     → (given : List Value → Bool) → ((key : List Value) → given key ≡ list_any (λ (row : TableRow). has_values t.schema.key key row.values) rows)
     → option_map parent_stop (missing_in_rows (has_put given (map (λ (row : TableRow). row.number) rows) t.name) db t.schema.foreign (map (λ (row : TableRow). row.values) rows))
     ≡ missing_stop t.schema.foreign rows (with_changed t.name (with_replaced rows) db)
@@ -171,7 +171,7 @@ module _ (hs : List TableHistory) (h : TableHistory) (formed : AreWellFormed (ma
       ∙ ap (λ (b : Bool). list_any (λ row. is_among numbers row && has_key t.schema.key key row) t.rows && not b) (sym (none key)))
       bare refl
 
-  pub replace_child : (rows : List TableRow) → are_sorted_rows rows ≡ true → all_stood rows t ≡ true → (given : List Value → Bool)
+  pub replace_child : (rows : List TableRow) → are_sorted_rows rows ≡ true → had_rows rows t ≡ true → (given : List Value → Bool)
       → ((key : List Value) → given key ≡ list_any (λ (row : TableRow). has_values t.schema.key key row.values) rows)
       → child_or bare (orphan_in_tables (is_among (map (λ (row : TableRow). row.number) rows)) h.name (loses given (map (λ (row : TableRow). row.number) rows) t) hs)
       ≡ orphan_stop (is_of rows) t (with_replaced rows t) db

@@ -17,10 +17,10 @@ use Rattle.ldv_value.specs.Sorted.{precedes_first}
 use Rattle.table_store.specs.Types.{Value, RowKey, Table, TableRow}
 use Rattle.table_store.specs.Claims.{IsIndexOf, both_stop}
 use Rattle.table_store.specs.Histories.{TableHistory, rows_now, table_now}
-use Rattle.table_store.specs.KeyIndex.{has_key, row_of_key, Held}
+use Rattle.table_store.specs.KeyIndex.{has_key, row_of_key, HeldKeys}
 use Rattle.table_store.specs.Stops.{replaced_by, with_replaced, are_sorted_rows, key_stop, stop_if, replace_stop, StopsAs}
-use Rattle.table_store.specs.declared.stop.StoreStop.{StoreStop}
-use Rattle.table_store.specs.declared.stop.StoreStop.TheVariants.{NotNull, KeyTaken}
+use Rattle.table_store.specs.declared.error.StoreStop.{StoreStop}
+use Rattle.table_store.specs.declared.error.StoreStop.TheVariants.{NotNull, KeyTaken}
 use Rattle.table_store.proofs.IndexLaws.{key, same_turned, held_pushed}
 use Rattle.table_store.proofs.ClaimLaws.{keyed_clash, unkeyed_clash, stop_kept}
 use Rattle.table_store.proofs.InsertLaws.{AllRows, clash_all, any_self}
@@ -44,10 +44,10 @@ or_none (Some x) = refl
 
 -- ---- an index of just these rows
 
-pub index_none : (places : List ℕ) (held : Held) → ((q : RowKey) → held q ≡ None) → IsIndexOf places held []
+pub index_none : (places : List ℕ) (held : HeldKeys) → ((q : RowKey) → held q ≡ None) → IsIndexOf places held []
 index_none places held none = record { each = tt; only = none }
 
-pub index_more : (places : List ℕ) (old new : Held) (row : TableRow) (rows : List TableRow) → IsIndexOf places old rows → row_of_key places (values_at places row.values) rows ≡ None
+pub index_more : (places : List ℕ) (old new : HeldKeys) (row : TableRow) (rows : List TableRow) → IsIndexOf places old rows → row_of_key places (values_at places row.values) rows ≡ None
     → ((q : RowKey) → new q ≡ cond (is_at (key_order (key_at places row.values)) q) (Some row.number) (old q)) → IsIndexOf places new (rows ++ row ∷ [])
 index_more places old new row rows index none put = record {
   each = held_pushed places old new row rows put index.each none;

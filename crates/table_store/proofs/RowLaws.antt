@@ -4,12 +4,12 @@ use Rattle.std.specs.Prelude.{ℤ, IsSome, IfSome, ◌≢◌, ◌&&◌}
 use Rattle.std.specs.Option.{option_map, option_map_or}
 use Rattle.std.proofs.lemmas.Bool.{cases_lt}
 use Rattle.std.proofs.lemmas.List.{length-map, get_or-map, get_or_past}
-use Rattle.row_version.specs.History.{History, current}
+use Rattle.row_version.specs.History.{History, current_values}
 use Rattle.table_store.specs.Types.{Cmp, Value, Null, TableRow}
 use Rattle.table_store.specs.Scans.{null_passes, passes_test}
 use Rattle.table_store.specs.Grid.{Slot, no_slot, new_slot, AreNumberedFrom, next_after, slot_null, slot_passes}
 use Rattle.table_store.specs.RowOrder.{AreInOrder}
-use Rattle.table_store.specs.Histories.{RowHistory, no_history, added}
+use Rattle.table_store.specs.Histories.{RowHistory, no_history, history_of_new_row}
 use Rattle.table_store.specs.RowChains.{Chains, changes_or, history_of, histories_of, IsKept, AreChained}
 
 pub none_chained : (chains : Chains) → ((q : ℕ) → chains q ≡ None) → AreChained chains [] 0
@@ -30,7 +30,7 @@ module _ (chains : Chains) (slots : List Slot) (next : ℕ) (chained : AreChaine
   pub row_is : (slot : ℕ) → slot < length seen → get_or seen slot no_history ≡ history_of chains (get_or slots slot no_slot)
   row_is slot within = ap (λ (l : List RowHistory). get_or l slot no_history) (sym same) ∙ get_or-map (history_of chains) slots slot no_slot no_history (in_slots slot within)
 
-current_by : (chain : Option History) (slot : Slot) → IsKept chain slot → current (changes_or chain slot) ≡ cond slot.stands (Some slot.values) None
+current_by : (chain : Option History) (slot : Slot) → IsKept chain slot → current_values (changes_or chain slot) ≡ cond slot.stands (Some slot.values) None
 current_by None slot kept = ap (λ b. cond b (Some slot.values) None) (sym kept)
 current_by (Some chain) slot kept = kept
 
@@ -44,16 +44,16 @@ values_by false values None is some = cc
 values_by false values (Some other) is some = cc
 
 module _ (chains : Chains) (slots : List Slot) (next : ℕ) (chained : AreChained chains slots next) (seen : List RowHistory) (same : histories_of chains slots ≡ seen) where
-  pub current_is : (slot : ℕ) → slot < length seen → current (get_or seen slot no_history).changes ≡ cond (get_or slots slot no_slot).stands (Some (get_or slots slot no_slot).values) None
+  pub current_is : (slot : ℕ) → slot < length seen → current_values (get_or seen slot no_history).changes ≡ cond (get_or slots slot no_slot).stands (Some (get_or slots slot no_slot).values) None
   current_is slot within =
-      ap (λ (h : RowHistory). current h.changes) (row_is chains slots next chained seen same slot within)
+      ap (λ (h : RowHistory). current_values h.changes) (row_is chains slots next chained seen same slot within)
       ∙ current_by (chains (get_or slots slot no_slot).number) (get_or slots slot no_slot) (chained.kept slot (in_slots chains slots next chained seen same slot within))
 
-  pub stands_is : (slot : ℕ) → slot < length seen → (get_or slots slot no_slot).stands ≡ is_some (current (get_or seen slot no_history).changes)
+  pub stands_is : (slot : ℕ) → slot < length seen → (get_or slots slot no_slot).stands ≡ is_some (current_values (get_or seen slot no_history).changes)
   stands_is slot within = sym (ap is_some (current_is slot within) ∙ stands_by (get_or slots slot no_slot).stands (get_or slots slot no_slot).values)
 
-  pub values_are : (slot : ℕ) → slot < length seen → IsSome (current (get_or seen slot no_history).changes) → Some (get_or slots slot no_slot).values ≡ current (get_or seen slot no_history).changes
-  values_are slot within some = values_by (get_or slots slot no_slot).stands (get_or slots slot no_slot).values (current (get_or seen slot no_history).changes) (current_is slot within) some
+  pub values_are : (slot : ℕ) → slot < length seen → IsSome (current_values (get_or seen slot no_history).changes) → Some (get_or slots slot no_slot).values ≡ current_values (get_or seen slot no_history).changes
+  values_are slot within some = values_by (get_or slots slot no_slot).stands (get_or slots slot no_slot).values (current_values (get_or seen slot no_history).changes) (current_is slot within) some
 
   pub number_is : (slot : ℕ) → slot < length seen → (get_or slots slot no_slot).number ≡ (get_or seen slot no_history).number
   number_is slot within = sym (ap (λ (h : RowHistory). h.number) (row_is chains slots next chained seen same slot within))
@@ -67,7 +67,7 @@ next_grows next [] numbered = omega arith
 next_grows next (row ∷ rows) numbered = omega (arith, numbered.0, next_grows (row.number + 1) rows numbered.2)
 
 module _ (chains : Chains) (time : ℕ) where
-  new_histories : (next : ℕ) → ((number : ℕ) → next ≤ number → chains number ≡ None) → (rows : List TableRow) → AreNumberedFrom next rows → histories_of chains (map (new_slot time) rows) ≡ map (added time) rows
+  new_histories : (next : ℕ) → ((number : ℕ) → next ≤ number → chains number ≡ None) → (rows : List TableRow) → AreNumberedFrom next rows → histories_of chains (map (new_slot time) rows) ≡ map (history_of_new_row time) rows
   new_histories next fresh [] numbered = refl
   new_histories next fresh (row ∷ rows) numbered =
       λ j. record { number = row.number; changes = changes_or (fresh row.number numbered.0 j) (new_slot time row) }
@@ -78,7 +78,7 @@ module _ (chains : Chains) (time : ℕ) where
   histories_append (x ∷ xs) ys = ap (λ (l : List RowHistory). history_of chains x ∷ l) (histories_append xs ys)
 
   pub rows_added : (slots : List Slot) (next : ℕ) → AreChained chains slots next → (rows : List TableRow) → AreNumberedFrom next rows
-      → histories_of chains (slots ++ map (new_slot time) rows) ≡ histories_of chains slots ++ map (added time) rows
+      → histories_of chains (slots ++ map (new_slot time) rows) ≡ histories_of chains slots ++ map (history_of_new_row time) rows
   rows_added slots next chained rows numbered =
       histories_append slots (map (new_slot time) rows) ∙ ap (λ (l : List RowHistory). histories_of chains slots ++ l) (new_histories next chained.fresh rows numbered)
 
@@ -120,36 +120,36 @@ module _ (chains : Chains) (slots : List Slot) (next : ℕ) (chained : AreChaine
     below = λ i within. omega (arith, below i (in_slots chains slots next chained seen same i within), number_is chains slots next chained seen same i within);
   }
 
-  pub key_is : {Y : Type 0} (slot : ℕ) → slot < length seen → IsSome (current (get_or seen slot no_history).changes) → (f : List Value → Y)
-      → Some (f (get_or slots slot no_slot).values) ≡ option_map f (current (get_or seen slot no_history).changes)
+  pub key_is : {Y : Type 0} (slot : ℕ) → slot < length seen → IsSome (current_values (get_or seen slot no_history).changes) → (f : List Value → Y)
+      → Some (f (get_or slots slot no_slot).values) ≡ option_map f (current_values (get_or seen slot no_history).changes)
   key_is slot within some f = ap (option_map f) (values_are chains slots next chained seen same slot within some)
 
-  pub scan_is : (column : ℕ) (op : Cmp) (constant : ℤ) (n : ℕ) → slot_passes column op constant (get_or slots n no_slot) ≡ option_map_or (λ row. passes_test op constant (get_or row column Null)) (current (get_or seen n no_history).changes) false
+  pub scan_is : (column : ℕ) (op : Cmp) (constant : ℤ) (n : ℕ) → slot_passes column op constant (get_or slots n no_slot) ≡ option_map_or (λ row. passes_test op constant (get_or row column Null)) (current_values (get_or seen n no_history).changes) false
   scan_is column op constant n = elim (cases_lt n (length seen)) [
     | inl within ↦ by (get_or slots n no_slot).stands (get_or slots n no_slot).values ∙ ap (λ (o : Option (List Value)). option_map_or (λ row. passes_test op constant (get_or row column Null)) o false) (sym (current_is chains slots next chained seen same n within))
     | inr past ↦
         ap (slot_passes column op constant) (get_or_past slots n no_slot (omega (arith, past, rows_len chains slots next chained seen same)))
-        ∙ ap (λ (h : RowHistory). option_map_or (λ row. passes_test op constant (get_or row column Null)) (current h.changes) false) (sym (get_or_past seen n no_history past))
+        ∙ ap (λ (h : RowHistory). option_map_or (λ row. passes_test op constant (get_or row column Null)) (current_values h.changes) false) (sym (get_or_past seen n no_history past))
   ] where
     by : (b : Bool) (values : List Value) → (b && passes_test op constant (get_or values column Null)) ≡ option_map_or (λ row. passes_test op constant (get_or row column Null)) (cond b (Some values) None) false
     by true values = refl
     by false values = refl
 
-  pub nulls_are : (column : ℕ) (is_null : Bool) (n : ℕ) → slot_null column is_null (get_or slots n no_slot) ≡ option_map_or (λ row. null_passes is_null (get_or row column Null)) (current (get_or seen n no_history).changes) false
+  pub nulls_are : (column : ℕ) (is_null : Bool) (n : ℕ) → slot_null column is_null (get_or slots n no_slot) ≡ option_map_or (λ row. null_passes is_null (get_or row column Null)) (current_values (get_or seen n no_history).changes) false
   nulls_are column is_null n = elim (cases_lt n (length seen)) [
     | inl within ↦ by (get_or slots n no_slot).stands (get_or slots n no_slot).values ∙ ap (λ (o : Option (List Value)). option_map_or (λ row. null_passes is_null (get_or row column Null)) o false) (sym (current_is chains slots next chained seen same n within))
     | inr past ↦
         ap (slot_null column is_null) (get_or_past slots n no_slot (omega (arith, past, rows_len chains slots next chained seen same)))
-        ∙ ap (λ (h : RowHistory). option_map_or (λ row. null_passes is_null (get_or row column Null)) (current h.changes) false) (sym (get_or_past seen n no_history past))
+        ∙ ap (λ (h : RowHistory). option_map_or (λ row. null_passes is_null (get_or row column Null)) (current_values h.changes) false) (sym (get_or_past seen n no_history past))
   ] where
     by : (b : Bool) (values : List Value) → (b && null_passes is_null (get_or values column Null)) ≡ option_map_or (λ row. null_passes is_null (get_or row column Null)) (cond b (Some values) None) false
     by true values = refl
     by false values = refl
 
-  pub standing_is : (n : ℕ) → (get_or slots n no_slot).stands ≡ is_some (current (get_or seen n no_history).changes)
+  pub standing_is : (n : ℕ) → (get_or slots n no_slot).stands ≡ is_some (current_values (get_or seen n no_history).changes)
   standing_is n = elim (cases_lt n (length seen)) [
     | inl within ↦ stands_is chains slots next chained seen same n within
     | inr past ↦
         ap (λ (s : Slot). s.stands) (get_or_past slots n no_slot (omega (arith, past, rows_len chains slots next chained seen same)))
-        ∙ ap (λ (h : RowHistory). is_some (current h.changes)) (sym (get_or_past seen n no_history past))
+        ∙ ap (λ (h : RowHistory). is_some (current_values h.changes)) (sym (get_or_past seen n no_history past))
   ]

@@ -6,7 +6,7 @@ use Rattle.std.specs.Ordering.{int_cmp}
 use Rattle.std.proofs.lemmas.Bool.{cases_lt}
 use Rattle.std.proofs.lemmas.Option.{slice_get_past}
 use Rattle.ldv_value.proofs.Booleans.{and-false, and-true}
-use Rattle.ldv_value.specs.Order.{meets, known}
+use Rattle.ldv_value.specs.Order.{meets, truth_of_bool}
 use Rattle.lanes.specs.Selection.{passes, holds_at}
 use Rattle.lanes.specs.Sets.{member, IsDifference}
 use Rattle.sql_model.specs.Meaning.{is_true}
@@ -20,7 +20,7 @@ use Rattle.table_store.specs.Types.{Cmp, Value, Null}
 
 -- ---- cells of numbers
 
-is_known : (b : Bool) → is_true (known b) ≡ b
+is_known : (b : Bool) → is_true (truth_of_bool b) ≡ b
 is_known true = refl
 is_known false = refl
 

@@ -9,7 +9,7 @@ use Rattle.ldv_value.proofs.Booleans.{or-parts, true≢false}
 use Rattle.ldv_value.proofs.Cases.{cases-bool}
 use Rattle.ldv_value.proofs.Lists.{all-weaker}
 use Rattle.ldv_value.proofs.Options.{none-some, same-some}
-use Rattle.row_version.specs.History.{current}
+use Rattle.row_version.specs.History.{current_values}
 use Rattle.sql_model.specs.KeyOrder.{values_total}
 use Rattle.sql_model.specs.Keys.{repeats, same_values, values_at}
 use Rattle.sql_model.specs.Tables.{are_keys_unique}
@@ -54,7 +54,7 @@ number_by number row None is = cc
 number_by number row (Some values) is = ap (λ (r : TableRow). r.number) (same-some (record { number = number; values = values }) row is)
 
 pub number-is : (slot : RowHistory) (row : TableRow) → row_now slot ≡ Some row → slot.number ≡ row.number
-number-is slot row is = number_by slot.number row (current slot.changes) is
+number-is slot row is = number_by slot.number row (current_values slot.changes) is
 
 -- ---- a row that is known by its number
 

@@ -8,7 +8,7 @@ use Rattle.ldv_value.specs.Sorted.{is_strictly_sorted, precedes_first, text_prec
 use Rattle.sql_model.specs.Scope.{is_table, table_at}
 use Rattle.sql_model.specs.Tables.{AreWellFormed, is_valid_table, table_precedes}
 use Rattle.table_store.specs.Types.{Value, Catalog, Table, TableRow}
-use Rattle.table_store.specs.Histories.{TableHistory, StoreHistory, table_now, tables_now, is_history, in_table, changed_at, rows_as_of, next_as_of, AreKeptBefore, last_since, last_next, inserted, replaced, removed}
+use Rattle.table_store.specs.Histories.{TableHistory, StoreHistory, table_now, tables_now, is_history, in_table, changed_at, rows_as_of, next_as_of, AreKeptBefore, last_since, last_next_number, table_with_rows, table_with_values, table_without}
 use Rattle.table_store.specs.Stops.{with_changed}
 use Rattle.table_store.specs.StoreView.{AreStored, are_sorted, no_table}
 use Rattle.table_store.proofs.FormedLaws.{all_at, formed_set, valid_all}
@@ -109,31 +109,31 @@ pub record IsChange (time : ℕ) (change : TableHistory → TableHistory) : Type
   pub rows : (table : TableHistory) (earlier : ℕ) → earlier < time → rows_as_of earlier (change table).slots ≡ rows_as_of earlier table.slots
   pub nexts : (table : TableHistory) (earlier : ℕ) → earlier < time → next_as_of earlier (change table).nexts ≡ next_as_of earlier table.nexts
 
-pub insert_is : (time : ℕ) (rows : List (List Value)) → IsChange time (inserted time rows)
+pub insert_is : (time : ℕ) (rows : List (List Value)) → IsChange time (table_with_rows time rows)
 insert_is time rows = record {
   name = λ table. refl;
   schema = λ table. refl;
-  since = λ table. noted_since time (last_next table.nexts + length rows) table.nexts;
+  since = λ table. noted_since time (last_next_number table.nexts + length rows) table.nexts;
   rows = inserted_before time rows;
-  nexts = λ table earlier less. noted_earlier time (last_next table.nexts + length rows) earlier table.nexts less;
+  nexts = λ table earlier less. noted_earlier time (last_next_number table.nexts + length rows) earlier table.nexts less;
 }
 
-pub replace_is : (time : ℕ) (rows : List TableRow) → IsChange time (replaced time rows)
+pub replace_is : (time : ℕ) (rows : List TableRow) → IsChange time (table_with_values time rows)
 replace_is time rows = record {
   name = λ table. refl;
   schema = λ table. refl;
-  since = λ table. noted_since time (last_next table.nexts) table.nexts;
+  since = λ table. noted_since time (last_next_number table.nexts) table.nexts;
   rows = replaced_before time rows;
-  nexts = λ table earlier less. noted_earlier time (last_next table.nexts) earlier table.nexts less;
+  nexts = λ table earlier less. noted_earlier time (last_next_number table.nexts) earlier table.nexts less;
 }
 
-pub remove_is : (time : ℕ) (numbers : List ℕ) → IsChange time (removed time numbers)
+pub remove_is : (time : ℕ) (numbers : List ℕ) → IsChange time (table_without time numbers)
 remove_is time numbers = record {
   name = λ table. refl;
   schema = λ table. refl;
-  since = λ table. noted_since time (last_next table.nexts) table.nexts;
+  since = λ table. noted_since time (last_next_number table.nexts) table.nexts;
   rows = removed_before time numbers;
-  nexts = λ table earlier less. noted_earlier time (last_next table.nexts) earlier table.nexts less;
+  nexts = λ table earlier less. noted_earlier time (last_next_number table.nexts) earlier table.nexts less;
 }
 
 module _ (catalog : Catalog) (tables : List TableHistory) (before : ℕ) (stored : AreStored catalog tables before) (seen : StoreHistory) (view : record { tables = tables; time = before } ≡ seen)

@@ -9,17 +9,17 @@ use Rattle.ldv_value.proofs.Booleans.{and-parts}
 use Rattle.ldv_value.proofs.Lists.{all-weaker}
 use Rattle.ldv_value.proofs.Options.{same-some}
 use Rattle.ldv_value.specs.Sorted.{is_strictly_sorted, precedes_first}
-use Rattle.row_version.specs.History.{Change, written, deleted, current, as_of, last_time, IsSorted}
+use Rattle.row_version.specs.History.{Change, write_at, delete_at, current_values, as_of, last_time, IsSorted}
 use Rattle.row_version.proofs.Later.{current_after, last_time_after, as_of_earlier, sorted_after}
-use Rattle.sql_model.specs.Changes.{numbered}
-use Rattle.sql_model.specs.Needs.{stood}
+use Rattle.sql_model.specs.Changes.{numbered_rows}
+use Rattle.sql_model.specs.Needs.{had_row}
 use Rattle.sql_model.specs.References.{reference}
 use Rattle.table_store.specs.Types.{Value, RowKey, Column, Foreign, Schema, Table, TableRow}
 use Rattle.table_store.specs.ChildPairs.{Pairs, AreReferred, IsReferred, KeepPairs, no_foreign}
 use Rattle.table_store.specs.Grid.{next_after}
-use Rattle.table_store.specs.Histories.{RowHistory, NextSince, TableHistory, no_history, row_of, row_now, rows_now, row_as_of, rows_as_of, added, with_change, changed_by, writing, dropping, rewritten, dropped, last_next, last_since, next_as_of, noted, table_now, inserted, replaced, removed}
-use Rattle.table_store.specs.KeyIndex.{Held, AreHeld, AreIndexed}
-use Rattle.table_store.specs.RowChanges.{removal, rewrite, change_given, changes_given, RiseFrom, AllFitKinds, Stands, AllStand, AreBefore}
+use Rattle.table_store.specs.Histories.{RowHistory, NextSince, TableHistory, no_history, row_of, row_now, rows_now, row_as_of, rows_as_of, history_of_new_row, with_change, changed_by, row_write, row_delete, rows_with_values, rows_without, last_next_number, last_since, next_as_of, nexts_with, table_now, table_with_rows, table_with_values, table_without}
+use Rattle.table_store.specs.KeyIndex.{HeldKeys, AreHeld, AreIndexed}
+use Rattle.table_store.specs.RowChanges.{removal, rewrite, change_given, changes_given, RiseFrom, AllFitKinds, HasRow, AllStand, AreBefore}
 use Rattle.table_store.specs.RowOrder.{AreInOrder}
 use Rattle.table_store.specs.Stops.{has_shape, values_of, are_sorted_rows, are_sorted_numbers, replaced_by, is_among, with_inserted, with_replaced, with_removed}
 use Rattle.table_store.specs.RowChains.{RowsHistory}
@@ -32,13 +32,13 @@ use Rattle.table_store.proofs.TableLaws.{added_now, number_found, shape_fits}
 
 -- ---- what is given
 
-pub changes_removed : (time : ℕ) (numbers : List ℕ) → changes_given time (map removal numbers) ≡ map (dropping time) numbers
+pub changes_removed : (time : ℕ) (numbers : List ℕ) → changes_given time (map removal numbers) ≡ map (row_delete time) numbers
 changes_removed time [] = refl
-changes_removed time (number ∷ numbers) = ap (λ (l : List (ℕ × Change)). dropping time number ∷ l) (changes_removed time numbers)
+changes_removed time (number ∷ numbers) = ap (λ (l : List (ℕ × Change)). row_delete time number ∷ l) (changes_removed time numbers)
 
-pub changes_written : (time : ℕ) (rows : List TableRow) → changes_given time (map rewrite rows) ≡ map (writing time) rows
+pub changes_written : (time : ℕ) (rows : List TableRow) → changes_given time (map rewrite rows) ≡ map (row_write time) rows
 changes_written time [] = refl
-changes_written time (row ∷ rows) = ap (λ (l : List (ℕ × Change)). writing time row ∷ l) (changes_written time rows)
+changes_written time (row ∷ rows) = ap (λ (l : List (ℕ × Change)). row_write time row ∷ l) (changes_written time rows)
 
 -- the first item, if there is one, is at least a number
 abbrev AtLeast : {X : Type 0} → (X → ℕ) → ℕ → List X → Type 0
@@ -87,14 +87,14 @@ rewrites_fit columns (row ∷ rows) shape =
 
 -- ---- rows that stand
 
-stands_later : (slot : RowHistory) (slots : List RowHistory) (number : ℕ) → Stands slots number → Stands (slot ∷ slots) number
+stands_later : (slot : RowHistory) (slots : List RowHistory) (number : ℕ) → HasRow slots number → HasRow (slot ∷ slots) number
 stands_later slot slots number stands = (suc stands.0, omega (arith, stands.1), stands.2, stands.3)
 
-stands_among : (number : ℕ) (slots : List RowHistory) → list_any (λ (row : TableRow). row.number == number) (rows_now slots) ≡ true → Stands slots number
+stands_among : (number : ℕ) (slots : List RowHistory) → list_any (λ (row : TableRow). row.number == number) (rows_now slots) ≡ true → HasRow slots number
 stands_among number [] is = cc
-stands_among number (slot ∷ slots) is = by (current slot.changes) refl (stands_among number slots) is where
-  by : (now : Option (List Value)) → current slot.changes ≡ now → (list_any (λ (row : TableRow). row.number == number) (rows_now slots) ≡ true → Stands slots number)
-      → list_any (λ (row : TableRow). row.number == number) (cons_option (row_of slot.number now) (rows_now slots)) ≡ true → Stands (slot ∷ slots) number
+stands_among number (slot ∷ slots) is = by (current_values slot.changes) refl (stands_among number slots) is where
+  by : (now : Option (List Value)) → current_values slot.changes ≡ now → (list_any (λ (row : TableRow). row.number == number) (rows_now slots) ≡ true → HasRow slots number)
+      → list_any (λ (row : TableRow). row.number == number) (cons_option (row_of slot.number now) (rows_now slots)) ≡ true → HasRow (slot ∷ slots) number
   by None at rest found = stands_later slot slots number (rest found)
   by (Some values) at rest found = elim (cases_Bool (slot.number == number)) [
     | inl same ↦ (0, omega arith, eqb-true slot.number number same, subst (λ (o : Option (List Value)). IsSome o) (sym at) refl)
@@ -155,11 +155,11 @@ module _ (time : ℕ) (given : List RowChange) where
   changed_earlier earlier less [] = refl
   changed_earlier earlier less (row ∷ slots) = λ j. cons_option (row_earlier earlier less row j) (changed_earlier earlier less slots j)
 
-pub added_earlier : (time earlier : ℕ) (rows : List TableRow) → earlier < time → rows_as_of earlier (map (added time) rows) ≡ []
+pub added_earlier : (time earlier : ℕ) (rows : List TableRow) → earlier < time → rows_as_of earlier (map (history_of_new_row time) rows) ≡ []
 added_earlier time earlier [] less = refl
 added_earlier time earlier (row ∷ rows) less =
-    let gone : as_of (written time row.values ∷ []) earlier ≡ None = as_of_earlier [] (written time row.values) earlier less in
-    ap (λ (o : Option (List Value)). cons_option (row_of row.number o) (rows_as_of earlier (map (added time) rows))) gone ∙ added_earlier time earlier rows less
+    let gone : as_of (write_at time row.values ∷ []) earlier ≡ None = as_of_earlier [] (write_at time row.values) earlier less in
+    ap (λ (o : Option (List Value)). cons_option (row_of row.number o) (rows_as_of earlier (map (history_of_new_row time) rows))) gone ∙ added_earlier time earlier rows less
 
 -- ---- the number of the next row
 
@@ -167,44 +167,44 @@ last_more : (o : Option NextSince) (nexts : List NextSince) (since : NextSince) 
 last_more o [] since = refl
 last_more o (first ∷ nexts) since = last_more (Some first) nexts since
 
-pub noted_next : (time next : ℕ) (nexts : List NextSince) → last_next (noted time next nexts) ≡ next
+pub noted_next : (time next : ℕ) (nexts : List NextSince) → last_next_number (nexts_with time next nexts) ≡ next
 noted_next time next nexts = ap (λ (o : Option NextSince). option_map_or (λ (since : NextSince). since.next) o 0) (last_more None nexts (record { time = time; next = next }))
 
-pub noted_since : (time next : ℕ) (nexts : List NextSince) → last_since (noted time next nexts) ≡ time
+pub noted_since : (time next : ℕ) (nexts : List NextSince) → last_since (nexts_with time next nexts) ≡ time
 noted_since time next nexts = ap (λ (o : Option NextSince). option_map_or (λ (since : NextSince). since.time) o 0) (last_more None nexts (record { time = time; next = next }))
 
-pub noted_earlier : (time next earlier : ℕ) (nexts : List NextSince) → earlier < time → next_as_of earlier (noted time next nexts) ≡ next_as_of earlier nexts
+pub noted_earlier : (time next earlier : ℕ) (nexts : List NextSince) → earlier < time → next_as_of earlier (nexts_with time next nexts) ≡ next_as_of earlier nexts
 noted_earlier time next earlier nexts less =
-    ap last_next (filter-append (λ (since : NextSince). nat_le since.time earlier) nexts (record { time = time; next = next } ∷ [])
+    ap last_next_number (filter-append (λ (since : NextSince). nat_le since.time earlier) nexts (record { time = time; next = next } ∷ [])
     ∙ ap (λ b. filter (λ (since : NextSince). nat_le since.time earlier) nexts ++ cond b (record { time = time; next = next } ∷ []) []) (lt-leb time earlier less)
     ∙ append-nil (filter (λ (since : NextSince). nat_le since.time earlier) nexts))
 
 -- ---- rows now, without some
 
 module _ (time : ℕ) (numbers : List ℕ) where
-  find_dropped : (number : ℕ) (some : List ℕ) → find (λ change. change.0 == number) (map (dropping time) some) ≡ cond (list_any (λ n. n == number) some) (Some (dropping time number)) None
+  find_dropped : (number : ℕ) (some : List ℕ) → find (λ change. change.0 == number) (map (row_delete time) some) ≡ cond (list_any (λ n. n == number) some) (Some (row_delete time number)) None
   find_dropped number [] = refl
   find_dropped number (first ∷ some) = elim (cases_Bool (first == number)) [
     | inl hit ↦
-        ap (λ b. cond b (Some (dropping time first)) (find (λ change. change.0 == number) (map (dropping time) some))) hit
-        ∙ ap (λ (n : ℕ). Some (dropping time n)) (eqb-true first number hit)
-        ∙ sym (ap (λ b. cond (b || list_any (λ n. n == number) some) (Some (dropping time number)) None) hit)
+        ap (λ b. cond b (Some (row_delete time first)) (find (λ change. change.0 == number) (map (row_delete time) some))) hit
+        ∙ ap (λ (n : ℕ). Some (row_delete time n)) (eqb-true first number hit)
+        ∙ sym (ap (λ b. cond (b || list_any (λ n. n == number) some) (Some (row_delete time number)) None) hit)
     | inr miss ↦
-        ap (λ b. cond b (Some (dropping time first)) (find (λ change. change.0 == number) (map (dropping time) some))) miss
+        ap (λ b. cond b (Some (row_delete time first)) (find (λ change. change.0 == number) (map (row_delete time) some))) miss
         ∙ find_dropped number some
-        ∙ sym (ap (λ b. cond (b || list_any (λ n. n == number) some) (Some (dropping time number)) None) miss)
+        ∙ sym (ap (λ b. cond (b || list_any (λ n. n == number) some) (Some (row_delete time number)) None) miss)
   ]
 
-  row_dropped : (row : RowHistory) → row_now (changed_by (map (dropping time) numbers) row) ≡ cond (list_any (λ n. n == row.number) numbers) None (row_now row)
+  row_dropped : (row : RowHistory) → row_now (changed_by (map (row_delete time) numbers) row) ≡ cond (list_any (λ n. n == row.number) numbers) None (row_now row)
   row_dropped row = ap (λ (o : Option (ℕ × Change)). row_now (with_change o row)) (find_dropped row.number numbers) ∙ by (list_any (λ n. n == row.number) numbers) where
-    by : (b : Bool) → row_now (with_change (cond b (Some (dropping time row.number)) None) row) ≡ cond b None (row_now row)
-    by true = ap (row_of row.number) (current_after row.changes (deleted time))
+    by : (b : Bool) → row_now (with_change (cond b (Some (row_delete time row.number)) None) row) ≡ cond b None (row_now row)
+    by true = ap (row_of row.number) (current_after row.changes (delete_at time))
     by false = refl
 
-  pub now_dropped : (slots : List RowHistory) → rows_now (dropped time numbers slots) ≡ filter (λ row. not (is_among numbers row)) (rows_now slots)
+  pub now_dropped : (slots : List RowHistory) → rows_now (rows_without time numbers slots) ≡ filter (λ row. not (is_among numbers row)) (rows_now slots)
   now_dropped [] = refl
   now_dropped (row ∷ slots) =
-      (λ j. cons_option (row_dropped row j) (now_dropped slots j)) ∙ by (list_any (λ n. n == row.number) numbers) refl (current row.changes) where
+      (λ j. cons_option (row_dropped row j) (now_dropped slots j)) ∙ by (list_any (λ n. n == row.number) numbers) refl (current_values row.changes) where
         by : (b : Bool) → list_any (λ n. n == row.number) numbers ≡ b → (now : Option (List Value)) → cons_option (cond b None (row_of row.number now)) (filter (λ one. not (is_among numbers one)) (rows_now slots)) ≡ filter (λ one. not (is_among numbers one)) (cons_option (row_of row.number now) (rows_now slots))
         by true is None = refl
         by false is None = refl
@@ -215,22 +215,22 @@ module _ (time : ℕ) (numbers : List ℕ) where
 
 -- rows that get other values stand
 abbrev pub GivenStand : List TableRow → List RowHistory → Type 0
-GivenStand rows slots = (k : ℕ) → k < length slots → IsSome (find (λ new. new.number == (get_or slots k no_history).number) rows) → IsSome (current (get_or slots k no_history).changes)
+GivenStand rows slots = (k : ℕ) → k < length slots → IsSome (find (λ new. new.number == (get_or slots k no_history).number) rows) → IsSome (current_values (get_or slots k no_history).changes)
 
 module _ (time : ℕ) (rows : List TableRow) where
-  find_written : (number : ℕ) (some : List TableRow) → find (λ change. change.0 == number) (map (writing time) some) ≡ option_map (writing time) (find (λ new. new.number == number) some)
+  find_written : (number : ℕ) (some : List TableRow) → find (λ change. change.0 == number) (map (row_write time) some) ≡ option_map (row_write time) (find (λ new. new.number == number) some)
   find_written number [] = refl
   find_written number (first ∷ some) = elim (cases_Bool (first.number == number)) [
     | inl hit ↦
-        ap (λ b. cond b (Some (writing time first)) (find (λ change. change.0 == number) (map (writing time) some))) hit
-        ∙ sym (ap (λ b. option_map (writing time) (cond b (Some first) (find (λ new. new.number == number) some))) hit)
+        ap (λ b. cond b (Some (row_write time first)) (find (λ change. change.0 == number) (map (row_write time) some))) hit
+        ∙ sym (ap (λ b. option_map (row_write time) (cond b (Some first) (find (λ new. new.number == number) some))) hit)
     | inr miss ↦
-        ap (λ b. cond b (Some (writing time first)) (find (λ change. change.0 == number) (map (writing time) some))) miss
+        ap (λ b. cond b (Some (row_write time first)) (find (λ change. change.0 == number) (map (row_write time) some))) miss
         ∙ find_written number some
-        ∙ sym (ap (λ b. option_map (writing time) (cond b (Some first) (find (λ new. new.number == number) some))) miss)
+        ∙ sym (ap (λ b. option_map (row_write time) (cond b (Some first) (find (λ new. new.number == number) some))) miss)
   ]
 
-  row_written : (row : RowHistory) → (IsSome (find (λ new. new.number == row.number) rows) → IsSome (current row.changes)) → row_now (changed_by (map (writing time) rows) row) ≡ option_map (replaced_by rows) (row_now row)
+  row_written : (row : RowHistory) → (IsSome (find (λ new. new.number == row.number) rows) → IsSome (current_values row.changes)) → row_now (changed_by (map (row_write time) rows) row) ≡ option_map (replaced_by rows) (row_now row)
   row_written row stands = ap (λ (o : Option (ℕ × Change)). row_now (with_change o row)) (find_written row.number rows) ∙ by (find (λ new. new.number == row.number) rows) refl where
     kept : (now : Option (List Value)) → find (λ new. new.number == row.number) rows ≡ None → row_of row.number now ≡ option_map (replaced_by rows) (row_of row.number now)
     kept None is = refl
@@ -243,34 +243,34 @@ module _ (time : ℕ) (rows : List TableRow) where
         (λ j. Some (record { number = sym same j; values = new.values }))
         ∙ sym (ap (λ (o : Option TableRow). Some (unwrap_or o (record { number = row.number; values = values }))) is)
 
-    by : (o : Option TableRow) → find (λ new. new.number == row.number) rows ≡ o → row_now (with_change (option_map (writing time) o) row) ≡ option_map (replaced_by rows) (row_now row)
-    by None is = kept (current row.changes) is
+    by : (o : Option TableRow) → find (λ new. new.number == row.number) rows ≡ o → row_now (with_change (option_map (row_write time) o) row) ≡ option_map (replaced_by rows) (row_now row)
+    by None is = kept (current_values row.changes) is
     by (Some new) is =
-        ap (row_of row.number) (current_after row.changes (written time new.values))
-        ∙ put (current row.changes) new (stands (subst (λ (o : Option TableRow). IsSome o) (sym is) refl)) is
+        ap (row_of row.number) (current_after row.changes (write_at time new.values))
+        ∙ put (current_values row.changes) new (stands (subst (λ (o : Option TableRow). IsSome o) (sym is) refl)) is
 
   map_cons : (o : Option TableRow) (some : List TableRow) → cons_option (option_map (replaced_by rows) o) (map (replaced_by rows) some) ≡ map (replaced_by rows) (cons_option o some)
   map_cons None some = refl
   map_cons (Some row) some = refl
 
-  pub now_rewritten : (slots : List RowHistory) → GivenStand rows slots → rows_now (rewritten time rows slots) ≡ map (replaced_by rows) (rows_now slots)
+  pub now_rewritten : (slots : List RowHistory) → GivenStand rows slots → rows_now (rows_with_values time rows slots) ≡ map (replaced_by rows) (rows_now slots)
   now_rewritten [] stand = refl
   now_rewritten (row ∷ slots) stand =
       (λ j. cons_option (row_written row (stand 0 (omega arith)) j) (now_rewritten slots (λ k below. stand (suc k) (omega (arith, below))) j)) ∙ map_cons (row_now row) (rows_now slots)
 
-  given_stood : (table : Table) (number : ℕ) (some : List TableRow) → list_all (stood table) some ≡ true → IsSome (find (λ new. new.number == number) some) → list_any (λ (old : TableRow). old.number == number) table.rows ≡ true
+  given_stood : (table : Table) (number : ℕ) (some : List TableRow) → list_all (had_row table) some ≡ true → IsSome (find (λ new. new.number == number) some) → list_any (λ (old : TableRow). old.number == number) table.rows ≡ true
   given_stood table number [] all is = cc
   given_stood table number (first ∷ some) all is =
-      let both = and-parts (stood table first) (list_all (stood table) some) all in
+      let both = and-parts (had_row table first) (list_all (had_row table) some) all in
       elim (cases_Bool (first.number == number)) [
         | inl hit ↦ subst (λ (n : ℕ). list_any (λ (old : TableRow). old.number == n) table.rows ≡ true) (eqb-true first.number number hit) both.0
         | inr miss ↦ given_stood table number some both.1 (subst (λ (o : Option TableRow). IsSome o) (ap (λ b. cond b (Some first) (find (λ new. new.number == number) some)) miss) is)
       ]
 
-  pub given_stand : (table : Table) (slots : List RowHistory) (next : ℕ) → table.rows ≡ rows_now slots → AreInOrder slots next → list_all (stood table) rows ≡ true → GivenStand rows slots
+  pub given_stand : (table : Table) (slots : List RowHistory) (next : ℕ) → table.rows ≡ rows_now slots → AreInOrder slots next → list_all (had_row table) rows ≡ true → GivenStand rows slots
   given_stand table slots next are order all k below found =
       let number = (get_or slots k no_history).number in
-      let stands : Stands slots number = stands_among number slots (subst (λ (l : List TableRow). list_any (λ (old : TableRow). old.number == number) l ≡ true) are (given_stood table number rows all found)) in
+      let stands : HasRow slots number = stands_among number slots (subst (λ (l : List TableRow). list_any (λ (old : TableRow). old.number == number) l ≡ true) are (given_stood table number rows all found)) in
       let here : stands.0 ≡ k = elim (cases_lt stands.0 k) [
         | inl low ↦ absurd (omega (arith, order.rising stands.0 k low below, stands.2))
         | inr from ↦ elim (cases_lt k stands.0) [
@@ -278,43 +278,43 @@ module _ (time : ℕ) (rows : List TableRow) where
           | inr to ↦ omega (arith, from, to)
         ]
       ] in
-      subst (λ (i : ℕ). IsSome (current (get_or slots i no_history).changes)) here stands.3
+      subst (λ (i : ℕ). IsSome (current_values (get_or slots i no_history).changes)) here stands.3
 
 -- ---- the index afterwards
 
-pub held_kept : (places : List ℕ) (held : Held) (p : TableRow → Bool) (rows : List TableRow) → AreHeld places held rows → AreHeld places held (filter p rows)
+pub held_kept : (places : List ℕ) (held : HeldKeys) (p : TableRow → Bool) (rows : List TableRow) → AreHeld places held rows → AreHeld places held (filter p rows)
 held_kept places held p [] are = tt
 held_kept places held p (row ∷ rows) are = by (p row) (held_kept places held p rows are.1) where
   by : (b : Bool) → AreHeld places held (filter p rows) → AreHeld places held (cond b (row ∷ filter p rows) (filter p rows))
   by true rest = (are.0, rest)
   by false rest = rest
 
-pub indexed_kept : (key : List ℕ) (held : Held) (p : TableRow → Bool) (rows : List TableRow) → AreIndexed key held rows → AreIndexed key held (filter p rows)
+pub indexed_kept : (key : List ℕ) (held : HeldKeys) (p : TableRow → Bool) (rows : List TableRow) → AreIndexed key held rows → AreIndexed key held (filter p rows)
 indexed_kept [] held p rows are = tt
 indexed_kept (place ∷ places) held p rows are = held_kept (place ∷ places) held p rows are
 
 -- ---- tables now
 
-pub inserted_now : (time : ℕ) (rows : List (List Value)) (table : TableHistory) → table_now (inserted time rows table) ≡ with_inserted rows (table_now table)
+pub inserted_now : (time : ℕ) (rows : List (List Value)) (table : TableHistory) → table_now (table_with_rows time rows table) ≡ with_inserted rows (table_now table)
 inserted_now time rows table =
-    let slots : rows_now (inserted time rows table).slots ≡ rows_now table.slots ++ numbered (last_next table.nexts) rows =
-    filter_map-append row_now table.slots (map (added time) (numbered (last_next table.nexts) rows)) ∙ ap (λ (l : List TableRow). rows_now table.slots ++ l) (added_now time (numbered (last_next table.nexts) rows)) in
-    λ j. record { name = table.name; schema = table.schema; rows = slots j; next = noted_next time (last_next table.nexts + length rows) table.nexts j }
+    let slots : rows_now (table_with_rows time rows table).slots ≡ rows_now table.slots ++ numbered_rows (last_next_number table.nexts) rows =
+    filter_map-append row_now table.slots (map (history_of_new_row time) (numbered_rows (last_next_number table.nexts) rows)) ∙ ap (λ (l : List TableRow). rows_now table.slots ++ l) (added_now time (numbered_rows (last_next_number table.nexts) rows)) in
+    λ j. record { name = table.name; schema = table.schema; rows = slots j; next = noted_next time (last_next_number table.nexts + length rows) table.nexts j }
 
-pub removed_now : (time : ℕ) (numbers : List ℕ) (table : TableHistory) → table_now (removed time numbers table) ≡ with_removed numbers (table_now table)
+pub removed_now : (time : ℕ) (numbers : List ℕ) (table : TableHistory) → table_now (table_without time numbers table) ≡ with_removed numbers (table_now table)
 removed_now time numbers table =
-    λ j. record { name = table.name; schema = table.schema; rows = now_dropped time numbers table.slots j; next = noted_next time (last_next table.nexts) table.nexts j }
+    λ j. record { name = table.name; schema = table.schema; rows = now_dropped time numbers table.slots j; next = noted_next time (last_next_number table.nexts) table.nexts j }
 
-pub replaced_now : (time : ℕ) (rows : List TableRow) (table : TableHistory) → GivenStand rows table.slots → table_now (replaced time rows table) ≡ with_replaced rows (table_now table)
+pub replaced_now : (time : ℕ) (rows : List TableRow) (table : TableHistory) → GivenStand rows table.slots → table_now (table_with_values time rows table) ≡ with_replaced rows (table_now table)
 replaced_now time rows table stand =
-    λ j. record { name = table.name; schema = table.schema; rows = now_rewritten time rows table.slots stand j; next = noted_next time (last_next table.nexts) table.nexts j }
+    λ j. record { name = table.name; schema = table.schema; rows = now_rewritten time rows table.slots stand j; next = noted_next time (last_next_number table.nexts) table.nexts j }
 
 -- ---- the parts afterwards
 
-pub stored_changed : (schema : Schema) (rows : RowsHistory) (held new : Held) (pairs more : Pairs) (nexts : List NextSince) (time : ℕ) (given : List RowChange) → IsStored schema rows held pairs nexts → last_since nexts < time
+pub stored_changed : (schema : Schema) (rows : RowsHistory) (held new : HeldKeys) (pairs more : Pairs) (nexts : List NextSince) (time : ℕ) (given : List RowChange) → IsStored schema rows held pairs nexts → last_since nexts < time
     → AreIndexed schema.key new (rows_now (map (changed_by (changes_given time given)) rows.slots))
     → AreReferred more schema.foreign (rows_now (map (changed_by (changes_given time given)) rows.slots))
-    → IsStored schema (record rows { slots = map (changed_by (changes_given time given)) rows.slots }) new more (noted time rows.next nexts)
+    → IsStored schema (record rows { slots = map (changed_by (changes_given time given)) rows.slots }) new more (nexts_with time rows.next nexts)
 stored_changed schema rows held new pairs more nexts time given stored later indexed referred = record {
   kinds = stored.kinds;
   next = noted_next time rows.next nexts;
@@ -325,7 +325,7 @@ stored_changed schema rows held new pairs more nexts time given stored later ind
   referred = referred;
 }
 
-pub indexed_removed : (key : List ℕ) (held : Held) (time : ℕ) (numbers : List ℕ) (slots : List RowHistory) → AreIndexed key held (rows_now slots) → AreIndexed key held (rows_now (map (changed_by (changes_given time (map removal numbers))) slots))
+pub indexed_removed : (key : List ℕ) (held : HeldKeys) (time : ℕ) (numbers : List ℕ) (slots : List RowHistory) → AreIndexed key held (rows_now slots) → AreIndexed key held (rows_now (map (changed_by (changes_given time (map removal numbers))) slots))
 indexed_removed key held time numbers slots indexed =
     subst (λ (l : List TableRow). AreIndexed key held l) (sym (ap (λ (changes : List (ℕ × Change)). rows_now (map (changed_by changes) slots)) (changes_removed time numbers) ∙ now_dropped time numbers slots))
     (indexed_kept key held (λ row. not (is_among numbers row)) (rows_now slots) indexed)
@@ -387,7 +387,7 @@ referred_inserted foreigns old new rows more keep there given = both rows (refer
     both (row ∷ some) all = (all.0, both some all.1)
 
 -- an index in which keys were claimed, and more references
-pub stored_claimed : (schema : Schema) (rows : RowsHistory) (old new : Held) (pairs more : Pairs) (nexts : List NextSince) → AreIndexed schema.key new (rows_now rows.slots) → KeepPairs pairs more
+pub stored_claimed : (schema : Schema) (rows : RowsHistory) (old new : HeldKeys) (pairs more : Pairs) (nexts : List NextSince) → AreIndexed schema.key new (rows_now rows.slots) → KeepPairs pairs more
     → IsStored schema rows old pairs nexts → IsStored schema rows new more nexts
 stored_claimed schema rows old new pairs more nexts indexed keep stored = record {
   kinds = stored.kinds;
@@ -399,7 +399,7 @@ stored_claimed schema rows old new pairs more nexts indexed keep stored = record
 }
 
 -- an index with more keys, and more references
-pub stored_wider : (schema : Schema) (rows : RowsHistory) (old new : Held) (pairs more : Pairs) (nexts : List NextSince) → ((q : RowKey) (n : ℕ) → old q ≡ Some n → new q ≡ Some n) → KeepPairs pairs more
+pub stored_wider : (schema : Schema) (rows : RowsHistory) (old new : HeldKeys) (pairs more : Pairs) (nexts : List NextSince) → ((q : RowKey) (n : ℕ) → old q ≡ Some n → new q ≡ Some n) → KeepPairs pairs more
     → IsStored schema rows old pairs nexts → IsStored schema rows new more nexts
 stored_wider schema rows old new pairs more nexts keeps keep stored = record {
   referred = referred_wider schema.foreign pairs more (rows_now rows.slots) keep stored.referred;
@@ -410,47 +410,47 @@ stored_wider schema rows old new pairs more nexts keeps keep stored = record {
   indexed = indexed_wider schema.key old new keeps (rows_now rows.slots) stored.indexed;
 }
 
-pub indexed_replaced : (key : List ℕ) (held : Held) (time : ℕ) (rows : List TableRow) (slots : List RowHistory) → GivenStand rows slots → AreIndexed key held (map (replaced_by rows) (rows_now slots))
+pub indexed_replaced : (key : List ℕ) (held : HeldKeys) (time : ℕ) (rows : List TableRow) (slots : List RowHistory) → GivenStand rows slots → AreIndexed key held (map (replaced_by rows) (rows_now slots))
     → AreIndexed key held (rows_now (map (changed_by (changes_given time (map rewrite rows))) slots))
 indexed_replaced key held time rows slots stand indexed =
     subst (λ (l : List TableRow). AreIndexed key held l) (sym (ap (λ (changes : List (ℕ × Change)). rows_now (map (changed_by changes) slots)) (changes_written time rows) ∙ now_rewritten time rows slots stand)) indexed
 
 -- ---- before the change
 
-pub inserted_before : (time : ℕ) (rows : List (List Value)) (table : TableHistory) (earlier : ℕ) → earlier < time → rows_as_of earlier (inserted time rows table).slots ≡ rows_as_of earlier table.slots
+pub inserted_before : (time : ℕ) (rows : List (List Value)) (table : TableHistory) (earlier : ℕ) → earlier < time → rows_as_of earlier (table_with_rows time rows table).slots ≡ rows_as_of earlier table.slots
 inserted_before time rows table earlier less =
-    filter_map-append (row_as_of earlier) table.slots (map (added time) (numbered (last_next table.nexts) rows))
-    ∙ ap (λ (l : List TableRow). rows_as_of earlier table.slots ++ l) (added_earlier time earlier (numbered (last_next table.nexts) rows) less)
+    filter_map-append (row_as_of earlier) table.slots (map (history_of_new_row time) (numbered_rows (last_next_number table.nexts) rows))
+    ∙ ap (λ (l : List TableRow). rows_as_of earlier table.slots ++ l) (added_earlier time earlier (numbered_rows (last_next_number table.nexts) rows) less)
     ∙ append-nil (rows_as_of earlier table.slots)
 
-pub removed_before : (time : ℕ) (numbers : List ℕ) (table : TableHistory) (earlier : ℕ) → earlier < time → rows_as_of earlier (removed time numbers table).slots ≡ rows_as_of earlier table.slots
+pub removed_before : (time : ℕ) (numbers : List ℕ) (table : TableHistory) (earlier : ℕ) → earlier < time → rows_as_of earlier (table_without time numbers table).slots ≡ rows_as_of earlier table.slots
 removed_before time numbers table earlier less =
     ap (λ (changes : List (ℕ × Change)). rows_as_of earlier (map (changed_by changes) table.slots)) (sym (changes_removed time numbers))
     ∙ changed_earlier time (map removal numbers) earlier less table.slots
 
-pub replaced_before : (time : ℕ) (rows : List TableRow) (table : TableHistory) (earlier : ℕ) → earlier < time → rows_as_of earlier (replaced time rows table).slots ≡ rows_as_of earlier table.slots
+pub replaced_before : (time : ℕ) (rows : List TableRow) (table : TableHistory) (earlier : ℕ) → earlier < time → rows_as_of earlier (table_with_values time rows table).slots ≡ rows_as_of earlier table.slots
 replaced_before time rows table earlier less =
     ap (λ (changes : List (ℕ × Change)). rows_as_of earlier (map (changed_by changes) table.slots)) (sym (changes_written time rows))
     ∙ changed_earlier time (map rewrite rows) earlier less table.slots
 
-pub stored_inserted : (schema : Schema) (rows : RowsHistory) (old new : Held) (pairs more : Pairs) (nexts : List NextSince) (time : ℕ) (values : List (List Value)) → IsStored schema rows old pairs nexts → last_since nexts < time
-    → AreIndexed schema.key new (rows_now rows.slots ++ numbered rows.next values)
-    → AreReferred more schema.foreign (rows_now rows.slots ++ numbered rows.next values)
-    → IsStored schema (record rows { slots = rows.slots ++ map (added time) (numbered rows.next values); next = next_after rows.next (numbered rows.next values) }) new more (noted time (next_after rows.next (numbered rows.next values)) nexts)
+pub stored_inserted : (schema : Schema) (rows : RowsHistory) (old new : HeldKeys) (pairs more : Pairs) (nexts : List NextSince) (time : ℕ) (values : List (List Value)) → IsStored schema rows old pairs nexts → last_since nexts < time
+    → AreIndexed schema.key new (rows_now rows.slots ++ numbered_rows rows.next values)
+    → AreReferred more schema.foreign (rows_now rows.slots ++ numbered_rows rows.next values)
+    → IsStored schema (record rows { slots = rows.slots ++ map (history_of_new_row time) (numbered_rows rows.next values); next = next_after rows.next (numbered_rows rows.next values) }) new more (nexts_with time (next_after rows.next (numbered_rows rows.next values)) nexts)
 stored_inserted schema rows old new pairs more nexts time values stored later indexed referred = record {
-  referred = subst (λ (l : List TableRow). AreReferred more schema.foreign l) (sym (now_more time rows.slots (numbered rows.next values))) referred;
+  referred = subst (λ (l : List TableRow). AreReferred more schema.foreign l) (sym (now_more time rows.slots (numbered_rows rows.next values))) referred;
   kinds = stored.kinds;
-  next = noted_next time (next_after rows.next (numbered rows.next values)) nexts;
-  in_time = noted_in_time time (next_after rows.next (numbered rows.next values)) nexts later stored.in_time;
-  timed = subst (λ (t : ℕ). AreTimed t (rows.slots ++ map (added time) (numbered rows.next values))) (sym (noted_since time (next_after rows.next (numbered rows.next values)) nexts))
-      (timed_more (last_since nexts) time rows.slots (numbered rows.next values) later stored.timed);
-  indexed = subst (λ (l : List TableRow). AreIndexed schema.key new l) (sym (now_more time rows.slots (numbered rows.next values))) indexed;
+  next = noted_next time (next_after rows.next (numbered_rows rows.next values)) nexts;
+  in_time = noted_in_time time (next_after rows.next (numbered_rows rows.next values)) nexts later stored.in_time;
+  timed = subst (λ (t : ℕ). AreTimed t (rows.slots ++ map (history_of_new_row time) (numbered_rows rows.next values))) (sym (noted_since time (next_after rows.next (numbered_rows rows.next values)) nexts))
+      (timed_more (last_since nexts) time rows.slots (numbered_rows rows.next values) later stored.timed);
+  indexed = subst (λ (l : List TableRow). AreIndexed schema.key new l) (sym (now_more time rows.slots (numbered_rows rows.next values))) indexed;
 }
 
 -- the table after new rows, by its parts
-pub inserted_by : (name : List ℕ) (schema : Schema) (rows : RowsHistory) (nexts : List NextSince) (time : ℕ) (values : List (List Value)) → last_next nexts ≡ rows.next
-    → record { name = name; schema = schema; slots = rows.slots ++ map (added time) (numbered rows.next values); nexts = noted time (next_after rows.next (numbered rows.next values)) nexts }
-    ≡ inserted time values (record { name = name; schema = schema; slots = rows.slots; nexts = nexts })
+pub inserted_by : (name : List ℕ) (schema : Schema) (rows : RowsHistory) (nexts : List NextSince) (time : ℕ) (values : List (List Value)) → last_next_number nexts ≡ rows.next
+    → record { name = name; schema = schema; slots = rows.slots ++ map (history_of_new_row time) (numbered_rows rows.next values); nexts = nexts_with time (next_after rows.next (numbered_rows rows.next values)) nexts }
+    ≡ table_with_rows time values (record { name = name; schema = schema; slots = rows.slots; nexts = nexts })
 inserted_by name schema rows nexts time values is =
-    ap (λ (n : ℕ). record { name = name; schema = schema; slots = rows.slots ++ map (added time) (numbered rows.next values); nexts = noted time n nexts }) (numbered_after rows.next values)
-    ∙ ap (λ (n : ℕ). record { name = name; schema = schema; slots = rows.slots ++ map (added time) (numbered n values); nexts = noted time (n + length values) nexts }) (sym is)
+    ap (λ (n : ℕ). record { name = name; schema = schema; slots = rows.slots ++ map (history_of_new_row time) (numbered_rows rows.next values); nexts = nexts_with time n nexts }) (numbered_after rows.next values)
+    ∙ ap (λ (n : ℕ). record { name = name; schema = schema; slots = rows.slots ++ map (history_of_new_row time) (numbered_rows n values); nexts = nexts_with time (n + length values) nexts }) (sym is)

@@ -12,16 +12,16 @@ use Rattle.ldv_value.proofs.Lists.{found-passes}
 use Rattle.ldv_value.proofs.Booleans.{and-parts, and-from}
 use Rattle.ldv_value.specs.Limits.{max_next}
 use Rattle.ldv_value.specs.Sorted.{is_strictly_sorted, precedes_first}
-use Rattle.row_version.specs.History.{current, version}
+use Rattle.row_version.specs.History.{current_values, version}
 use Rattle.sql_model.specs.Tables.{has_kind, each_value, fits, is_row, numbers_test, is_valid_table, are_keys_unique, row_values}
 use Rattle.table_store.specs.Types.{Cmp, Value, Null, Int, Text, Column, Table, TableRow}
 use Rattle.column_store.specs.Cells.{is_of_kind}
 use Rattle.table_store.specs.Scans.{passes_test}
 use Rattle.table_store.specs.Grid.{fits_kinds, are_of_kinds, AreNumberedFrom, next_after}
-use Rattle.table_store.specs.Histories.{RowHistory, no_history, slot_of_row, row_of, row_now, rows_now, is_of_number, history_of_row, version_now, added, table_now}
-use Rattle.table_store.specs.KeyIndex.{Held, AreHeld, AreIndexed}
+use Rattle.table_store.specs.Histories.{RowHistory, no_history, slot_of_row, row_of, row_now, rows_now, is_of_number, history_of_row, version_now, history_of_new_row, table_now}
+use Rattle.table_store.specs.KeyIndex.{HeldKeys, AreHeld, AreIndexed}
 use Rattle.table_store.specs.RowOrder.{AreInOrder}
-use Rattle.table_store.specs.TableView.{kinds_in, AreTimed, begun}
+use Rattle.table_store.specs.TableView.{kinds_in, AreTimed, history_at_start}
 
 -- ---- slots
 
@@ -34,16 +34,16 @@ number_by number None false is = refl
 number_by number (Some values) true is = refl
 number_by number (Some values) false is = cc
 
-pub slot_gone : (row : RowHistory) → is_some (current row.changes) ≡ false → option_map (λ (one : TableRow). one.number) (row_now row) ≡ None
-slot_gone row is = number_by row.number (current row.changes) false is
+pub slot_gone : (row : RowHistory) → is_some (current_values row.changes) ≡ false → option_map (λ (one : TableRow). one.number) (row_now row) ≡ None
+slot_gone row is = number_by row.number (current_values row.changes) false is
 
-pub slot_here : (row : RowHistory) → is_some (current row.changes) ≡ true → option_map (λ (one : TableRow). one.number) (row_now row) ≡ Some row.number
-slot_here row is = number_by row.number (current row.changes) true is
+pub slot_here : (row : RowHistory) → is_some (current_values row.changes) ≡ true → option_map (λ (one : TableRow). one.number) (row_now row) ≡ Some row.number
+slot_here row is = number_by row.number (current_values row.changes) true is
 
-pub some_within : (slots : List RowHistory) (slot : ℕ) → IsSome (current (get_or slots slot no_history).changes) → slot < length slots
+pub some_within : (slots : List RowHistory) (slot : ℕ) → IsSome (current_values (get_or slots slot no_history).changes) → slot < length slots
 some_within slots slot some = elim (cases_lt slot (length slots)) [
   | inl within ↦ within
-  | inr past ↦ let none : false ≡ true = subst (λ (h : RowHistory). IsSome (current h.changes)) (get_or_past slots slot no_history past) some in cc
+  | inr past ↦ let none : false ≡ true = subst (λ (h : RowHistory). IsSome (current_values h.changes)) (get_or_past slots slot no_history past) some in cc
 ]
 
 pub ruleset slot_rules = (slot_past, slot_gone, slot_here, some_within)
@@ -57,16 +57,16 @@ pub column_kind : (kinds : List Bool) (columns : List Column) (k : ℕ) → kind
 column_kind kinds columns k same is = ap (λ (l : List Bool). slice_get l k) same ∙ kind_at columns k ∙ is
 
 pub scanned : (column : ℕ) (op : Cmp) (constant : ℤ) (row : RowHistory)
-    → option_map_or (λ values. passes_test op constant (get_or values column Null)) (current row.changes) false
+    → option_map_or (λ values. passes_test op constant (get_or values column Null)) (current_values row.changes) false
     ≡ option_map_or (λ (one : TableRow). passes_test op constant (get_or one.values column Null)) (row_now row) false
-scanned column op constant row = by (current row.changes) where
+scanned column op constant row = by (current_values row.changes) where
   by : (now : Option (List Value)) → option_map_or (λ values. passes_test op constant (get_or values column Null)) now false
       ≡ option_map_or (λ (one : TableRow). passes_test op constant (get_or one.values column Null)) (row_of row.number now) false
   by None = refl
   by (Some values) = refl
 
-pub standing_now : (row : RowHistory) → is_some (current row.changes) ≡ is_some (row_now row)
-standing_now row = by (current row.changes) where
+pub standing_now : (row : RowHistory) → is_some (current_values row.changes) ≡ is_some (row_now row)
+standing_now row = by (current_values row.changes) where
   by : (now : Option (List Value)) → is_some now ≡ is_some (row_of row.number now)
   by None = refl
   by (Some values) = refl
@@ -103,7 +103,7 @@ module _ (slots : List RowHistory) (next : ℕ) (order : AreInOrder slots next) 
       ap (λ (n : ℕ). cond (nat_lt n (length slots)) (Some n) None) here ∙ ap (λ b. cond b (Some slot) None) (lt-ltb slot (length slots) within)
 
   pub version_here : (number slot : ℕ) → slot < length slots → (get_or slots slot no_history).number ≡ number
-      → version_now (history_of_row number slots) ≡ cond (is_some (current (get_or slots slot no_history).changes)) (Some (version (get_or slots slot no_history).changes)) None
+      → version_now (history_of_row number slots) ≡ cond (is_some (current_values (get_or slots slot no_history).changes)) (Some (version (get_or slots slot no_history).changes)) None
   version_here number slot within is = ap version_now (history_here number slot within is)
 
 pub slot_none : (slots : List RowHistory) (number : ℕ) → ((k : ℕ) → k < length slots → (get_or slots k no_history).number ≢ number) → slot_of_row number slots ≡ None
@@ -190,19 +190,19 @@ rows_fit columns (row ∷ rows) is =
 
 -- ---- rows that were added at one time
 
-pub added_timed : (time : ℕ) (rows : List TableRow) → AreTimed time (map (added time) rows)
+pub added_timed : (time : ℕ) (rows : List TableRow) → AreTimed time (map (history_of_new_row time) rows)
 added_timed time [] k below = absurd (omega (arith, below))
 added_timed time (row ∷ rows) zero below = record { sorted = tt; by = omega arith }
 added_timed time (row ∷ rows) (suc k) below = added_timed time rows k (omega (arith, below))
 
-pub added_now : (time : ℕ) (rows : List TableRow) → rows_now (map (added time) rows) ≡ rows
+pub added_now : (time : ℕ) (rows : List TableRow) → rows_now (map (history_of_new_row time) rows) ≡ rows
 added_now time [] = refl
 added_now time (row ∷ rows) = ap (λ (l : List TableRow). row ∷ l) (added_now time rows)
 
-pub begun_now : (table : Table) → table_now (begun table) ≡ table
+pub begun_now : (table : Table) → table_now (history_at_start table) ≡ table
 begun_now table = λ j. record { name = table.name; schema = table.schema; rows = added_now 0 table.rows j; next = table.next }
 
-pub begun_all : (tables : List Table) → map table_now (map begun tables) ≡ tables
+pub begun_all : (tables : List Table) → map table_now (map history_at_start tables) ≡ tables
 begun_all [] = refl
 begun_all (table ∷ tables) = λ j. begun_now table j ∷ begun_all tables j
 
@@ -247,10 +247,10 @@ module _ (table : Table) (valid : is_valid_table table ≡ true) where
   pub valid_unique : are_keys_unique table.schema.key (map (λ (row : TableRow). row.values) table.rows) ≡ true
   valid_unique = (valid_parts table valid).unique
 
-pub added_indexed : (key : List ℕ) (held : Held) (time : ℕ) (rows : List TableRow) → AreIndexed key held rows → AreIndexed key held (rows_now (map (added time) rows))
+pub added_indexed : (key : List ℕ) (held : HeldKeys) (time : ℕ) (rows : List TableRow) → AreIndexed key held rows → AreIndexed key held (rows_now (map (history_of_new_row time) rows))
 added_indexed key held time rows indexed = subst (λ (l : List TableRow). AreIndexed key held l) (sym (added_now time rows)) indexed
 
-pub held_keyed : (key : List ℕ) (held : Held) (rows : List TableRow) → 0 < length key → AreIndexed key held rows → AreHeld key held rows
+pub held_keyed : (key : List ℕ) (held : HeldKeys) (rows : List TableRow) → 0 < length key → AreIndexed key held rows → AreHeld key held rows
 held_keyed [] held rows keyed indexed = absurd (omega (arith, keyed))
 held_keyed (place ∷ places) held rows keyed indexed = indexed
 

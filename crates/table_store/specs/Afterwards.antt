@@ -7,7 +7,7 @@ use Rattle.std.specs.List.{list_any}
 use Rattle.std.specs.Option.{option_map_or, option_or, option_and_then}
 use Rattle.sql_model.specs.KeyOrder.{key_order}
 use Rattle.sql_model.specs.Keys.{same_values, values_at}
-use Rattle.sql_model.specs.References.{Missing, Orphan, reference, has_key, child_of, orphan_by}
+use Rattle.sql_model.specs.References.{MissingParent, Orphan, reference, has_key, child_of, orphan_by}
 use Rattle.sql_model.specs.Scope.{is_table, same_text, table_at}
 use Rattle.table_store.specs.Histories.{RowHistory, TableHistory, row_now, table_now}
 use Rattle.table_store.specs.Stops.{is_among}
@@ -40,22 +40,23 @@ has_put given numbers own parent key =
     else list_any (has_key parent.schema.key key) parent.rows
 
 abbrev pub put_missing : (Table → List Value → Bool) → Option Table → Foreign → Option (List Value)
-    → Option Missing
+    → Option MissingParent
 put_missing has parent foreign None = None
 put_missing has None foreign (Some key) = Some (record { parent = foreign.parent; key = key })
 put_missing has (Some parent) foreign (Some key) =
     if has parent key then None else Some (record { parent = foreign.parent; key = key })
 
-abbrev pub missing_put : (Table → List Value → Bool) → List Table → List Value → Foreign → Option Missing
+abbrev pub missing_put : (Table → List Value → Bool) → List Table
+    → List Value → Foreign → Option MissingParent
 missing_put has db values foreign =
     put_missing has (table_at foreign.parent db) foreign (reference foreign values)
 
 abbrev pub missing_in_row : (Table → List Value → Bool) → List Table → List Foreign → List Value
-    → Option Missing
+    → Option MissingParent
 missing_in_row has db foreigns values = first_some (missing_put has db values) foreigns
 
 abbrev pub missing_in_rows : (Table → List Value → Bool) → List Table → List Foreign → List (List Value)
-    → Option Missing
+    → Option MissingParent
 missing_in_rows has db foreigns rows = first_some (missing_in_row has db foreigns) rows
 
 -- the parent of a foreign key, where it is there, has a key

@@ -5,9 +5,9 @@ use Rattle.std.specs.Option.{option_map}
 use Rattle.sql_model.specs.Changes.{KeyClash}
 use Rattle.sql_model.specs.Keys.{values_at}
 use Rattle.table_store.specs.Types.{Value, RowKey, TableRow}
-use Rattle.table_store.specs.KeyIndex.{Held, AreHeld, has_key, row_of_key}
-use Rattle.table_store.specs.declared.stop.StoreStop.{StoreStop}
-use Rattle.table_store.specs.declared.stop.StoreStop.TheVariants.{KeyTaken}
+use Rattle.table_store.specs.KeyIndex.{HeldKeys, AreHeld, has_key, row_of_key}
+use Rattle.table_store.specs.declared.error.StoreStop.{StoreStop}
+use Rattle.table_store.specs.declared.error.StoreStop.TheVariants.{KeyTaken}
 
 -- a number that is below those of the new rows
 abbrev pub old_number : ℕ → ℕ → Option ℕ
@@ -33,7 +33,7 @@ high_or low (Some above) = Some (above + 2 ^ 32)
 -- ---- keys after rows took the place of others
 
 -- what is held is each row under its key, and nothing else
-pub record IsIndexOf (places : List ℕ) (held : Held) (rows : List TableRow) : Type 0 where
+pub record IsIndexOf (places : List ℕ) (held : HeldKeys) (rows : List TableRow) : Type 0 where
   pub each : AreHeld places held rows
   pub only : (q : RowKey) → held q ≡ option_map (λ row. row.number) (row_of_key places q.values rows)
 

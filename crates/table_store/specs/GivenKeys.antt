@@ -7,23 +7,24 @@ use Rattle.std.specs.Option.{option_map, option_or}
 use Rattle.sql_model.specs.Keys.{values_at}
 use Rattle.table_store.specs.Types.{Value, TableRow}
 use Rattle.table_store.specs.Claims.{IsIndexOf}
-use Rattle.table_store.specs.KeyIndex.{Held, has_key, row_of_key}
+use Rattle.table_store.specs.KeyIndex.{HeldKeys, has_key, row_of_key}
 use Rattle.table_store.specs.Stops.{replaced_by}
 use Rattle.table_store.specs.declared.clash.Clash.{Clash}
 
 -- what is held once other numbers were put
-abbrev pub with_claims : Held → Held → Held
+abbrev pub with_claims : HeldKeys → HeldKeys → HeldKeys
 with_claims claims held q = option_or (claims q) (held q)
 
 -- a number that no given row has
-abbrev pub not_given : List TableRow → Option ℕ → Option ℕ
-not_given given None = None
-not_given given (Some number) =
+abbrev pub unless_given : List TableRow → Option ℕ → Option ℕ
+unless_given given None = None
+unless_given given (Some number) =
     if is_some (find (λ new. new.number == number) given) then None else Some number
 
 -- the number of the row that has a key and isn't given, so that it keeps the key
 abbrev pub keeper : List ℕ → List TableRow → List TableRow → List Value → Option ℕ
-keeper places rows given key = not_given given (option_map (λ row. row.number) (row_of_key places key rows))
+keeper places rows given key = unless_given given
+    (option_map (λ row. row.number) (row_of_key places key rows))
 
 -- ---- clashes
 
@@ -34,14 +35,14 @@ clash_of a b key =
     else record { earlier = b; later = a; key = key }
 
 -- of two clashes the one whose later row comes first
-abbrev pub sooner : Option Clash → Clash → Clash
-sooner None clash = clash
-sooner (Some other) clash = if nat_lt clash.later other.later then clash else other
+abbrev pub earlier_clash : Option Clash → Clash → Clash
+earlier_clash None clash = clash
+earlier_clash (Some other) clash = if nat_lt clash.later other.later then clash else other
 
 -- the first clash, after a given row and the one that keeps its key, if any
-abbrev pub soonest : Option Clash → Option ℕ → ℕ → List Value → Option Clash
-soonest first None number key = first
-soonest first (Some kept) number key = Some (sooner first (clash_of number kept key))
+abbrev pub first_clash : Option Clash → Option ℕ → ℕ → List Value → Option Clash
+first_clash first None number key = first
+first_clash first (Some kept) number key = Some (earlier_clash first (clash_of number kept key))
 
 -- ---- what is known once some of the given rows were looked at
 
@@ -68,7 +69,7 @@ IsClash places rows (Some clash) =
 
 -- the keys of some of the given rows are apart and claimed, and no clash of one with a row that keeps its key
 -- comes before the first one
-pub record AreJudged (places : List ℕ) (rows given : List TableRow) (claims : Held) (first : Option Clash)
+pub record AreJudged (places : List ℕ) (rows given : List TableRow) (claims : HeldKeys) (first : Option Clash)
     (some : List TableRow) : Type 0 where
   pub index : IsIndexOf places claims some
   pub late : AllByRecursion (λ row. IsLate first row.number

@@ -6,8 +6,8 @@ use Rattle.std.specs.Prelude.{◌≡◌, ℕ, ◌==◌, ◌+◌, ◌<◌, length
 use Rattle.std.specs.Prelude.{map, find, filter, nat_le, if◌then◌else◌, is_some}
 use Rattle.std.specs.List.{filter_map, last_or, position}
 use Rattle.std.specs.Option.{option_map_or, option_map}
-use Rattle.row_version.specs.History.{Change, written, deleted, current, as_of, version}
-use Rattle.sql_model.specs.Changes.{numbered}
+use Rattle.row_version.specs.History.{Change, write_at, delete_at, current_values, as_of, version}
+use Rattle.sql_model.specs.Changes.{numbered_rows}
 use Rattle.sql_model.specs.Scope.{same_text}
 use Rattle.table_store.specs.Types.{Value, Schema, Table, TableRow}
 
@@ -47,7 +47,7 @@ row_of number values = option_map (numbered_row number) values
 
 -- the row as it is now, if it stands
 abbrev pub row_now : RowHistory → Option TableRow
-row_now row = row_of row.number (current row.changes)
+row_now row = row_of row.number (current_values row.changes)
 
 -- the row as it was after a time, if it stood
 abbrev pub row_as_of : ℕ → RowHistory → Option TableRow
@@ -62,7 +62,7 @@ rows_as_of time slots = filter_map (row_as_of time) slots
 -- the version of a row that stands: how often it has changed
 abbrev pub version_now : Option RowHistory → Option ℕ
 version_now None = None
-version_now (Some row) = if is_some (current row.changes) then Some (version row.changes) else None
+version_now (Some row) = if is_some (current_values row.changes) then Some (version row.changes) else None
 
 abbrev pub is_of_number : ℕ → RowHistory → Bool
 is_of_number number row = row.number == number
@@ -77,8 +77,8 @@ slot_of_row number slots = position (is_of_number number) slots
 
 -- ---- the number of the next row
 
-abbrev pub last_next : List NextSince → ℕ
-last_next nexts = option_map_or (λ since. since.next) (last_or None nexts) 0
+abbrev pub last_next_number : List NextSince → ℕ
+last_next_number nexts = option_map_or (λ since. since.next) (last_or None nexts) 0
 
 -- the time of the last change
 abbrev pub last_since : List NextSince → ℕ
@@ -86,13 +86,13 @@ last_since nexts = option_map_or (λ since. since.time) (last_or None nexts) 0
 
 -- after a time
 abbrev pub next_as_of : ℕ → List NextSince → ℕ
-next_as_of time nexts = last_next (filter (λ since. nat_le since.time time) nexts)
+next_as_of time nexts = last_next_number (filter (λ since. nat_le since.time time) nexts)
 
 -- ---- changes of rows
 
 -- a row that is added
-abbrev pub added : ℕ → TableRow → RowHistory
-added time row = record { number = row.number; changes = written time row.values ∷ [] }
+abbrev pub history_of_new_row : ℕ → TableRow → RowHistory
+history_of_new_row time row = record { number = row.number; changes = write_at time row.values ∷ [] }
 
 abbrev pub with_change : Option (ℕ × Change) → RowHistory → RowHistory
 with_change None row = row
@@ -102,19 +102,19 @@ with_change (Some change) row = record { number = row.number; changes = row.chan
 abbrev pub changed_by : List (ℕ × Change) → RowHistory → RowHistory
 changed_by changes row = with_change (find (λ change. change.0 == row.number) changes) row
 
-abbrev pub writing : ℕ → TableRow → ℕ × Change
-writing time row = (row.number, written time row.values)
+abbrev pub row_write : ℕ → TableRow → ℕ × Change
+row_write time row = (row.number, write_at time row.values)
 
 -- the rows where those of these numbers have other values since a time
-abbrev pub rewritten : ℕ → List TableRow → List RowHistory → List RowHistory
-rewritten time rows slots = map (changed_by (map (writing time) rows)) slots
+abbrev pub rows_with_values : ℕ → List TableRow → List RowHistory → List RowHistory
+rows_with_values time rows slots = map (changed_by (map (row_write time) rows)) slots
 
-abbrev pub dropping : ℕ → ℕ → ℕ × Change
-dropping time number = (number, deleted time)
+abbrev pub row_delete : ℕ → ℕ → ℕ × Change
+row_delete time number = (number, delete_at time)
 
 -- the rows where those of these numbers are dropped at a time
-abbrev pub dropped : ℕ → List ℕ → List RowHistory → List RowHistory
-dropped time numbers slots = map (changed_by (map (dropping time) numbers)) slots
+abbrev pub rows_without : ℕ → List ℕ → List RowHistory → List RowHistory
+rows_without time numbers slots = map (changed_by (map (row_delete time) numbers)) slots
 
 -- ---- tables
 
@@ -124,38 +124,38 @@ table_now table = record {
   name = table.name;
   schema = table.schema;
   rows = rows_now table.slots;
-  next = last_next table.nexts;
+  next = last_next_number table.nexts;
 }
 
 -- a change of the table at a time, after which this is the number of the next row
-abbrev pub noted : ℕ → ℕ → List NextSince → List NextSince
-noted time next nexts = nexts ++ record { time = time; next = next } ∷ []
+abbrev pub nexts_with : ℕ → ℕ → List NextSince → List NextSince
+nexts_with time next nexts = nexts ++ record { time = time; next = next } ∷ []
 
 -- the table with rows more, numbered from the number of the next row on
-abbrev pub inserted : ℕ → List (List Value) → TableHistory → TableHistory
-inserted time rows table = record {
+abbrev pub table_with_rows : ℕ → List (List Value) → TableHistory → TableHistory
+table_with_rows time rows table = record {
   name = table.name;
   schema = table.schema;
-  slots = table.slots ++ map (added time) (numbered (last_next table.nexts) rows);
-  nexts = noted time (last_next table.nexts + length rows) table.nexts;
+  slots = table.slots ++ map (history_of_new_row time) (numbered_rows (last_next_number table.nexts) rows);
+  nexts = nexts_with time (last_next_number table.nexts + length rows) table.nexts;
 }
 
 -- the table where the rows of these numbers have other values
-abbrev pub replaced : ℕ → List TableRow → TableHistory → TableHistory
-replaced time rows table = record {
+abbrev pub table_with_values : ℕ → List TableRow → TableHistory → TableHistory
+table_with_values time rows table = record {
   name = table.name;
   schema = table.schema;
-  slots = rewritten time rows table.slots;
-  nexts = noted time (last_next table.nexts) table.nexts;
+  slots = rows_with_values time rows table.slots;
+  nexts = nexts_with time (last_next_number table.nexts) table.nexts;
 }
 
 -- the table without the rows of these numbers
-abbrev pub removed : ℕ → List ℕ → TableHistory → TableHistory
-removed time numbers table = record {
+abbrev pub table_without : ℕ → List ℕ → TableHistory → TableHistory
+table_without time numbers table = record {
   name = table.name;
   schema = table.schema;
-  slots = dropped time numbers table.slots;
-  nexts = noted time (last_next table.nexts) table.nexts;
+  slots = rows_without time numbers table.slots;
+  nexts = nexts_with time (last_next_number table.nexts) table.nexts;
 }
 
 -- ---- stores

@@ -3,7 +3,7 @@ use Rattle.std.specs.Prelude.{ℕ, ℤ, Option, None, Some}
 use Rattle.std.specs.BTreeMap.{get}
 use Rattle.std.specs.Ordering.{int_cmp}
 use Rattle.sql_model.specs.KeyOrder.{key_order}
-use Rattle.table_store.specs.KeyIndex.{Held, int_key}
+use Rattle.table_store.specs.KeyIndex.{HeldKeys, int_key}
 use Rattle.table_store.specs.declared.index.Index.{Index}
 
 -- keys of one number are held apart from others
@@ -11,6 +11,6 @@ abbrev pub held_as : (ℤ → Option ℕ) → Option ℕ → Option ℤ → Opti
 held_as ints other None = other
 held_as ints other (Some n) = ints n
 
-abbrev pub held_in : Index → Held
+abbrev pub held_in : Index → HeldKeys
 held_in index key =
     held_as (λ n. get int_cmp index.ints.held n) (get key_order index.others.held key) (int_key key.values)

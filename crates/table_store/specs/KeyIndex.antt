@@ -16,17 +16,17 @@ has_key places key row = same_values (values_at places row.values) key
 abbrev pub row_of_key : List ℕ → List Value → List TableRow → Option TableRow
 row_of_key places key rows = find (has_key places key) rows
 
-abbrev pub Held : Type 0
-Held = RowKey → Option ℕ
+abbrev pub HeldKeys : Type 0
+HeldKeys = RowKey → Option ℕ
 
 -- each row is held under its key
-abbrev pub AreHeld : List ℕ → Held → List TableRow → Type 0
+abbrev pub AreHeld : List ℕ → HeldKeys → List TableRow → Type 0
 AreHeld places held [] = Unit {0}
 AreHeld places held (row ∷ rows) = (held (key_at places row.values) ≡ Some row.number)
     × AreHeld places held rows
 
 -- the same where there is a key
-abbrev pub AreIndexed : List ℕ → Held → List TableRow → Type 0
+abbrev pub AreIndexed : List ℕ → HeldKeys → List TableRow → Type 0
 AreIndexed [] held rows = Unit {0}
 AreIndexed (place ∷ places) held rows = AreHeld (place ∷ places) held rows
 

@@ -17,10 +17,10 @@ abbrev pub number_of_key : Table → List Value → Option ℕ
 number_of_key table key = option_map (λ row. row.number) (find (has_key table.schema.key key) table.rows)
 
 -- the last given row that has it
-abbrev pub last_given : List ℕ → List TableRow → List Value → Option ℕ
-last_given places [] key = None
-last_given places (row ∷ rows) key =
-    option_or (last_given places rows key) (if has_key places key row then Some row.number else None)
+abbrev pub last_row_with : List ℕ → List TableRow → List Value → Option ℕ
+last_row_with places [] key = None
+last_row_with places (row ∷ rows) key =
+    option_or (last_row_with places rows key) (if has_key places key row then Some row.number else None)
 
 -- what a map of given rows has under it
 abbrev pub number_in : BTreeMap RowKey ℕ → List Value → Option ℕ

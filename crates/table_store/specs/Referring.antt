@@ -3,20 +3,20 @@ use Rattle.std.specs.Prelude.{◌≡◌, ℕ, ◌++◌, ◌==◌, ◌⊎◌, Boo
 use Rattle.std.specs.Prelude.{Some, is_none}
 use Rattle.std.specs.List.{list_any}
 use Rattle.std.specs.Option.{option_map, option_map_or, option_or, option_and_then}
-use Rattle.sql_model.specs.Changes.{key_clash, numbered, stood, with_rows}
+use Rattle.sql_model.specs.Changes.{key_clash, numbered_rows, had_row, with_rows}
 use Rattle.sql_model.specs.QueryAnswer.{Origin}
-use Rattle.sql_model.specs.References.{Missing, Orphan, first_in, missing_parents, orphans, parents_of}
+use Rattle.sql_model.specs.References.{MissingParent, Orphan, first_in, missing_parents, orphans, parents_of}
 use Rattle.table_store.specs.Histories.{StoreHistory, tables_now, history_at, history_of_row, version_now}
-use Rattle.table_store.specs.Stops.{insert_stop, replace_stop, is_among, replaced_by, values_of, all_stood}
+use Rattle.table_store.specs.Stops.{insert_stop, replace_stop, is_among, replaced_by, values_of, had_rows}
 use Rattle.table_store.specs.Stops.{are_sorted_rows}
 use Rattle.table_store.specs.Stops.{with_inserted, with_replaced, with_removed, with_changed}
 use Rattle.table_store.specs.Types.{Foreign, Member, Table, TableRow, Value}
-use Rattle.table_store.specs.declared.stop.StoreStop.{StoreStop}
-use Rattle.table_store.specs.declared.stop.StoreStop.TheVariants.{NoParent, HasChild}
+use Rattle.table_store.specs.declared.error.StoreStop.{StoreStop}
+use Rattle.table_store.specs.declared.error.StoreStop.TheVariants.{NoParent, HasChild}
 
 -- ---- what refuses a change
 
-abbrev pub parent_stop : Missing → StoreStop
+abbrev pub parent_stop : MissingParent → StoreStop
 parent_stop missing = NoParent missing.parent missing.key
 
 abbrev pub child_stop : Orphan → StoreStop
@@ -38,7 +38,7 @@ is_of rows row = list_any (λ given. given.number == row.number) rows
 abbrev pub insert_refusal : List (List Value) → List Table → Table → Option StoreStop
 insert_refusal rows db table =
     option_or (insert_stop rows table)
-    (missing_stop table.schema.foreign (numbered table.next rows)
+    (missing_stop table.schema.foreign (numbered_rows table.next rows)
     (with_changed table.name (with_inserted rows) db))
 
 -- what refuses new values of rows
@@ -59,14 +59,14 @@ delete_refusal numbers db table =
 -- the table with rows in place of those of their numbers, and with those that are new
 abbrev pub with_put : List TableRow → Table → Table
 with_put rows table =
-    with_rows table (map (replaced_by rows) table.rows ++ filter (λ row. not (stood table row)) rows)
+    with_rows table (map (replaced_by rows) table.rows ++ filter (λ row. not (had_row table row)) rows)
     table.next
 
 -- rows of a table that stand, sorted by number, or that are numbered from its next number on
 abbrev pub CanBePut : List TableRow → Table → Type 0
 CanBePut rows table =
-    (all_stood rows table ≡ true) × (are_sorted_rows rows ≡ true)
-    ⊎ (rows ≡ numbered table.next (values_of rows))
+    (had_rows rows table ≡ true) × (are_sorted_rows rows ≡ true)
+    ⊎ (rows ≡ numbered_rows table.next (values_of rows))
 
 -- those that had their key before
 abbrev pub parents_in_db : List TableRow → List Table → Table → List Origin

@@ -4,7 +4,7 @@ use Rattle.std.specs.Prelude.{◌≡◌, ℕ, ◌-◌, ◌<◌, ◌≤◌, ◌^�
 use Rattle.std.specs.Prelude.{Option, Some, None, slice_index_or, IsSome}
 use Rattle.std.specs.Ordering.{nat_cmp}
 use Rattle.std.specs.BTreeMap.{get}
-use Rattle.row_version.specs.History.{Change, History, written, current, version, last_time}
+use Rattle.row_version.specs.History.{Change, History, write_at, current_values, version, last_time}
 use Rattle.table_store.specs.Grid.{Slot, no_slot}
 use Rattle.table_store.specs.Histories.{RowHistory}
 use Rattle.table_store.specs.declared.rows.Rows.TheInside.{Inside}
@@ -21,7 +21,7 @@ Chains = ℕ → Option History
 
 -- a row without a chain has the values that it was added with
 abbrev pub changes_or : Option History → Slot → List Change
-changes_or None slot = written slot.since slot.values ∷ []
+changes_or None slot = write_at slot.since slot.values ∷ []
 changes_or (Some chain) slot = chain.changes
 
 abbrev pub history_of : Chains → Slot → RowHistory
@@ -43,7 +43,7 @@ seen_histories a = record {
 -- a chain ends in what the columns say, and a row without one stands
 abbrev pub IsKept : Option History → Slot → Type 0
 IsKept None slot = slot.stands ≡ true
-IsKept (Some chain) slot = current chain.changes ≡ cond slot.stands (Some slot.values) None
+IsKept (Some chain) slot = current_values chain.changes ≡ cond slot.stands (Some slot.values) None
 
 -- the parts fit together
 pub record AreChained (chains : Chains) (slots : List Slot) (next : ℕ) : Type 0 where
@@ -58,7 +58,8 @@ IsRows a = AreChained (chains_of a) a.grid.slots a.grid.next
 abbrev pub IsReady : Option History → ℕ → Type 0
 IsReady None time = ⊥
 IsReady (Some chain) time =
-    IsSome (current chain.changes) × (version chain.changes < 2 ^ 32 - 1) × (last_time chain.changes < time)
+    IsSome (current_values chain.changes)
+    × (version chain.changes < 2 ^ 32 - 1) × (last_time chain.changes < time)
 
 abbrev pub HasRoom : Option History → Type 0
 HasRoom None = ⊥

@@ -2,7 +2,7 @@
 use Rattle.std.specs.Prelude.{◌≡◌, ℕ, ◌+◌, ◌<◌, ◌≤◌, Bool, true, List, [], ◌∷◌, length, map, Option, Some}
 use Rattle.std.specs.Prelude.{None, IsSome, slice_index_or}
 use Rattle.std.specs.Option.{option_map}
-use Rattle.row_version.specs.History.{Change, current, last_time, IsSorted}
+use Rattle.row_version.specs.History.{Change, current_values, last_time, IsSorted}
 use Rattle.table_store.specs.Types.{TableRow}
 use Rattle.table_store.specs.Grid.{Slot, no_slot, fits_kinds}
 use Rattle.table_store.specs.Histories.{RowHistory, no_history}
@@ -59,19 +59,19 @@ AllHaveRoom chains given = (j : ℕ) → j < length given
     → HasRoom (chains (slice_index_or given j no_change).number)
 
 -- each chain takes a change at a time
-abbrev pub AllReady : Chains → ℕ → List RowChange → Type 0
-AllReady chains time [] = Unit {0}
-AllReady chains time (first ∷ rest) = IsReady (chains first.number) time × HasRoom (chains first.number)
-    × AllReady chains time rest
+abbrev pub AreReady : Chains → ℕ → List RowChange → Type 0
+AreReady chains time [] = Unit {0}
+AreReady chains time (first ∷ rest) = IsReady (chains first.number) time × HasRoom (chains first.number)
+    × AreReady chains time rest
 
 -- a slot has the row of a number, which stands
-abbrev pub Stands : List RowHistory → ℕ → Type 0
-Stands slots number =
+abbrev pub HasRow : List RowHistory → ℕ → Type 0
+HasRow slots number =
     (k : ℕ) × (k < length slots) × ((slice_index_or slots k no_history).number ≡ number)
-    × IsSome (current (slice_index_or slots k no_history).changes)
+    × IsSome (current_values (slice_index_or slots k no_history).changes)
 
 abbrev pub AllStand : List RowHistory → List RowChange → Type 0
-AllStand slots given = (j : ℕ) → j < length given → Stands slots (slice_index_or given j no_change).number
+AllStand slots given = (j : ℕ) → j < length given → HasRow slots (slice_index_or given j no_change).number
 
 -- all changes so far are earlier than a time
 abbrev pub AreBefore : ℕ → List RowHistory → Type 0

@@ -5,14 +5,14 @@ use Rattle.std.specs.List.{list_any, list_all}
 use Rattle.std.specs.Option.{option_or}
 use Rattle.ldv_value.specs.Limits.{max_next}
 use Rattle.ldv_value.specs.Sorted.{is_strictly_sorted}
-use Rattle.sql_model.specs.Changes.{KeyClash, has_null, key_clash, numbered, stood, with_rows}
+use Rattle.sql_model.specs.Changes.{KeyClash, has_null, key_clash, numbered_rows, had_row, with_rows}
 use Rattle.sql_model.specs.Keys.{values_at}
 use Rattle.sql_model.specs.Scope.{is_table}
 use Rattle.sql_model.specs.Tables.{each_value, has_kind}
 use Rattle.table_store.specs.Types.{Value, Column, Table, TableRow}
-use Rattle.table_store.specs.declared.stop.StoreStop.{StoreStop}
-use Rattle.table_store.specs.declared.stop.StoreStop.TheVariants.{NotNull, KeyTaken, Full, NoParent}
-use Rattle.table_store.specs.declared.stop.StoreStop.TheVariants.{HasChild, NoMemory}
+use Rattle.table_store.specs.declared.error.StoreStop.{StoreStop}
+use Rattle.table_store.specs.declared.error.StoreStop.TheVariants.{NotNull, KeyTaken, Full, NoParent}
+use Rattle.table_store.specs.declared.error.StoreStop.TheVariants.{HasChild, NoMemory}
 
 -- one value for each column, of its kind
 abbrev pub has_shape : List Column → List Value → Bool
@@ -23,7 +23,7 @@ stop_if b stop = if b then Some stop else None
 
 -- the number of a row, if it stood in a table
 abbrev pub stood_number : Table → TableRow → Option ℕ
-stood_number table row = if stood table row then Some row.number else None
+stood_number table row = if had_row table row then Some row.number else None
 
 -- two rows of one key, with the numbers of those that stood in the table before
 abbrev pub key_stop : Table → Option KeyClash → Option StoreStop
@@ -36,7 +36,8 @@ key_stop before (Some clash) =
 
 -- the table with rows more
 abbrev pub with_inserted : List (List Value) → Table → Table
-with_inserted rows table = with_rows table (table.rows ++ numbered table.next rows) (table.next + length rows)
+with_inserted rows table = with_rows table (table.rows
+    ++ numbered_rows table.next rows) (table.next + length rows)
 
 -- a row, or the one of its number among others
 abbrev pub replaced_by : List TableRow → TableRow → TableRow
@@ -78,8 +79,8 @@ abbrev pub has_number : Table → ℕ → Bool
 has_number table number = list_any (λ row. row.number == number) table.rows
 
 -- each row has the number of a row of the table
-abbrev pub all_stood : List TableRow → Table → Bool
-all_stood rows table = list_all (stood table) rows
+abbrev pub had_rows : List TableRow → Table → Bool
+had_rows rows table = list_all (had_row table) rows
 
 abbrev pub all_stand : List ℕ → Table → Bool
 all_stand numbers table = list_all (has_number table) numbers
@@ -89,7 +90,7 @@ all_stand numbers table = list_all (has_number table) numbers
 -- what refuses new rows
 abbrev pub insert_stop : List (List Value) → Table → Option StoreStop
 insert_stop rows table =
-    option_or (stop_if (list_any (has_null table.schema.columns) (numbered table.next rows)) NotNull)
+    option_or (stop_if (list_any (has_null table.schema.columns) (numbered_rows table.next rows)) NotNull)
     (option_or (key_stop table (key_clash (with_inserted rows table)))
     (stop_if (nat_lt max_next (table.next + length rows)) Full))
 

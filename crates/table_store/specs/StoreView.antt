@@ -5,7 +5,7 @@ use Rattle.sql_model.specs.Scope.{catalog_of}
 use Rattle.sql_model.specs.Tables.{AreWellFormed}
 use Rattle.table_store.specs.Types.{Catalog, Table}
 use Rattle.table_store.specs.Histories.{TableHistory, StoreHistory, table_now, last_since}
-use Rattle.table_store.specs.TableView.{begun}
+use Rattle.table_store.specs.TableView.{history_at_start}
 use Rattle.table_store.specs.declared.store.Store.TheInside.{Inside}
 
 abbrev pub no_table : TableHistory
@@ -33,5 +33,5 @@ abbrev pub IsStore : Inside → Type 0
 IsStore a = AreStored a.catalog a.tables.items a.time
 
 -- tables as they are at the start
-abbrev pub started : List Table → StoreHistory
-started tables = record { tables = map begun tables; time = 0 }
+abbrev pub store_at_start : List Table → StoreHistory
+store_at_start tables = record { tables = map history_at_start tables; time = 0 }

@@ -3,11 +3,11 @@ use Rattle.std.specs.Prelude.{◌≡◌, ℕ, ◌<◌, ◌≤◌, Bool, List, []
 use Rattle.std.specs.Prelude.{slice_index_or}
 use Rattle.row_version.specs.History.{IsSorted, last_time}
 use Rattle.table_store.specs.Types.{Column, Schema, Table}
-use Rattle.table_store.specs.Histories.{RowHistory, NextSince, TableHistory, no_history, last_next}
-use Rattle.table_store.specs.Histories.{last_since, added, rows_now}
+use Rattle.table_store.specs.Histories.{RowHistory, NextSince, TableHistory, no_history, last_next_number}
+use Rattle.table_store.specs.Histories.{last_since, history_of_new_row, rows_now}
 use Rattle.table_store.specs.ChildPairs.{Pairs, AreReferred, pair_in}
 use Rattle.table_store.specs.IndexView.{held_in}
-use Rattle.table_store.specs.KeyIndex.{Held, AreIndexed}
+use Rattle.table_store.specs.KeyIndex.{HeldKeys, AreIndexed}
 use Rattle.table_store.specs.Nexts.{nexts_of, AreInTime}
 use Rattle.table_store.specs.RowChains.{RowsHistory}
 use Rattle.table_store.specs.declared.table.TableStore.TheInside.{Inside}
@@ -32,27 +32,27 @@ abbrev pub kinds_in : List Column → List Bool
 kinds_in columns = map (λ column. column.text) columns
 
 -- the parts fit together
-pub record IsStored (schema : Schema) (rows : RowsHistory) (held : Held) (pairs : Pairs)
+pub record IsStored (schema : Schema) (rows : RowsHistory) (held : HeldKeys) (pairs : Pairs)
     (nexts : List NextSince) : Type 0 where
   pub kinds : rows.kinds ≡ kinds_in schema.columns
-  pub next : last_next nexts ≡ rows.next
+  pub next : last_next_number nexts ≡ rows.next
   pub in_time : AreInTime nexts
   pub timed : AreTimed (last_since nexts) rows.slots
   pub indexed : AreIndexed schema.key held (rows_now rows.slots)
   pub referred : AreReferred pairs schema.foreign (rows_now rows.slots)
 
 -- what the index has at a key
-abbrev pub held_by : Inside → Held
+abbrev pub held_by : Inside → HeldKeys
 held_by a = λ key. held_in a.index key
 
 abbrev pub IsTable : Inside → Type 0
 IsTable a = IsStored a.schema a.rows (held_by a) (pair_in a.children) (nexts_of a.nexts.items)
 
 -- a table as it is at the start
-abbrev pub begun : Table → TableHistory
-begun table = record {
+abbrev pub history_at_start : Table → TableHistory
+history_at_start table = record {
   name = table.name;
   schema = table.schema;
-  slots = map (added 0) table.rows;
+  slots = map (history_of_new_row 0) table.rows;
   nexts = record { time = 0; next = table.next } ∷ [];
 }

@@ -8,7 +8,7 @@ ghost use Rattle.table_store.specs.Grid.{no_slot, fits_kinds};
 ghost use Rattle.table_store.specs.Histories.{changed_by};
 ghost use Rattle.table_store.specs.RowChains.{AreChained, histories_of, HasRoom, IsReady};
 ghost use Rattle.table_store.specs.RowChanges.{change_given, changes_given, RiseFrom, FitKinds, AllFitKinds};
-ghost use Rattle.table_store.specs.RowChanges.{AllReady};
+ghost use Rattle.table_store.specs.RowChanges.{AreReady};
 
 use crate::chains::Chains;
 use crate::change::{Copies, RowChange};
@@ -24,7 +24,7 @@ pub(crate) fn apply_all(
 ) -> Result<(), AllocError>
     requires chained { AreChained (λ q. get nat_cmp chains.old.held q) grid.old.slots grid.old.next }
     requires apart { RiseFrom 0 given.items }
-    requires ready { AllReady (λ q. get nat_cmp chains.old.held q) time given.items }
+    requires ready { AreReady (λ q. get nat_cmp chains.old.held q) time given.items }
     requires fits { AllFitKinds grid.old.kinds given.items }
     ensures chained { AreChained (λ q. get nat_cmp chains.new.held q) grid.new.slots grid.new.next }
     ensures seen { histories_of (λ q. get nat_cmp chains.new.held q) grid.new.slots

@@ -5,7 +5,7 @@ ghost use Rattle.std.specs.Prelude.{Some, None, OnOk, OnErr, IsOk, IsSome, is_so
 ghost use Rattle.std.specs.Option.{option_map};
 ghost use Rattle.std.specs.Ordering.{nat_cmp};
 ghost use Rattle.std.specs.BTreeMap.{get};
-ghost use Rattle.row_version.specs.History.{written, deleted};
+ghost use Rattle.row_version.specs.History.{write_at, delete_at};
 ghost use Rattle.table_store.specs.RowChains.{IsReady, HasRoom};
 
 use ldv_value::Values;
@@ -77,7 +77,7 @@ impl Chains {
         requires ready { IsReady (get nat_cmp self.old.held number) time }
         requires room { HasRoom (get nat_cmp self.old.held number) }
         ensures changes { option_map (λ chain. chain.changes) (get nat_cmp self.new.held number)
-            ≡ option_map (λ chain. chain.changes ++ written time values ∷ [])
+            ≡ option_map (λ chain. chain.changes ++ write_at time values ∷ [])
             (get nat_cmp self.old.held number) }
         ensures others { (q : ℕ) → (q == number) ≡ false
             → get nat_cmp self.new.held q ≡ get nat_cmp self.old.held q }
@@ -93,7 +93,7 @@ impl Chains {
     pub(crate) fn end(&mut self, number: u32, time: u32)
         requires { IsReady (get nat_cmp self.old.held number) time }
         ensures changes { option_map (λ chain. chain.changes) (get nat_cmp self.new.held number)
-            ≡ option_map (λ chain. chain.changes ++ deleted time ∷ []) (get nat_cmp self.old.held number) }
+            ≡ option_map (λ chain. chain.changes ++ delete_at time ∷ []) (get nat_cmp self.old.held number) }
         ensures others { (q : ℕ) → (q == number) ≡ false
             → get nat_cmp self.new.held q ≡ get nat_cmp self.old.held q }
     {

@@ -4,7 +4,7 @@ ghost use Rattle.std.specs.Prelude.{◌≡◌, ◌==◌, ◌&&◌, ◌||◌, ℕ
 ghost use Rattle.std.specs.Prelude.{IsSome, OnOk, slice_index_or};
 ghost use Rattle.std.specs.List.{list_any};
 ghost use Rattle.std.specs.Option.{option_and_then, option_map, option_map_or};
-ghost use Rattle.row_version.specs.History.{current};
+ghost use Rattle.row_version.specs.History.{current_values};
 ghost use Rattle.sql_model.specs.References.{child_of, has_key, orphan_by, reference};
 ghost use Rattle.table_store.specs.Afterwards.{first_some, in_set, loses, orphan_in_row, orphan_in_slot};
 ghost use Rattle.table_store.specs.Afterwards.{orphan_in_table, orphan_in_tables, refers_to};
@@ -15,12 +15,12 @@ ghost use Rattle.table_store.specs.Stops.{are_sorted_numbers, is_among};
 ghost use Rattle.sql_model.specs.Keys.{same_values, values_at};
 ghost use Rattle.sql_model.specs.Scope.{is_table, same_text};
 ghost use Rattle.table_store.specs.Types.{Value};
-ghost use Rattle.table_store.specs.declared.stop.StoreStop.TheVariants.{HasChild};
+ghost use Rattle.table_store.specs.declared.error.StoreStop.TheVariants.{HasChild};
 
 use crate::child_rows::first_child_in;
 use crate::given::is_given;
 use crate::index::key_of;
-use crate::stop::StoreStop;
+use crate::error::StoreStop;
 use crate::table::TableStore;
 use ldv_value::Values;
 use sql_model::{Foreign, RowKey, refers_to_none};
@@ -134,7 +134,7 @@ fn key_in(alloc: Global, held: &TableStore, slot: u64) -> Result<Option<RowKey>,
 
 // The key of the row in a slot, which stands.
 fn key_standing(alloc: Global, held: &TableStore, slot: u64) -> Result<RowKey, AllocError>
-    requires { IsSome (current (slice_index_or held.now.slots slot no_history).changes) }
+    requires { IsSome (current_values (slice_index_or held.now.slots slot no_history).changes) }
     ensures { IfOk result (λ key. Some key.values
         ≡ option_map (λ row. values_at held.now.schema.key row.values)
         (row_now (slice_index_or held.now.slots slot no_history))) }

@@ -15,14 +15,14 @@ impl TableStore {
     /// The slots whose row stands now and passes each test, as bits: a word for each 64 slots, rounded up. A
     /// comparison is of a column of INT.
     #[tactic(auto, using(crate::proofs::ChosenLaws::chosen_is))]
-    pub fn chosen(&self, alloc: Global, tests: &[ColumnTest]) -> Result<Vec<u64>, AllocError>
+    pub fn choose_slots(&self, alloc: Global, tests: &[ColumnTest]) -> Result<Vec<u64>, AllocError>
         requires { AllFitColumns self.now.schema.columns tests.now }
         ensures long { IfOk result (λ words. length words.items ≡ (length self.now.slots + 63) / 64) }
         ensures few { IfOk result (λ words. length words.items < 2 ^ 57) }
         ensures members { IfOk result (λ words. (n : ℕ) → member words.items n
             ≡ slot_chosen tests.now (slice_index_or self.now.slots n no_history)) }
     {
-        let mut words = Vec::from_slice(alloc, self.standing())?;
+        let mut words = Vec::from_slice(alloc, self.standing_slots())?;
         let mut scanned = vec![in alloc; 0u64; words.len()]?;
         keep_passing(self, tests, words.as_mut_slice(), scanned.as_mut_slice());
         Ok(words)

@@ -6,7 +6,7 @@ ghost use Rattle.std.specs.Prelude.{OnOk, OnErr, IfErr, IsSome, length, map, tak
 ghost use Rattle.table_store.specs.Types.{RowKey};
 ghost use Rattle.std.specs.BTreeMap.{is_at};
 ghost use Rattle.std.specs.Option.{option_map};
-ghost use Rattle.sql_model.specs.Changes.{clash_after, clash_by, numbered};
+ghost use Rattle.sql_model.specs.Changes.{clash_after, clash_by, numbered_rows};
 ghost use Rattle.sql_model.specs.KeyOrder.{key_order};
 ghost use Rattle.sql_model.specs.Keys.{same_values, values_at};
 ghost use Rattle.table_store.specs.Claims.{claim_stop, taken_stop, old_number, high_or};
@@ -19,7 +19,7 @@ ghost use Rattle.table_store.specs.Stops.{StopsAs};
 use crate::high_keys::HighKeys;
 use crate::index::{Index, has_key_at, key_of};
 use crate::rows::Rows;
-use crate::stop::StoreStop;
+use crate::error::StoreStop;
 use ldv_value::{Places, Values};
 use sql_model::RowKey;
 use std::alloc::{AllocError, Global};
@@ -41,9 +41,9 @@ pub(crate) fn claim(
         (rows_now stored.now.slots) }
     ensures ok { OnOk result (next + length values.now ≤ 2 ^ 32
         → AreIndexed places.now (λ key. held_in index.new key)
-        (rows_now stored.now.slots ++ numbered next values.now)) }
+        (rows_now stored.now.slots ++ numbered_rows next values.now)) }
     ensures stop { StopsAs (claim_stop places.now next
-        (clash_by places.now (rows_now stored.now.slots ++ numbered next values.now))) result }
+        (clash_by places.now (rows_now stored.now.slots ++ numbered_rows next values.now))) result }
 {
     if places.is_empty() {
         return Ok(());
@@ -67,9 +67,9 @@ fn claim_all(
     ensures kept { AreHeld places.now (λ key. held_in index.new key) (rows_now stored.now.slots) }
     ensures ok { OnOk result (next + length values.now ≤ 2 ^ 32
         → AreHeld places.now (λ key. held_in index.new key)
-        (rows_now stored.now.slots ++ numbered next values.now)) }
+        (rows_now stored.now.slots ++ numbered_rows next values.now)) }
     ensures stop { StopsAs (claim_stop places.now next
-        (clash_after places.now (rows_now stored.now.slots) (numbered next values.now))) result }
+        (clash_after places.now (rows_now stored.now.slots) (numbered_rows next values.now))) result }
 {
     stored.tell_order();
     let mut high = HighKeys::new(alloc);
@@ -95,22 +95,22 @@ fn claim_one(
 ) -> Result<(), StoreStop>
     requires within { count < length values.now }
     requires held { AreHeld places.now (λ key. high_or (held_in index.old key) (high_in high.old key))
-        (rows_now stored.now.slots ++ numbered next (take count values.now)) }
+        (rows_now stored.now.slots ++ numbered_rows next (take count values.now)) }
     requires low { next + count < 2 ^ 32 → (q : RowKey) → high_in high.old q ≡ None }
     requires next { stored.now.next ≡ next }
     ensures kept { AreHeld places.now (λ key. high_or (held_in index.new key) (high_in high.new key))
-        (rows_now stored.now.slots ++ numbered next (take count values.now)) }
+        (rows_now stored.now.slots ++ numbered_rows next (take count values.now)) }
     ensures ok { OnOk result (AreHeld places.now
         (λ key. high_or (held_in index.new key) (high_in high.new key))
-        (rows_now stored.now.slots ++ numbered next (take (count + 1) values.now))) }
+        (rows_now stored.now.slots ++ numbered_rows next (take (count + 1) values.now))) }
     ensures low { next + count < 2 ^ 32 → (q : RowKey) → high_in high.new q ≡ None }
     ensures stop { StopsAs (taken_stop places.now next (slice_index_or values.now count [])
         (find (has_key places.now (values_at places.now (slice_index_or values.now count [])))
-        (rows_now stored.now.slots ++ numbered next (take count values.now)))) result }
+        (rows_now stored.now.slots ++ numbered_rows next (take count values.now)))) result }
 {
     let row = &values[count];
     let key = key_of(alloc, places, row)?;
-    match earlier(
+    match row_before(
         alloc, index, high, stored, places, values, count, next, &key,
     )? {
         Some(number) => Err(StoreStop::KeyTaken {
@@ -191,7 +191,7 @@ fn old_number(number: u128, next: u32) -> Option<u32>
 }
 
 // The number of the row that has a key, among those that stand and the first new ones.
-fn earlier(
+fn row_before(
     alloc: Global,
     index: &Index,
     high: &HighKeys,
@@ -204,11 +204,11 @@ fn earlier(
 ) -> Result<Option<u128>, AllocError>
     requires within { count < length values.now }
     requires held { AreHeld places.now (λ key. high_or (held_in index.now key) (high_in high.now key))
-        (rows_now stored.now.slots ++ numbered next (take count values.now)) }
+        (rows_now stored.now.slots ++ numbered_rows next (take count values.now)) }
     requires next { stored.now.next ≡ next }
     ensures { IfOk result (λ number. number ≡ option_map (λ row. row.number)
         (find (has_key places.now key.now.values)
-        (rows_now stored.now.slots ++ numbered next (take count values.now)))) }
+        (rows_now stored.now.slots ++ numbered_rows next (take count values.now)))) }
 {
     match number_under(index, high, key) {
         None => Ok(None),
@@ -237,7 +237,7 @@ fn is_earlier(
     requires next { stored.now.next ≡ next }
     ensures { IfOk result (λ has. option_map (λ row. row.number)
         (find (λ row. (row.number == number) && has_key places.now key.now.values row)
-        (rows_now stored.now.slots ++ numbered next (take count values.now)))
+        (rows_now stored.now.slots ++ numbered_rows next (take count values.now)))
         ≡ (if has then Some number else None)) }
 {
     if number < next as u128 {

@@ -1,10 +1,10 @@
 //! Two rows that have one key, once given rows took the place of others.
 
 ghost use Rattle.std.specs.Prelude.{◌≡◌, ℕ, List, Option, Some, None, IfOk};
-ghost use Rattle.table_store.specs.GivenKeys.{clash_of, sooner, soonest};
-ghost use Rattle.table_store.specs.declared.stop.StoreStop.TheVariants.{KeyTaken};
+ghost use Rattle.table_store.specs.GivenKeys.{clash_of, earlier_clash, first_clash};
+ghost use Rattle.table_store.specs.declared.error.StoreStop.TheVariants.{KeyTaken};
 
-use crate::stop::StoreStop;
+use crate::error::StoreStop;
 use ldv_value::Values;
 use std::alloc::AllocError;
 
@@ -49,8 +49,8 @@ impl Clash {
 }
 
 /// Of two clashes the one whose later row comes first.
-pub(crate) fn sooner(first: Option<Clash>, clash: Clash) -> Clash
-    ensures { result ≡ sooner first clash }
+pub(crate) fn earlier_clash(first: Option<Clash>, clash: Clash) -> Clash
+    ensures { result ≡ earlier_clash first clash }
 {
     match first {
         None => clash,
@@ -65,19 +65,19 @@ pub(crate) fn sooner(first: Option<Clash>, clash: Clash) -> Clash
 }
 
 /// The first clash, after a given row and the one that keeps its key, if any, were looked at.
-pub(crate) fn soonest(
+pub(crate) fn first_clash(
     first: Option<Clash>,
     keeper: Option<u32>,
     number: u32,
     key: &Values,
 ) -> Result<Option<Clash>, AllocError>
-    ensures { IfOk result (λ made. made ≡ soonest first keeper number key.now) }
+    ensures { IfOk result (λ made. made ≡ first_clash first keeper number key.now) }
 {
     match keeper {
         None => Ok(first),
         Some(kept) => {
             let key = key.copy()?;
-            Ok(Some(sooner(first, Clash::of(number, kept, key))))
+            Ok(Some(earlier_clash(first, Clash::of(number, kept, key))))
         }
     }
 }

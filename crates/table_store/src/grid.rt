@@ -167,7 +167,7 @@ impl Grid {
     }
 
     /// The slots whose row stands, as bits.
-    pub(crate) fn standing(&self) -> &[u64]
+    pub(crate) fn standing_slots(&self) -> &[u64]
         ensures long { length result.now ≡ (length self.now.slots + 63) / 64 }
         ensures members { (n : ℕ) → member result.now n ≡ (slice_index_or self.now.slots n no_slot).stands }
     {

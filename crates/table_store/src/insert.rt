@@ -3,7 +3,7 @@
 ghost use Rattle.std.specs.Prelude.{◌≡◌, ℕ, ◌+◌, ◌^◌, ◌<◌, Bool, List, ◌++◌, IfOk, length, zip, nat_lt};
 ghost use Rattle.std.specs.List.{list_any};
 ghost use Rattle.ldv_value.specs.Limits.{max_next};
-ghost use Rattle.sql_model.specs.Changes.{refuses_null, has_null, numbered};
+ghost use Rattle.sql_model.specs.Changes.{refuses_null, has_null, numbered_rows};
 
 use ldv_value::{List, MAX_NEXT, RowList, Value, Values};
 use sql_model::{Column, TableRow, TableRows, is_null};
@@ -54,7 +54,7 @@ pub(crate) fn numbered_rows(
     next: u32,
 ) -> Result<TableRows, AllocError>
     requires { next + length rows < 2 ^ 32 }
-    ensures { IfOk result (λ made. made ≡ numbered next rows) }
+    ensures { IfOk result (λ made. made ≡ numbered_rows next rows) }
 {
     let mut made = List::with_capacity(alloc, rows.len())?;
     let mut number = next;

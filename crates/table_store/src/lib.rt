@@ -14,8 +14,8 @@
 //! - `by_key` returns the number of the row that has a key, and `None` exactly where no row has it;
 //! - `slots`, `slot_row` and `row_values` give a table slot by slot, for layers that look through it. There
 //!   is a slot for each row that the table ever held, by number. `scan` and `scan_nulls` tell by bits which
-//!   slots have a row that passes a test of one column, `chosen` those that pass several
-//!   (`specs/CellTests.antt`), and `standing` lends the bits of all rows that stand;
+//!   slots have a row that passes a test of one column, `choose_slots` those that pass several
+//!   (`specs/CellTests.antt`), and `standing_slots` lends the bits of all rows that stand;
 //! - of one table, `slot_of` finds the slot of a row, `cell` lends one value, and `tell_order`,
 //!   `tell_times` and `tell_few` lend a caller what is known of the order of its rows, of their changes and
 //!   of their number.
@@ -64,13 +64,13 @@ mod rekey;
 mod room;
 mod rows;
 mod scan;
-mod stop;
+mod error;
 mod store;
 mod table;
 mod table_rows;
 
 pub use cell_test::{CellTest, ColumnTest};
 pub use column_store::Cell;
-pub use stop::StoreStop;
+pub use error::StoreStop;
 pub use store::Store;
 pub use table::TableStore;

@@ -1,7 +1,7 @@
 //! The numbers of a table's next row through time.
 
 ghost use Rattle.std.specs.Prelude.{◌≡◌, List, [], ◌∷◌, IfOk};
-ghost use Rattle.table_store.specs.Histories.{last_next, last_since, next_as_of};
+ghost use Rattle.table_store.specs.Histories.{last_next_number, last_since, next_as_of};
 ghost use Rattle.table_store.specs.Nexts.{nexts_of, AreInTime};
 
 use std::alloc::{AllocError, Global};
@@ -14,7 +14,7 @@ pub(crate) struct NextSince {
 }
 
 /// The number of the next row since time 0.
-pub(crate) fn first_next(alloc: Global, next: u32) -> Result<Vec<NextSince>, AllocError>
+pub(crate) fn nexts_at_start(alloc: Global, next: u32) -> Result<Vec<NextSince>, AllocError>
     ensures { IfOk result (λ nexts. nexts_of nexts.items ≡ record { time = 0; next = next } ∷ []) }
 {
     let mut nexts = Vec::with_capacity(alloc, 1)?;
@@ -28,13 +28,13 @@ pub(crate) fn next_as_of(nexts: &[NextSince], time: u32) -> u32
     ensures { result ≡ next_as_of time (nexts_of nexts.now) }
 {
     let after = nexts.partition_point(|since| since.time <= time);
-    last_next(&nexts[..after])
+    last_next_number(&nexts[..after])
 }
 
 // The last number; 0 where there is none.
 #[tactic(auto, using(crate::proofs::NextLaws::last_is))]
-fn last_next(nexts: &[NextSince]) -> u32
-    ensures { result ≡ last_next (nexts_of nexts.now) }
+fn last_next_number(nexts: &[NextSince]) -> u32
+    ensures { result ≡ last_next_number (nexts_of nexts.now) }
 {
     match nexts.last() {
         None => 0,

@@ -5,7 +5,7 @@ ghost use Rattle.std.specs.List.{AllByRecursion, flat_map, list_all};
 ghost use Rattle.sql_model.specs.Scope.{table_at};
 ghost use Rattle.table_store.specs.Afterwards.{is_keyed};
 ghost use Rattle.table_store.specs.Histories.{history_at, table_now, tables_now};
-ghost use Rattle.table_store.specs.ParentRows.{last_given, member_at, member_of, number_in, number_of_key};
+ghost use Rattle.table_store.specs.ParentRows.{last_row_with, member_at, member_of, number_in, number_of_key};
 ghost use Rattle.table_store.specs.ParentRows.{number_put, parent_by, parent_in, parent_number};
 ghost use Rattle.table_store.specs.ParentRows.{parents_in_row, unless_given};
 ghost use Rattle.table_store.specs.Referring.{are_apart, parents_now, CanBePut, IsAtVersion};
@@ -50,7 +50,7 @@ fn given_keys(
     rows: &[TableRow],
 ) -> Result<BTreeMap<RowKey, u32>, AllocError>
     ensures { IfOk result (λ given. (wanted : List Value)
-        → number_in given wanted ≡ last_given key.now rows.now wanted) }
+        → number_in given wanted ≡ last_row_with key.now rows.now wanted) }
 {
     let mut given = BTreeMap::new(alloc);
     for row in rows {

@@ -14,7 +14,7 @@ ghost use Rattle.table_store.specs.Stops.{are_sorted_numbers};
 
 use crate::given::is_given;
 use crate::index::key_of;
-use crate::stop::StoreStop;
+use crate::error::StoreStop;
 use crate::store::Store;
 use crate::table::TableStore;
 use ldv_value::Values;

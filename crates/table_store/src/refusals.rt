@@ -2,17 +2,17 @@
 
 ghost use Rattle.std.specs.Prelude.{◌≡◌, ◌==◌, None, Some, IfOk, if◌then◌else◌, length, true};
 ghost use Rattle.std.specs.Option.{option_map, option_or};
-ghost use Rattle.sql_model.specs.Changes.{numbered};
+ghost use Rattle.sql_model.specs.Changes.{numbered_rows};
 ghost use Rattle.table_store.specs.Afterwards.{in_set, loses, orphan_in_tables};
 ghost use Rattle.table_store.specs.Histories.{history_at, table_now, tables_now};
 ghost use Rattle.table_store.specs.Referring.{child_stop, is_of, missing_stop, orphan_stop};
-ghost use Rattle.table_store.specs.Stops.{all_stand, all_stood, are_sorted_numbers, are_sorted_rows};
+ghost use Rattle.table_store.specs.Stops.{all_stand, had_rows, are_sorted_numbers, are_sorted_rows};
 ghost use Rattle.table_store.specs.Stops.{is_among, with_changed, with_inserted, with_removed, with_replaced};
 
 use crate::children::{first_child, is_parent, lost_keys, refers_to};
 use crate::given::{keys_if, numbers_of};
 use crate::parents::missing_parent;
-use crate::stop::StoreStop;
+use crate::error::StoreStop;
 use crate::store::Store;
 use crate::table::TableStore;
 use ldv_value::RowList;
@@ -28,7 +28,7 @@ pub(crate) fn insert_refusal(
 ) -> Result<Option<StoreStop>, AllocError>
     requires { history_at own.now.name store.now ≡ Some own.now }
     ensures { IfOk result (λ later. later
-        ≡ missing_stop own.now.schema.foreign (numbered (table_now own.now).next rows.now)
+        ≡ missing_stop own.now.schema.foreign (numbered_rows (table_now own.now).next rows.now)
         (with_changed own.now.name (with_inserted rows.now) (tables_now store.now))) }
 {
     let alloc = own.allocator();
@@ -47,7 +47,7 @@ pub(crate) fn replace_refusal(
 ) -> Result<Option<StoreStop>, AllocError>
     requires there { history_at own.now.name store.now ≡ Some own.now }
     requires sorted { are_sorted_rows rows.now ≡ true }
-    requires stand { all_stood rows.now (table_now own.now) ≡ true }
+    requires stand { had_rows rows.now (table_now own.now) ≡ true }
     ensures { IfOk result (λ later. later ≡ option_or
         (missing_stop own.now.schema.foreign rows.now
         (with_changed own.now.name (with_replaced rows.now) (tables_now store.now)))

@@ -13,10 +13,10 @@ ghost use Rattle.table_store.specs.IndexView.{held_in};
 ghost use Rattle.table_store.specs.KeyIndex.{AreHeld, AreIndexed};
 ghost use Rattle.table_store.specs.Stops.{are_sorted_rows, replaced_by, StopsAs};
 
-use crate::clash::{Clash, sooner, soonest};
+use crate::clash::{Clash, earlier_clash, first_clash};
 use crate::index::{Index, has_key_at, held_number, key_of};
 use crate::rows::Rows;
-use crate::stop::StoreStop;
+use crate::error::StoreStop;
 use ldv_value::Places;
 use sql_model::{RowKey, TableRow};
 use std::alloc::{AllocError, Global};
@@ -156,7 +156,7 @@ fn claim_next(
     let row = &given[place];
     let key = key_of(alloc, places, &row.values)?;
     match claims.number(&key) {
-        Some(earlier) => Err(sooner(
+        Some(earlier) => Err(earlier_clash(
             first,
             Clash {
                 earlier,
@@ -167,7 +167,7 @@ fn claim_next(
         .into_stop()),
         None => {
             let kept = keeper(index, stored, places, given, &key);
-            let next = soonest(first, kept, row.number, &key.values)?;
+            let next = first_clash(first, kept, row.number, &key.values)?;
             claims.put(key, row.number)?;
             Ok(next)
         }

@@ -12,9 +12,9 @@ ghost use Rattle.sql_model.specs.Scope.{value_at};
 ghost use Rattle.column_store.specs.LentCells.{lent_value};
 ghost use Rattle.table_store.specs.Scans.{null_passes, passes_test};
 ghost use Rattle.table_store.specs.Types.{Null};
-ghost use Rattle.row_version.specs.History.{written, current, as_of, version};
+ghost use Rattle.row_version.specs.History.{write_at, current_values, as_of, version};
 ghost use Rattle.table_store.specs.Grid.{are_of_kinds, AreNumberedFrom, next_after};
-ghost use Rattle.table_store.specs.Histories.{added, changed_by, no_history};
+ghost use Rattle.table_store.specs.Histories.{history_of_new_row, changed_by, no_history};
 ghost use Rattle.table_store.specs.RowChanges.{changes_given, RiseFrom, AllFitKinds, AllStand, AreBefore};
 ghost use Rattle.table_store.specs.RowOrder.{AreInOrder};
 
@@ -82,7 +82,7 @@ impl Rows {
     #[tactic(auto, using(crate::proofs::RowLaws::row_rules))]
     pub(crate) fn stands(&self, slot: usize) -> bool
         requires { slot < length self.now.slots }
-        ensures { result ≡ is_some (current (slice_index_or self.now.slots slot no_history).changes) }
+        ensures { result ≡ is_some (current_values (slice_index_or self.now.slots slot no_history).changes) }
     {
         self.grid.stands(slot)
     }
@@ -91,9 +91,9 @@ impl Rows {
     #[tactic(auto, using(crate::proofs::RowLaws::row_rules))]
     pub(crate) fn copy_values(&self, alloc: Global, slot: usize) -> Result<Values, AllocError>
         requires within { slot < length self.now.slots }
-        requires stands { IsSome (current (slice_index_or self.now.slots slot no_history).changes) }
+        requires stands { IsSome (current_values (slice_index_or self.now.slots slot no_history).changes) }
         ensures { IfOk result (λ values. Some values
-            ≡ current (slice_index_or self.now.slots slot no_history).changes) }
+            ≡ current_values (slice_index_or self.now.slots slot no_history).changes) }
     {
         self.grid.copy_values(alloc, slot)
     }
@@ -102,9 +102,9 @@ impl Rows {
     /// NULL.
     pub(crate) fn cell(&self, slot: usize, column: usize) -> Cell<'_>
         requires within { slot < length self.now.slots }
-        requires stands { IsSome (current (slice_index_or self.now.slots slot no_history).changes) }
+        requires stands { IsSome (current_values (slice_index_or self.now.slots slot no_history).changes) }
         ensures { Some (lent_value result) ≡ option_map (λ values. value_at values column)
-            (current (slice_index_or self.now.slots slot no_history).changes) }
+            (current_values (slice_index_or self.now.slots slot no_history).changes) }
     {
         self.grid.cell(slot, column)
     }
@@ -169,9 +169,9 @@ impl Rows {
     /// How the key of the row in a slot, which stands, compares to values.
     pub(crate) fn compare_key(&self, slot: usize, places: &Places, values: &Values) -> Ordering
         requires within { slot < length self.now.slots }
-        requires stands { IsSome (current (slice_index_or self.now.slots slot no_history).changes) }
+        requires stands { IsSome (current_values (slice_index_or self.now.slots slot no_history).changes) }
         ensures { Some result ≡ option_map (λ row. slice_cmp order (values_at places.now row) values.now)
-            (current (slice_index_or self.now.slots slot no_history).changes) }
+            (current_values (slice_index_or self.now.slots slot no_history).changes) }
     {
         self.grid.compare_key(slot, places, values)
     }
@@ -183,7 +183,7 @@ impl Rows {
         requires mask { length mask.old ≡ (length self.now.slots + 63) / 64 }
         ensures { (n : ℕ) → member mask.new n ≡ option_map_or
             (λ row. passes_test op constant (slice_index_or row column Null))
-            (current (slice_index_or self.now.slots n no_history).changes) false }
+            (current_values (slice_index_or self.now.slots n no_history).changes) false }
     {
         self.grid.scan(column, op, constant, mask);
     }
@@ -194,21 +194,21 @@ impl Rows {
         requires { length mask.old ≡ (length self.now.slots + 63) / 64 }
         ensures { (n : ℕ) → member mask.new n ≡ option_map_or
             (λ row. null_passes is_null (slice_index_or row column Null))
-            (current (slice_index_or self.now.slots n no_history).changes) false }
+            (current_values (slice_index_or self.now.slots n no_history).changes) false }
     {
         self.grid.scan_nulls(column, is_null, mask);
     }
 
     /// The slots whose row stands, as bits.
-    pub(crate) fn standing(&self) -> &[u64]
+    pub(crate) fn standing_slots(&self) -> &[u64]
         ensures long { length result.now ≡ (length self.now.slots + 63) / 64 }
         ensures few { length self.now.slots < 2 ^ 32 }
         ensures members { (n : ℕ) → member result.now n
-            ≡ is_some (current (slice_index_or self.now.slots n no_history).changes) }
+            ≡ is_some (current_values (slice_index_or self.now.slots n no_history).changes) }
     {
         let _len = self.grid.len();
         self.grid.tell_order();
-        self.grid.standing()
+        self.grid.standing_slots()
     }
 
     /// Moves the number of the next row up.
@@ -233,7 +233,7 @@ impl Rows {
         requires kinds { are_of_kinds self.old.kinds rows ≡ true }
         ensures ok { OnOk result (self.new
             ≡ record self.old {
-              slots = self.old.slots ++ map (added time) rows;
+              slots = self.old.slots ++ map (history_of_new_row time) rows;
               next = next_after self.old.next rows;
             }) }
         ensures err { OnErr result (self.new ≡ self.old) }

@@ -6,30 +6,30 @@ ghost use Rattle.std.specs.Prelude.{length, map, slice_get, slice_index_or, slic
 ghost use Rattle.std.specs.List.{AllByRecursion, list_all};
 ghost use Rattle.std.specs.Option.{option_map, option_map_or, option_and_then, option_or};
 ghost use Rattle.lanes.specs.Sets.{member};
-ghost use Rattle.row_version.specs.History.{current};
+ghost use Rattle.row_version.specs.History.{current_values};
 ghost use Rattle.ldv_value.specs.Sorted.{text_precedes};
 ghost use Rattle.sql_model.specs.Scope.{catalog_of, table_at};
 ghost use Rattle.sql_model.specs.Tables.{AreWellFormed, have_distinct_columns, is_database, is_valid_table};
 ghost use Rattle.table_store.specs.Scans.{null_passes, passes_test};
 ghost use Rattle.table_store.specs.Histories.{history_at, is_history, table_now, tables_now, last_since};
 ghost use Rattle.table_store.specs.Histories.{rows_after, next_number_after, AreKeptBefore, changed_at};
-ghost use Rattle.table_store.specs.Histories.{inserted, replaced, removed, version_now, history_of_row};
+ghost use Rattle.table_store.specs.Histories.{table_with_rows, table_with_values, table_without, version_now, history_of_row};
 ghost use Rattle.table_store.specs.Histories.{row_now, no_history};
 ghost use Rattle.table_store.specs.KeyIndex.{has_key};
 ghost use Rattle.table_store.specs.Stops.{have_shape, values_of, are_sorted_rows, are_sorted_numbers};
-ghost use Rattle.table_store.specs.Stops.{all_stood, all_stand, insert_stop, replace_stop, with_changed};
+ghost use Rattle.table_store.specs.Stops.{had_rows, all_stand, insert_stop, replace_stop, with_changed};
 ghost use Rattle.table_store.specs.Stops.{is_among, with_inserted, with_replaced, with_removed, StopsAs};
-ghost use Rattle.sql_model.specs.Changes.{numbered};
+ghost use Rattle.sql_model.specs.Changes.{numbered_rows};
 ghost use Rattle.table_store.specs.Referring.{are_apart, insert_refusal, replace_refusal, delete_refusal};
 ghost use Rattle.table_store.specs.Referring.{parents_now};
 ghost use Rattle.table_store.specs.Referring.{CanBePut, IsAtVersion, is_of, missing_stop, orphan_stop};
-ghost use Rattle.table_store.specs.StoreView.{started, no_table, are_sorted};
-ghost use Rattle.table_store.specs.TableView.{begun};
+ghost use Rattle.table_store.specs.StoreView.{store_at_start, no_table, are_sorted};
+ghost use Rattle.table_store.specs.TableView.{history_at_start};
 ghost use Rattle.table_store.specs.Types.{Null, Value};
 
 use crate::parent_rows::parents_of;
 use crate::refusals::{delete_refusal, insert_refusal, replace_refusal};
-use crate::stop::StoreStop;
+use crate::error::StoreStop;
 use crate::table::TableStore;
 use ldv_value::{Cmp, Numbers, RowList, Values};
 use sql_model::{Catalog, Members, TableRow, TableRows, Tables};
@@ -62,7 +62,7 @@ impl Store {
     pub fn of_tables(alloc: Global, tables: Tables) -> Result<Store, AllocError>
         requires database { is_database tables ≡ true }
         requires distinct { have_distinct_columns tables ≡ true }
-        ensures made { IfOk result (λ store. store ≡ started tables) }
+        ensures made { IfOk result (λ store. store ≡ store_at_start tables) }
         ensures now { IfOk result (λ store. tables_now store ≡ tables) }
     {
         let catalog = Catalog::of(alloc, &tables)?;
@@ -194,9 +194,9 @@ impl Store {
     pub fn row_values(&self, table: &str, slot: u64) -> Result<Values, AllocError>
         requires there { IsSome (table_at table.now (tables_now self.now)) }
         requires stands { IfSome (history_at table.now self.now)
-            (λ history. IsSome (current (slice_index_or history.slots slot no_history).changes)) }
+            (λ history. IsSome (current_values (slice_index_or history.slots slot no_history).changes)) }
         ensures { IfOk result (λ values. option_map
-            (λ history. current (slice_index_or history.slots slot no_history).changes)
+            (λ history. current_values (slice_index_or history.slots slot no_history).changes)
             (history_at table.now self.now) ≡ Some (Some values)) }
     {
         match self.table(table) {
@@ -282,7 +282,7 @@ impl Store {
             → ¬ (result ≡ Err (StoreStop.HasChild child row key)) }
         ensures first { IfOk result (λ first. option_map (λ table. table.next)
             (table_at table.now (tables_now self.old)) ≡ Some first) }
-        ensures ok { OnOk result (self.new ≡ changed_at time table.now (inserted time rows) self.old) }
+        ensures ok { OnOk result (self.new ≡ changed_at time table.now (table_with_rows time rows) self.old) }
         ensures now { OnOk result (tables_now self.new
             ≡ with_changed table.now (with_inserted rows) (tables_now self.old)) }
         ensures earlier { OnOk result (AreKeptBefore time self.old self.new) }
@@ -315,10 +315,11 @@ impl Store {
             (λ table. have_shape (values_of rows) table ≡ true) }
         requires sorted { are_sorted_rows rows ≡ true }
         requires stand { IfSome (table_at table.now (tables_now self.old))
-            (λ table. all_stood rows table ≡ true) }
+            (λ table. had_rows rows table ≡ true) }
         ensures stop { StopsAs (option_and_then (replace_refusal rows (tables_now self.old))
             (table_at table.now (tables_now self.old))) result }
-        ensures ok { OnOk result (self.new ≡ changed_at time table.now (replaced time rows) self.old) }
+        ensures ok { OnOk result (self.new
+            ≡ changed_at time table.now (table_with_values time rows) self.old) }
         ensures now { OnOk result (tables_now self.new
             ≡ with_changed table.now (with_replaced rows) (tables_now self.old)) }
         ensures earlier { OnOk result (AreKeptBefore time self.old self.new) }
@@ -350,7 +351,8 @@ impl Store {
             (λ table. all_stand numbers.now table ≡ true) }
         ensures stop { StopsAs (option_and_then (delete_refusal numbers.now (tables_now self.old))
             (table_at table.now (tables_now self.old))) result }
-        ensures ok { OnOk result (self.new ≡ changed_at time table.now (removed time numbers.now) self.old) }
+        ensures ok { OnOk result (self.new
+            ≡ changed_at time table.now (table_without time numbers.now) self.old) }
         ensures now { OnOk result (tables_now self.new
             ≡ with_changed table.now (with_removed numbers.now) (tables_now self.old)) }
         ensures earlier { OnOk result (AreKeptBefore time self.old self.new) }
@@ -375,7 +377,7 @@ impl Store {
     fn later_of_insert(&self, table: &str, rows: &RowList) -> Result<Option<StoreStop>, AllocError>
         requires { IsSome (table_at table.now (tables_now self.now)) }
         ensures { IfOk result (λ later. option_map
-            (λ own. missing_stop own.schema.foreign (numbered own.next rows.now)
+            (λ own. missing_stop own.schema.foreign (numbered_rows own.next rows.now)
             (with_changed own.name (with_inserted rows.now) (tables_now self.now)))
             (table_at table.now (tables_now self.now)) ≡ Some later) }
     {
@@ -397,7 +399,7 @@ impl Store {
         requires there { IsSome (table_at table.now (tables_now self.now)) }
         requires sorted { are_sorted_rows rows.now ≡ true }
         requires stand { IfSome (table_at table.now (tables_now self.now))
-            (λ table. all_stood rows.now table ≡ true) }
+            (λ table. had_rows rows.now table ≡ true) }
         ensures { IfOk result (λ later. option_map
             (λ own. option_or (missing_stop own.schema.foreign rows.now
             (with_changed own.name (with_replaced rows.now) (tables_now self.now)))
@@ -493,7 +495,7 @@ fn insert_in(
         ≡ (table_now (slice_index_or tables.old.items place no_table)).next) }
     ensures ok { OnOk result (tables.new.items
         ≡ slice_set tables.old.items place
-        (inserted time rows (slice_index_or tables.old.items place no_table))) }
+        (table_with_rows time rows (slice_index_or tables.old.items place no_table))) }
     ensures err { OnErr result (tables.new.items ≡ tables.old.items) }
 {
     let held = &mut tables[place];
@@ -513,13 +515,14 @@ fn replace_in(
     requires shape { have_shape (values_of rows) (table_now (slice_index_or tables.old.items place no_table))
         ≡ true }
     requires sorted { are_sorted_rows rows ≡ true }
-    requires stand { all_stood rows (table_now (slice_index_or tables.old.items place no_table)) ≡ true }
+    requires stand { had_rows rows (table_now (slice_index_or tables.old.items place no_table)) ≡ true }
     ensures stop { StopsAs (option_or
         (replace_stop rows (table_now (slice_index_or tables.old.items place no_table))) later) result }
     ensures ok { OnOk result (tables.new.items
         ≡ slice_set tables.old.items place
-        (replaced time rows (slice_index_or tables.old.items place no_table))) }
-    ensures now { OnOk result (table_now (replaced time rows (slice_index_or tables.old.items place no_table))
+        (table_with_values time rows (slice_index_or tables.old.items place no_table))) }
+    ensures now { OnOk result (table_now
+        (table_with_values time rows (slice_index_or tables.old.items place no_table))
         ≡ with_replaced rows (table_now (slice_index_or tables.old.items place no_table))) }
     ensures err { OnErr result (tables.new.items ≡ tables.old.items) }
 {
@@ -543,7 +546,7 @@ fn delete_in(
     ensures stop { StopsAs later result }
     ensures ok { OnOk result (tables.new.items
         ≡ slice_set tables.old.items place
-        (removed time numbers.now (slice_index_or tables.old.items place no_table))) }
+        (table_without time numbers.now (slice_index_or tables.old.items place no_table))) }
     ensures err { OnErr result (tables.new.items ≡ tables.old.items) }
 {
     let held = &mut tables[place];
@@ -552,7 +555,7 @@ fn delete_in(
 
 fn stores_of(alloc: Global, tables: Tables) -> Result<Vec<TableStore>, AllocError>
     requires { list_all is_valid_table tables ≡ true }
-    ensures { IfOk result (λ stores. stores.items ≡ map begun tables) }
+    ensures { IfOk result (λ stores. stores.items ≡ map history_at_start tables) }
 {
     let mut stores = Vec::with_capacity(alloc, tables.len())?;
     for table in tables.into_vec() {

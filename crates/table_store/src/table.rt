@@ -6,7 +6,7 @@ ghost use Rattle.std.specs.Prelude.{IfSome, length, map, slice_get, slice_index_
 ghost use Rattle.std.specs.Option.{option_map, option_map_or, option_or, option_to_list};
 ghost use Rattle.std.specs.List.{filter_map};
 ghost use Rattle.lanes.specs.Sets.{member};
-ghost use Rattle.row_version.specs.History.{current, version};
+ghost use Rattle.row_version.specs.History.{current_values, version};
 ghost use Rattle.sql_model.specs.Scope.{value_at};
 ghost use Rattle.sql_model.specs.Tables.{is_valid_table};
 ghost use Rattle.column_store.specs.LentCells.{lent_value};
@@ -14,8 +14,8 @@ ghost use Rattle.table_store.specs.Scans.{null_passes, passes_test};
 ghost use Rattle.table_store.specs.ChildPairs.{no_foreign, refers, IsNextOf};
 ghost use Rattle.table_store.specs.KeyIndex.{has_key};
 ghost use Rattle.table_store.specs.Types.{Null};
-ghost use Rattle.table_store.specs.Histories.{added, inserted, replaced, removed, noted, changed_by};
-ghost use Rattle.table_store.specs.Histories.{last_next, last_since, table_now, no_history, row_now};
+ghost use Rattle.table_store.specs.Histories.{history_of_new_row, table_with_rows, table_with_values, table_without, nexts_with, changed_by};
+ghost use Rattle.table_store.specs.Histories.{last_next_number, last_since, table_now, no_history, row_now};
 ghost use Rattle.table_store.specs.Histories.{rows_now, rows_as_of, next_as_of, version_now};
 ghost use Rattle.table_store.specs.Histories.{history_of_row, slot_of_row};
 ghost use Rattle.std.specs.List.{list_all};
@@ -23,10 +23,10 @@ ghost use Rattle.table_store.specs.Grid.{are_of_kinds, AreNumberedFrom, next_aft
 ghost use Rattle.table_store.specs.Nexts.{nexts_of};
 ghost use Rattle.table_store.specs.RowChanges.{changes_given, RiseFrom, AllFitKinds, AllStand, AreBefore};
 ghost use Rattle.table_store.specs.Stops.{has_shape, have_shape, values_of, are_sorted_rows};
-ghost use Rattle.table_store.specs.Stops.{are_sorted_numbers, all_stood, all_stand, insert_stop};
+ghost use Rattle.table_store.specs.Stops.{are_sorted_numbers, had_rows, all_stand, insert_stop};
 ghost use Rattle.table_store.specs.Stops.{replace_stop, with_replaced, StopsAs};
 ghost use Rattle.table_store.specs.RowOrder.{AreInOrder};
-ghost use Rattle.table_store.specs.TableView.{begun, kinds_in, AreTimed};
+ghost use Rattle.table_store.specs.TableView.{history_at_start, kinds_in, AreTimed};
 
 use crate::change::{RowChange, removals, rewrites};
 use crate::child_index::{ChildIndex, add_all, index_of_rows, settle_all};
@@ -34,10 +34,10 @@ use crate::claim::claim;
 use crate::given::numbers_of;
 use crate::index::{Index, held_number, index_of, number_by_slots};
 use crate::insert::{any_lacks_value, any_row_lacks_value, is_full, numbered_rows};
-use crate::nexts::{NextSince, first_next, last_since, next_as_of};
+use crate::nexts::{NextSince, nexts_at_start, last_since, next_as_of};
 use crate::rekey::claims_of;
 use crate::rows::Rows;
-use crate::stop::StoreStop;
+use crate::error::StoreStop;
 use crate::table_rows::{rows_as_of, standing_rows};
 use column_store::Cell;
 use ldv_value::{Cmp, Numbers, RowList, Utf8, Values};
@@ -73,7 +73,7 @@ impl TableStore {
     #[tactic(auto, using(crate::proofs::TableLaws::begun_rules))]
     pub(crate) fn of_table(table: Table) -> Result<TableStore, AllocError>
         requires { is_valid_table table ≡ true }
-        ensures { IfOk result (λ made. made ≡ begun table) }
+        ensures { IfOk result (λ made. made ≡ history_at_start table) }
     {
         let Table {
             name,
@@ -88,7 +88,7 @@ impl TableStore {
         let mut held = Rows::new(alloc, texts.as_slice())?;
         held.push_all(rows, 0)?;
         held.set_next(next);
-        let nexts = first_next(alloc, next)?;
+        let nexts = nexts_at_start(alloc, next)?;
         Ok(TableStore {
             name,
             schema,
@@ -128,7 +128,7 @@ impl TableStore {
     /// The rows are in the order of their numbers, which are below that of the next row. The call does
     /// nothing; it lends this to the caller.
     pub fn tell_order(&self)
-        ensures { AreInOrder self.now.slots (last_next self.now.nexts) }
+        ensures { AreInOrder self.now.slots (last_next_number self.now.nexts) }
     {
         let _nexts = &self.nexts;
         self.rows.tell_order();
@@ -136,7 +136,7 @@ impl TableStore {
 
     /// The number of the next row is below 2^32. The call does nothing; it lends this to the caller.
     pub(crate) fn tell_small(&self)
-        ensures { last_next self.now.nexts < 2 ^ 32 }
+        ensures { last_next_number self.now.nexts < 2 ^ 32 }
     {
         let _nexts = &self.nexts;
         self.rows.tell_order();
@@ -205,9 +205,9 @@ impl TableStore {
     /// A copy of the values of the row in a slot, which stands.
     #[tactic(auto, using(crate::proofs::TableLaws::slot_rules))]
     pub fn row_values(&self, slot: u64) -> Result<Values, AllocError>
-        requires { IsSome (current (slice_index_or self.now.slots slot no_history).changes) }
+        requires { IsSome (current_values (slice_index_or self.now.slots slot no_history).changes) }
         ensures { IfOk result (λ values. Some values
-            ≡ current (slice_index_or self.now.slots slot no_history).changes) }
+            ≡ current_values (slice_index_or self.now.slots slot no_history).changes) }
     {
         self.rows.copy_values(self.name.allocator(), slot as usize)
     }
@@ -216,9 +216,9 @@ impl TableStore {
     /// column. It is lent, and no row is copied.
     #[tactic(auto, using(crate::proofs::TableLaws::slot_rules))]
     pub fn cell(&self, slot: u64, column: u64) -> Cell<'_>
-        requires { IsSome (current (slice_index_or self.now.slots slot no_history).changes) }
+        requires { IsSome (current_values (slice_index_or self.now.slots slot no_history).changes) }
         ensures { Some (lent_value result) ≡ option_map (λ values. value_at values column)
-            (current (slice_index_or self.now.slots slot no_history).changes) }
+            (current_values (slice_index_or self.now.slots slot no_history).changes) }
     {
         self.rows.cell(slot as usize, column as usize)
     }
@@ -252,20 +252,20 @@ impl TableStore {
 
     /// The slots whose row stands now, as bits: a word for each 64 slots, rounded up.
     #[tactic(auto, using(crate::proofs::TableLaws::standing_now))]
-    pub fn standing(&self) -> &[u64]
+    pub fn standing_slots(&self) -> &[u64]
         ensures long { length result.now ≡ (length self.now.slots + 63) / 64 }
         ensures few { length result.now < 2 ^ 57 }
         ensures members { (n : ℕ) → member result.now n
             ≡ is_some (row_now (slice_index_or self.now.slots n no_history)) }
     {
-        self.rows.standing()
+        self.rows.standing_slots()
     }
 
     /// There are fewer than 2^32 slots. The call does nothing; it lends this to the caller.
     pub fn tell_few(&self)
         ensures { length self.now.slots < 2 ^ 32 }
     {
-        let _standing = self.rows.standing();
+        let _standing = self.rows.standing_slots();
     }
 
     /// The version of a row: how often it has changed. `None` where it doesn't stand now.
@@ -282,7 +282,7 @@ impl TableStore {
     /// The version of the row in a slot, which stands: how often it has changed. No slot is looked for.
     #[tactic(auto, using(crate::proofs::TableLaws::slot_rules))]
     pub fn version_at(&self, slot: u64) -> u32
-        requires { IsSome (current (slice_index_or self.now.slots slot no_history).changes) }
+        requires { IsSome (current_values (slice_index_or self.now.slots slot no_history).changes) }
         ensures { result ≡ version (slice_index_or self.now.slots slot no_history).changes }
     {
         self.rows.version(slot as usize)
@@ -315,7 +315,7 @@ impl TableStore {
     /// now.
     pub fn next_at(&self, time: u32) -> u32
         ensures number { result ≡ next_as_of time self.now.nexts }
-        ensures last { last_since self.now.nexts ≤ time → result ≡ last_next self.now.nexts }
+        ensures last { last_since self.now.nexts ≤ time → result ≡ last_next_number self.now.nexts }
     {
         next_as_of(self.nexts.as_slice(), time)
     }
@@ -346,8 +346,8 @@ impl TableStore {
         requires later { last_since self.old.nexts < time }
         requires shape { list_all (has_shape self.old.schema.columns) rows ≡ true }
         ensures stop { StopsAs (option_or (insert_stop rows (table_now self.old)) later) result }
-        ensures first { IfOk result (λ first. first ≡ last_next self.old.nexts) }
-        ensures ok { OnOk result (self.new ≡ inserted time rows self.old) }
+        ensures first { IfOk result (λ first. first ≡ last_next_number self.old.nexts) }
+        ensures ok { OnOk result (self.new ≡ table_with_rows time rows self.old) }
         ensures err { OnErr result (self.new ≡ self.old) }
     {
         if any_lacks_value(self.schema.columns.items(), rows.items()) {
@@ -398,10 +398,10 @@ impl TableStore {
         requires later { last_since self.old.nexts < time }
         requires shape { have_shape (values_of rows) (table_now self.old) ≡ true }
         requires sorted { are_sorted_rows rows ≡ true }
-        requires stand { all_stood rows (table_now self.old) ≡ true }
+        requires stand { had_rows rows (table_now self.old) ≡ true }
         ensures stop { StopsAs (option_or (replace_stop rows (table_now self.old)) later) result }
-        ensures ok { OnOk result (self.new ≡ replaced time rows self.old) }
-        ensures now { OnOk result (table_now (replaced time rows self.old)
+        ensures ok { OnOk result (self.new ≡ table_with_values time rows self.old) }
+        ensures now { OnOk result (table_now (table_with_values time rows self.old)
             ≡ with_replaced rows (table_now self.old)) }
         ensures err { OnErr result (self.new ≡ self.old) }
     {
@@ -460,7 +460,7 @@ impl TableStore {
         requires sorted { are_sorted_numbers numbers.now ≡ true }
         requires stand { all_stand numbers.now (table_now self.old) ≡ true }
         ensures stop { StopsAs later result }
-        ensures ok { OnOk result (self.new ≡ removed time numbers.now self.old) }
+        ensures ok { OnOk result (self.new ≡ table_without time numbers.now self.old) }
         ensures err { OnErr result (self.new ≡ self.old) }
     {
         match later {
@@ -494,7 +494,7 @@ fn add_rows(
     requires few { length made < 2 ^ 32 }
     requires kinds { are_of_kinds rows.old.kinds made ≡ true }
     ensures ok { OnOk result (rows.new ≡ record rows.old {
-      slots = rows.old.slots ++ map (added time) made;
+      slots = rows.old.slots ++ map (history_of_new_row time) made;
       next = next_after rows.old.next made;
     }) }
     ensures nexts { OnOk result (nexts_of nexts.new.items
@@ -526,7 +526,7 @@ fn change_rows(
     ensures ok { OnOk result (rows.new
         ≡ record rows.old { slots = map (changed_by (changes_given time given.items)) rows.old.slots }) }
     ensures nexts { OnOk result (nexts_of nexts.new.items
-        ≡ noted time rows.old.next (nexts_of nexts.old.items)) }
+        ≡ nexts_with time rows.old.next (nexts_of nexts.old.items)) }
     ensures err { OnErr result (rows.new ≡ rows.old) }
     ensures nexts_err { OnErr result (nexts.new.items ≡ nexts.old.items) }
 {
@@ -543,7 +543,7 @@ fn change_rows(
 fn version_in(rows: &Rows, slot: usize) -> Option<u32>
     requires { slot < length rows.now.slots }
     ensures { let row = slice_index_or rows.now.slots slot no_history in
-        result ≡ (if is_some (current row.changes) then Some (version row.changes) else None) }
+        result ≡ (if is_some (current_values row.changes) then Some (version row.changes) else None) }
 {
     if rows.stands(slot) {
         Some(rows.version(slot))

@@ -2,7 +2,7 @@
 
 ghost use Rattle.std.specs.Prelude.{◌≡◌, ◌++◌, ◌+◌, ◌<◌, ◌≤◌, length, slice_index_or, IfOk, IsSome, OnOk};
 ghost use Rattle.std.specs.Option.{option_to_list};
-ghost use Rattle.row_version.specs.History.{current};
+ghost use Rattle.row_version.specs.History.{current_values};
 ghost use Rattle.table_store.specs.Histories.{no_history, row_now, row_as_of, rows_now, rows_as_of};
 
 use crate::rows::Rows;
@@ -19,7 +19,7 @@ fn add_standing(
     slot: usize,
     made: &mut TableRows,
 ) -> Result<(), AllocError>
-    requires { IsSome (current (slice_index_or rows.now.slots slot no_history).changes) }
+    requires { IsSome (current_values (slice_index_or rows.now.slots slot no_history).changes) }
     ensures { OnOk result (made.new
         ≡ made.old ++ option_to_list (row_now (slice_index_or rows.now.slots slot no_history))) }
 {
@@ -31,7 +31,7 @@ fn add_standing(
 // The slot after one whose row stands.
 #[tactic(auto, using(crate::proofs::TableLaws::some_within))]
 fn after(rows: &Rows, slot: u64) -> u64
-    requires { IsSome (current (slice_index_or rows.now.slots slot no_history).changes) }
+    requires { IsSome (current_values (slice_index_or rows.now.slots slot no_history).changes) }
     ensures next { result ≡ slot + 1 }
     ensures within { result ≤ length rows.now.slots }
 {
@@ -44,7 +44,7 @@ fn after(rows: &Rows, slot: u64) -> u64
 pub(crate) fn standing_rows(alloc: Global, rows: &Rows) -> Result<TableRows, AllocError>
     ensures { IfOk result (λ made. made ≡ rows_now rows.now.slots) }
 {
-    let words = rows.standing();
+    let words = rows.standing_slots();
     let mut made = List::new(alloc);
     let mut at = 0;
     'slots: loop {

@@ -6,7 +6,7 @@ use Rattle.std.specs.Cmp.{IsEquivalence}
 use Rattle.std.proofs.lemmas.Map.Views.{any-filter_same}
 use Rattle.ldv_value.proofs.Lists.{append-nil, filter-append}
 use Rattle.ldv_value.proofs.Booleans.{or-parts}
-use Rattle.trace_graph.specs.Graph.{distinct}
+use Rattle.trace_graph.specs.Graph.{distinct_items}
 
 -- an item at the end, if none that is the same is there
 abbrev pub with_item : {X : Type 0} → (X → X → Bool) → List X → X → List X
@@ -60,34 +60,34 @@ module _ {X : Type 0} {same : X → X → Bool} (laws : IsEquivalence same) wher
       any-filter_same (same x) (λ z. not (same y z)) true (λ k hit. apart_stays y x k apart hit) xs
 
   -- one item more at the end
-  pub distinct_more : (xs : List X) (x : X) → distinct same (xs ++ x ∷ []) ≡ with_item same (distinct same xs) x
+  pub distinct_more : (xs : List X) (x : X) → distinct_items same (xs ++ x ∷ []) ≡ with_item same (distinct_items same xs) x
   distinct_more [] x = refl
   distinct_more (y ∷ ys) x =
       ap (λ l. y ∷ filter (λ z. not (same y z)) l) (distinct_more ys x) ∙ by (same x y) refl
     where
       by : (b : Bool) → same x y ≡ b
-          → y ∷ filter (λ z. not (same y z)) (with_item same (distinct same ys) x)
-          ≡ with_item same (y ∷ filter (λ z. not (same y z)) (distinct same ys)) x
+          → y ∷ filter (λ z. not (same y z)) (with_item same (distinct_items same ys) x)
+          ≡ with_item same (y ∷ filter (λ z. not (same y z)) (distinct_items same ys)) x
       by true hit =
-          ap (λ l. y ∷ l) (filter_out same (λ z. not (same y z)) (distinct same ys) x (ap not (laws.symm y x ∙ hit)))
-          ∙ sym (with_item-head same y x (filter (λ z. not (same y z)) (distinct same ys)) hit)
+          ap (λ l. y ∷ l) (filter_out same (λ z. not (same y z)) (distinct_items same ys) x (ap not (laws.symm y x ∙ hit)))
+          ∙ sym (with_item-head same y x (filter (λ z. not (same y z)) (distinct_items same ys)) hit)
       by false apart =
-          ap (λ l. y ∷ l) (filter_kept same (λ z. not (same y z)) (distinct same ys) x
-          (ap not (laws.symm y x ∙ apart)) (any_apart y x (distinct same ys) apart))
-          ∙ with_item-cons same y x (filter (λ z. not (same y z)) (distinct same ys)) apart
+          ap (λ l. y ∷ l) (filter_kept same (λ z. not (same y z)) (distinct_items same ys) x
+          (ap not (laws.symm y x ∙ apart)) (any_apart y x (distinct_items same ys) apart))
+          ∙ with_item-cons same y x (filter (λ z. not (same y z)) (distinct_items same ys)) apart
 
   -- each item has one that is the same
-  pub any_distinct : (xs : List X) (x : X) → list_any (same x) (distinct same xs) ≡ list_any (same x) xs
+  pub any_distinct : (xs : List X) (x : X) → list_any (same x) (distinct_items same xs) ≡ list_any (same x) xs
   any_distinct [] x = refl
   any_distinct (y ∷ ys) x = by (any_distinct ys x) (same x y) refl
     where
-      by : list_any (same x) (distinct same ys) ≡ list_any (same x) ys → (b : Bool) → same x y ≡ b
-          → (same x y || list_any (same x) (filter (λ z. not (same y z)) (distinct same ys)))
+      by : list_any (same x) (distinct_items same ys) ≡ list_any (same x) ys → (b : Bool) → same x y ≡ b
+          → (same x y || list_any (same x) (filter (λ z. not (same y z)) (distinct_items same ys)))
           ≡ (same x y || list_any (same x) ys)
       by rest true hit =
-          ap (λ c. c || list_any (same x) (filter (λ z. not (same y z)) (distinct same ys))) hit
+          ap (λ c. c || list_any (same x) (filter (λ z. not (same y z)) (distinct_items same ys))) hit
           ∙ sym (ap (λ c. c || list_any (same x) ys) hit)
-      by rest false apart = ap (λ c. same x y || c) (any_apart y x (distinct same ys) apart ∙ rest)
+      by rest false apart = ap (λ c. same x y || c) (any_apart y x (distinct_items same ys) apart ∙ rest)
 
 -- ---- no two the same
 
@@ -112,19 +112,19 @@ apart_filter same p (x ∷ xs) apart = by (apart_filter same p xs apart.1) (p x)
     by rest true = (any_filter (same x) p xs apart.0, rest)
     by rest false = rest
 
-none_left : {X : Type 0} (q : X → Bool) (xs : List X) → list_any q (filter (λ z. not (q z)) xs) ≡ false
-none_left q [] = refl
-none_left q (x ∷ xs) = by (none_left q xs) (q x) refl
+list_any-filter-not : {X : Type 0} (q : X → Bool) (xs : List X) → list_any q (filter (λ z. not (q z)) xs) ≡ false
+list_any-filter-not q [] = refl
+list_any-filter-not q (x ∷ xs) = by (list_any-filter-not q xs) (q x) refl
   where
     by : list_any q (filter (λ z. not (q z)) xs) ≡ false → (b : Bool) → q x ≡ b
         → list_any q (cond (not b) (x ∷ filter (λ z. not (q z)) xs) (filter (λ z. not (q z)) xs)) ≡ false
     by rest true is = rest
     by rest false is = ap (λ c. c || list_any q (filter (λ z. not (q z)) xs)) is ∙ rest
 
-pub distinct_apart : {X : Type 0} (same : X → X → Bool) (xs : List X) → AllApart same (distinct same xs)
+pub distinct_apart : {X : Type 0} (same : X → X → Bool) (xs : List X) → AllApart same (distinct_items same xs)
 distinct_apart same [] = tt
 distinct_apart same (x ∷ xs) =
-    (none_left (same x) (distinct same xs), apart_filter same (λ y. not (same x y)) (distinct same xs) (distinct_apart same xs))
+    (list_any-filter-not (same x) (distinct_items same xs), apart_filter same (λ y. not (same x y)) (distinct_items same xs) (distinct_apart same xs))
 
 -- ---- what holds of each
 
@@ -136,6 +136,6 @@ all_filter P p (x ∷ xs) all = by (all_filter P p xs all.1) (p x)
     by rest true = (all.0, rest)
     by rest false = rest
 
-pub all_distinct : {X : Type 0} (P : X → Type 0) (same : X → X → Bool) (xs : List X) → AllByRecursion P xs → AllByRecursion P (distinct same xs)
+pub all_distinct : {X : Type 0} (P : X → Type 0) (same : X → X → Bool) (xs : List X) → AllByRecursion P xs → AllByRecursion P (distinct_items same xs)
 all_distinct P same [] all = tt
-all_distinct P same (x ∷ xs) all = (all.0, all_filter P (λ y. not (same x y)) (distinct same xs) (all_distinct P same xs all.1))
+all_distinct P same (x ∷ xs) all = (all.0, all_filter P (λ y. not (same x y)) (distinct_items same xs) (all_distinct P same xs all.1))

@@ -9,8 +9,8 @@ use Rattle.ldv_value.proofs.Lists.{append-nil, filter-append, list_any-append}
 use Rattle.ldv_value.proofs.Booleans.{or-parts, or-true}
 use Rattle.trace_graph.specs.Types.{Node, Edge}
 use Rattle.trace_graph.specs.Links.{Link}
-use Rattle.trace_graph.specs.Graph.{same_node, same_ends, distinct, ends, nodes_of, place_in, times_of, edge_of}
-use Rattle.trace_graph.specs.Building.{with_node, with_time, joins, widened, edge_from, instant}
+use Rattle.trace_graph.specs.Graph.{same_node, same_ends, distinct_items, ends, nodes_of, place_in, times_of, edge_of}
+use Rattle.trace_graph.specs.Building.{with_node, with_time, joins, edge_with_time, edge_from, instant}
 use Rattle.trace_graph.proofs.Distinct.{with_item, with_item-cons, with_item-head, distinct_more, any_distinct, AllApart}
 use Rattle.trace_graph.proofs.NodeLaws.{node_laws, node_itself, ends_laws}
 use Rattle.trace_graph.proofs.PlaceLaws.{place_more, place_own, any_more, any_own, same_place}
@@ -20,7 +20,7 @@ use Rattle.trace_graph.proofs.PlaceLaws.{place_more, place_own, any_more, any_ow
 pub nodes_more : (done : List Link) (l : Link) → nodes_of (done ++ l ∷ []) ≡ with_node (with_node (nodes_of done) l.source) l.target
 nodes_more done l =
     let all = flat_map ends done in
-    ap (distinct same_node) (flat_map-append ends done (l ∷ []) ∙ sym (append_assoc all (l.source ∷ []) (l.target ∷ [])))
+    ap (distinct_items same_node) (flat_map-append ends done (l ∷ []) ∙ sym (append_assoc all (l.source ∷ []) (l.target ∷ [])))
     ∙ distinct_more node_laws (all ++ l.source ∷ []) l.target
     ∙ ap (λ (nodes : List Node). with_node nodes l.target) (distinct_more node_laws all l.source)
 
@@ -50,7 +50,7 @@ ends_there before (l ∷ ls) =
       subst (λ (all : List Node). AllByRecursion (AreThere all) ls) moved (ends_there (before ++ l.source ∷ l.target ∷ []) ls),
     )
 
-distinct_there : (all : List Node) (ls : List Link) → AllByRecursion (AreThere all) ls → AllByRecursion (AreThere (distinct same_node all)) ls
+distinct_there : (all : List Node) (ls : List Link) → AllByRecursion (AreThere all) ls → AllByRecursion (AreThere (distinct_items same_node all)) ls
 unfolding AreThere
 distinct_there all [] there = tt
 distinct_there all (l ∷ ls) there = (
@@ -142,7 +142,7 @@ module _ (done : List Link) (l : Link) where
       ∙ same_place node_laws source-more l.target x.target (any_more (same_node x.target) same_node nodes l.source any) in
       λ j. sources j && targets j
 
-  widens : (x : Link) → AreThere nodes x → same_ends l x ≡ true → new x ≡ widened (old x) l.time
+  widens : (x : Link) → AreThere nodes x → same_ends l x ≡ true → new x ≡ edge_with_time (old x) l.time
   widens x there hit =
       let source = place_kept x.source (source_there nodes x there) in
       let target = place_kept x.target (target_there nodes x there) in
@@ -160,7 +160,7 @@ module _ (done : List Link) (l : Link) where
       let times = times_miss done l x (ends_laws.symm x l ∙ miss) in
       λ j. record { source = source j; target = target j; first = fold min x.time (times j); last = fold max x.time (times j) }
 
-  comes : list_any (same_ends l) (distinct same_ends done) ≡ false
+  comes : list_any (same_ends l) (distinct_items same_ends done) ≡ false
       → new l ≡ edge_from (place_in nodes l.source) (place_in source-more l.target) (instant l.time)
   comes none =
       let times = times_fresh done l (sym (any_distinct ends_laws done l) ∙ none) in
@@ -173,7 +173,7 @@ module _ (done : List Link) (l : Link) where
 -- what one link more does to the edge of another
 pub record Moves (l x : Link) (before after : Edge) (source target time : ℕ) : Type 0 where
   pub is_joined : joins source target before ≡ same_ends l x
-  pub is_widened : same_ends l x ≡ true → after ≡ widened before time
+  pub is_widened : same_ends l x ≡ true → after ≡ edge_with_time before time
   pub is_kept : same_ends l x ≡ false → after ≡ before
 
 module _ (l : Link) (before after : Link → Edge) (source target time : ℕ) where
@@ -204,11 +204,11 @@ module _ (l : Link) (before after : Link → Edge) (source target time : ℕ) wh
           → with_time source target time (map before xs) ≡ map after (with_item same_ends xs l))
           → with_time source target time (before x ∷ map before xs) ≡ map after (with_item same_ends (x ∷ xs) l)
       by true hit rest =
-          ap (λ (b : Bool). if b then widened (before x) time ∷ map before xs else before x ∷ with_time source target time (map before xs)) (moves.0.is_joined ∙ hit)
+          ap (λ (b : Bool). if b then edge_with_time (before x) time ∷ map before xs else before x ∷ with_time source target time (map before xs)) (moves.0.is_joined ∙ hit)
           ∙ (λ j. sym (moves.0.is_widened hit) j ∷ unmoved xs moves.1 (none_more x xs hit apart.0) j)
           ∙ sym (ap (map after) (with_item-head same_ends x l xs hit))
       by false miss rest =
-          ap (λ (b : Bool). if b then widened (before x) time ∷ map before xs else before x ∷ with_time source target time (map before xs)) (moves.0.is_joined ∙ miss)
+          ap (λ (b : Bool). if b then edge_with_time (before x) time ∷ map before xs else before x ∷ with_time source target time (map before xs)) (moves.0.is_joined ∙ miss)
           ∙ (λ j. sym (moves.0.is_kept miss) j ∷ rest (λ none. comes (ap (λ (b : Bool). b || list_any (same_ends l) xs) miss ∙ none)) j)
           ∙ ap (map after) (with_item-cons same_ends x l xs miss)
 
@@ -225,13 +225,13 @@ all_move done l (x ∷ xs) there = (
 )
 
 -- the edges after one link more
-pub edges_more : (done : List Link) (l : Link) (there : AllByRecursion (AreThere (nodes_of done)) (distinct same_ends done))
-    → AllApart same_ends (distinct same_ends done)
+pub edges_more : (done : List Link) (l : Link) (there : AllByRecursion (AreThere (nodes_of done)) (distinct_items same_ends done))
+    → AllApart same_ends (distinct_items same_ends done)
     → with_time (place_in (nodes_of done) l.source) (place_in (with_node (nodes_of done) l.source) l.target) l.time
-    (map (edge_of (nodes_of done) done) (distinct same_ends done))
-    ≡ map (edge_of (nodes_of (done ++ l ∷ [])) (done ++ l ∷ [])) (distinct same_ends (done ++ l ∷ []))
+    (map (edge_of (nodes_of done) done) (distinct_items same_ends done))
+    ≡ map (edge_of (nodes_of (done ++ l ∷ [])) (done ++ l ∷ [])) (distinct_items same_ends (done ++ l ∷ []))
 edges_more done l there apart =
     timed_all l (old done l) (new done l) (place_in (nodes_of done) l.source) (place_in (with_node (nodes_of done) l.source) l.target) l.time
-    (distinct same_ends done) apart (all_move done l (distinct same_ends done) there) (comes done l)
+    (distinct_items same_ends done) apart (all_move done l (distinct_items same_ends done) there) (comes done l)
     ∙ ap (map (new done l)) (sym (distinct_more ends_laws done l))
-    ∙ ap (λ (nodes : List Node). map (edge_of nodes (done ++ l ∷ [])) (distinct same_ends (done ++ l ∷ []))) (sym (nodes_more done l))
+    ∙ ap (λ (nodes : List Node). map (edge_of nodes (done ++ l ∷ [])) (distinct_items same_ends (done ++ l ∷ []))) (sym (nodes_more done l))

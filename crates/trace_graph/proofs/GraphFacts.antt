@@ -11,7 +11,7 @@ use Rattle.ldv_value.proofs.Lists.{list_any-map, list_any-append, found-passes, 
 use Rattle.ldv_value.proofs.Booleans.{and-first, and-second, and-from, or-assoc, or-true, false≢true}
 use Rattle.trace_graph.specs.Types.{Node, Edge}
 use Rattle.trace_graph.specs.Links.{Link}
-use Rattle.trace_graph.specs.Graph.{same_node, same_ends, distinct, ends, nodes_of, place_in, times_of, edge_of, edges_of}
+use Rattle.trace_graph.specs.Graph.{same_node, same_ends, distinct_items, ends, nodes_of, place_in, times_of, edge_of, edges_of}
 use Rattle.trace_graph.specs.GraphLaws.{passes_at, touches, links_to, covers, NodesLaw, EdgesLaw, IntervalsLaw}
 use Rattle.trace_graph.proofs.Distinct.{any_distinct, all_distinct}
 use Rattle.trace_graph.proofs.NodeLaws.{node_laws, node_is, ends_laws}
@@ -59,25 +59,25 @@ module _ (q : Link → Bool) (respects : (a b : Link) → same_ends a b ≡ true
       by false same = refl
 
   -- what can't tell links between the same nodes apart finds the same among those that are there once
-  any_once : (links : List Link) → list_any q (distinct same_ends links) ≡ list_any q links
+  any_once : (links : List Link) → list_any q (distinct_items same_ends links) ≡ list_any q links
   any_once [] = refl
   any_once (l ∷ ls) = by (q l) refl (any_once ls)
     where
-      by : (b : Bool) → q l ≡ b → list_any q (distinct same_ends ls) ≡ list_any q ls
-          → (q l || list_any q (filter (λ k. not (same_ends l k)) (distinct same_ends ls))) ≡ (q l || list_any q ls)
+      by : (b : Bool) → q l ≡ b → list_any q (distinct_items same_ends ls) ≡ list_any q ls
+          → (q l || list_any q (filter (λ k. not (same_ends l k)) (distinct_items same_ends ls))) ≡ (q l || list_any q ls)
       by true is rest =
-          ap (λ (b : Bool). b || list_any q (filter (λ k. not (same_ends l k)) (distinct same_ends ls))) is
+          ap (λ (b : Bool). b || list_any q (filter (λ k. not (same_ends l k)) (distinct_items same_ends ls))) is
           ∙ sym (ap (λ (b : Bool). b || list_any q ls) is)
       by false is rest =
           ap (λ (b : Bool). q l || b)
-          (any-filter_same q (λ k. not (same_ends l k)) true (λ k passes. stays_in l k is passes) (distinct same_ends ls) ∙ rest)
+          (any-filter_same q (λ k. not (same_ends l k)) true (λ k passes. stays_in l k is passes) (distinct_items same_ends ls) ∙ rest)
 
 any_agree : (p q : Link → Bool) (P : Link → Type 0) → ((l : Link) → P l → p l ≡ q l) → (ls : List Link) → AllByRecursion P ls
     → list_any p ls ≡ list_any q ls
 any_agree p q P agree [] all = refl
 any_agree p q P agree (l ∷ ls) all = λ j. agree l all.0 j || any_agree p q P agree ls all.1 j
 
-once_there : (links : List Link) → AllByRecursion (AreThere (nodes_of links)) (distinct same_ends links)
+once_there : (links : List Link) → AllByRecursion (AreThere (nodes_of links)) (distinct_items same_ends links)
 once_there links = all_distinct (AreThere (nodes_of links)) same_ends links (all_there links)
 
 -- links between the same nodes lead alike
@@ -90,11 +90,11 @@ leads_alike test n a b same =
 pub edges_law : EdgesLaw
 edges_law links test n =
     let nodes = nodes_of links in
-    list_any-map (λ (e : Edge). passes_at test nodes e.source && passes_at (same_node n) nodes e.target) (edge_of nodes links) (distinct same_ends links)
+    list_any-map (λ (e : Edge). passes_at test nodes e.source && passes_at (same_node n) nodes e.target) (edge_of nodes links) (distinct_items same_ends links)
     ∙ any_agree (λ l. passes_at test nodes (place_in nodes l.source) && passes_at (same_node n) nodes (place_in nodes l.target)) (links_to test n)
     (AreThere nodes)
     (λ l there. λ j. passes_place test nodes l.source (source_there nodes l there) j && passes_place (same_node n) nodes l.target (target_there nodes l there) j)
-    (distinct same_ends links) (once_there links)
+    (distinct_items same_ends links) (once_there links)
     ∙ any_once (links_to test n) (leads_alike test n) links
 
 -- ---- intervals
@@ -188,7 +188,7 @@ all_covered : (links ls : List Link) → AllByRecursion (IsTimed links) ls → A
     → AllByRecursion (λ l. IsTrue (list_any (covers (nodes_of links) l) (edges_of (nodes_of links) links))) ls
 all_covered links [] timed found = tt
 all_covered links (l ∷ ls) timed found = (
-  covered (nodes_of links) links l timed.0 (distinct same_ends links) (once_there links) (any_distinct ends_laws links l ∙ found.0),
+  covered (nodes_of links) links l timed.0 (distinct_items same_ends links) (once_there links) (any_distinct ends_laws links l ∙ found.0),
   all_covered links ls timed.1 found.1,
 )
 

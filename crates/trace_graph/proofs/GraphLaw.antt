@@ -9,14 +9,14 @@ use Rattle.ldv_value.proofs.Booleans.{and-from}
 use Rattle.run_model.specs.ValidTrace.{made_after}
 use Rattle.trace_graph.specs.Types.{Node, Event}
 use Rattle.trace_graph.specs.Links.{Link, event_links, links_after, links_of}
-use Rattle.trace_graph.specs.Graph.{Parts, same_node, same_ends, distinct, nodes_of, edge_of, graph_by, graph_of, is_between, are_between}
+use Rattle.trace_graph.specs.Graph.{Parts, same_node, same_ends, distinct_items, nodes_of, edge_of, graph_by, graph_of, is_between, are_between}
 use Rattle.trace_graph.specs.Building.{with_link, with_links, with_events, no_parts}
 use Rattle.trace_graph.proofs.Distinct.{distinct_apart, all_distinct}
 use Rattle.trace_graph.proofs.PlaceLaws.{place_within}
 use Rattle.trace_graph.proofs.EdgeLaws.{AreThere, all_there, source_there, target_there, nodes_more, edges_more}
 use Rattle.trace_graph.proofs.LinkLists.{with_more}
 
-there : (links : List Link) → AllByRecursion (AreThere (nodes_of links)) (distinct same_ends links)
+there : (links : List Link) → AllByRecursion (AreThere (nodes_of links)) (distinct_items same_ends links)
 there links = all_distinct (AreThere (nodes_of links)) same_ends links (all_there links)
 
 -- one link more
@@ -57,7 +57,7 @@ edges_between nodes links (x ∷ xs) there =
     (edges_between nodes links xs there.1)
 
 pub between : (links : List Link) → IsTrue (are_between (length (graph_by links).nodes) (graph_by links).edges)
-between links = edges_between (nodes_of links) links (distinct same_ends links) (there links)
+between links = edges_between (nodes_of links) links (distinct_items same_ends links) (there links)
 
 -- so are those of what was built
 pub built_between : (parts : Parts) (events : List Event) → parts ≡ with_events no_parts 1 events

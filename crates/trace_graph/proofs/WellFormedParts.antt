@@ -6,9 +6,9 @@ use Rattle.ldv_value.proofs.Booleans.{and-first, and-second}
 use Rattle.sql_model.specs.Keys.{repeats}
 use Rattle.trace_graph.specs.Types.{Node, Edge}
 use Rattle.trace_graph.specs.Graph.{Parts, same_node, are_between}
-use Rattle.trace_graph.specs.WellFormed.{node_rule, same_places, times_rule, WellFormed}
+use Rattle.trace_graph.specs.WellFormed.{node_rule, same_places, times_rule, IsWellFormed}
 
-module _ (graph : Parts) (formed : WellFormed graph) where
+module _ (graph : Parts) (formed : IsWellFormed graph) where
   after_nodes : (list_all node_rule graph.nodes && (are_between (length graph.nodes) graph.edges && (not (repeats same_places graph.edges) && list_all times_rule graph.edges))) ≡ true
   after_nodes =
       and-second (not (repeats same_node graph.nodes))
@@ -40,6 +40,6 @@ module _ (graph : Parts) (formed : WellFormed graph) where
   pub edges_timed : list_all times_rule graph.edges ≡ true
   edges_timed = and-second (not (repeats same_places graph.edges)) (list_all times_rule graph.edges) after_places
 
-pub formed_between : (nodes : List Node) (edges : List Edge) → WellFormed (record { nodes = nodes; edges = edges })
+pub formed_between : (nodes : List Node) (edges : List Edge) → IsWellFormed (record { nodes = nodes; edges = edges })
     → IsTrue (are_between (length nodes) edges)
 formed_between nodes edges formed = edges_between (record { nodes = nodes; edges = edges }) formed

@@ -15,8 +15,8 @@ use Rattle.run_model.specs.ValidTrace.{starts, starts_on, trace_test, named_rule
 use Rattle.trace_graph.specs.Types.{Member, Need, Act, Event, Node, Row, Edge}
 use Rattle.trace_graph.specs.Links.{Link, link, read_link, made_link, version_before, at_version, change_link}
 use Rattle.trace_graph.specs.Links.{act_links, event_links, links_after, links_of}
-use Rattle.trace_graph.specs.Graph.{same_node, same_ends, distinct, ends, nodes_of, place_in, times_of, edge_of, graph_by, are_between}
-use Rattle.trace_graph.specs.WellFormed.{node_rule, same_places, times_rule, WellFormed, WellFormedLaw, EndLaw}
+use Rattle.trace_graph.specs.Graph.{same_node, same_ends, distinct_items, ends, nodes_of, place_in, times_of, edge_of, graph_by, are_between}
+use Rattle.trace_graph.specs.WellFormed.{node_rule, same_places, times_rule, IsWellFormed, WellFormedLaw, EndLaw}
 use Rattle.trace_graph.proofs.Distinct.{AllApart, distinct_apart, all_distinct}
 use Rattle.trace_graph.proofs.NodeLaws.{node_laws}
 use Rattle.trace_graph.proofs.PlaceLaws.{same_place}
@@ -89,9 +89,9 @@ edges_repeat nodes links (x ∷ xs) there = λ j. none_same nodes links x xs the
 
 edges_once : (links : List Link) → repeats same_places (graph_by links).edges ≡ false
 edges_once links =
-    edges_repeat (nodes_of links) links (distinct same_ends links)
+    edges_repeat (nodes_of links) links (distinct_items same_ends links)
     (all_distinct (AreThere (nodes_of links)) same_ends links (all_there links))
-    ∙ apart_once same_ends (distinct same_ends links) (distinct_apart same_ends links)
+    ∙ apart_once same_ends (distinct_items same_ends links) (distinct_apart same_ends links)
 
 -- ---- times
 
@@ -148,12 +148,12 @@ edges_timed nodes links (x ∷ xs) all sound =
 
 -- ---- graphs
 
-pub links_formed : (links : List Link) → AreSound max_steps links → WellFormed (graph_by links)
+pub links_formed : (links : List Link) → AreSound max_steps links → IsWellFormed (graph_by links)
 links_formed links sound =
     let graph = graph_by links in
     let once : not (repeats same_places graph.edges) ≡ true = ap not (edges_once links) in
     let timed : list_all times_rule graph.edges ≡ true =
-    edges_timed (nodes_of links) links (distinct same_ends links) sound (all_distinct (IsSound max_steps) same_ends links sound) in
+    edges_timed (nodes_of links) links (distinct_items same_ends links) sound (all_distinct (IsSound max_steps) same_ends links sound) in
     let edges : (not (repeats same_places graph.edges) && list_all times_rule graph.edges) ≡ true =
     and-from (not (repeats same_places graph.edges)) (list_all times_rule graph.edges) once timed in
     let placed : (are_between (length graph.nodes) graph.edges && (not (repeats same_places graph.edges) && list_all times_rule graph.edges)) ≡ true =
@@ -167,7 +167,7 @@ links_formed links sound =
 
 pub links_end : (limit : ℕ) (links : List Link) → AreSound limit links → AllByRecursion (λ (e : Edge). e.last ≤ limit) (graph_by links).edges
 links_end limit links sound =
-    edges_end limit (nodes_of links) links (distinct same_ends links) sound (all_distinct (IsSound limit) same_ends links sound)
+    edges_end limit (nodes_of links) links (distinct_items same_ends links) sound (all_distinct (IsSound limit) same_ends links sound)
 
 -- ---- acts
 

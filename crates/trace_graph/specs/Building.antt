@@ -65,14 +65,14 @@ edge_from source target span = record {
   last = span.last;
 }
 
-abbrev pub widened : Edge → ℕ → Edge
-widened edge time = record edge { first = min edge.first time; last = max edge.last time }
+abbrev pub edge_with_time : Edge → ℕ → Edge
+edge_with_time edge time = record edge { first = min edge.first time; last = max edge.last time }
 
 -- the edges with a time more of the one between two places, which comes last if it isn't there yet
 abbrev pub with_time : ℕ → ℕ → ℕ → List Edge → List Edge
 with_time source target time [] = edge_from source target (instant time) ∷ []
 with_time source target time (edge ∷ edges) =
-    if joins source target edge then widened edge time ∷ edges
+    if joins source target edge then edge_with_time edge time ∷ edges
     else edge ∷ with_time source target time edges
 
 unfoldable pub with_link : Parts → Link → Parts

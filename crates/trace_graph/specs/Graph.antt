@@ -31,9 +31,9 @@ abbrev pub same_ends : Link → Link → Bool
 same_ends a b = same_node a.source b.source && same_node a.target b.target
 
 -- each item once, at the place of the first that is the same
-abbrev pub distinct : {X : Type 0} → (X → X → Bool) → List X → List X
-distinct same [] = []
-distinct same (x ∷ xs) = x ∷ filter (λ other. not (same x other)) (distinct same xs)
+abbrev pub distinct_items : {X : Type 0} → (X → X → Bool) → List X → List X
+distinct_items same [] = []
+distinct_items same (x ∷ xs) = x ∷ filter (λ other. not (same x other)) (distinct_items same xs)
 
 -- ---- nodes
 
@@ -42,7 +42,7 @@ ends l = l.source ∷ l.target ∷ []
 
 -- the source of a link comes before its target
 abbrev pub nodes_of : List Link → List Node
-nodes_of links = distinct same_node (flat_map ends links)
+nodes_of links = distinct_items same_node (flat_map ends links)
 
 abbrev pub place_in : List Node → Node → ℕ
 place_in nodes node = position_or_len (same_node node) nodes
@@ -64,7 +64,7 @@ edge_of nodes links l = record {
 }
 
 abbrev pub edges_of : List Node → List Link → List Edge
-edges_of nodes links = map (edge_of nodes links) (distinct same_ends links)
+edges_of nodes links = map (edge_of nodes links) (distinct_items same_ends links)
 
 -- ---- graphs
 

@@ -31,19 +31,19 @@ times_rule e = nat_le e.first e.last && nat_le e.last max_steps
 
 -- nodes differ and meet their rules, edges are between places of nodes, no two of them between the same
 -- places, and their times rise
-abbrev pub well_formed : Parts → Bool
-well_formed graph =
+abbrev pub is_well_formed : Parts → Bool
+is_well_formed graph =
     not (repeats same_node graph.nodes) && (list_all node_rule graph.nodes
     && (are_between (length graph.nodes) graph.edges
     && (not (repeats same_places graph.edges) && list_all times_rule graph.edges)))
 
-abbrev pub WellFormed : Parts → Type 0
-WellFormed graph = IsTrue (well_formed graph)
+abbrev pub IsWellFormed : Parts → Type 0
+IsWellFormed graph = IsTrue (is_well_formed graph)
 
 -- the graph of a valid trace, whose steps a run may have
 abbrev pub WellFormedLaw : Type 0
 WellFormedLaw = (path : List ℕ) (steps : ℕ) (events : List Event) → IsTrue (path_test path)
-    → ValidTrace path steps events → steps ≤ max_steps → WellFormed (graph_of events)
+    → ValidTrace path steps events → steps ≤ max_steps → IsWellFormed (graph_of events)
 
 -- its edges end by the last step of the run
 abbrev pub EndLaw : Type 0

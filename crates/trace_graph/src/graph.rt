@@ -4,7 +4,7 @@ ghost use Rattle.std.specs.Prelude.{◌≡◌, ◌<◌, length, position, IsTrue
 ghost use Rattle.run_model.specs.ValidTrace.{IsTrace};
 ghost use Rattle.trace_graph.specs.Building.{parts_of};
 ghost use Rattle.trace_graph.specs.Graph.{same_node, graph_of, are_between};
-ghost use Rattle.trace_graph.specs.WellFormed.{WellFormed};
+ghost use Rattle.trace_graph.specs.WellFormed.{IsWellFormed};
 
 use crate::building::{Building, build};
 use crate::edge::Edges;
@@ -46,7 +46,7 @@ impl Graph {
     /// The graph of well-formed lists of nodes and edges.
     #[tactic(auto, using(crate::proofs::WellFormedParts::formed_between))]
     pub fn of_parts(nodes: Nodes, edges: Edges) -> Graph
-        requires { WellFormed (record { nodes = nodes; edges = edges }) }
+        requires { IsWellFormed (record { nodes = nodes; edges = edges }) }
         ensures { result ≡ record { nodes = nodes; edges = edges } }
     {
         Graph { nodes, edges }

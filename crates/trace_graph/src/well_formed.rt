@@ -5,7 +5,7 @@ ghost use Rattle.std.specs.List.{list_all};
 ghost use Rattle.sql_model.specs.Keys.{repeats};
 ghost use Rattle.trace_graph.specs.Building.{node_of};
 ghost use Rattle.trace_graph.specs.Graph.{same_node, is_between, are_between};
-ghost use Rattle.trace_graph.specs.WellFormed.{node_rule, places_of, same_places, times_rule, well_formed};
+ghost use Rattle.trace_graph.specs.WellFormed.{node_rule, places_of, same_places, times_rule, is_well_formed};
 
 use crate::edge::Edge;
 use crate::key::{NodeKey, key_of};
@@ -106,7 +106,8 @@ fn are_between(count: usize, edges: &[Edge]) -> bool
 /// rules, edges are between places of nodes, no two of them between the same places, and the times of each
 /// rise and are steps that a run may have. `AllocError` means out of memory only.
 pub fn is_well_formed(alloc: Global, nodes: &[Node], edges: &[Edge]) -> Result<bool, AllocError>
-    ensures { IfOk result (λ formed. formed ≡ well_formed (record { nodes = nodes.now; edges = edges.now })) }
+    ensures { IfOk result (λ formed. formed
+        ≡ is_well_formed (record { nodes = nodes.now; edges = edges.now })) }
 {
     let nodes_differ = nodes_differ(alloc, nodes)?;
     let edges_differ = edges_differ(alloc, edges)?;

@@ -17,7 +17,7 @@ use Rattle.sql_model.specs.Statements.{target, own_refusal, reference_refusal, r
 use Rattle.sql_model.specs.Tables.{is_short, is_valid_table, table_precedes}
 use Rattle.ldv_value.specs.Sorted.{is_strictly_sorted}
 use Rattle.run_model.specs.TypedPackage.{TypedValues}
-use Rattle.package_layout.specs.Room.{some_thousands}
+use Rattle.package_layout.specs.Room.{fits_u16_count}
 use Rattle.value_laws.specs.Answers.{AnswersLaw, NoStatementLaw}
 use Rattle.value_laws.specs.Values.{GoodStatement, GoodTable, GoodTables, GoodReply}
 use Rattle.value_laws.proofs.GoodChanges.{changed_in_good}
@@ -37,10 +37,10 @@ short_rows [] all = refl
 short_rows (values ∷ rows) all =
     and-from (list_all is_short values) (list_all (list_all is_short) rows) (short_values values all.0.0) (short_rows rows all.1)
 
-room_rows : (rows : List (List Value)) → AllByRecursion Fitting rows → list_all some_thousands rows ≡ true
+room_rows : (rows : List (List Value)) → AllByRecursion Fitting rows → list_all fits_u16_count rows ≡ true
 room_rows [] all = refl
 room_rows (values ∷ rows) all =
-    and-from (some_thousands values) (list_all some_thousands rows) (lt-ltb (length values) (2 ^ 16) all.0.1) (room_rows rows all.1)
+    and-from (fits_u16_count values) (list_all fits_u16_count rows) (lt-ltb (length values) (2 ^ 16) all.0.1) (room_rows rows all.1)
 
 rows_good : (rows : List (List Value)) → AllByRecursion Fitting rows → GoodReply (Rows rows)
 rows_good rows all = record { typed = typed_rows rows all; ruled = short_rows rows all; room = room_rows rows all }

@@ -6,7 +6,7 @@ use Rattle.std.specs.Str.{IsUtf8}
 use Rattle.ldv_value.specs.Limits.{max_columns}
 use Rattle.sql_laws.specs.Types.{Value, Catalog, Expr, Set, Statement, TheQuery, TheInsert, TheUpdate, TheDelete, Update, Column, Schema, Table, TableRow}
 use Rattle.sql_laws.proofs.ItemLists.{all_append, all_filter, all_found}
-use Rattle.sql_model.specs.Changes.{is_matched, plain_value, is_given, given_value, value_given, new_values, numbered, inserted, sets_column, value_set, updated_value, updated_row, update_one, after_insert, after_update, after_delete, changed, changed_in, matched, new_rows}
+use Rattle.sql_model.specs.Changes.{is_matched, plain_value, is_given, given_value, value_given, new_values, numbered_rows, rows_of_insert, sets_column, value_set, updated_value, updated_row, update_one, after_insert, after_update, after_delete, table_after, changed_in, matched, new_rows}
 use Rattle.sql_model.specs.Meaning.{Environment, or_null}
 use Rattle.sql_model.specs.Scope.{InScope, is_table, own_scope, environment}
 use Rattle.value_laws.specs.Values.{GoodValue, GoodValues, GoodExpr, GoodExprs, GoodSet, GoodStatement, GoodRow, GoodForeign, GoodTable, GoodTables}
@@ -50,7 +50,7 @@ new_good (Some names) columns exprs good = columns_good (zip names exprs) (zip_g
 
 numbered_good : (names : Option (List (List ℕ))) (columns : List Column) (n : ℕ) (rows : List (List Expr))
     → AllByRecursion GoodExprs rows
-    → AllByRecursion GoodRow (numbered n (map (new_values names columns) rows))
+    → AllByRecursion GoodRow (numbered_rows n (map (new_values names columns) rows))
 numbered_good names columns n [] good = tt
 numbered_good names columns n (exprs ∷ rows) good =
     (new_good names columns exprs good.0, numbered_good names columns (n + 1) rows good.1)
@@ -107,11 +107,11 @@ with_good before after name schema good rows = record {
 }
 
 pub changed_good : (s : Statement) (catalog : Catalog) (t : Table) → GoodStatement s → GoodTable t
-    → GoodTable (changed s catalog t)
+    → GoodTable (table_after s catalog t)
 changed_good (TheQuery query) catalog t good table = table
 changed_good (TheInsert insert) catalog t good table =
     with_good t (after_insert insert t) refl refl table
-    (all_append GoodRow t.rows (inserted insert t) table.rows (numbered_good insert.columns t.schema.columns t.next insert.rows good))
+    (all_append GoodRow t.rows (rows_of_insert insert t) table.rows (numbered_good insert.columns t.schema.columns t.next insert.rows good))
 changed_good (TheUpdate update) catalog t good table =
     let scope : List InScope = own_scope update.table catalog in
     with_good t (after_update scope update t) refl refl table (rows_good scope update good.sets t.schema.columns t.rows table.rows)
@@ -143,6 +143,6 @@ pub changed_in_good : (name : Option (List ℕ)) (s : Statement) (catalog : Cata
 changed_in_good None s catalog db good tables = tables
 changed_in_good (Some name) s catalog [] good tables = tt
 changed_in_good (Some name) s catalog (t ∷ ts) good tables = (
-  table_chosen (is_table name t) (changed s catalog t) t (changed_good s catalog t good tables.0) tables.0,
+  table_chosen (is_table name t) (table_after s catalog t) t (changed_good s catalog t good tables.0) tables.0,
   changed_in_good (Some name) s catalog ts good tables.1,
 )

@@ -12,7 +12,7 @@ use Rattle.sql_laws.proofs.ChangedTables.{check-parts, else-parts, if-none}
 use Rattle.sql_model.proofs.NewNumbers.{row_precedes}
 use Rattle.sql_model.proofs.Equations.{table_schema, schema_found}
 use Rattle.sql_model.proofs.ValidTables.{table-parts}
-use Rattle.sql_model.specs.Changes.{changed, lacks_value, key_clash, key_refusal, is_full, or_else, refusal_if, change_refusal}
+use Rattle.sql_model.specs.Changes.{table_after, lacks_value, key_clash, key_refusal, is_full, or_else, refusal_if, change_refusal}
 use Rattle.sql_model.specs.Refusals.{is_missing, check_refusal}
 use Rattle.sql_model.specs.Scope.{is_table, table_at, catalog_of}
 use Rattle.sql_model.specs.Statements.{target, matched_count}
@@ -117,7 +117,7 @@ module _ (db : List Table) (valid : list_all is_valid_table db ≡ true) where
   full_small insert (Some t) found check change =
       let s : Statement = TheInsert insert in
       let catalog : Catalog = catalog_of db in
-      let key = key_refusal t (key_clash (changed s catalog t)) in
+      let key = key_refusal t (key_clash (table_after s catalog t)) in
       let one = else-parts (refusal_if (lacks_value s catalog t) NotNull) (or_else key (refusal_if (is_full s t) Full)) change in
       let two = else-parts key (refusal_if (is_full s t) Full) one.1 in
       let full : nat_lt max_next (t.next + length insert.rows) ≡ false = if-none (is_full s t) Full two.1 in

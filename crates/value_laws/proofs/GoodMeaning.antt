@@ -10,7 +10,7 @@ use Rattle.sql_model.specs.declared.expr.Expr.TheOpen as open_expr
 use Rattle.sql_model.specs.declared.expr.Expr.TheViews.{roll-Expr}
 use Rattle.sql_model.specs.declared.expr.Fold.TheVariants as fold
 use Rattle.sql_model.specs.Scope.{InScope, place_of, value_at, environment}
-use Rattle.sql_model.specs.Meaning.{Environment, Meaning, number_value, with_numbers, negated, value_both, or_null, lesser, greater, total, folded, known_values, is_null, in_first, eval_step, eval}
+use Rattle.sql_model.specs.Meaning.{Environment, Meaning, number_value, with_numbers, negation_of, value_both, or_null, lesser_of, greater_of, total, aggregate_of, known_values, is_null, in_first, eval_step, eval}
 use Rattle.sql_laws.specs.Types.{Value, Null, Int, Text, ColumnName, Expr, Expr-F, Fold, Operator, Add, Subtract, Multiply, Compare, And, Or}
 use Rattle.sql_laws.proofs.ItemLists.{all_filter}
 use Rattle.value_laws.specs.Values.{GoodValue, GoodValues, constants_step, constants, GoodExpr}
@@ -28,7 +28,7 @@ number_good : (z : ℤ) → GoodValue (number_value z)
 number_good (pos n) = good_if (nat_lt n (2 ^ 63)) (pos n) (λ is. record { sfits = ltb-true n (2 ^ 63) is })
 number_good (negsuc n) = good_if (nat_lt n (2 ^ 63)) (negsuc n) (λ is. record { sfits = ltb-true n (2 ^ 63) is })
 
-negated_good : (v : Value) → GoodValue (negated v)
+negated_good : (v : Value) → GoodValue (negation_of v)
 negated_good Null = null_good
 negated_good (Int n) = number_good (neg_ℤ n)
 negated_good (Text t) = null_good
@@ -54,10 +54,10 @@ chosen : (b : Bool) (v w : Value) → GoodValue v → GoodValue w → GoodValue 
 chosen true v w first second = first
 chosen false v w first second = second
 
-lesser_good : (a b : Value) → GoodValue a → GoodValue b → GoodValue (lesser a b)
+lesser_good : (a b : Value) → GoodValue a → GoodValue b → GoodValue (lesser_of a b)
 lesser_good a b first second = chosen (is_lt (order b a)) b a second first
 
-greater_good : (a b : Value) → GoodValue a → GoodValue b → GoodValue (greater a b)
+greater_good : (a b : Value) → GoodValue a → GoodValue b → GoodValue (greater_of a b)
 greater_good a b first second = chosen (is_gt (order b a)) b a second first
 
 fold_good : (f : Value → Value → Value) → ((a b : Value) → GoodValue a → GoodValue b → GoodValue (f a b)) → (v : Value) (vs : List Value)
@@ -70,12 +70,12 @@ reduced_good : (f : Value → Value → Value) → ((a b : Value) → GoodValue 
 reduced_good f keeps [] all = null_good
 reduced_good f keeps (v ∷ vs) all = fold_good f keeps v vs all.0 all.1
 
-folded_good : (f : Fold) (vs : List Value) → GoodValues vs → GoodValue (folded f vs)
+folded_good : (f : Fold) (vs : List Value) → GoodValues vs → GoodValue (aggregate_of f vs)
 folded_good fold.Count vs all = number_good (pos (length vs))
 folded_good fold.Sum [] all = null_good
 folded_good fold.Sum (v ∷ vs) all = number_good (total (v ∷ vs))
-folded_good fold.Min vs all = reduced_good lesser lesser_good vs all
-folded_good fold.Max vs all = reduced_good greater greater_good vs all
+folded_good fold.Min vs all = reduced_good lesser_of lesser_good vs all
+folded_good fold.Max vs all = reduced_good greater_of greater_good vs all
 
 -- ---- rows as environments
 
@@ -125,7 +125,7 @@ values_good e has good [] all = tt
 values_good e has good (env ∷ envs) all = (has (env ∷ []) good (all.0, tt), values_good e has good envs all.1)
 
 aggregate_good : (f : Fold) (e : Expr) → HasGood e → GoodExpr e → (group : List Environment) → GoodGroup group
-    → GoodValue (folded f (known_values (map (λ env. (eval e (env ∷ [])).value) group)))
+    → GoodValue (aggregate_of f (known_values (map (λ env. (eval e (env ∷ [])).value) group)))
 aggregate_good f e has good group all =
     let values : List Value = map (λ env. (eval e (env ∷ [])).value) group in
     folded_good f (known_values values) (all_filter GoodValue (λ v. not (is_null v)) values (values_good e has good group all))

@@ -12,7 +12,7 @@ use Rattle.sql_laws.proofs.ItemLists.{all_append, all_filter}
 use Rattle.sql_model.proofs.ValidTables.{table-parts}
 use Rattle.sql_model.specs.Keys.{same_values}
 use Rattle.sql_model.specs.Meaning.{eval}
-use Rattle.sql_model.specs.QueryAnswer.{AnswerRow, SortKey, answer_values, Combination, combinations, joined_values, picked, meets_all, row_environment, distinct, merged_row, merge, has_key, groups_of, environments, is_kept, first_values, item_values, group_row, single, rows_in_scope, once, core_rows, united, rows_after, union_rows, order_by, sort_rows, limit_of, first_rows, answer, answer_rows, sort_key}
+use Rattle.sql_model.specs.QueryAnswer.{AnswerRow, SortKey, answer_values, Combination, combinations, joined_values, picked, meets_all, row_environment, distinct_values, merged_row, merge, has_key, groups_of, environments, is_kept, first_values, item_values, group_row, one_combination, rows_in_scope, once, core_rows, union_answers, rows_after, union_rows, order_by, sort_rows, limit_of, first_rows, answer, answer_rows, sort_key}
 use Rattle.sql_model.specs.Refusals.{groups, answer_titles}
 use Rattle.sql_model.specs.Scope.{InScope, is_table, table_at, rows_of, catalog_of, scope_of}
 use Rattle.sql_model.specs.Sorting.{put_sorted, sorted_by}
@@ -166,22 +166,22 @@ module _ (n : ℕ) (few : n ≤ 8) (scope : List InScope) where
     groups_fit [] all = tt
     groups_fit (g ∷ gs) all = (values_fit core.items good.items g all.0, groups_fit gs all.1)
 
-    singles_fit : (all : List Combination) → AllJoined n all → Answers (map (λ rows. group_row scope core (single rows)) all)
+    singles_fit : (all : List Combination) → AllJoined n all → Answers (map (λ rows. group_row scope core (one_combination rows)) all)
     singles_fit [] all = tt
-    singles_fit (rows ∷ more) all = (values_fit core.items good.items (single rows) (all.0, tt), singles_fit more all.1)
+    singles_fit (rows ∷ more) all = (values_fit core.items good.items (one_combination rows) (all.0, tt), singles_fit more all.1)
 
     scope_fit : (all : List Combination) → AllJoined n all → Answers (rows_in_scope scope core all)
     scope_fit all joined =
         let gs : List (List Combination) = groups_of scope core.group all in
-        all_chosen FittingRow (groups core) (map (group_row scope core) (filter (is_kept scope core.having) gs)) (map (λ rows. group_row scope core (single rows)) all)
+        all_chosen FittingRow (groups core) (map (group_row scope core) (filter (is_kept scope core.having) gs)) (map (λ rows. group_row scope core (one_combination rows)) all)
         (groups_fit (filter (is_kept scope core.having) gs) (all_filter (AllJoined n) (is_kept scope core.having) gs (groups_good n scope core.group all joined)))
         (singles_fit all joined)
 
 -- ---- merging
 
-distinct_fit : (vs : List (List Value)) → AllByRecursion Fitting vs → AllByRecursion Fitting (distinct vs)
+distinct_fit : (vs : List (List Value)) → AllByRecursion Fitting vs → AllByRecursion Fitting (distinct_values vs)
 distinct_fit [] all = tt
-distinct_fit (values ∷ rest) all = (all.0, all_filter Fitting (λ other. not (same_values other values)) (distinct rest) (distinct_fit rest all.1))
+distinct_fit (values ∷ rest) all = (all.0, all_filter Fitting (λ other. not (same_values other values)) (distinct_values rest) (distinct_fit rest all.1))
 
 values_of_fit : (rows : List AnswerRow) → Answers rows → AllByRecursion Fitting (map answer_values rows)
 values_of_fit [] all = tt
@@ -192,13 +192,13 @@ merged_fit rows [] all = tt
 merged_fit rows (values ∷ vs) all = (all.0, merged_fit rows vs all.1)
 
 merge_fit : (rows : List AnswerRow) → Answers rows → Answers (merge rows)
-merge_fit rows all = merged_fit rows (distinct (map answer_values rows)) (distinct_fit (map answer_values rows) (values_of_fit rows all))
+merge_fit rows all = merged_fit rows (distinct_values (map answer_values rows)) (distinct_fit (map answer_values rows) (values_of_fit rows all))
 
 once_fit : (b : Bool) (rows : List AnswerRow) → Answers rows → Answers (once b rows)
 once_fit false rows all = all
 once_fit true rows all = merge_fit rows all
 
-united_fit : (b : Bool) (rows more : List AnswerRow) → Answers rows → Answers more → Answers (united b rows more)
+united_fit : (b : Bool) (rows more : List AnswerRow) → Answers rows → Answers more → Answers (union_answers b rows more)
 united_fit true rows more first second = all_append FittingRow rows more first second
 united_fit false rows more first second = merge_fit (rows ++ more) (all_append FittingRow rows more first second)
 
@@ -216,7 +216,7 @@ module _ (db : List Table) (tables : AllByRecursion NarrowTable db) where
       → Answers (rows_after db rows cores)
   after_fit rows all [] good = all
   after_fit rows all (core ∷ cores) good =
-      after_fit (united core.joined_all rows (core_rows db core)) (united_fit core.joined_all rows (core_rows db core) all (core_fit core good.0)) cores good.1
+      after_fit (union_answers core.joined_all rows (core_rows db core)) (united_fit core.joined_all rows (core_rows db core) all (core_fit core good.0)) cores good.1
 
   union_fit : (cores : List Core) → AllByRecursion GoodCore cores → Answers (union_rows db cores)
   union_fit [] good = tt

@@ -8,10 +8,10 @@ use Rattle.std.proofs.lemmas.Bool.{lt-ltb}
 use Rattle.ldv_value.proofs.Lists.{length-map}
 use Rattle.sql_laws.specs.Types.{Value, Catalog, Foreign, Refused, NoParent, HasChild, Statement, Table, TableRow}
 use Rattle.sql_laws.proofs.ItemLists.{all_filter, all_map, all_flat_map}
-use Rattle.sql_model.specs.Changes.{changed, new_rows}
+use Rattle.sql_model.specs.Changes.{table_after, new_rows}
 use Rattle.sql_model.specs.Keys.{values_at}
 use Rattle.sql_model.specs.Meaning.{is_null}
-use Rattle.sql_model.specs.References.{reference, has_key, first_in, Missing, missing_key, missing_by, missing_parents, is_lost, Child, Orphan, orphan_by, orphans_of, other_rows, child_of, children, orphans, tables_after, first_missing, is_changed, first_orphan}
+use Rattle.sql_model.specs.References.{reference, has_key, first_in, MissingParent, missing_key, missing_by, missing_parents, is_lost, Child, Orphan, orphan_by, orphans_of, other_rows, child_of, children, orphans, tables_after, first_missing_parent, is_changed, first_orphan}
 use Rattle.sql_model.specs.Scope.{same_text, value_at, is_table, table_at}
 use Rattle.sql_model.specs.Statements.{parent_refusal, child_refusal, reference_refusal}
 use Rattle.value_laws.specs.Values.{GoodValues, GoodStatement, GoodRow, GoodForeign, GoodTable, GoodTables, GoodReply}
@@ -77,10 +77,10 @@ module _ {X : Type 0} (P : X → Type 0) where
 
 -- ---- code 8
 
-abbrev GoodMissing : Missing → Type 0
+abbrev GoodMissing : MissingParent → Type 0
 GoodMissing m = IsUtf8 m.parent × GoodKey m.key
 
-missing_if : (b : Bool) (m : Missing) → GoodMissing m → Each GoodMissing (if b then None else Some m)
+missing_if : (b : Bool) (m : MissingParent) → GoodMissing m → Each GoodMissing (if b then None else Some m)
 missing_if true m good = tt
 missing_if false m good = good
 
@@ -115,7 +115,7 @@ module _ (tables : List Table) where
       first_of GoodMissing (missing_parents tables fs rows)
       (all_flat_map GoodMissing (λ (row : TableRow). filter_map (missing_by tables row.values) fs) rows (by_rows fs all rows good))
 
-refused_parent : (o : Option Missing) → Each GoodMissing o → GoodRefusal (option_map parent_refusal o)
+refused_parent : (o : Option MissingParent) → Each GoodMissing o → GoodRefusal (option_map parent_refusal o)
 refused_parent None good = tt
 refused_parent (Some m) good = parent_good m.parent m.key good.0 good.1
 
@@ -199,8 +199,8 @@ pub references_good : (s : Statement) (catalog : Catalog) (o : Option Table) (db
     → GoodTables db → GoodRefusal (reference_refusal s catalog o db)
 references_good s catalog None db good table tables = tt
 references_good s catalog (Some t) db good table tables =
-    else_good (option_map parent_refusal (first_missing s catalog t db)) (option_map child_refusal (first_orphan s catalog t db))
-    (refused_parent (first_missing s catalog t db)
+    else_good (option_map parent_refusal (first_missing_parent s catalog t db)) (option_map child_refusal (first_orphan s catalog t db))
+    (refused_parent (first_missing_parent s catalog t db)
     (missing_good (tables_after s catalog db) t.schema.foreign table.foreign (new_rows s catalog t) (new_rows_good s catalog t good table)))
     (refused_child (first_orphan s catalog t db)
-    (orphans_good (is_changed s catalog) t (changed s catalog t) db tables))
+    (orphans_good (is_changed s catalog) t (table_after s catalog t) db tables))

@@ -5,7 +5,7 @@ use Rattle.std.specs.List.{AllByRecursion, list_all}
 use Rattle.std.proofs.lemmas.Bool.{lt-ltb}
 use Rattle.ldv_value.proofs.Lists.{all-weaker, tested-all, length-map}
 use Rattle.sql_laws.specs.Types.{Value, Catalog, Refused, SqlRefusal, NoTable, NoColumn, TypeClash, NotNull, KeyTaken, Full, Statement, Table, TableRow}
-use Rattle.sql_model.specs.Changes.{changed, lacks_value, KeyClash, shares_key, clash_or, clash_after, clash_by, key_clash, key_refusal, is_full, or_else, refusal_if, change_refusal}
+use Rattle.sql_model.specs.Changes.{table_after, lacks_value, KeyClash, shares_key, clash_or, clash_after, clash_by, key_clash, key_refusal, is_full, or_else, refusal_if, change_refusal}
 use Rattle.sql_model.specs.Keys.{values_at}
 use Rattle.sql_model.specs.Refusals.{lacks_table, lacks_column, clashes, check_refusal}
 use Rattle.sql_model.specs.Scope.{value_at}
@@ -101,7 +101,7 @@ pub change_good : (s : Statement) (catalog : Catalog) (o : Option Table) → Goo
     → GoodRefusal (change_refusal s catalog o)
 change_good s catalog None good table = tt
 change_good s catalog (Some t) good table =
-    let after : Table = changed s catalog t in
+    let after : Table = table_after s catalog t in
     let key : Option SqlRefusal = key_refusal t (key_clash after) in
     let full : Option SqlRefusal = refusal_if (is_full s t) Full in
     else_good (refusal_if (lacks_value s catalog t) NotNull) (or_else key full)

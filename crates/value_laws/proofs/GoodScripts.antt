@@ -10,7 +10,7 @@ use Rattle.script_parse.specs.declared.script.Operand.{Operand}
 use Rattle.script_parse.specs.declared.script.Operand.TheVariants.{Constant, Variable}
 use Rattle.script_parse.specs.declared.token.Token.{Token}
 use Rattle.script_parse.specs.declared.token.Token.TheVariants.{Word}
-use Rattle.script_parse.specs.Grammar.{Kind, Blank, Names, Does, word, written, HasForm, tokens_for, place_of, IsAtPlace, IsLine, IsAt, IsScript, steps}
+use Rattle.script_parse.specs.Grammar.{Kind, Blank, Names, Does, word, operand_token, HasForm, tokens_for, place_of, IsAtPlace, IsLine, IsAt, IsScript, steps}
 use Rattle.script_parse.specs.Script.{script_of}
 use Rattle.script_parse.proofs.ScriptLaw.{script_sound}
 use Rattle.sql_laws.proofs.ItemLists.{all_of_map}
@@ -20,14 +20,14 @@ use Rattle.value_laws.proofs.ScriptTokens.{GoodPiece, GoodPieces, pieces_good}
 
 -- ---- operands
 
-operand_good : (v : Operand) → GoodPiece (written v) → GoodOperand v
+operand_good : (v : Operand) → GoodPiece (operand_token v) → GoodOperand v
 operand_good (Constant value.Null) good = (tt, refl)
 operand_good (Constant (value.Int z)) good = good
 operand_good (Constant (value.Text text)) good = good
 operand_good (Variable x) good = tt
 
-operands_good : (vs : List Operand) → GoodPieces (map written vs) → GoodOperands vs
-operands_good vs good = all-weaker (λ v. GoodPiece (written v)) GoodOperand operand_good vs (all_of_map GoodPiece written vs good)
+operands_good : (vs : List Operand) → GoodPieces (map operand_token vs) → GoodOperands vs
+operands_good vs good = all-weaker (λ v. GoodPiece (operand_token v)) GoodOperand operand_good vs (all_of_map GoodPiece operand_token vs good)
 
 -- ---- instructions
 
@@ -49,7 +49,7 @@ instr_good (instr.Close f) l form good = tt
 instr_good (instr.Remove v place) l form good = operand_good v good.1.0
 instr_good (instr.Exists x v) l form good = operand_good v good.1.1.0
 instr_good (instr.Spawn p v vs place) l form good =
-    (operand_good v good.1.1.0, operands_good vs (all_front GoodPiece (map written vs) (word "else" ∷ Word l ∷ []) good.1.1.1), form.2.0)
+    (operand_good v good.1.1.0, operands_good vs (all_front GoodPiece (map operand_token vs) (word "else" ∷ Word l ∷ []) good.1.1.1), form.2.0)
 instr_good (instr.Wait x p) l form good = tt
 instr_good (instr.Sql c v vs) l form good = (operand_good v good.1.1.0, operands_good vs good.1.1.1, form.2.0)
 instr_good (instr.Fetch c xs place) l form good = tt

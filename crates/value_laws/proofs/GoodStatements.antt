@@ -14,7 +14,7 @@ use Rattle.sql_model.specs.declared.expr.Fold.TheVariants as fold
 use Rattle.sql_model.specs.declared.token.Token.{Token}
 use Rattle.sql_model.specs.declared.token.Token.TheVariants.{Word, Number, Quoted, Given}
 use Rattle.sql_model.specs.Grammar.{word, fold_word, IsConstant, IsExpr}
-use Rattle.sql_model.specs.GrammarOfStatements.{Then, After, Optionally, Repeated, Separated, Listed, IsExpression, IsItem, AreItems, Joined, IsConditioned, IsJoinedBy, IsJoined, conditions, AreSources, IsCoreEnd, IsCoreRest, IsCore, IsFirstCore, IsUnited, IsBound, IsQuery, IsTuple, IsInsert, IsSet, IsUpdate, IsDelete, IsStatement, Reads}
+use Rattle.sql_model.specs.GrammarOfStatements.{Then, After, Optionally, IsRepetition, IsSeparatedBy, IsCommaList, IsExpression, IsItem, AreItems, JoinedSource, IsConditioned, IsJoinedBy, IsJoined, conditions, AreSources, IsCoreEnd, IsCoreRest, IsCore, IsFirstCore, IsUnited, IsBound, IsQuery, IsTuple, IsInsert, IsSet, IsUpdate, IsDelete, IsStatement, Reads}
 use Rattle.sql_model.specs.Texts.{statement_of}
 use Rattle.sql_parse.proofs.StatementsLaw.{reading_sound}
 use Rattle.value_laws.specs.Values.{GoodValue, GoodValues, constants_step, constants, GoodExpr, GoodExprs, GoodPick, GoodItem, GoodItems, GoodCore, GoodLimit, GoodQuery, GoodSet, GoodUpdate, GoodStatement}
@@ -111,31 +111,31 @@ first_gives First Second P inside ts few (front, back, e, first, second) = insid
 
 module _ {A : Type 0} (P : A → Type 0) where
   repeated_gives : (Form : A → List Token → Type 0) → ((x : A) → Gives (Form x) (P x)) → (xs : List A)
-      → Gives (Repeated Form xs) (AllByRecursion P xs)
+      → Gives (IsRepetition Form xs) (AllByRecursion P xs)
   repeated_gives Form each [] ts few form = tt
   repeated_gives Form each (x ∷ xs) ts few (front, back, e, first, more) =
       let parts = cut_few ts front back e few in
       (each x front parts.0 first, repeated_gives Form each xs back parts.1 more)
 
   separated_gives : (s : String) (First Form : A → List Token → Type 0) → ((x : A) → Gives (First x) (P x))
-      → ((x : A) → Gives (Form x) (P x)) → (xs : List A) → Gives (Separated s First Form xs) (AllByRecursion P xs)
+      → ((x : A) → Gives (Form x) (P x)) → (xs : List A) → Gives (IsSeparatedBy s First Form xs) (AllByRecursion P xs)
   separated_gives s First Form begins each [] ts few form = absurd form
   separated_gives s First Form begins each (x ∷ xs) ts few (front, back, e, first, more) =
       let parts = cut_few ts front back e few in
       (begins x front parts.0 first, repeated_gives (λ y. After s (Form y)) (λ y. after_gives s (Form y) (P y) (each y)) xs back parts.1 more)
 
   listed_gives : (Form : A → List Token → Type 0) → ((x : A) → Gives (Form x) (P x)) → (xs : List A)
-      → Gives (Listed Form xs) (AllByRecursion P xs)
+      → Gives (IsCommaList Form xs) (AllByRecursion P xs)
   listed_gives Form each xs = separated_gives "," Form Form each each xs
 
 -- there is a comma before each but the first
 repeated_count : {A : Type 0} (s : String) (Form : A → List Token → Type 0) (xs : List A) (ts : List Token)
-    → Repeated (λ y. After s (Form y)) xs ts → length xs ≤ length ts
+    → IsRepetition (λ y. After s (Form y)) xs ts → length xs ≤ length ts
 repeated_count s Form [] ts form = omega arith
 repeated_count s Form (x ∷ xs) ts (front, back, e, (inside, is, first), more) =
     omega (arith, repeated_count s Form xs back more, ap length e, length-append front back, ap length is)
 
-listed_count : {A : Type 0} (Form : A → List Token → Type 0) (xs : List A) (ts : List Token) → Listed Form xs ts
+listed_count : {A : Type 0} (Form : A → List Token → Type 0) (xs : List A) (ts : List Token) → IsCommaList Form xs ts
     → length xs ≤ length ts + 1
 listed_count Form [] ts form = absurd form
 listed_count Form (x ∷ xs) ts (front, back, e, first, more) =
@@ -174,17 +174,17 @@ joined_by_gives source (Some pick) ts few (inr form) =
     after_gives "inner" (After "join" (IsConditioned source pick)) (GoodExpr pick)
     (after_gives "join" (IsConditioned source pick) (GoodExpr pick) (conditioned_gives source pick)) ts few form
 
-abbrev GoodJoined : Joined → Type 0
+abbrev GoodJoined : JoinedSource → Type 0
 GoodJoined joined = GoodPick joined.1
 
-joined_gives : (joined : Joined) → Gives (IsJoined joined) (GoodJoined joined)
+joined_gives : (joined : JoinedSource) → Gives (IsJoined joined) (GoodJoined joined)
 joined_gives joined ts few form = joined_by_gives joined.0 joined.1 ts few form
 
 option_good : (o : Option Expr) → GoodPick o → GoodExprs (option_to_list o)
 option_good None good = tt
 option_good (Some e) good = (good, tt)
 
-conditions_good : (more : List Joined) → AllByRecursion GoodJoined more → GoodExprs (conditions more)
+conditions_good : (more : List JoinedSource) → AllByRecursion GoodJoined more → GoodExprs (conditions more)
 conditions_good [] good = tt
 conditions_good (joined ∷ more) good =
     all_append GoodExpr (option_to_list joined.1) (conditions more) (option_good joined.1 good.0) (conditions_good more good.1)

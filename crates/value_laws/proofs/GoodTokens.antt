@@ -10,7 +10,7 @@ use Rattle.sql_laws.specs.Types.{Value, Int, Text}
 use Rattle.sql_model.specs.declared.token.Token.{Token}
 use Rattle.sql_model.specs.declared.token.Token.TheVariants.{Word, Number, Quoted, Given}
 use Rattle.sql_model.specs.GrammarOfStatements.{IsGiven}
-use Rattle.sql_model.specs.GrammarOfTokens.{is_inside, digits_from, doubled, IsToken, Spells}
+use Rattle.sql_model.specs.GrammarOfTokens.{is_inside, digits_from, with_doubled_quotes, IsToken, Spells}
 use Rattle.sql_model.specs.TextBytes.{is_blank, is_digit, is_letter}
 use Rattle.sql_parse.proofs.Choices.{or_go}
 use Rattle.sql_parse.proofs.Quotes.{doubled_utf8}
@@ -48,11 +48,11 @@ number_fits : (n : ℕ) → n ≤ 9223372036854775807 → FitsSigned w64 (pos n)
 number_fits n fits = record { sfits = omega (arith, fits) }
 
 -- the bytes after the first quote
-unquoted : (piece rest text : List ℕ) → piece ≡ 39 ∷ doubled text ++ 39 ∷ [] → IsUtf8 (piece ++ rest) → IsUtf8 (doubled text) × IsUtf8 (39 ∷ rest)
+unquoted : (piece rest text : List ℕ) → piece ≡ 39 ∷ with_doubled_quotes text ++ 39 ∷ [] → IsUtf8 (piece ++ rest) → IsUtf8 (with_doubled_quotes text) × IsUtf8 (39 ∷ rest)
 unquoted piece rest text e utf8 =
-    let same : piece ++ rest ≡ 39 ∷ doubled text ++ 39 ∷ rest =
-    ap (λ (l : List ℕ). l ++ rest) e ∙ ap (λ (l : List ℕ). 39 ∷ l) (append_assoc (doubled text) (39 ∷ []) rest) in
-    utf8-cut (doubled text) 39 rest (omega arith) (utf8-tail 39 (doubled text ++ 39 ∷ rest) (omega arith) (subst IsUtf8 same utf8))
+    let same : piece ++ rest ≡ 39 ∷ with_doubled_quotes text ++ 39 ∷ rest =
+    ap (λ (l : List ℕ). l ++ rest) e ∙ ap (λ (l : List ℕ). 39 ∷ l) (append_assoc (with_doubled_quotes text) (39 ∷ []) rest) in
+    utf8-cut (with_doubled_quotes text) 39 rest (omega arith) (utf8-tail 39 (with_doubled_quotes text ++ 39 ∷ rest) (omega arith) (subst IsUtf8 same utf8))
 
 token_good : (t : Token) (piece rest : List ℕ) → IsUtf8 (piece ++ rest) → IsToken piece rest t → GoodToken t
 token_good (Word w) piece rest utf8 is = tt
@@ -76,7 +76,7 @@ token_filled t (b ∷ piece) rest is = omega arith
 token_filled (Word w) [] rest (inl is) = absurd is.0
 token_filled (Word w) [] rest (inr is) = absurd (symbol_form [] is.0)
 token_filled (Number z) [] rest is = absurd (is.0.0 refl)
-token_filled (Quoted text) [] rest is = let no : [] ≡ 39 ∷ doubled text ++ 39 ∷ [] = is.0 in absurd cc
+token_filled (Quoted text) [] rest is = let no : [] ≡ 39 ∷ with_doubled_quotes text ++ 39 ∷ [] = is.0 in absurd cc
 token_filled (Given v) [] rest is = absurd is
 
 -- ---- all of them

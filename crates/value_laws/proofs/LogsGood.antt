@@ -21,7 +21,7 @@ use Rattle.run_model.specs.Run.{run}
 use Rattle.run_model.specs.TypedPackage.{TypedEntry}
 use Rattle.run_model.specs.ValidPackage.{is_short_text, start_rule, is_root_process, entry_rule, log_precedes}
 use Rattle.run_model.specs.WorldRun.{has_asked, log_of, logs_of, logs_in}
-use Rattle.package_layout.specs.Room.{some_thousands, entry_room}
+use Rattle.package_layout.specs.Room.{fits_u16_count, entry_room}
 use Rattle.value_laws.specs.Answers.{AnswersLaw, NoStatementLaw}
 use Rattle.value_laws.specs.Literals.{GoodScript, ScriptLiteralsLaw, StatementLiteralsLaw}
 use Rattle.value_laws.specs.Steps.{GoodWorld, GoodLog, GoodLogs, StepsLaw}
@@ -48,13 +48,13 @@ log_good made few p good asked =
     tested-all entry_rule p.entries (all-weaker GoodEntry (λ e. IsTrue (entry_rule e)) (λ e here. here.ruled) p.entries told.entries) in
     let room : list_all entry_room p.entries ≡ true =
     tested-all entry_room p.entries (all-weaker GoodEntry (λ e. IsTrue (entry_room e)) (λ e here. here.room) p.entries told.entries) in
-    let short : some_thousands p.name ≡ true = lt-ltb (length p.name) 65536 (omega (arith, told.depth, few)) in
+    let short : fits_u16_count p.name ≡ true = lt-ltb (length p.name) 65536 (omega (arith, told.depth, few)) in
     record {
       typed = (told.parts, all-weaker GoodEntry TypedEntry (λ e here. here.typed) p.entries told.entries);
       ruled =
           and-from (is_root_process p.name && has_asked p) (list_all entry_rule p.entries)
           (and-from (is_root_process p.name) (has_asked p) told.root asked) ruled;
-      room = and-from (some_thousands p.name) (list_all entry_room p.entries) short room;
+      room = and-from (fits_u16_count p.name) (list_all entry_room p.entries) short room;
     }
 
 core_logs : (c : Core) → GoodList c.processes → GoodLogs (logs_of c)

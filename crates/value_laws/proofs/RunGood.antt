@@ -25,12 +25,12 @@ use Rattle.run_model.specs.Run.{first_pick, later_picks, chosen, move_of, move, 
 use Rattle.run_model.specs.Schedule.{choose}
 use Rattle.run_model.specs.SqlDatabase.{SqlDatabase, sql_base}
 use Rattle.run_model.specs.State.{State}
-use Rattle.run_model.specs.Step.{Ask, ask, entry_of, replied, Effect, own, execute, execute_next, quiet_of, asked_by, ask_by, ask_in, ask_at, took_of, asking}
+use Rattle.run_model.specs.Step.{Ask, ask, entry_of, process_with_reply, Effect, own, execute, execute_next, local_step_of, asked_by, ask_of_instr, ask_of_process, next_ask, took_of, asking}
 use Rattle.run_model.specs.StepBase.{operand_value, operand_values, FileEffect, on_files}
 use Rattle.run_model.specs.StepFiles.{path_at, open_for, allows_read, allows_write, open_path, read_next, write_line, copy_rest, remove_path, test_path}
-use Rattle.run_model.specs.StepProcesses.{Spawning, child_of, parent_of, with_child, spawn_script, script_within, spawn_file, spawn_path, spawning_of, status_in, wait_until, wait_for}
-use Rattle.run_model.specs.StepReplies.{counted, status_value}
-use Rattle.run_model.specs.StepVariables.{calculated, glued, to_number, printed_line, exit_status}
+use Rattle.run_model.specs.StepProcesses.{SpawnRequest, child_of, parent_of, with_child, spawn_script, script_within, spawn_file, spawn_path, spawning_of, status_in, wait_until, wait_for}
+use Rattle.run_model.specs.StepReplies.{row_count, status_value}
+use Rattle.run_model.specs.StepVariables.{calculation, concatenation, to_number, printed_line, exit_status}
 use Rattle.run_model.specs.TypedPackage.{IsU32, TypedValue, TypedValues}
 use Rattle.run_model.specs.ValidPackage.{is_root_process, is_short_text, reply_rule}
 use Rattle.package_layout.specs.Room.{reply_room}
@@ -102,7 +102,7 @@ module _ (ps : List Process) (number : ℕ) (p : Process) (is : slice_get ps num
 
   -- ---- spawn
 
-  module _ (spawning : Spawning) (script : List Instr) (below : nat_lt (length ps) max_processes ≡ true)
+  module _ (spawning : SpawnRequest) (script : List Instr) (below : nat_lt (length ps) max_processes ≡ true)
       (arguments : GoodValues spawning.arguments) (few : length spawning.arguments ≤ 255) (instructions : GoodScript script) where
     abbrev parent : Process
     parent = parent_of (length ps) spawning.child p
@@ -211,7 +211,7 @@ module _ (literals : ScriptLiteralsLaw) where
     place_goes : (place : ℕ) → Goes (own number (record p { place = place }) c)
     place_goes place = own_goes (record p { place = place }) (place_good place p values) refl
 
-    script_goes : (o : Option (List Instr)) (bytes : List ℕ) (spawning : Spawning) (path : List ℕ)
+    script_goes : (o : Option (List Instr)) (bytes : List ℕ) (spawning : SpawnRequest) (path : List ℕ)
         → script_within c bytes ≡ o → GoodValues spawning.arguments → length spawning.arguments ≤ 255
         → Goes (spawn_script o spawning path number p c)
     script_goes None bytes spawning path reads arguments few = place_goes spawning.place
@@ -222,13 +222,13 @@ module _ (literals : ScriptLiteralsLaw) where
       | inr full ↦ let never : None ≡ Some script = rw full at reads in absurd cc
     ]
 
-    file_goes : (o : Option (List ℕ)) (spawning : Spawning) (path : List ℕ) → GoodValues spawning.arguments
+    file_goes : (o : Option (List ℕ)) (spawning : SpawnRequest) (path : List ℕ) → GoodValues spawning.arguments
         → length spawning.arguments ≤ 255 → Goes (spawn_file o spawning path number p c)
     file_goes None spawning path arguments few = place_goes spawning.place
     file_goes (Some bytes) spawning path arguments few =
         script_goes (script_within c bytes) bytes spawning path refl arguments few
 
-    spawn_goes : (o : Option (List ℕ)) (spawning : Spawning) → GoodValues spawning.arguments
+    spawn_goes : (o : Option (List ℕ)) (spawning : SpawnRequest) → GoodValues spawning.arguments
         → length spawning.arguments ≤ 255 → Goes (spawn_path o spawning number p c)
     spawn_goes None spawning arguments few = own_goes _ (end_good 243 p (omega arith) values) refl
     spawn_goes (Some path) spawning arguments few = file_goes (content_at c.files path) spawning path arguments few
@@ -251,13 +251,13 @@ module _ (literals : ScriptLiteralsLaw) where
     executes_goes (instr.Calc to op left right) here =
         let v = operand_value p left in
         let w = operand_value p right in
-        own_goes _ (assign_good to (calculated op v w) p (calculated_good op v w) values) (trail_assign to (calculated op v w) p)
+        own_goes _ (assign_good to (calculation op v w) p (calculated_good op v w) values) (trail_assign to (calculation op v w) p)
     executes_goes (instr.Glue to left right) here =
         let v = operand_value p left in
         let w = operand_value p right in
         own_goes _
-        (assign_good to (glued v w) p (glued_good v w (operand_good p left values here.0) (operand_good p right values here.1)) values)
-        (trail_assign to (glued v w) p)
+        (assign_good to (concatenation v w) p (glued_good v w (operand_good p left values here.0) (operand_good p right values here.1)) values)
+        (trail_assign to (concatenation v w) p)
     executes_goes (instr.ToInt to value) here =
         let v = operand_value p value in
         own_goes _ (assign_good to (to_number v) p (to_number_good v (operand_good p value values here)) values)
@@ -313,7 +313,7 @@ module _ (literals : ScriptLiteralsLaw) where
         own_goes _ (good_fetch cursor to place p values) (trail_fetch (lookup cursor p.cursors) cursor to place p)
     executes_goes (instr.Count to cursor) here =
         let o = lookup cursor p.cursors in
-        own_goes _ (assign_good to (counted o) p (counted_good o) values) (trail_assign to (counted o) p)
+        own_goes _ (assign_good to (row_count o) p (counted_good o) values) (trail_assign to (row_count o) p)
     executes_goes (instr.Status to cursor) here =
         let o = lookup cursor p.cursors in
         own_goes _ (assign_good to (status_value o) p (status_value_good o) values) (trail_assign to (status_value o) p)
@@ -323,7 +323,7 @@ module _ (literals : ScriptLiteralsLaw) where
     next_goes (Some i) here = executes_goes i (here i refl)
 
   quiet_goes : (o : Option Process) (number : ℕ) (c : Core) → slice_get c.processes number ≡ o → GoodList c.processes
-      → GoodList (quiet_of o number c).core.processes
+      → GoodList (local_step_of o number c).core.processes
   quiet_goes None number c is good = good
   quiet_goes (Some p) number c is good =
       next_goes number p c is good (slice_get p.script p.place)
@@ -355,12 +355,12 @@ instr_asks (instr.Sql cursor text params) p a here good is =
 instr_asks other p a here good is = absurd cc
 
 next_asks : (o : Option Instr) (p : Process) (a : Ask) → ((i : Instr) → o ≡ Some i → GoodInstr i) → GoodParts p
-    → ask_by o p ≡ Some a → GoodQuestion a.question
+    → ask_of_instr o p ≡ Some a → GoodQuestion a.question
 next_asks None p a here good is = absurd cc
 next_asks (Some i) p a here good is = instr_asks i p a (here i refl) good is
 
 process_asks : (ps : List Process) (number : ℕ) (o : Option Process) (a : Ask) → slice_get ps number ≡ o → GoodList ps
-    → ask_in o ≡ Some a → GoodQuestion a.question
+    → ask_of_process o ≡ Some a → GoodQuestion a.question
 process_asks ps number None a there good is = absurd cc
 process_asks ps number (Some p) a there good is =
     let values : GoodParts p = (here_good ps number p there good).values in
@@ -393,7 +393,7 @@ took_good None number a reply c is asked answered good = good
 took_good (Some p) number a reply c is asked answered good =
     let entry : Entry = entry_of a.question reply in
     let was : GoodProcess (length c.processes) p = here_good c.processes number p is good in
-    put_good c.processes number p is good (replied a reply p)
+    put_good c.processes number p is good (process_with_reply a reply p)
     (record {
       values = record {
         variables = was.values.variables;
@@ -431,7 +431,7 @@ module _ (literals : ScriptLiteralsLaw) (constants : StatementLiteralsLaw) (answ
       answers s tables (constants q.text q.params s is good.text.0 short good.params) db.tables
       (and-parts (is_database tables) (list_all is_described tables) db.valid).0
 
-  asking_good : (number : ℕ) (s : State SqlDatabase) (o : Option Ask) → GoodState s → ask_at number s.core ≡ o
+  asking_good : (number : ℕ) (s : State SqlDatabase) (o : Option Ask) → GoodState s → next_ask number s.core ≡ o
       → GoodState (asking sql_base number s o).state
   asking_good number s None good is = record {
     list = quiet_goes literals (slice_get s.core.processes number) number s.core refl good.list;
@@ -452,7 +452,7 @@ module _ (literals : ScriptLiteralsLaw) (constants : StatementLiteralsLaw) (answ
   move_good : (number : ℕ) (s : State SqlDatabase) → GoodState s → GoodState (move_of sql_base number s).state
   move_good number s good =
       let here : GoodState (chosen number s) = record { list = good.list; db = good.db } in
-      asking_good number (chosen number s) (ask_at number (chosen number s).core) here refl
+      asking_good number (chosen number s) (next_ask number (chosen number s).core) here refl
 
   pub run_good : (n : ℕ) (picks : List ℕ) (s : State SqlDatabase) → GoodState s → GoodState (run sql_base n picks s)
   run_good zero picks s good = subst GoodState (sym (run-zero sql_base picks s)) good

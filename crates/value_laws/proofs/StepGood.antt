@@ -10,8 +10,8 @@ use Rattle.ldv_value.specs.declared.line.LineRead.{LineRead}
 use Rattle.ldv_value.specs.declared.line.LineRead.TheVariants as lines
 use Rattle.ldv_value.proofs.Booleans.{and-parts}
 use Rattle.run_model.specs.Types.{Value, Null, Int, Text, Operand, Constant, Variable, OpenMode, Reply, Rows, Changed, Refused}
-use Rattle.run_model.specs.Core.{Binding, is_bound, lookup, bind, unbind, OpenFile, Cursor, Process, arguments_from, argument_variables}
-use Rattle.run_model.specs.StepBase.{operand_value, operand_values, ended, went_on, went_to, with_variable, Computed, Yields, Misused, assign}
+use Rattle.run_model.specs.Core.{NameBinding, is_bound, lookup, bind, unbind, OpenFile, Cursor, Process, arguments_from, argument_variables}
+use Rattle.run_model.specs.StepBase.{operand_value, operand_values, with_exit_status, went_on, went_to, with_variable, Computation, Yields, Misused, assign}
 use Rattle.run_model.specs.StepFiles.{open_unless, open_path, take_line, read_next, write_where, write_text, copy_where, copy_between, close_file, remove_found, remove_path, number_of_test, test_path}
 use Rattle.run_model.specs.StepReplies.{rows_in, with_values, one_more, next_row, fetch_row, fetch_from}
 use Rattle.run_model.specs.StepVariables.{cut_values, jump_where, print_line, first_place}
@@ -28,16 +28,16 @@ use Rattle.value_laws.proofs.TextParts.{GoodCut, cut_good}
 -- ---- names that mean something good
 
 module _ {X : Type 0} (P : X → Type 0) where
-  abbrev pub Bound : List (Binding X) → Type 0
+  abbrev pub Bound : List (NameBinding X) → Type 0
   Bound = AllByRecursion (λ b. P b.bound)
 
-  pub unbound : (name : List ℕ) (bs : List (Binding X)) → Bound bs → Bound (unbind name bs)
-  unbound name bs all = all_filter (λ (b : Binding X). P b.bound) (λ b. not (is_bound name b)) bs all
+  pub unbound : (name : List ℕ) (bs : List (NameBinding X)) → Bound bs → Bound (unbind name bs)
+  unbound name bs all = all_filter (λ (b : NameBinding X). P b.bound) (λ b. not (is_bound name b)) bs all
 
-  pub bound : (name : List ℕ) (x : X) (bs : List (Binding X)) → P x → Bound bs → Bound (bind name x bs)
+  pub bound : (name : List ℕ) (x : X) (bs : List (NameBinding X)) → P x → Bound bs → Bound (bind name x bs)
   bound name x bs here all = (here, unbound name bs all)
 
-  pub looked_up : (name : List ℕ) (bs : List (Binding X)) (x : X) → Bound bs → lookup name bs ≡ Some x → P x
+  pub looked_up : (name : List ℕ) (bs : List (NameBinding X)) (x : X) → Bound bs → lookup name bs ≡ Some x → P x
   looked_up name [] x all is = absurd cc
   looked_up name (b ∷ bs) x all is = elim (cases_Bool (is_bound name b)) [
     | inl hit ↦
@@ -47,7 +47,7 @@ module _ {X : Type 0} (P : X → Type 0) where
     | inr miss ↦ looked_up name bs x all.1 (rw miss at is)
   ]
 
-abbrev pub GoodVariables : List (Binding Value) → Type 0
+abbrev pub GoodVariables : List (NameBinding Value) → Type 0
 GoodVariables = Bound GoodValue
 
 abbrev pub GoodCursor : Cursor → Type 0
@@ -76,7 +76,7 @@ operands_good p (o ∷ os) good constants = (operand_good p o good constants.0, 
 
 -- ---- what becomes of a process
 
-pub end_good : (status : ℕ) (p : Process) → status < 256 → GoodParts p → GoodParts (ended status p)
+pub end_good : (status : ℕ) (p : Process) → status < 256 → GoodParts p → GoodParts (with_exit_status status p)
 end_good status p byte good =
     record { variables = good.variables; cursors = good.cursors; script = good.script; status = byte }
 
@@ -96,7 +96,7 @@ variable_good name v p here good = record {
   status = good.status;
 }
 
-pub assign_good : (name : List ℕ) (c : Computed) (p : Process) → GoodComputed c → GoodParts p
+pub assign_good : (name : List ℕ) (c : Computation) (p : Process) → GoodComputed c → GoodParts p
     → GoodParts (assign name c p)
 assign_good name (Yields v) p here good = on_good (with_variable name v p) (variable_good name v p here good)
 assign_good name (Misused status) p byte good = end_good status p byte good

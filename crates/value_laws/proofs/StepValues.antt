@@ -18,9 +18,9 @@ use Rattle.sql_model.specs.declared.reply.SqlRefusal.{SqlRefusal}
 use Rattle.sql_model.specs.declared.reply.SqlRefusal.TheVariants as refusals
 use Rattle.run_model.specs.Types.{Value, Null, Int, Text, CalcOp, Reply, Rows, Changed, Refused}
 use Rattle.run_model.specs.Core.{Cursor}
-use Rattle.run_model.specs.StepBase.{Computed, Yields, Misused, number_within}
-use Rattle.run_model.specs.StepReplies.{counted, count_in, code_in, status_value}
-use Rattle.run_model.specs.StepVariables.{calculated, result_of, glued, text_within, number_or_misuse, to_number}
+use Rattle.run_model.specs.StepBase.{Computation, Yields, Misused, number_within}
+use Rattle.run_model.specs.StepReplies.{row_count, count_in, code_in, status_value}
+use Rattle.run_model.specs.StepVariables.{calculation, result_of, concatenation, text_within, number_or_misuse, to_number}
 use Rattle.value_laws.specs.Values.{GoodValue}
 use Rattle.value_laws.proofs.ScriptTokens.{number_fits}
 
@@ -40,7 +40,7 @@ not_over n fits = ltb-false text_limit n fits
 
 -- ---- what is computed: a good value, or a status of misuse
 
-abbrev pub GoodComputed : Computed → Type 0
+abbrev pub GoodComputed : Computation → Type 0
 GoodComputed (Yields v) = GoodValue v
 GoodComputed (Misused status) = status < 256
 
@@ -56,7 +56,7 @@ within_good (negsuc n) = elim (cases_Bool (nat_lt n (2 ^ 63))) [
   | inr over ↦ let byte : 241 < 256 = omega arith in rw over byte
 ]
 
-pub calculated_good : (op : CalcOp) (v w : Value) → GoodComputed (calculated op v w)
+pub calculated_good : (op : CalcOp) (v w : Value) → GoodComputed (calculation op v w)
 calculated_good op Null w = omega arith
 calculated_good op (Int m) Null = omega arith
 calculated_good op (Int m) (Int n) = within_good (result_of op m n)
@@ -79,7 +79,7 @@ joined_good s t first second = elim (cases_Bool (nat_lt text_limit (length (s ++
   | inr fits ↦ rw fits (text_good (s ++ t) (IsUtf8-append s t first second) (not_over (length (s ++ t)) fits))
 ]
 
-pub glued_good : (v w : Value) → GoodValue v → GoodValue w → GoodComputed (glued v w)
+pub glued_good : (v w : Value) → GoodValue v → GoodValue w → GoodComputed (concatenation v w)
 glued_good Null w first second = omega arith
 glued_good (Int m) Null first second = omega arith
 glued_good (Int m) (Int n) first second =
@@ -102,7 +102,7 @@ to_number_good (Text t) good = written_good t (number_of t) refl
 
 -- ---- numbers of replies
 
-pub counted_good : (o : Option Cursor) → GoodComputed (counted o)
+pub counted_good : (o : Option Cursor) → GoodComputed (row_count o)
 counted_good None = omega arith
 counted_good (Some cursor) = within_good (pos (count_in cursor.reply))
 

@@ -28,7 +28,7 @@ use Rattle.run_model.specs.ValidPackage.{packed_file_precedes, packed_table_prec
 use Rattle.run_model.specs.declared.package.PackedRow.{PackedRow}
 use Rattle.run_model.specs.declared.package.PackedTable.{PackedTable}
 use Rattle.run_model.specs.declared.world.World.{World}
-use Rattle.run_model.proofs.KeyPlaces.{found}
+use Rattle.run_model.proofs.KeyPlaces.{find-of-list_any}
 use Rattle.run_model.specs.ValidWorld.{all_of_file, all_of_row, all_of_table, TypedWorld, world_rules, ValidWorld, CanRun}
 use Rattle.run_model.proofs.ValidWorlds.{all_of_catalog, valid_runs}
 use Rattle.world_json.proofs.ReadDocuments.{IsWide, IsDocument, world_read}
@@ -59,7 +59,7 @@ module _ (columns : List Column) where
   -- the column at the place has the name
   placed : (name : List ℕ) → has_column columns name ≡ true → (c : Column) × (slice_get columns (place name) ≡ Some c) × (c.name ≡ name)
   placed name there =
-      let one = found (is_column name) columns there in
+      let one = find-of-list_any (is_column name) columns there in
       (one.0, sym (find_at (is_column name) columns) ∙ one.1, (bytes_eq-Decides one.0.name name).0 one.2)
 
   within : (name : List ℕ) → has_column columns name ≡ true → nat_lt (place name) (length columns) ≡ true

@@ -31,7 +31,7 @@ use Rattle.run_model.specs.declared.package.PackedRow.{PackedRow}
 use Rattle.run_model.specs.declared.package.PackedTable.{PackedTable}
 use Rattle.run_model.specs.ValidWorld.{all_of_file, all_of_row, all_of_table, TypedWorld, world_rules, ValidWorld, CanRun}
 use Rattle.run_model.proofs.ValidWorlds.{valid_runs}
-use Rattle.world_json.specs.Generated.{customer_row, customers, generated, keyed_by_first, order_columns, order_row, order_values, orders, script_file}
+use Rattle.world_json.specs.Generated.{customer_row, customers, generated_world, keyed_by_first, order_columns, order_row, order_values, orders, script_file}
 
 -- ---- the script
 
@@ -168,7 +168,7 @@ tables_met n =
 
 -- ---- the world
 
-generated_met : (n : ℕ) → IsTrue (world_rules (generated n))
+generated_met : (n : ℕ) → IsTrue (world_rules (generated_world n))
 generated_met n =
     and-from (start_rule start && files_rule files && tables_rule (tables n)) (script_rule start files)
     (and-from (start_rule start && files_rule files) (tables_rule (tables n)) (and-from (start_rule start) (files_rule files) start_met files_met) (tables_met n))
@@ -223,7 +223,7 @@ customers_typed : (s k : ℕ) → s + k < 2 ^ 32 → AllByRecursion TypedRow (cu
 customers_typed s zero few = tt
 customers_typed s (suc k) few = (customer_typed s (omega (arith, few)), customers_typed (s + 1) k (omega (arith, few)))
 
-generated_typed : (n : ℕ) → n < 2 ^ 32 → TypedWorld (generated n)
+generated_typed : (n : ℕ) → n < 2 ^ 32 → TypedWorld (generated_world n)
 unfolding is_utf8 chars encode_utf8
 generated_typed n small =
     let none : 0 < 2 ^ 64 = omega arith in
@@ -250,8 +250,8 @@ generated_typed n small =
       ),
     )
 
-pub generated_valid : (n : ℕ) (w : World) → w ≡ generated n → n < 2 ^ 32 → ValidWorld w
+pub generated_valid : (n : ℕ) (w : World) → w ≡ generated_world n → n < 2 ^ 32 → ValidWorld w
 generated_valid n w is small = subst ValidWorld (sym is) (record { typed = generated_typed n small; ruled = generated_met n })
 
-pub generated_runs : (n : ℕ) (w : World) → w ≡ generated n → n < 2 ^ 32 → CanRun w
+pub generated_runs : (n : ℕ) (w : World) → w ≡ generated_world n → n < 2 ^ 32 → CanRun w
 generated_runs n w is small = valid_runs w (generated_valid n w is small)

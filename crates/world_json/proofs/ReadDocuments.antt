@@ -23,8 +23,8 @@ use Rattle.run_model.specs.declared.world.World.{World}
 use Rattle.world_json.specs.declared.document.Document.{Document}
 use Rattle.world_json.specs.declared.document.Draft.{Draft}
 use Rattle.world_json.specs.declared.document.DraftForeign.{DraftForeign}
-use Rattle.world_json.specs.Shape.{◌>>=◌, each_member, array_of, object_of, only, required, optional, whole_of, content_of, file_of, cell_of, column_of, foreign_of, draft_of, is_width, table_from, table_in, table_of, table_members, document_as, document_from, document_in, document_of, document_members}
-use Rattle.world_json.specs.Reading.{table_as, world_as, shaped, parsed, json_of, world_reading}
+use Rattle.world_json.specs.Shape.{◌>>=◌, each_member, array_of, object_of, only, required_member, optional_member, whole_of, content_of, file_of, cell_of, column_of, foreign_of, draft_of, is_width, table_from, table_in, table_of, table_members, document_as, document_from, document_in, document_of, document_members}
+use Rattle.world_json.specs.Reading.{table_as, world_as, reading_of_document, reading_of_json, json_of, world_reading}
 use Rattle.world_json.specs.SortedWorld.{is_sorted_world}
 use Rattle.world_json.proofs.Readings.{IsWorldOf, document_passes}
 
@@ -191,11 +191,11 @@ module _ {X : Type 0} (f : List ℕ → Data → Option X) (name : X → List �
       (λ ms sorted. holds_weaker (AreOf (names_of ms)) AreRead (λ xs are. (sym (sorted-under text_precedes name xs) ∙ ap are_sorted are.0 ∙ sorted.0, are.1)) (each_member f ms) (each_read ms))
       (as_object d) (members_sorted d h)
 
-  required_read : (o : Option Data) → Holds AllSorted o → Holds AreRead (required (object_of f) o)
+  required_read : (o : Option Data) → Holds AllSorted o → Holds AreRead (required_member (object_of f) o)
   required_read None h = tt
   required_read (Some d) h = object_read d h
 
-  optional_read : (o : Option Data) → Holds AllSorted o → Holds AreRead (optional (object_of f) [] o)
+  optional_read : (o : Option Data) → Holds AllSorted o → Holds AreRead (optional_member (object_of f) [] o)
   optional_read None h = (refl, tt)
   optional_read (Some d) h = object_read d h
 
@@ -223,33 +223,33 @@ by_next name columns key foreign rows next =
     if is_width (length columns) rows then Some (draft_of name columns key foreign rows next) else None
 
 abbrev by_rows : List ℕ → Option Data → List Column → List (List ℕ) → List DraftForeign → List (List Value) → Option Draft
-by_rows name next columns key foreign rows = optional whole_of (length rows) next >>= by_next name columns key foreign rows
+by_rows name next columns key foreign rows = optional_member whole_of (length rows) next >>= by_next name columns key foreign rows
 
 abbrev by_foreign : List ℕ → Option Data → Option Data → List Column → List (List ℕ) → List DraftForeign → Option Draft
 by_foreign name rows next columns key foreign =
-    optional (array_of (array_of cell_of)) [] rows >>= by_rows name next columns key foreign
+    optional_member (array_of (array_of cell_of)) [] rows >>= by_rows name next columns key foreign
 
 abbrev by_key : List ℕ → Option Data → Option Data → Option Data → List Column → List (List ℕ) → Option Draft
 by_key name foreign rows next columns key =
-    optional (array_of foreign_of) [] foreign >>= by_foreign name rows next columns key
+    optional_member (array_of foreign_of) [] foreign >>= by_foreign name rows next columns key
 
 abbrev by_columns : List ℕ → Option Data → Option Data → Option Data → Option Data → List Column → Option Draft
 by_columns name key foreign rows next columns =
-    optional (array_of as_str) [] key >>= by_key name foreign rows next columns
+    optional_member (array_of as_str) [] key >>= by_key name foreign rows next columns
 
 table_from_read : (name : List ℕ) (columns key foreign rows next : Option Data) → Holds (IsTable name) (table_from name columns key foreign rows next)
 table_from_read name columns key foreign rows next =
-    let column_list = required (array_of column_of) columns in
-    let key_list = optional (array_of as_str) [] key in
-    let foreign_list = optional (array_of foreign_of) [] foreign in
-    let row_list = optional (array_of (array_of cell_of)) [] rows in
+    let column_list = required_member (array_of column_of) columns in
+    let key_list = optional_member (array_of as_str) [] key in
+    let foreign_list = optional_member (array_of foreign_of) [] foreign in
+    let row_list = optional_member (array_of (array_of cell_of)) [] rows in
     holds_then Any (IsTable name) (by_columns name key foreign rows next)
     (λ columns h. holds_then Any (IsTable name) (by_key name foreign rows next columns)
     (λ key h. holds_then Any (IsTable name) (by_foreign name rows next columns key)
     (λ foreign h. holds_then Any (IsTable name) (by_rows name next columns key foreign)
     (λ rows h. holds_then Any (IsTable name) (by_next name columns key foreign rows)
     (λ number h. holds_when (IsTable name) (is_width (length columns) rows) (draft_of name columns key foreign rows number) (λ wide. (refl, wide)))
-    (optional whole_of (length rows) next) (holds_any (optional whole_of (length rows) next)))
+    (optional_member whole_of (length rows) next) (holds_any (optional_member whole_of (length rows) next)))
     row_list (holds_any row_list))
     foreign_list (holds_any foreign_list))
     key_list (holds_any key_list))
@@ -270,24 +270,24 @@ pub record IsDocument (doc : Document) : Type 0 where
 
 -- the steps of a document, each with those before it
 abbrev by_files : List (List ℕ) → ℕ → Option Data → List File → Option Document
-by_files start seed tables files = optional (object_of table_of) [] tables >>= λ tables. Some (document_as start seed files tables)
+by_files start seed tables files = optional_member (object_of table_of) [] tables >>= λ tables. Some (document_as start seed files tables)
 
 abbrev by_seed : Option Data → Option Data → List (List ℕ) → ℕ → Option Document
-by_seed files tables start seed = required (object_of file_of) files >>= by_files start seed tables
+by_seed files tables start seed = required_member (object_of file_of) files >>= by_files start seed tables
 
 abbrev by_start : Option Data → Option Data → Option Data → List (List ℕ) → Option Document
-by_start seed files tables start = optional whole_of 0 seed >>= by_seed files tables start
+by_start seed files tables start = optional_member whole_of 0 seed >>= by_seed files tables start
 
 document_from_read : (start seed files tables : Option Data) → Holds AllSorted files → Holds AllSorted tables → Holds IsDocument (document_from start seed files tables)
 document_from_read start seed files tables fs ts =
-    let word_list = required (array_of as_str) start in
-    let number = optional whole_of 0 seed in
+    let word_list = required_member (array_of as_str) start in
+    let number = optional_member whole_of 0 seed in
     holds_then Any IsDocument (by_start seed files tables)
     (λ start h. holds_then Any IsDocument (by_seed files tables start)
     (λ seed h. holds_then (AreRead file_of path_of Any file_read) IsDocument (by_files start seed tables)
     (λ files f. holds_then (AreRead table_of name_of IsWide table_read) IsDocument (λ tables. Some (document_as start seed files tables)) (λ tables t. record { files = f.0; tables = t.0; wide = t.1 })
-    (optional (object_of table_of) [] tables) (optional_read table_of name_of IsWide table_read tables ts))
-    (required (object_of file_of) files) (required_read file_of path_of Any file_read files fs))
+    (optional_member (object_of table_of) [] tables) (optional_read table_of name_of IsWide table_read tables ts))
+    (required_member (object_of file_of) files) (required_read file_of path_of Any file_read files fs))
     number (holds_any number))
     word_list (holds_any word_list)
 
@@ -304,11 +304,11 @@ document_read d h = holds_then Sorted IsDocument document_in
 abbrev pub DocumentOf : World → Type 0
 DocumentOf world = (doc : Document) × IsWorldOf doc world × IsDocument doc
 
-shaped_read : (o : Option Document) (world : World) → Holds IsDocument o → shaped o ≡ Ok world → DocumentOf world
+shaped_read : (o : Option Document) (world : World) → Holds IsDocument o → reading_of_document o ≡ Ok world → DocumentOf world
 shaped_read None world h is = cc
 shaped_read (Some doc) world h is = (doc, document_passes doc world is, h)
 
-parsed_read : (o : Option Data) (world : World) → Holds AllSorted o → parsed o ≡ Ok world → DocumentOf world
+parsed_read : (o : Option Data) (world : World) → Holds AllSorted o → reading_of_json o ≡ Ok world → DocumentOf world
 parsed_read None world h is = cc
 parsed_read (Some d) world h is = shaped_read (document_of d) world (document_read d h) is
 

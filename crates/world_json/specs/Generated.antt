@@ -85,8 +85,8 @@ orders n = keyed_table (codes "orders") order_columns (map order_row (range_with
 -- ---- the world
 
 -- with so many orders
-abbrev pub generated : ℕ → World
-generated n = record {
+abbrev pub generated_world : ℕ → World
+generated_world n = record {
   start = codes "main" ∷ [];
   seed = 0;
   files = script_file ∷ [];

@@ -87,20 +87,20 @@ reading_of doc =
     else Err Limit)
     else Err Name
 
-abbrev pub shaped : Option Document → Result World WorldFault
-shaped None = Err Shape
-shaped (Some doc) = reading_of doc
+abbrev pub reading_of_document : Option Document → Result World WorldFault
+reading_of_document None = Err Shape
+reading_of_document (Some doc) = reading_of doc
 
 -- the JSON value of UTF-8 bytes
 abbrev pub json_of : List ℕ → Option Data
 json_of bytes = if is_utf8 bytes then read bytes else None
 
-abbrev pub parsed : Option Data → Result World WorldFault
-parsed None = Err NotJson
-parsed (Some d) = shaped (document_of d)
+abbrev pub reading_of_json : Option Data → Result World WorldFault
+reading_of_json None = Err NotJson
+reading_of_json (Some d) = reading_of_document (document_of d)
 
 abbrev pub world_reading : List ℕ → Result World WorldFault
-world_reading bytes = parsed (json_of bytes)
+world_reading bytes = reading_of_json (json_of bytes)
 
 -- a stop that names the fault of a reading; out of memory names none
 abbrev pub IsFaultOf : Result World WorldFault → WorldStop → Type 0

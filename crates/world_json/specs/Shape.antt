@@ -53,13 +53,13 @@ only names no_members = true
 only names (member k d ms) = list_any (bytes_eq k) names && only names ms
 
 -- a member that has to be there, and one that may be missing, with what it is then
-abbrev pub required : {X : Type 0} → (Data → Option X) → Option Data → Option X
-required f None = None
-required f (Some d) = f d
+abbrev pub required_member : {X : Type 0} → (Data → Option X) → Option Data → Option X
+required_member f None = None
+required_member f (Some d) = f d
 
-abbrev pub optional : {X : Type 0} → (Data → Option X) → X → Option Data → Option X
-optional f x None = Some x
-optional f x (Some d) = f d
+abbrev pub optional_member : {X : Type 0} → (Data → Option X) → X → Option Data → Option X
+optional_member f x None = Some x
+optional_member f x (Some d) = f d
 
 -- ---- files
 
@@ -74,7 +74,8 @@ abbrev pub hex_of : Data → Option (List ℕ)
 hex_of d = as_str d >>= hex_text
 
 abbrev pub content_in : Members → Option (List ℕ)
-content_in ms = if only (codes "hex" ∷ []) ms then required hex_of (get_member (codes "hex") ms) else None
+content_in ms = if only (codes "hex" ∷ []) ms
+    then required_member hex_of (get_member (codes "hex") ms) else None
 
 -- a text is its bytes, or the one member `hex` has them
 abbrev pub content_of : Data → Option (List ℕ)
@@ -152,11 +153,11 @@ is_width width rows = list_all (λ row. length row == width) rows
 abbrev pub table_from :
     List ℕ → Option Data → Option Data → Option Data → Option Data → Option Data → Option Draft
 table_from name columns key foreign rows next = do
-  columns ← required (array_of column_of) columns
-  key ← optional (array_of as_str) [] key
-  foreign ← optional (array_of foreign_of) [] foreign
-  rows ← optional (array_of (array_of cell_of)) [] rows
-  next ← optional whole_of (length rows) next
+  columns ← required_member (array_of column_of) columns
+  key ← optional_member (array_of as_str) [] key
+  foreign ← optional_member (array_of foreign_of) [] foreign
+  rows ← optional_member (array_of (array_of cell_of)) [] rows
+  next ← optional_member whole_of (length rows) next
   (if is_width (length columns) rows then Some (draft_of name columns key foreign rows next) else None)
 
 abbrev pub table_members : List (List ℕ)
@@ -180,10 +181,10 @@ document_as start seed files tables = record { start = start; seed = seed; files
 -- a document by its start words, seed, files and tables
 abbrev pub document_from : Option Data → Option Data → Option Data → Option Data → Option Document
 document_from start seed files tables = do
-  start ← required (array_of as_str) start
-  seed ← optional whole_of 0 seed
-  files ← required (object_of file_of) files
-  tables ← optional (object_of table_of) [] tables
+  start ← required_member (array_of as_str) start
+  seed ← optional_member whole_of 0 seed
+  files ← required_member (object_of file_of) files
+  tables ← optional_member (object_of table_of) [] tables
   Some (document_as start seed files tables)
 
 abbrev pub document_members : List (List ℕ)

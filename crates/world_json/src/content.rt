@@ -2,7 +2,7 @@
 
 ghost use Rattle.std.specs.Prelude.{◌≡◌, Some, None, IfOk, option_map};
 ghost use Rattle.serde_json.specs.View.{view, members_view};
-ghost use Rattle.world_json.specs.Shape.{content_of, content_in, hex_of, hex_text, required, file_of};
+ghost use Rattle.world_json.specs.Shape.{content_of, content_in, hex_of, hex_text, required_member, file_of};
 
 use crate::members::{has_only, take_member};
 use crate::shape::{FromMember, ShapeStop};
@@ -54,8 +54,8 @@ fn read_hex_member(alloc: Global, mut members: Map<String, Value>) -> Result<Byt
 }
 
 fn read_hex(alloc: Global, value: Option<Value>) -> Result<Bytes, ShapeStop>
-    ensures ok { IfOk result (λ bytes. required hex_of (option_map view value) ≡ Some bytes) }
-    ensures shape { result ≡ Err ShapeStop.Shape → required hex_of (option_map view value) ≡ None }
+    ensures ok { IfOk result (λ bytes. required_member hex_of (option_map view value) ≡ Some bytes) }
+    ensures shape { result ≡ Err ShapeStop.Shape → required_member hex_of (option_map view value) ≡ None }
 {
     match value {
         Some(Value::String(text)) => decode_hex(alloc, text.as_str()),

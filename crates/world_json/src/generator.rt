@@ -5,7 +5,7 @@ ghost use Rattle.std.specs.Fmt.{decimal};
 ghost use Rattle.std.specs.List.{range_with_len};
 ghost use Rattle.run_model.specs.ValidWorld.{CanRun, ValidWorld};
 ghost use Rattle.world_json.specs.Generated.{customer_columns, customer_row, customer_values, customers};
-ghost use Rattle.world_json.specs.Generated.{generated, keyed_table, needed_column, order_columns, order_row};
+ghost use Rattle.world_json.specs.Generated.{generated_world, keyed_table, needed_column, order_columns, order_row};
 ghost use Rattle.world_json.specs.Generated.{order_values, orders, script_file};
 
 use itoa::Buffer;
@@ -35,7 +35,7 @@ const SCRIPT: &str =
 /// script that writes what each customer has ordered in small orders, deletes the large ones, and counts the
 /// small ones. It is valid, and it can be run.
 pub fn generate(alloc: Global, n: u32) -> Result<World, AllocError>
-    ensures world { IfOk result (λ world. world ≡ generated n) }
+    ensures world { IfOk result (λ world. world ≡ generated_world n) }
     ensures valid { IfOk result (λ world. ValidWorld world) }
     ensures runs { IfOk result (λ world. CanRun world) }
 {
@@ -43,7 +43,7 @@ pub fn generate(alloc: Global, n: u32) -> Result<World, AllocError>
 }
 
 fn made_world(alloc: Global, n: u32) -> Result<World, AllocError>
-    ensures { IfOk result (λ world. world ≡ generated n) }
+    ensures { IfOk result (λ world. world ≡ generated_world n) }
 {
     let mut start = Words::new(alloc);
     start.push(Utf8::of(alloc, START)?)?;

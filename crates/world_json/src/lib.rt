@@ -26,7 +26,7 @@ mod keys;
 mod kinds;
 mod limits;
 mod members;
-mod names;
+mod table_names;
 mod parse;
 mod parts;
 mod rows;

@@ -5,7 +5,7 @@ ghost use Rattle.std.specs.List.{list_all, AllByRecursion};
 ghost use Rattle.std.specs.Str.{IsUtf8};
 ghost use Rattle.serde_json.specs.Find.{get_member};
 ghost use Rattle.serde_json.specs.View.{view, members_view};
-ghost use Rattle.world_json.specs.Shape.{array_of, object_of, required, optional, whole_of, file_of};
+ghost use Rattle.world_json.specs.Shape.{array_of, object_of, required_member, optional_member, whole_of, file_of};
 ghost use Rattle.world_json.specs.Shape.{is_width, table_from, table_in, table_of};
 ghost use Rattle.world_json.specs.Shape.{document_from, document_in, document_of};
 ghost use Rattle.world_json.specs.Typed.{TypedDocument, TypedDocumentFile, TypedDraft};
@@ -38,9 +38,9 @@ struct DocumentParts {
 
 // An array that has to be there.
 fn read_required<X: FromItem>(alloc: Global, value: Option<Value>) -> Result<List<X>, ShapeStop>
-    ensures ok { IfOk result (λ xs. required (array_of X.of_item) (option_map view value) ≡ Some xs) }
+    ensures ok { IfOk result (λ xs. required_member (array_of X.of_item) (option_map view value) ≡ Some xs) }
     ensures shape { result ≡ Err ShapeStop.Shape
-        → required (array_of X.of_item) (option_map view value) ≡ None }
+        → required_member (array_of X.of_item) (option_map view value) ≡ None }
     ensures typed { IfOk result (λ xs. AllByRecursion X.typed xs) }
 {
     match value {
@@ -51,9 +51,10 @@ fn read_required<X: FromItem>(alloc: Global, value: Option<Value>) -> Result<Lis
 
 // An array that is empty where it is missing.
 fn read_optional<X: FromItem>(alloc: Global, value: Option<Value>) -> Result<List<X>, ShapeStop>
-    ensures ok { IfOk result (λ xs. optional (array_of X.of_item) [] (option_map view value) ≡ Some xs) }
+    ensures ok { IfOk result (λ xs. optional_member
+        (array_of X.of_item) [] (option_map view value) ≡ Some xs) }
     ensures shape { result ≡ Err ShapeStop.Shape
-        → optional (array_of X.of_item) [] (option_map view value) ≡ None }
+        → optional_member (array_of X.of_item) [] (option_map view value) ≡ None }
     ensures typed { IfOk result (λ xs. AllByRecursion X.typed xs) }
 {
     match value {
@@ -64,8 +65,10 @@ fn read_optional<X: FromItem>(alloc: Global, value: Option<Value>) -> Result<Lis
 
 // A whole number from 0 to 2^64 - 1, with what it is where it is missing.
 fn read_whole(value: Option<Value>, missing: u64) -> Result<u64, ShapeStop>
-    ensures ok { IfOk result (λ number. optional whole_of missing (option_map view value) ≡ Some number) }
-    ensures shape { result ≡ Err ShapeStop.Shape → optional whole_of missing (option_map view value) ≡ None }
+    ensures ok { IfOk result (λ number. optional_member whole_of missing
+        (option_map view value) ≡ Some number) }
+    ensures shape { result ≡ Err ShapeStop.Shape
+        → optional_member whole_of missing (option_map view value) ≡ None }
 {
     match value {
         Some(number) => read_number(&number),
@@ -254,9 +257,10 @@ fn document_of_parts(alloc: Global, parts: DocumentParts) -> Result<Document, Sh
 }
 
 fn read_files(alloc: Global, value: Option<Value>) -> Result<Files, ShapeStop>
-    ensures ok { IfOk result (λ files. required (object_of file_of) (option_map view value) ≡ Some files) }
+    ensures ok { IfOk result (λ files. required_member
+        (object_of file_of) (option_map view value) ≡ Some files) }
     ensures shape { result ≡ Err ShapeStop.Shape
-        → required (object_of file_of) (option_map view value) ≡ None }
+        → required_member (object_of file_of) (option_map view value) ≡ None }
     ensures typed { IfOk result (λ files. AllByRecursion TypedDocumentFile files) }
 {
     match value {
@@ -267,9 +271,9 @@ fn read_files(alloc: Global, value: Option<Value>) -> Result<Files, ShapeStop>
 
 fn read_tables(alloc: Global, value: Option<Value>) -> Result<Drafts, ShapeStop>
     ensures ok { IfOk result (λ tables.
-        optional (object_of table_of) [] (option_map view value) ≡ Some tables) }
+        optional_member (object_of table_of) [] (option_map view value) ≡ Some tables) }
     ensures shape { result ≡ Err ShapeStop.Shape
-        → optional (object_of table_of) [] (option_map view value) ≡ None }
+        → optional_member (object_of table_of) [] (option_map view value) ≡ None }
     ensures typed { IfOk result (λ tables. AllByRecursion TypedDraft tables) }
 {
     match value {

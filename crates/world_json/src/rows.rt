@@ -5,7 +5,7 @@ ghost use Rattle.std.specs.List.{AllByRecursion};
 ghost use Rattle.ldv_value.specs.Limits.{max_rows};
 ghost use Rattle.run_model.specs.TypedPackage.{TypedValues};
 ghost use Rattle.serde_json.specs.View.{view, items_view};
-ghost use Rattle.world_json.specs.Shape.{array_of, each, optional, cell_of};
+ghost use Rattle.world_json.specs.Shape.{array_of, each, optional_member, cell_of};
 ghost use Rattle.world_json.specs.Reading.{numbered_from};
 
 use crate::shape::{ShapeStop, read_array};
@@ -100,9 +100,9 @@ fn number_at(index: usize) -> u32
 /// The rows of a table, none where its member is missing.
 pub(crate) fn read_rows(alloc: Global, value: Option<Value>) -> Result<NumberedRows, ShapeStop>
     ensures ok { IfOk result (λ rows.
-        optional (array_of (array_of cell_of)) [] (option_map view value) ≡ Some rows) }
+        optional_member (array_of (array_of cell_of)) [] (option_map view value) ≡ Some rows) }
     ensures shape { result ≡ Err ShapeStop.Shape
-        → optional (array_of (array_of cell_of)) [] (option_map view value) ≡ None }
+        → optional_member (array_of (array_of cell_of)) [] (option_map view value) ≡ None }
     ensures typed { IfOk result (λ rows. AllByRecursion TypedValues rows) }
 {
     match value {

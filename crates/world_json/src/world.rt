@@ -5,7 +5,7 @@ ghost use Rattle.std.specs.List.{list_all};
 ghost use Rattle.serde_json.specs.View.{view};
 ghost use Rattle.run_model.specs.ValidWorld.{CanRun, TypedWorld, ValidWorld};
 ghost use Rattle.world_json.specs.Faults.{is_within, is_table_within};
-ghost use Rattle.world_json.specs.Reading.{world_reading, parsed, reading_of, referring_of, have_references};
+ghost use Rattle.world_json.specs.Reading.{world_reading, reading_of_json, reading_of, referring_of, have_references};
 ghost use Rattle.world_json.specs.Reading.{world_as, table_as, IsFaultOf};
 ghost use Rattle.world_json.specs.SortedWorld.{is_sorted_world};
 ghost use Rattle.world_json.specs.Typed.{TypedDocument};
@@ -15,7 +15,7 @@ use crate::fault::{WorldFault, WorldStop};
 use crate::keys::{foreign_keys, meets_keys, places_of_key};
 use crate::kinds::{meets_kinds, meets_not_null};
 use crate::limits::meets_limits;
-use crate::names::meets_names;
+use crate::table_names::meets_names;
 use crate::parse::{JsonStop, read_json};
 use crate::parts::read_document;
 use crate::shape::ShapeStop;
@@ -44,8 +44,8 @@ pub fn world_of(alloc: Global, bytes: &[u8]) -> Result<World, WorldStop>
 }
 
 fn world_of_value(alloc: Global, value: Value) -> Result<World, WorldStop>
-    ensures world { IfOk result (λ world. parsed (Some (view value)) ≡ Ok world) }
-    ensures fault { IfErr result (IsFaultOf (parsed (Some (view value)))) }
+    ensures world { IfOk result (λ world. reading_of_json (Some (view value)) ≡ Ok world) }
+    ensures fault { IfErr result (IsFaultOf (reading_of_json (Some (view value)))) }
     ensures typed { IfOk result (λ world. TypedWorld world) }
 {
     match read_document(alloc, value) {

@@ -1,7 +1,7 @@
 use Rattle.std.proofs.Common.{List, drop, subst}
 use Rattle.core_parts.proofs.ConjunctLaws.{one-condition}
 use Rattle.core_parts.specs.Conditions.{Adds}
-use Rattle.core_parts.specs.declared.placed.Placed.{Placed}
+use Rattle.core_parts.specs.declared.placed.BoundExpr.{BoundExpr}
 use Rattle.core_parts.proofs.conditions.conjuncts_of.Goals as goal
 
 pub returns : goal.returns
@@ -9,6 +9,6 @@ returns c = λ scope is.
     let pick = c.args.pick.now in
     let places = c.args.places.now in
     let left = drop c.add_conjuncts.new.at places in
-    let conds : List Placed = c.add_conjuncts.new.conds in
+    let conds : List BoundExpr = c.add_conjuncts.new.conds in
     one-condition conds pick places left
-    (subst (λ (old : List Placed). Adds old pick places conds left) c.new-conds.ensures c.in_ok-add_conjuncts.ensures) scope is
+    (subst (λ (old : List BoundExpr). Adds old pick places conds left) c.new-conds.ensures c.in_ok-add_conjuncts.ensures) scope is

@@ -10,7 +10,7 @@ pub returns-then-place-at : goal.returns-then-place-at
 returns-then-place-at c =
     let cond = c.args.cond.now in
     let at = c.args.at in
-    IfOk-weaker c.fixing.result (λ found. IfSome found (IsFixing cond.expr)) (λ found. IfSome found (Fixes cond at))
+    IfOk-weaker c.constant_of_equality.result (λ found. IfSome found (IsFixing cond.expr)) (λ found. IfSome found (Fixes cond at))
     (λ found are. IfSome-weaker found (IsFixing cond.expr) (Fixes cond at)
     (λ value is. fixes-is cond at c.in-Some.place.now (drop 1 cond.places) value is c.in-Some.ensures.rest c.if-place-at.true) are)
-    c.fixing.ensures
+    c.constant_of_equality.ensures

@@ -1,7 +1,7 @@
 use Rattle.std.proofs.Common.{◌≡◌, ◌+◌, ◌++◌, ◌∷◌, List, ℕ, drop, map, subst, ap, sym, ◌∙◌}
-use Rattle.core_parts.specs.Placing.{AllPlaced}
+use Rattle.core_parts.specs.Placing.{AreAllPlaced}
 use Rattle.core_parts.specs.Types.{Item}
-use Rattle.core_parts.specs.declared.placed.Placed.{Placed}
+use Rattle.core_parts.specs.declared.placed.BoundExpr.{BoundExpr}
 use Rattle.sql_model.specs.Refusals.{names_of_items}
 use Rattle.sql_model.specs.Scope.{places_in}
 use Rattle.core_parts.proofs.Lists.{drop-step, moved-mapped}
@@ -19,8 +19,8 @@ loop-item-preserved c =
     let split : drop i items ≡ item ∷ drop (i + 1) items = drop-step items i item c.loop-item-test.true c.item-item.is in
     record {
       exprs =
-          ap (λ (ps : List Placed). map (λ p. p.expr) ps ++ map (λ item. item.expr) (drop (i + 1) items)) c.in_ok-push.ensures.ok
-          ∙ moved-mapped (λ (p : Placed). p.expr) (λ (x : Item). x.expr) made placed item (drop (i + 1) items) c.in_ok-placed_at.ensures.expr
+          ap (λ (ps : List BoundExpr). map (λ p. p.expr) ps ++ map (λ item. item.expr) (drop (i + 1) items)) c.in_ok-push.ensures.ok
+          ∙ moved-mapped (λ (p : BoundExpr). p.expr) (λ (x : Item). x.expr) made placed item (drop (i + 1) items) c.in_ok-placed_at.ensures.expr
           ∙ ap (λ (xs : List Item). map (λ p. p.expr) made ++ map (λ x. x.expr) xs) (sym split)
           ∙ c.loop-item.invariant.exprs;
       placed = λ scope more is.
@@ -28,7 +28,7 @@ loop-item-preserved c =
           let rest : List ℕ = places_in scope (names_of_items (drop (i + 1) items)) ++ more in
           let here = item-front scope (λ (x : Item). x.expr) items i item at more split before.0 in (
             others-front scope item.expr at rest (drop c.placed_at.new.at c.args.places.now) here c.in_ok-placed_at.ensures.others,
-            subst (AllPlaced scope) (sym c.in_ok-push.ensures.ok)
+            subst (AreAllPlaced scope) (sym c.in_ok-push.ensures.ok)
                 (placed-more scope made placed before.1
                 (placed-front scope item.expr at rest placed here c.in_ok-placed_at.ensures.expr c.in_ok-placed_at.ensures.places)),
           );

@@ -1,5 +1,5 @@
 use Rattle.std.proofs.Common.{◌≡◌, ℕ, List, ◌++◌, map, drop}
-use Rattle.core_parts.specs.Placing.{AllPlaced}
+use Rattle.core_parts.specs.Placing.{AreAllPlaced}
 use Rattle.sql_model.specs.Refusals.{names_of_items}
 use Rattle.sql_model.specs.Scope.{InScope, places_in}
 use Rattle.core_parts.proofs.placed.placed_items.Given as goal
@@ -8,5 +8,5 @@ abbrev pub invariant-loop-item : goal.invariant-loop-item
 invariant-loop-item l = record {
   exprs : map (λ p. p.expr) l.made ++ map (λ item. item.expr) (drop l.item-index l.items) ≡ map (λ item. item.expr) l.items;
   placed : (scope : List InScope) (more : List ℕ) → drop l.fn.at l.places ≡ places_in scope (names_of_items l.items) ++ more
-      → (drop l.at l.places ≡ places_in scope (names_of_items (drop l.item-index l.items)) ++ more) × AllPlaced scope l.made;
+      → (drop l.at l.places ≡ places_in scope (names_of_items (drop l.item-index l.items)) ++ more) × AreAllPlaced scope l.made;
 }

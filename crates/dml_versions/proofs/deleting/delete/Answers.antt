@@ -4,13 +4,13 @@ use Rattle.std.specs.List.{AllByRecursion}
 use Rattle.std.specs.Option.{option_and_then}
 use Rattle.ldv_value.proofs.Options.{same-some}
 use Rattle.sql_model.specs.Scope.{table_at}
-use Rattle.table_store.specs.Histories.{tables_now, table_now, rows_now, history_at, changed_at, removed}
+use Rattle.table_store.specs.Histories.{tables_now, table_now, rows_now, history_at, changed_at, table_without}
 use Rattle.table_store.specs.Referring.{delete_refusal}
 use Rattle.table_store.specs.Stops.{with_changed, with_removed, are_sorted_numbers, all_stand, StopsAs}
 use Rattle.dml_versions.proofs.AfterLaws.{all_needed}
 use Rattle.dml_versions.proofs.DeleteLaws.{delete-sorted, delete-stand, delete-needs, delete-own, delete-same, delete-child, delete-refused, delete-kept, delete-change, delete-after}
 use Rattle.dml_versions.proofs.EntryLaws.{check-of, there-of, versions-fit}
-use Rattle.dml_versions.proofs.KeptLaws.{told-change, told-over, told-needs, refused-over, refused-told}
+use Rattle.dml_versions.proofs.KeptLaws.{change_with_lists-change, change_with_lists-over, change_with_lists-needs, refused-over, refused-change_with_lists}
 use Rattle.dml_versions.proofs.TableLaws.{table-now, history-some}
 use Rattle.dml_versions.specs.Changing.{IsChange, IsStoreAfter, IsChildThere, matched_change, refused_change}
 use Rattle.dml_versions.specs.Finding.{test_in, found_row}
@@ -61,10 +61,10 @@ returns-in-Ok-clause-change c =
     let check = check-of (tables_now old) c.args.checked.now c.requires.checked (TheDelete delete) c.delete_of-delete.ensures in
     let fine = (λ j. option_and_then (delete_refusal (sym c.in_ok-numbers.ensures j) (tables_now old)) (table_at (sym c.as_str-name.ensures j) (tables_now old))) ∙ c.in-Ok.ensures.stop in
     subst (λ (s : Statement). IsChange s c.args.keep old c.in_ok-change.change) (sym c.delete_of-delete.ensures)
-    (told-change (TheDelete delete) c.args.keep old (matched_change delete.table found whole) c.in_ok-change.change
+    (change_with_lists-change (TheDelete delete) c.args.keep old (matched_change delete.table found whole) c.in_ok-change.change
     (delete-change old delete f.table f.there f.held.order formed found f.found_is check fine)
     (c.in_ok-change.ensures
-    ∙ told-over c.args.keep (matched_change delete.table found) (λ a b. refl) c.in_ok-needs.needs whole
+    ∙ change_with_lists-over c.args.keep (matched_change delete.table found) (λ a b. refl) c.in_ok-needs.needs whole
     (λ kept. delete-needs old delete f.table f.there f.held.order formed found f.found_is check c.in_ok-needs.needs (c.in_ok-needs.ensures kept))))
 
 pub returns-in-Ok-clause-after : goal.returns-in-Ok-clause-after
@@ -77,7 +77,7 @@ returns-in-Ok-clause-after c =
     subst (λ (s : Statement). IsStoreAfter s c.args.time old c.delete_all.new.self) (sym c.delete_of-delete.ensures)
     (delete-after old delete f.table f.there f.held.order c.tell_formed.ensures c.in_ok-found.found f.found_is check fine c.args.time c.delete_all.new.self
     (c.in-Ok.ensures.now ∙ (λ j. with_changed (c.as_str-name.ensures j) (with_removed (c.in_ok-numbers.ensures j)) (tables_now old)))
-    (c.in-Ok.ensures.ok ∙ (λ j. changed_at c.args.time (c.as_str-name.ensures j) (removed c.args.time (c.in_ok-numbers.ensures j)) old))
+    (c.in-Ok.ensures.ok ∙ (λ j. changed_at c.args.time (c.as_str-name.ensures j) (table_without c.args.time (c.in_ok-numbers.ensures j)) old))
     c.in-Ok.ensures.earlier)
 
 -- ---- refused
@@ -114,10 +114,10 @@ returns-clause-change c =
     (delete-child old delete f.table f.there f.held.order formed found f.found_is check (Unit {0}) at stops) in
     let over = refused-over (versions_now old) delete.table f.table.slots [] others given whole at refused made in
     subst (λ (s : Statement). IsChange s c.args.keep old refused) (sym c.delete_of-delete.ensures)
-    (refused-told (versions_now old) delete.table f.table.slots [] others given whole (TheDelete delete) c.args.keep old at refused over
+    (refused-change_with_lists (versions_now old) delete.table f.table.slots [] others given whole (TheDelete delete) c.args.keep old at refused over
     (λ kept. delete-own old delete f.table f.there f.held.order formed found f.found_is check (Unit {0}) at stops [] others)
     (λ kept. delete-same old delete f.table f.there f.held.order formed found f.found_is check (Unit {0}) at stops given
-    (told-needs c.args.keep (matched_change delete.table found c.in_ok-needs.needs) c.in_ok-change.change c.in_ok-change.ensures kept
+    (change_with_lists-needs c.args.keep (matched_change delete.table found c.in_ok-needs.needs) c.in_ok-change.change c.in_ok-change.ensures kept
     ∙ delete-needs old delete f.table f.there f.held.order formed found f.found_is check c.in_ok-needs.needs (c.in_ok-needs.ensures kept)))
     (delete-refused old delete f.table f.there f.held.order formed found f.found_is check (Unit {0}) at stops over.whole over.is))
 

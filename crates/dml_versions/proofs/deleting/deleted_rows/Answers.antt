@@ -16,7 +16,7 @@ table_of-table-requires c =
 pub found_rows-requires-clause-placed : goal.found_rows-requires-clause-placed
 found_rows-requires-clause-placed c =
     c.in_ok-places.ensures (scope_in c.table_of-table.result.now)
-    (c.places_or.ensures ∙ delete-placed c.args.store.now c.args.checked.now c.requires.checked c.args.delete.now c.requires.statement c.table_of-table.result.now c.table_of-table.ensures.found)
+    (c.column_indexes.ensures ∙ delete-placed c.args.store.now c.args.checked.now c.requires.checked c.args.delete.now c.requires.statement c.table_of-table.result.now c.table_of-table.ensures.found)
 
 pub found_rows-requires-clause-unique : goal.found_rows-requires-clause-unique
 found_rows-requires-clause-unique c =

@@ -3,8 +3,8 @@ use Rattle.dml_versions.proofs.TestLaws.{slots-pass, covered}
 use Rattle.dml_versions.specs.Finding.{AllPass, CoverFound, scope_in, test_in}
 use Rattle.dml_versions.proofs.finding.found_by_tests.Goals as goal
 
-pub chosen-requires : goal.chosen-requires
-chosen-requires c = c.requires.tests.fit
+pub choose_slots-requires : goal.choose_slots-requires
+choose_slots-requires c = c.requires.tests.fit
 
 pub found_among-requires-clause-cover : goal.found_among-requires-clause-cover
 found_among-requires-clause-cover c =

@@ -4,13 +4,13 @@ use Rattle.ldv_value.specs.Limits.{max_next}
 use Rattle.std.specs.Option.{option_and_then, option_map}
 use Rattle.ldv_value.proofs.Options.{same-some}
 use Rattle.sql_model.specs.Scope.{table_at}
-use Rattle.table_store.specs.Histories.{tables_now, table_now, history_at, changed_at, inserted}
+use Rattle.table_store.specs.Histories.{tables_now, table_now, history_at, changed_at, table_with_rows}
 use Rattle.table_store.specs.Referring.{insert_refusal}
 use Rattle.table_store.specs.Stops.{with_changed, with_inserted, have_shape, StopsAs}
 use Rattle.dml_versions.proofs.AfterLaws.{all_needed}
 use Rattle.dml_versions.proofs.EntryLaws.{check-of, there-of}
 use Rattle.dml_versions.proofs.InsertLaws.{insert-shape, insert-fits, insert-fine, insert-needs, insert-change, insert-after, insert-child, insert-refused, insert-same, insert-kept}
-use Rattle.dml_versions.proofs.KeptLaws.{told-change, told-over, told-needs, same-own, refused-over, refused-told}
+use Rattle.dml_versions.proofs.KeptLaws.{change_with_lists-change, change_with_lists-over, change_with_lists-needs, same-own, refused-over, refused-change_with_lists}
 use Rattle.dml_versions.proofs.TableLaws.{table-now, history-some}
 use Rattle.dml_versions.specs.Changing.{IsChange, IsStoreAfter, IsChildThere, inserted_change, refused_change}
 use Rattle.dml_versions.specs.Types.{Statement, TheInsert, Table, StoreHistory}
@@ -68,10 +68,10 @@ returns-in-Ok-clause-change c =
     let needs_are : IsTrue c.args.keep → c.in_ok-needs.needs ≡ all_needed (TheInsert insert) old = λ kept.
     insert-needs old insert f.table f.there f.held.order formed check rows f.rows_are c.next_at-next.result next c.in_ok-needs.needs (c.in_ok-needs.ensures kept fits) own in
     subst (λ (s : Statement). IsChange s c.args.keep old c.in_ok-change.change) (sym c.insert_of-insert.ensures)
-    (told-change (TheInsert insert) c.args.keep old (inserted_change insert.table c.next_at-next.result rows (all_needed (TheInsert insert) old)) c.in_ok-change.change
+    (change_with_lists-change (TheInsert insert) c.args.keep old (inserted_change insert.table c.next_at-next.result rows (all_needed (TheInsert insert) old)) c.in_ok-change.change
     (insert-change old insert f.table f.there f.held.order formed check rows f.rows_are fine c.next_at-next.result next)
     (c.in_ok-change.ensures fits
-    ∙ told-over c.args.keep (inserted_change insert.table c.next_at-next.result rows) (λ a b. refl) c.in_ok-needs.needs (all_needed (TheInsert insert) old) needs_are))
+    ∙ change_with_lists-over c.args.keep (inserted_change insert.table c.next_at-next.result rows) (λ a b. refl) c.in_ok-needs.needs (all_needed (TheInsert insert) old) needs_are))
 
 pub returns-in-Ok-clause-after : goal.returns-in-Ok-clause-after
 returns-in-Ok-clause-after c =
@@ -84,7 +84,7 @@ returns-in-Ok-clause-after c =
     subst (λ (s : Statement). IsStoreAfter s c.args.time old c.insert_all.new.self) (sym c.insert_of-insert.ensures)
     (insert-after old insert f.table f.there f.held.order c.tell_formed.ensures check rows f.rows_are fine c.args.time c.insert_all.new.self
     (c.in-Ok.ensures.now ∙ ap (λ (n : List ℕ). with_changed n (with_inserted rows) (tables_now old)) c.as_str-name.ensures)
-    (c.in-Ok.ensures.ok ∙ ap (λ (n : List ℕ). changed_at c.args.time n (inserted c.args.time rows) old) c.as_str-name.ensures)
+    (c.in-Ok.ensures.ok ∙ ap (λ (n : List ℕ). changed_at c.args.time n (table_with_rows c.args.time rows) old) c.as_str-name.ensures)
     c.in-Ok.ensures.earlier)
 
 -- ---- refused
@@ -124,12 +124,12 @@ returns-in_ok-refused-in-Err-clause-change c =
     (insert-child old insert f.table f.there f.held.order formed check rows f.rows_are ℕ at stops) in
     let over = refused-over (versions_now old) insert.table f.table.slots [] [] given whole at refused made in
     subst (λ (s : Statement). IsChange s c.args.keep old refused) (sym c.insert_of-insert.ensures)
-    (refused-told (versions_now old) insert.table f.table.slots [] [] given whole (TheInsert insert) c.args.keep old at refused over
+    (refused-change_with_lists (versions_now old) insert.table f.table.slots [] [] given whole (TheInsert insert) c.args.keep old at refused over
     (λ kept. same-own at [] [] refl)
     (λ kept. insert-same old insert f.table f.there f.held.order formed check rows f.rows_are ℕ at stops given (λ own.
     let fits : nat_lt max_next (c.next_at-next.result + length rows) ≡ false =
     ap (λ (n : ℕ). nat_lt max_next (n + length rows)) next ∙ insert-fits old insert f.table f.there f.held.order formed check rows f.rows_are own in
-    told-needs c.args.keep (inserted_change insert.table c.next_at-next.result rows c.in_ok-needs.needs) c.in_ok-change.change (c.in_ok-change.ensures fits) kept
+    change_with_lists-needs c.args.keep (inserted_change insert.table c.next_at-next.result rows c.in_ok-needs.needs) c.in_ok-change.change (c.in_ok-change.ensures fits) kept
     ∙ insert-needs old insert f.table f.there f.held.order formed check rows f.rows_are c.next_at-next.result next c.in_ok-needs.needs (c.in_ok-needs.ensures kept fits) own))
     (insert-refused old insert f.table f.there f.held.order formed check rows f.rows_are ℕ at stops over.whole over.is))
 

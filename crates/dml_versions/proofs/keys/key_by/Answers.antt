@@ -2,7 +2,7 @@ use Rattle.std.proofs.Common.{List, length, subst}
 use Rattle.std.specs.Prelude.{Some, IfSome}
 use Rattle.core_parts.proofs.Lists.{IfSome-weaker}
 use Rattle.core_parts.specs.Fixing.{FixesKey as FixesBy}
-use Rattle.core_parts.specs.declared.placed.Placed.{Placed}
+use Rattle.core_parts.specs.declared.placed.BoundExpr.{BoundExpr}
 use Rattle.dml_versions.proofs.FixingLaws.{key-fixed}
 use Rattle.dml_versions.specs.Fixing.{FixesKey}
 use Rattle.dml_versions.proofs.keys.key_by.Goals as goal
@@ -15,4 +15,4 @@ returns c =
     let conds = c.in_ok-conds.conds in
     IfSome-weaker c.in_ok-fixed.fixed (FixesBy conds 0 (length schema.columns) schema.key) (FixesKey (Some expr) places schema.key)
     (λ values is. key-fixed expr places schema.key (length schema.columns) conds values c.in_ok-conds.ensures is)
-    (subst (λ (l : List Placed). IfSome c.in_ok-fixed.fixed (FixesBy l 0 (length schema.columns) schema.key)) c.items.ensures c.in_ok-fixed.ensures)
+    (subst (λ (l : List BoundExpr). IfSome c.in_ok-fixed.fixed (FixesBy l 0 (length schema.columns) schema.key)) c.items.ensures c.in_ok-fixed.ensures)

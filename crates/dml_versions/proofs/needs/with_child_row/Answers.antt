@@ -1,5 +1,5 @@
 use Rattle.std.proofs.Common.{◌≡◌, ◌∙◌, ap, [], ◌∷◌, ◌++◌}
-use Rattle.core_parts.specs.Needing.{united}
+use Rattle.core_parts.specs.Needing.{union_of_needs}
 use Rattle.dml_versions.specs.Needing.{child_need}
 use Rattle.dml_versions.specs.Versions.{versions_now}
 use Rattle.dml_versions.proofs.needs.with_child_row.Goals as goal
@@ -10,5 +10,5 @@ returns c = λ there.
     c.in_ok-push.ensures.ok
     ∙ (λ j. c.in_ok-others.ensures j ++ c.in_ok-child.ensures there j ∷ []) in
     c.in_ok-all.ensures
-    ∙ (λ j. united (c.items.ensures j) (c.items-2.ensures j))
-    ∙ ap (united c.args.needs) one
+    ∙ (λ j. union_of_needs (c.items.ensures j) (c.items-2.ensures j))
+    ∙ ap (union_of_needs c.args.needs) one

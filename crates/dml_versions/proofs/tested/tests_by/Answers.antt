@@ -3,8 +3,8 @@ use Rattle.std.specs.Prelude.{Some}
 use Rattle.std.proofs.lemmas.Result.{IfOk-weaker}
 use Rattle.ldv_value.proofs.Booleans.{true≢false}
 use Rattle.core_parts.specs.Masking.{AreMasks, AreExact}
-use Rattle.core_parts.specs.declared.placed.Placed.{Placed}
-use Rattle.core_parts.specs.declared.masking.Mask.{Mask}
+use Rattle.core_parts.specs.declared.placed.BoundExpr.{BoundExpr}
+use Rattle.core_parts.specs.declared.mask.Mask.{Mask}
 use Rattle.dml_versions.proofs.TestLaws.{tests-are, exact-tests, exact-match, value-is}
 use Rattle.dml_versions.specs.Testing.{AreTests, AreExactTests, column_test}
 use Rattle.dml_versions.specs.declared.tested.WhereTests.{WhereTests}
@@ -36,7 +36,7 @@ returns-clause-tests c =
     let columns = c.args.columns.now in
     let masks = c.in-Some.masks.items in
     let exact : AreExact c.in_ok-conds.conds 0 columns masks =
-    subst (λ (l : List Placed). AreExact l 0 columns masks) c.items.ensures
+    subst (λ (l : List BoundExpr). AreExact l 0 columns masks) c.items.ensures
     (value-is c.in_ok-exact.exact c.in-Some.masks (λ found. AreExact c.items.result.now 0 columns found.items) c.in-Some.is c.in_ok-exact.ensures) in
     IfOk-weaker c.exact_tests.result
     (λ (made : WhereTests). made.tests.items ≡ map column_test c.as_slice.result.now)
@@ -51,7 +51,7 @@ returns-clause-exact c =
     let columns = c.args.columns.now in
     let masks = c.in-Some.masks.items in
     let exact : AreExact c.in_ok-conds.conds 0 columns masks =
-    subst (λ (l : List Placed). AreExact l 0 columns masks) c.items.ensures
+    subst (λ (l : List BoundExpr). AreExact l 0 columns masks) c.items.ensures
     (value-is c.in_ok-exact.exact c.in-Some.masks (λ found. AreExact c.items.result.now 0 columns found.items) c.in-Some.is c.in_ok-exact.ensures) in
     IfOk-weaker c.exact_tests.result
     (λ (made : WhereTests). made.tests.items ≡ map column_test c.as_slice.result.now)

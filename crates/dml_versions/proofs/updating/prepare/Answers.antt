@@ -17,7 +17,7 @@ table_of-table-requires c =
 pub found_rows-requires-clause-placed : goal.found_rows-requires-clause-placed
 found_rows-requires-clause-placed c =
     (c.in_ok-places.ensures (scope_in c.table_of-table.result.now)
-    (c.places_or.ensures ∙ update-placed c.args.store.now c.args.checked.now c.requires.checked c.args.update.now c.requires.statement c.table_of-table.result.now c.table_of-table.ensures.found)).1
+    (c.column_indexes.ensures ∙ update-placed c.args.store.now c.args.checked.now c.requires.checked c.args.update.now c.requires.statement c.table_of-table.result.now c.table_of-table.ensures.found)).1
 
 pub found_rows-requires-clause-unique : goal.found_rows-requires-clause-unique
 found_rows-requires-clause-unique c =
@@ -30,7 +30,7 @@ returns c =
     let table = c.table_of-table.result.now in
     let update = c.args.update.now in
     let placed = c.in_ok-places.ensures (scope_in table)
-    (c.places_or.ensures ∙ update-placed c.args.store.now c.args.checked.now c.requires.checked update c.requires.statement table c.table_of-table.ensures.found) in
+    (c.column_indexes.ensures ∙ update-placed c.args.store.now c.args.checked.now c.requires.checked update c.requires.statement table c.table_of-table.ensures.found) in
     record {
       table = table;
       there = c.table_of-table.ensures.found;

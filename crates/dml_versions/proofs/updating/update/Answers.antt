@@ -4,12 +4,12 @@ use Rattle.std.specs.List.{AllByRecursion}
 use Rattle.std.specs.Option.{option_and_then}
 use Rattle.ldv_value.proofs.Options.{same-some}
 use Rattle.sql_model.specs.Scope.{table_at}
-use Rattle.table_store.specs.Histories.{tables_now, table_now, rows_now, history_at, changed_at, replaced}
-use Rattle.table_store.specs.Stops.{with_changed, with_replaced, have_shape, values_of, all_stood, StopsAs}
+use Rattle.table_store.specs.Histories.{tables_now, table_now, rows_now, history_at, changed_at, table_with_values}
+use Rattle.table_store.specs.Stops.{with_changed, with_replaced, have_shape, values_of, had_rows, StopsAs}
 use Rattle.table_store.specs.Referring.{replace_refusal}
 use Rattle.dml_versions.proofs.AfterLaws.{all_needed}
 use Rattle.dml_versions.proofs.EntryLaws.{check-of, there-of, versions-fit}
-use Rattle.dml_versions.proofs.KeptLaws.{told-change, told-over, told-needs, same-own, refused-over, refused-told}
+use Rattle.dml_versions.proofs.KeptLaws.{change_with_lists-change, change_with_lists-over, change_with_lists-needs, same-own, refused-over, refused-change_with_lists}
 use Rattle.dml_versions.proofs.TableLaws.{table-now, history-some}
 use Rattle.dml_versions.proofs.UpdateLaws.{update-shape, update-sorted, update-stand, update-put, update-own, update-needs, update-fine, update-change, update-after, update-child, update-refused, update-same, update-kept}
 use Rattle.dml_versions.specs.Changing.{IsChange, IsStoreAfter, IsChildThere, matched_change, refused_change}
@@ -71,7 +71,7 @@ replace_all-requires-clause-stand c =
     let check = check-of (tables_now old) c.args.checked.now c.requires.checked (TheUpdate update) c.update_of-update.ensures in
     let there : table_at c.as_str-name.result.now (tables_now old) ≡ Some (table_now f.table) =
     ap (λ (n : List ℕ). table_at n (tables_now old)) c.as_str-name.ensures ∙ table-now update.table old f.table f.there in
-    subst (λ (o : Option Table). IfSome o (λ table. all_stood c.in_ok-prepared.prepared.rows table ≡ true)) (sym there)
+    subst (λ (o : Option Table). IfSome o (λ table. had_rows c.in_ok-prepared.prepared.rows table ≡ true)) (sym there)
     (update-stand old update f.table f.there f.held.order c.tell_formed.ensures check c.in_ok-prepared.prepared.found c.in_ok-prepared.prepared.rows f.found_is f.rows_are)
 
 -- ---- accepted
@@ -91,9 +91,9 @@ returns-in-Ok-clause-change c =
     let needs_are : IsTrue c.args.keep → c.in_ok-all.all ≡ whole = λ kept.
     update-needs old update f.table f.there f.held.order formed check found rows f.found_is f.rows_are c.in_ok-needs.needs c.in_ok-all.all (c.in_ok-needs.ensures kept) (c.in_ok-all.ensures kept) own in
     subst (λ (s : Statement). IsChange s c.args.keep old c.in_ok-change.change) (sym c.update_of-update.ensures)
-    (told-change (TheUpdate update) c.args.keep old (matched_change update.table found whole) c.in_ok-change.change
+    (change_with_lists-change (TheUpdate update) c.args.keep old (matched_change update.table found whole) c.in_ok-change.change
     (update-change old update f.table f.there f.held.order formed check found rows f.found_is f.rows_are fine)
-    (c.in_ok-change.ensures ∙ told-over c.args.keep (matched_change update.table found) (λ a b. refl) c.in_ok-all.all whole needs_are))
+    (c.in_ok-change.ensures ∙ change_with_lists-over c.args.keep (matched_change update.table found) (λ a b. refl) c.in_ok-all.all whole needs_are))
 
 pub returns-in-Ok-clause-after : goal.returns-in-Ok-clause-after
 returns-in-Ok-clause-after c =
@@ -106,7 +106,7 @@ returns-in-Ok-clause-after c =
     subst (λ (s : Statement). IsStoreAfter s c.args.time old c.replace_all.new.self) (sym c.update_of-update.ensures)
     (update-after old update f.table f.there f.held.order c.tell_formed.ensures check c.in_ok-prepared.prepared.found rows f.found_is f.rows_are fine c.args.time c.replace_all.new.self
     (c.in-Ok.ensures.now ∙ ap (λ (n : List ℕ). with_changed n (with_replaced rows) (tables_now old)) c.as_str-name.ensures)
-    (c.in-Ok.ensures.ok ∙ ap (λ (n : List ℕ). changed_at c.args.time n (replaced c.args.time rows) old) c.as_str-name.ensures)
+    (c.in-Ok.ensures.ok ∙ ap (λ (n : List ℕ). changed_at c.args.time n (table_with_values c.args.time rows) old) c.as_str-name.ensures)
     c.in-Ok.ensures.earlier)
 
 -- ---- refused
@@ -143,10 +143,10 @@ returns-clause-change c =
     (update-child old update f.table f.there f.held.order formed check found rows f.found_is f.rows_are (Unit {0}) at stops) in
     let over = refused-over (versions_now old) update.table f.table.slots needs others given whole at refused made in
     subst (λ (s : Statement). IsChange s c.args.keep old refused) (sym c.update_of-update.ensures)
-    (refused-told (versions_now old) update.table f.table.slots needs others given whole (TheUpdate update) c.args.keep old at refused over
+    (refused-change_with_lists (versions_now old) update.table f.table.slots needs others given whole (TheUpdate update) c.args.keep old at refused over
     (λ kept. same-own at needs others (update-own old update f.table f.there f.held.order formed check found rows f.found_is f.rows_are needs (c.in_ok-needs.ensures kept)))
     (λ kept. update-same old update f.table f.there f.held.order formed check found rows f.found_is f.rows_are (Unit {0}) at stops given (λ own.
-    told-needs c.args.keep (matched_change update.table found c.in_ok-all.all) c.in_ok-change.change c.in_ok-change.ensures kept
+    change_with_lists-needs c.args.keep (matched_change update.table found c.in_ok-all.all) c.in_ok-change.change c.in_ok-change.ensures kept
     ∙ update-needs old update f.table f.there f.held.order formed check found rows f.found_is f.rows_are needs c.in_ok-all.all (c.in_ok-needs.ensures kept) (c.in_ok-all.ensures kept) own))
     (update-refused old update f.table f.there f.held.order formed check found rows f.found_is f.rows_are (Unit {0}) at stops over.whole over.is))
 

@@ -20,5 +20,5 @@ returns c =
     (λ grouped made.
     subst (λ (ps : List Pick). IsGrouped checked place ps grouped) same
     (grouped_is checked place c.core_of.result.now picks plan grouped c.core_of.ensures
-    (λ scope are. c.in_ok-plan.ensures scope (c.places_or-places.ensures ∙ are)) made))
+    (λ scope are. c.in_ok-plan.ensures scope (c.column_indexes-places.ensures ∙ are)) made))
     c.grouped_picks.ensures

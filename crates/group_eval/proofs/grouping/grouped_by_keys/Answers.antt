@@ -11,9 +11,9 @@ returns c =
     let plan = c.args.plan.now in
     let groups = c.as_slice.result.now in
     let are : map own_picks groups ≡ keyed_groups plan.group c.args.picks.now = ap (map own_picks) c.as_slice.ensures.value ∙ c.in_ok-groups.ensures in
-    IfOk-weaker c.grouped_each.result
+    IfOk-weaker c.evaluate_groups.result
     (λ grouped. (scope : List InScope) → IsPlacedPlan scope plan → IsGroupedBy scope plan (map own_picks groups) grouped)
     (λ grouped. (scope : List InScope) → IsPlacedPlan scope plan → IsGroupedBy scope plan (keyed_groups plan.group c.args.picks.now) grouped)
     (λ grouped made scope placed.
     subst (λ (all : List (List Pick)). IsGroupedBy scope plan all grouped) are (made scope placed))
-    c.grouped_each.ensures
+    c.evaluate_groups.ensures

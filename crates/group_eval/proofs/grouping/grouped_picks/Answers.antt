@@ -19,7 +19,7 @@ module _ {E : Type 0} (plan : Plan) (picks : List Pick) (result : Result Grouped
   by-places b is = subst (λ (e : Bool). Gives (groups-if e)) (sym is)
 
 pub returns-then-is_empty : goal.returns-then-is_empty
-returns-then-is_empty c = by-places c.args.plan.now c.args.picks.now c.grouped_whole.result _ (sym c.is_empty.ensures ∙ c.if-is_empty.true) c.grouped_whole.ensures
+returns-then-is_empty c = by-places c.args.plan.now c.args.picks.now c.evaluate_one_group.result _ (sym c.is_empty.ensures ∙ c.if-is_empty.true) c.evaluate_one_group.ensures
 
 pub returns-else-is_empty : goal.returns-else-is_empty
 returns-else-is_empty c = by-places c.args.plan.now c.args.picks.now c.grouped_by_keys.result _ (sym c.is_empty.ensures ∙ c.if-is_empty.false) c.grouped_by_keys.ensures

@@ -4,9 +4,9 @@ use Rattle.lineage.specs.declared.answer.Pick.{Pick}
 use Rattle.core_parts.proofs.Lists.{drop-step, moved-one}
 use Rattle.group_eval.specs.Evaluating.{item_values}
 use Rattle.group_eval.specs.Folding.{group_meaning}
-use Rattle.core_parts.specs.Placing.{AllPlaced}
+use Rattle.core_parts.specs.Placing.{AreAllPlaced}
 use Rattle.group_eval.specs.Types.{Value}
-use Rattle.core_parts.specs.declared.placed.Placed.{Placed}
+use Rattle.core_parts.specs.declared.placed.BoundExpr.{BoundExpr}
 use Rattle.group_eval.proofs.grouping.values_of_items.Goals as goal
 
 pub loop-item-init : goal.loop-item-init
@@ -27,11 +27,11 @@ loop-item-preserved c =
     record {
       values = λ scope all.
           let before = c.loop-item.invariant.values scope all in
-          let placed : AllPlaced scope (item ∷ drop (i + 1) items) = subst (AllPlaced scope) split before.0 in (
+          let placed : AreAllPlaced scope (item ∷ drop (i + 1) items) = subst (AreAllPlaced scope) split before.0 in (
             placed.1,
             ap (λ (values : List Value). values ++ item_values scope picks (drop (i + 1) items)) c.in_ok-push.ensures.ok
                 ∙ moved-one c.loop-item.values (item_values scope picks (drop (i + 1) items)) c.in_ok-group_value.field-0 (group_meaning scope picks item.expr).value (c.in_ok-group_value.ensures.value scope placed.0)
-                ∙ ap (λ (ps : List Placed). c.loop-item.values ++ item_values scope picks ps) (sym split)
+                ∙ ap (λ (ps : List BoundExpr). c.loop-item.values ++ item_values scope picks ps) (sym split)
                 ∙ before.1,
           );
       known = c.in_ok-group_value.ensures.known;
@@ -43,5 +43,5 @@ returns c = λ scope all.
     let items = c.args.items.now in
     let done : drop c.loop-item.item-index items ≡ [] = drop_all c.loop-item.item-index items (omega (arith, c.loop-item-test.false)) in
     sym (append-nil c.loop-item.values)
-    ∙ ap (λ (ps : List Placed). c.loop-item.values ++ item_values scope picks ps) (sym done)
+    ∙ ap (λ (ps : List BoundExpr). c.loop-item.values ++ item_values scope picks ps) (sym done)
     ∙ (c.loop-item.invariant.values scope all).1

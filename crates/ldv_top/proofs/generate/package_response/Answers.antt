@@ -1,7 +1,7 @@
 use Rattle.std.proofs.Common.{◌≡◌, subst}
 use Rattle.std.specs.Prelude.{IfOk}
 use Rattle.ldv_top.specs.declared.response.Response.{Response}
-use Rattle.ldv_top.specs.Due.{Due, response_due}
+use Rattle.ldv_top.specs.Due.{DueOutput, response_due}
 use Rattle.ldv_top.proofs.GenerateLaws.{summed_whole}
 use Rattle.ldv_top.proofs.generate.package_response.Goals as goal
 
@@ -10,6 +10,6 @@ spelled_response-requires c = c.package_law.ensures.own_runs c.args.package.now 
 
 pub returns-in-Ok : goal.returns-in-Ok
 returns-in-Ok c =
-    subst (λ (d : Due). IfOk c.spelled_response.result (λ (response : Response). response_due response ≡ d))
+    subst (λ (d : DueOutput). IfOk c.spelled_response.result (λ (response : Response). response_due response ≡ d))
     (summed_whole c.args.orders c.args.rows c.args.package.now c.in-Ok.bytes c.in-Ok.ensures.bytes c.in-Ok.ensures.within)
     c.spelled_response.ensures

@@ -2,10 +2,10 @@ use Rattle.std.proofs.Common.{rules, ◌≡◌, subst}
 use Rattle.std.specs.Prelude.{IfOk}
 use Rattle.run_model.specs.declared.package.Mode.TheVariants.{Included}
 use Rattle.replay_db.specs.Runs.{Stops, package_within}
-use Rattle.replay_db.specs.declared.stop.EndStop.{EndStop}
+use Rattle.replay_db.specs.declared.error.EndStop.{EndStop}
 use Rattle.ldv_value.specs.Limits.{default_steps}
 use Rattle.ldv_top.specs.declared.response.Response.{Response}
-use Rattle.ldv_top.specs.Due.{Due, response_due}
+use Rattle.ldv_top.specs.Due.{DueOutput, response_due}
 use Rattle.ldv_top.specs.DueOfGenerate.{row_count}
 use Rattle.ldv_top.proofs.GenerateLaws.{recorded_valid, summed_in_time, summed_late}
 use Rattle.ldv_top.proofs.generate.world_response.Goals as goal
@@ -20,7 +20,7 @@ package_response-requires c =
 pub returns-in-Ok : goal.returns-in-Ok
 returns-in-Ok c =
     let counted : c.row_count-rows.result ≡ row_count c.args.world.tables = search rules in
-    subst (λ (d : Due). IfOk c.package_response.result (λ (response : Response). response_due response ≡ d))
+    subst (λ (d : DueOutput). IfOk c.package_response.result (λ (response : Response). response_due response ≡ d))
     (summed_in_time c.args.world c.in-Ok.package c.in-Ok.ensures c.args.orders c.row_count-rows.result counted) c.package_response.ensures
 
 pub returns-in-Err-NotEnded : goal.returns-in-Err-NotEnded

@@ -2,7 +2,7 @@ use Rattle.std.proofs.Common.{◌≡◌, subst}
 use Rattle.std.specs.Prelude.{IfOk}
 use Rattle.ldv_value.proofs.Booleans.{and-second}
 use Rattle.ldv_top.specs.declared.response.Response.{Response}
-use Rattle.ldv_top.specs.Due.{Due, response_due}
+use Rattle.ldv_top.specs.Due.{DueOutput, response_due}
 use Rattle.ldv_top.proofs.SeedLaws.{reseeded_read}
 use Rattle.ldv_top.proofs.replay_seed.replay_seed_response.Goals as goal
 
@@ -12,6 +12,6 @@ replay_other_seed-ended-requires-clause-can_replay c =
 
 pub returns-in-Ok : goal.returns-in-Ok
 returns-in-Ok c =
-    subst (λ (d : Due). IfOk c.reseeded_response.result (λ (response : Response). response_due response ≡ d))
+    subst (λ (d : DueOutput). IfOk c.reseeded_response.result (λ (response : Response). response_due response ≡ d))
     (reseeded_read c.args.seed c.args.budget c.in-Ok.package c.args.input c.requires.short c.in-Ok.ensures.reading)
     (c.reseeded_response.ensures c.args.seed c.in-Ok.package c.replay_other_seed-ended.ensures.judged)

@@ -3,8 +3,8 @@ use Rattle.std.specs.Prelude.{Err}
 use Rattle.ldv_top.specs.Comes.{Comes}
 use Rattle.ldv_top.specs.Due.{due_of, due_record}
 use Rattle.ldv_top.specs.DueOfMigrations.{due_migrate}
-use Rattle.ldv_top.specs.Headline.{Recorded}
-use Rattle.ldv_top.specs.Migrated.{Migrated}
+use Rattle.ldv_top.specs.Headline.{IsRecording}
+use Rattle.ldv_top.specs.Migrated.{IsMigration}
 use Rattle.ldv_top.proofs.TopLaws.{got_all, longer, too_long_due}
 use Rattle.ldv_top.proofs.RecordLaws.{too_long}
 use Rattle.ldv_top.proofs.top.run_command.Goals as goal
@@ -16,7 +16,7 @@ returns-in-Ok-clause-due g c = λ input told.
 
 pub returns-in-Ok-clause-recorded : goal.returns-in-Ok-clause-recorded
 returns-in-Ok-clause-recorded g c = λ mode budget document is told ends.
-    subst (λ (l : List ℕ). Recorded mode budget l (due_record mode budget l).bytes)
+    subst (λ (l : List ℕ). IsRecording mode budget l (due_record mode budget l).bytes)
     (got_all _ _ _ document told c.in-Ok.ensures.whole c.in-Ok.ensures.end) (c.respond_and_write.ensures.recorded mode budget is ends)
 
 pub returns-in-Err-TooLong-clause-due : goal.returns-in-Err-TooLong-clause-due
@@ -26,5 +26,5 @@ returns-in-Err-TooLong-clause-due g c = λ input told.
 
 pub returns-in-Ok-clause-migrated : goal.returns-in-Ok-clause-migrated
 returns-in-Ok-clause-migrated g c = λ input is told ends.
-    subst (λ (l : List ℕ). Migrated l (due_migrate l).bytes)
+    subst (λ (l : List ℕ). IsMigration l (due_migrate l).bytes)
     (got_all _ _ _ input told c.in-Ok.ensures.whole c.in-Ok.ensures.end) (c.respond_and_write.ensures.migrated is ends)

@@ -1,6 +1,6 @@
 use Rattle.std.proofs.lemmas.Result.{err_from_is_err_and}
 use Rattle.package_layout.specs.Fields.{items_at}
-use Rattle.package_layout.proofs.Lists.{begins, goes_on, ends, is_done}
+use Rattle.package_layout.proofs.Lists.{begins, with_front-next, ends, is_done}
 use Rattle.package_join.specs.Layout.{common_table_at}
 use Rattle.package_join.proofs.decoding.decode_some_tables.Goals as goal
 
@@ -14,7 +14,7 @@ returns-in_err-table c =
 
 pub loop-turn-preserved : goal.loop-turn-preserved
 loop-turn-preserved c =
-    rw c.in_ok-push.ensures.ok (goes_on common_table_at c.loop-turn.tables c.args.count c.loop-turn._turn c.loop-turn.cursor c.in_ok-table.table c.decode_common_table.new.cursor (items_at common_table_at c.args.count c.args.cursor.now) c.loop-turn-test.true c.in_ok-table.ensures c.loop-turn.invariant)
+    rw c.in_ok-push.ensures.ok (with_front-next common_table_at c.loop-turn.tables c.args.count c.loop-turn._turn c.loop-turn.cursor c.in_ok-table.table c.decode_common_table.new.cursor (items_at common_table_at c.args.count c.args.cursor.now) c.loop-turn-test.true c.in_ok-table.ensures c.loop-turn.invariant)
 
 pub returns : goal.returns
 returns c = is_done common_table_at c.loop-turn.tables c.args.count c.loop-turn._turn c.loop-turn.cursor (items_at common_table_at c.args.count c.args.cursor.now) c.loop-turn-test.false c.loop-turn.invariant

@@ -1,6 +1,6 @@
 use Rattle.std.proofs.lemmas.Result.{err_from_is_err_and}
 use Rattle.package_layout.specs.Fields.{items_at}
-use Rattle.package_layout.proofs.Lists.{begins, goes_on, ends, is_done}
+use Rattle.package_layout.proofs.Lists.{begins, with_front-next, ends, is_done}
 use Rattle.package_layout.proofs.codec.decode_items.Goals as goal
 
 pub loop-turn-init : goal.loop-turn-init
@@ -13,7 +13,7 @@ returns-in_err-item g c =
 
 pub loop-turn-preserved : goal.loop-turn-preserved
 loop-turn-preserved g c =
-    rw c.in_ok-push.ensures.ok (goes_on g.X.Decode.reading c.loop-turn.items c.args.count c.loop-turn._turn c.loop-turn.cursor c.in_ok-item.item c.decode.new.cursor (items_at g.X.Decode.reading c.args.count c.args.cursor.now) c.loop-turn-test.true c.in_ok-item.ensures c.loop-turn.invariant)
+    rw c.in_ok-push.ensures.ok (with_front-next g.X.Decode.reading c.loop-turn.items c.args.count c.loop-turn._turn c.loop-turn.cursor c.in_ok-item.item c.decode.new.cursor (items_at g.X.Decode.reading c.args.count c.args.cursor.now) c.loop-turn-test.true c.in_ok-item.ensures c.loop-turn.invariant)
 
 pub returns : goal.returns
 returns g c = is_done g.X.Decode.reading c.loop-turn.items c.args.count c.loop-turn._turn c.loop-turn.cursor (items_at g.X.Decode.reading c.args.count c.args.cursor.now) c.loop-turn-test.false c.loop-turn.invariant

@@ -1,6 +1,6 @@
 use Rattle.std.proofs.Common.{arith}
 use Rattle.std.proofs.lemmas.Result.{err_from_is_err_and}
-use Rattle.package_layout.proofs.Cuts.{due, goes_on, ends}
+use Rattle.package_layout.proofs.Cuts.{due, with_cut-next, ends}
 use Rattle.package_layout.proofs.cutting.cut_events.Goals as goal
 
 pub returns-in_err-event : goal.returns-in_err-event
@@ -10,6 +10,6 @@ returns-in_err-event c =
 
 pub loop-turn-preserved : goal.loop-turn-preserved
 loop-turn-preserved c = record {
-  due = goes_on c.loop-turn.cut c.in_ok-cut.cut c.args.count c.loop-turn._turn c.loop-turn.cursor c.in_ok-event.event c.decode.new.cursor (due c.args.count c.args.cursor.now) c.loop-turn-test.true c.in_ok-event.ensures c.in_ok-cut.ensures.cut c.loop-turn.invariant.due;
+  due = with_cut-next c.loop-turn.cut c.in_ok-cut.cut c.args.count c.loop-turn._turn c.loop-turn.cursor c.in_ok-event.event c.decode.new.cursor (due c.args.count c.args.cursor.now) c.loop-turn-test.true c.in_ok-event.ensures c.in_ok-cut.ensures.cut c.loop-turn.invariant.due;
   within = omega (arith, c.in_ok-cut.ensures.count, c.loop-turn.invariant.within);
 }

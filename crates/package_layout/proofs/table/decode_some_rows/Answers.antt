@@ -1,7 +1,7 @@
 use Rattle.std.proofs.lemmas.Result.{err_from_is_err_and}
 use Rattle.package_layout.specs.Fields.{items_at}
 use Rattle.package_layout.specs.Reading.{row_at}
-use Rattle.package_layout.proofs.Lists.{begins, goes_on, ends, is_done}
+use Rattle.package_layout.proofs.Lists.{begins, with_front-next, ends, is_done}
 use Rattle.package_layout.proofs.table.decode_some_rows.Goals as goal
 
 pub loop-turn-init : goal.loop-turn-init
@@ -14,7 +14,7 @@ returns-in_err-row c =
 
 pub loop-turn-preserved : goal.loop-turn-preserved
 loop-turn-preserved c =
-    rw c.in_ok-push.ensures.ok (goes_on (row_at c.args.columns) c.loop-turn.rows c.args.count c.loop-turn._turn c.loop-turn.cursor c.in_ok-row.row c.decode_row.new.cursor (items_at (row_at c.args.columns) c.args.count c.args.cursor.now) c.loop-turn-test.true c.in_ok-row.ensures c.loop-turn.invariant)
+    rw c.in_ok-push.ensures.ok (with_front-next (row_at c.args.columns) c.loop-turn.rows c.args.count c.loop-turn._turn c.loop-turn.cursor c.in_ok-row.row c.decode_row.new.cursor (items_at (row_at c.args.columns) c.args.count c.args.cursor.now) c.loop-turn-test.true c.in_ok-row.ensures c.loop-turn.invariant)
 
 pub returns : goal.returns
 returns c = is_done (row_at c.args.columns) c.loop-turn.rows c.args.count c.loop-turn._turn c.loop-turn.cursor (items_at (row_at c.args.columns) c.args.count c.args.cursor.now) c.loop-turn-test.false c.loop-turn.invariant

@@ -1,7 +1,7 @@
 use Rattle.std.proofs.Common.{rules, ◌≡◌, ◌+◌, ap, length}
-use Rattle.ready_set.specs.Ready.{Ready}
+use Rattle.ready_set.specs.Ready.{ReadyView}
 use Rattle.proc_core.proofs.Counts.{fewer_same, fewer_refreshed}
-use Rattle.proc_core.proofs.Stepping.{goes_on, tells, stops}
+use Rattle.proc_core.proofs.Stepping.{Stands-move, tells, stops}
 use Rattle.proc_core.proofs.run.make_step.Goals as goal
 
 pub move_on-requires-clause-counted : goal.move_on-requires-clause-counted
@@ -9,7 +9,7 @@ move_on-requires-clause-counted g c =
     let scheduled = c.schedule.new.machine in
     let is = c.schedule.ensures in
     let items : scheduled.processes.items ≡ c.args.machine.now.processes.items = search rules in
-    fewer_same c.args.machine.now scheduled items is.asked (ap (λ (set : Ready). length set.flags) is.ready)
+    fewer_same c.args.machine.now scheduled items is.asked (ap (λ (set : ReadyView). length set.flags) is.ready)
     (c.args.steps + 1) c.requires.counted
 
 pub returns-in-Err-clause-diverged : goal.returns-in-Err-clause-diverged
@@ -20,7 +20,7 @@ returns-in-Err-clause-diverged g c = λ s is.
 
 pub returns-in-Ok-clause-state : goal.returns-in-Ok-clause-state
 returns-in-Ok-clause-state g c = λ s is.
-    goes_on g.D.Database.base c.args.machine.now c.schedule.new.machine c.choose-number.result (g.D.Database.seen c.args.db.now) s c.requires.going is
+    Stands-move g.D.Database.base c.args.machine.now c.schedule.new.machine c.choose-number.result (g.D.Database.seen c.args.db.now) s c.requires.going is
     c.choose-number.ensures c.schedule.ensures.core c.schedule.ensures.ready c.schedule.ensures.parents
     c.move_on.new.machine c.refresh.new.machine (g.D.Database.seen c.move_on.new.db) c.in-Ok.ensures.state c.in-Ok.ensures.grows
     c.refresh.ensures.flags c.refresh.ensures.others

@@ -2,17 +2,17 @@ use Rattle.proc_core.proofs.StepSame.{quiet_state, quiet_told}
 use Rattle.proc_core.proofs.Stepping.{kept_next, nothing_asked_next}
 use Rattle.proc_core.proofs.step.move_on.Goals as goal
 
-pub keep_on-requires-clause-kept : goal.keep_on-requires-clause-kept
-keep_on-requires-clause-kept g c =
+pub step_local-requires-clause-kept : goal.step_local-requires-clause-kept
+step_local-requires-clause-kept g c =
     kept_next c.args.machine.now c.args.who.number c.is_kept_at.result c.is_kept_at.ensures c.if-is_kept_at.true
 
 pub returns-in-Ok-clause-state : goal.returns-in-Ok-clause-state
 returns-in-Ok-clause-state g c = λ s is.
-    quiet_state g.D.Database.base c.args.machine.now c.keep_on.new.machine c.args.who.number (g.D.Database.seen c.args.db.now) s
+    quiet_state g.D.Database.base c.args.machine.now c.step_local.new.machine c.args.who.number (g.D.Database.seen c.args.db.now) s
     (nothing_asked_next c.args.machine.now c.args.who.number c.is_kept_at.result c.is_kept_at.ensures c.if-is_kept_at.true) c.in-Ok.ensures.core is
 
 pub returns-in-Ok-clause-told : goal.returns-in-Ok-clause-told
 returns-in-Ok-clause-told g c = λ s is.
     quiet_told g.D.Database.base c.args.machine.now c.args.who.number c.args.who.step (g.D.Database.seen c.args.db.now) s
-    g.T.Tracer.KEEPS (g.T.Tracer.events c.args.tracer.now) (g.T.Tracer.events c.keep_on.new.tracer)
+    g.T.Tracer.KEEPS (g.T.Tracer.events c.args.tracer.now) (g.T.Tracer.events c.step_local.new.tracer)
     (nothing_asked_next c.args.machine.now c.args.who.number c.is_kept_at.result c.is_kept_at.ensures c.if-is_kept_at.true) c.in-Ok.ensures.told is

@@ -15,12 +15,12 @@ returns c =
     let columns = c.in_ok-columns.columns.items in
     let by : columns ≡ sort_columns (places_at checked (length query.cores)) query.order =
     c.in_ok-columns.ensures
-    ∙ ap (λ (ps : List ℕ). sort_columns ps c.items-2.result.now) (c.items.ensures ∙ c.places_or-places.ensures ∙ ap (places_at checked) c.len.ensures)
+    ∙ ap (λ (ps : List ℕ). sort_columns ps c.items-2.result.now) (c.items.ensures ∙ c.column_indexes-places.ensures ∙ ap (places_at checked) c.len.ensures)
     ∙ ap (sort_columns (places_at checked (length query.cores))) c.items-2.ensures in
     let sorted : c.in_ok-answers.answers ≡ sorted_by (by_columns columns) c.args.answers =
     c.in_ok-answers.ensures ∙ ap (λ (cs : List SortColumn). sorted_by (by_columns cs) c.args.answers) c.as_slice.ensures.value in
-    IfOk-weaker c.limited.result (IsLimited c.limit_of.result c.in_ok-answers.answers) (IsFinished checked c.args.answers)
+    IfOk-weaker c.limit_answers.result (IsLimited c.limit_of.result c.in_ok-answers.answers) (IsFinished checked c.args.answers)
     (λ finished is. finished-is checked query c.args.answers columns finished c.query_of-query.ensures by
     (subst (λ (l : Option ℕ). IsLimited l (sorted_by (by_columns columns) c.args.answers) finished) c.limit_of.ensures
     (subst (λ (made : List Answer). IsLimited c.limit_of.result made finished) sorted is)))
-    c.limited.ensures
+    c.limit_answers.ensures

@@ -1,9 +1,9 @@
 use Rattle.std.proofs.Common.{◌≡◌, ◌++◌, List, drop}
-use Rattle.query_eval.specs.Joining.{extended}
-use Rattle.core_parts.specs.Placing.{AllPlaced}
+use Rattle.query_eval.specs.Joining.{extensions_of}
+use Rattle.core_parts.specs.Placing.{AreAllPlaced}
 use Rattle.sql_model.specs.Scope.{InScope}
 use Rattle.query_eval.proofs.joining.extend_all.Given as goal
 
 abbrev pub invariant-loop-row : goal.invariant-loop-row
-invariant-loop-row l = (scope : List InScope) → AllPlaced scope l.conds
-    → l.made ++ extended scope l.conds l.prefix (drop l.row-index l.rows) ≡ l.fn.made ++ extended scope l.conds l.prefix l.rows
+invariant-loop-row l = (scope : List InScope) → AreAllPlaced scope l.conds
+    → l.made ++ extensions_of scope l.conds l.prefix (drop l.row-index l.rows) ≡ l.fn.made ++ extensions_of scope l.conds l.prefix l.rows

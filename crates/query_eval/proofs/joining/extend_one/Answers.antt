@@ -8,7 +8,7 @@ pub returns-in_ok-push : goal.returns-in_ok-push
 returns-in_ok-push c = λ scope all rest.
     let prefix = c.args.prefix.now in
     kept-one (tests scope c.args.conds.now) c.args.made.now (prefix ++ c.args.row.now ∷ []) c.in_ok-met.met (c.in_ok-met.ensures scope all) c.if-met.true c.push.new.self
-    (c.in_ok-push.ensures.ok ∙ ap (λ (made : List SourceRow). c.args.made.now ++ made ∷ []) c.in_ok-extended.ensures)
+    (c.in_ok-push.ensures.ok ∙ ap (λ (made : List SourceRow). c.args.made.now ++ made ∷ []) c.in_ok-with_item.ensures)
     (map (λ (row : SourceRow). prefix ++ row ∷ []) rest)
 
 pub returns-else-met : goal.returns-else-met

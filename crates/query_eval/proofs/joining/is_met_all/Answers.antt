@@ -2,25 +2,25 @@ use Rattle.std.proofs.Common.{rules, ◌≡◌, ◌<◌, ◌+◌, ◌∷◌, [],
 use Rattle.std.proofs.lemmas.List.{drop_all}
 use Rattle.core_parts.specs.Conditions.{meets}
 use Rattle.query_eval.specs.Types.{Value}
-use Rattle.core_parts.specs.Placing.{AllPlaced, IsPlaced}
-use Rattle.core_parts.specs.declared.placed.Placed.{Placed}
+use Rattle.core_parts.specs.Placing.{AreAllPlaced, IsPlaced}
+use Rattle.core_parts.specs.declared.placed.BoundExpr.{BoundExpr}
 use Rattle.core_parts.proofs.Lists.{drop-step}
 use Rattle.sql_model.specs.Meaning.{is_true, truth}
 use Rattle.sql_model.specs.Scope.{InScope, environment}
 use Rattle.query_eval.proofs.joining.is_met_all.Goals as goal
 
 -- a condition, and those after it
-met-on : (scope : List InScope) (conds : List Placed) (i : ℕ) (cond : Placed) (values : List Value) (met all : Bool)
+met-on : (scope : List InScope) (conds : List BoundExpr) (i : ℕ) (cond : BoundExpr) (values : List Value) (met all : Bool)
     → i < length conds → cond ≡ get_or conds i cond
-    → AllPlaced scope (drop i conds) × (meets scope (drop i conds) values ≡ all)
+    → AreAllPlaced scope (drop i conds) × (meets scope (drop i conds) values ≡ all)
     → (IsPlaced scope cond → met ≡ is_true (truth cond.expr (environment scope values)))
-    → AllPlaced scope (drop (i + 1) conds) × ((met && meets scope (drop (i + 1) conds) values) ≡ all)
+    → AreAllPlaced scope (drop (i + 1) conds) × ((met && meets scope (drop (i + 1) conds) values) ≡ all)
 met-on scope conds i cond values met all below is before tested =
     let split : drop i conds ≡ cond ∷ drop (i + 1) conds = drop-step conds i cond below is in
-    let placed : AllPlaced scope (cond ∷ drop (i + 1) conds) = subst (AllPlaced scope) split before.0 in (
+    let placed : AreAllPlaced scope (cond ∷ drop (i + 1) conds) = subst (AreAllPlaced scope) split before.0 in (
       placed.1,
       ap (λ b. b && meets scope (drop (i + 1) conds) values) (tested placed.0)
-          ∙ ap (λ (cs : List Placed). meets scope cs values) (sym split) ∙ before.1,
+          ∙ ap (λ (cs : List BoundExpr). meets scope cs values) (sym split) ∙ before.1,
     )
 
 pub returns-then-not-met : goal.returns-then-not-met
@@ -40,4 +40,4 @@ loop-cond-preserved c = λ scope all.
 pub returns : goal.returns
 returns c = λ scope all.
     let done : drop c.loop-cond.cond-index c.args.conds.now ≡ [] = drop_all c.loop-cond.cond-index c.args.conds.now (omega (arith, c.loop-cond-test.false)) in
-    sym (ap (λ (cs : List Placed). meets scope cs c.args.values.now) done) ∙ (c.loop-cond.invariant scope all).1
+    sym (ap (λ (cs : List BoundExpr). meets scope cs c.args.values.now) done) ∙ (c.loop-cond.invariant scope all).1

@@ -2,8 +2,8 @@ use Rattle.std.proofs.Common.{◌≡◌, ◌+◌, ◌∷◌, [], ◌∙◌, ap, 
 use Rattle.std.specs.Prelude.{filter}
 use Rattle.std.proofs.lemmas.List.{drop_all}
 use Rattle.std.proofs.lemmas.Result.{IfOk-weaker}
-use Rattle.query_eval.specs.Joining.{combos, tests, remaining, EachHas}
-use Rattle.core_parts.specs.Placing.{AllPlaced}
+use Rattle.query_eval.specs.Joining.{combos, tests, extensions_left, EachHas}
+use Rattle.core_parts.specs.Placing.{AreAllPlaced}
 use Rattle.query_eval.specs.Sourcing.{source_rows, SourcesAreWide}
 use Rattle.query_eval.specs.declared.source.Source.{Source}
 use Rattle.sql_model.specs.Scope.{InScope}
@@ -18,10 +18,10 @@ loop-source-init c =
     record {
       few = omega (arith, start.width);
       same = λ scope all wide. (
-        subst (AllPlaced scope) (sym start.left) all,
+        subst (AreAllPlaced scope) (sym start.left) all,
         subst (λ (n : ℕ). EachHas n walk.prefixes) (sym start.width) (subst (EachHas 0) (sym start.prefixes) (refl, tt)),
         wide,
-        (λ j. remaining scope (start.left j) (start.prefixes j) (map source_rows c.args.sources.now)) ∙ first-step scope c.args.conds (map source_rows c.args.sources.now),
+        (λ j. extensions_left scope (start.left j) (start.prefixes j) (map source_rows c.args.sources.now)) ∙ first-step scope c.args.conds (map source_rows c.args.sources.now),
       );
     }
 
@@ -42,7 +42,7 @@ loop-source-preserved c =
             one.1,
             each.1,
             one.2 (map source_rows (drop (i + 1) sources))
-                ∙ ap (λ (ss : List Source). remaining scope walk.left walk.prefixes (map source_rows ss)) (sym split) ∙ before.3,
+                ∙ ap (λ (ss : List Source). extensions_left scope walk.left walk.prefixes (map source_rows ss)) (sym split) ∙ before.3,
           );
     }
 
@@ -52,12 +52,12 @@ returns c =
     let walk = c.loop-source.walk in
     let done : drop c.loop-source.source-index sources ≡ [] = drop_all c.loop-source.source-index sources (omega (arith, c.loop-source-test.false)) in
     IfOk-weaker c.finish.result
-    (λ rows. (scope : List InScope) → AllPlaced scope walk.left → rows ≡ filter (tests scope walk.left) walk.prefixes)
-    (λ rows. (scope : List InScope) → AllPlaced scope c.args.conds → SourcesAreWide sources → rows ≡ filter (tests scope c.args.conds) (combos (map source_rows sources)))
+    (λ rows. (scope : List InScope) → AreAllPlaced scope walk.left → rows ≡ filter (tests scope walk.left) walk.prefixes)
+    (λ rows. (scope : List InScope) → AreAllPlaced scope c.args.conds → SourcesAreWide sources → rows ≡ filter (tests scope c.args.conds) (combos (map source_rows sources)))
     (λ rows is scope all wide.
     let inv = c.loop-source.invariant.same scope all wide in
     is scope inv.0
     ∙ sym (last-step scope walk.left walk.prefixes)
-    ∙ ap (λ (ss : List Source). remaining scope walk.left walk.prefixes (map source_rows ss)) (sym done)
+    ∙ ap (λ (ss : List Source). extensions_left scope walk.left walk.prefixes (map source_rows ss)) (sym done)
     ∙ inv.3)
     c.finish.ensures

@@ -1,7 +1,7 @@
 use Rattle.std.proofs.Common.{◌≡◌, ◌≤◌, ◌*◌, ◌^◌, List, drop, map}
 use Rattle.std.specs.Prelude.{filter}
-use Rattle.query_eval.specs.Joining.{combos, tests, remaining, EachHas}
-use Rattle.core_parts.specs.Placing.{AllPlaced}
+use Rattle.query_eval.specs.Joining.{combos, tests, extensions_left, EachHas}
+use Rattle.core_parts.specs.Placing.{AreAllPlaced}
 use Rattle.query_eval.specs.Sourcing.{source_rows, SourcesAreWide}
 use Rattle.sql_model.specs.Scope.{InScope}
 use Rattle.query_eval.proofs.joining.join.Given as goal
@@ -9,9 +9,9 @@ use Rattle.query_eval.proofs.joining.join.Given as goal
 abbrev pub invariant-loop-source : goal.invariant-loop-source
 invariant-loop-source l = record {
   few : l.walk.width ≤ l.source-index * 2 ^ 64;
-  same : (scope : List InScope) → AllPlaced scope l.fn.conds → SourcesAreWide l.sources
-      → AllPlaced scope l.walk.left
+  same : (scope : List InScope) → AreAllPlaced scope l.fn.conds → SourcesAreWide l.sources
+      → AreAllPlaced scope l.walk.left
       × EachHas l.walk.width l.walk.prefixes
       × SourcesAreWide (drop l.source-index l.sources)
-      × (remaining scope l.walk.left l.walk.prefixes (map source_rows (drop l.source-index l.sources)) ≡ filter (tests scope l.fn.conds) (combos (map source_rows l.sources)));
+      × (extensions_left scope l.walk.left l.walk.prefixes (map source_rows (drop l.source-index l.sources)) ≡ filter (tests scope l.fn.conds) (combos (map source_rows l.sources)));
 }

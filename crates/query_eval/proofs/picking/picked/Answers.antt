@@ -1,5 +1,5 @@
 use Rattle.std.proofs.Common.{◌≡◌, subst, List, rules}
-use Rattle.core_parts.specs.declared.placed.Placed.{Placed}
+use Rattle.core_parts.specs.declared.placed.BoundExpr.{BoundExpr}
 use Rattle.query_eval.specs.Stored.{AreStored}
 use Rattle.query_eval.specs.Types.{FromItem}
 use Rattle.query_eval.proofs.StoredLaws.{stored-picked}
@@ -16,5 +16,5 @@ returns c =
     let first : c.items.result.now ≡ conds = search rules in
     let stored : AreStored store conds core.from 0 sources =
     subst (λ (items : List FromItem). AreStored store conds items 0 sources) from
-    (subst (λ (cs : List Placed). AreStored store cs c.items-from.result.now 0 sources) first c.in_ok-sources.ensures) in
+    (subst (λ (cs : List BoundExpr). AreStored store cs c.items-from.result.now 0 sources) first c.in_ok-sources.ensures) in
     stored-picked checked c.args.core store c.args.keep conds sources c.in_ok-picks.picks core c.tell_formed.ensures c.core_of.ensures c.in_ok-conds.ensures stored c.in_ok-picks.ensures

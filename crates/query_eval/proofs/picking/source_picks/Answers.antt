@@ -1,6 +1,6 @@
 use Rattle.std.proofs.Common.{◌≡◌, ◌∙◌, ◌∷◌, [], ap, sym, subst, List}
 use Rattle.std.proofs.lemmas.Result.{IfOk-weaker}
-use Rattle.core_parts.specs.Placing.{AllPlaced}
+use Rattle.core_parts.specs.Placing.{AreAllPlaced}
 use Rattle.query_eval.proofs.SinglePicks.{alone-picks}
 use Rattle.query_eval.specs.Picking.{row_picks, source_picks}
 use Rattle.query_eval.specs.Sourcing.{SourcesAreWide}
@@ -15,8 +15,8 @@ returns-in-Ok c =
     let source : Source = c.in-Ok.source in
     let only : c.args.sources ≡ source ∷ [] = c.in-Ok.ensures.one in
     IfOk-weaker c.picks_alone.result
-    (λ picks. (scope : List InScope) → AllPlaced scope conds → picks ≡ row_picks scope conds keep source.table source.rows)
-    (λ picks. (scope : List InScope) → AllPlaced scope conds → SourcesAreWide c.args.sources → picks ≡ source_picks scope conds keep c.args.sources)
+    (λ picks. (scope : List InScope) → AreAllPlaced scope conds → picks ≡ row_picks scope conds keep source.table source.rows)
+    (λ picks. (scope : List InScope) → AreAllPlaced scope conds → SourcesAreWide c.args.sources → picks ≡ source_picks scope conds keep c.args.sources)
     (λ picks is scope all wide.
     is scope all ∙ alone-picks scope conds keep source ∙ ap (source_picks scope conds keep) (sym only))
     c.picks_alone.ensures
@@ -28,8 +28,8 @@ returns-in-Err c =
     let many : List Source = c.in-Err.many in
     let same : many ≡ c.args.sources = c.in-Err.ensures.many in
     IfOk-weaker c.joined_picks.result
-    (λ picks. (scope : List InScope) → AllPlaced scope conds → SourcesAreWide many → picks ≡ source_picks scope conds keep many)
-    (λ picks. (scope : List InScope) → AllPlaced scope conds → SourcesAreWide c.args.sources → picks ≡ source_picks scope conds keep c.args.sources)
+    (λ picks. (scope : List InScope) → AreAllPlaced scope conds → SourcesAreWide many → picks ≡ source_picks scope conds keep many)
+    (λ picks. (scope : List InScope) → AreAllPlaced scope conds → SourcesAreWide c.args.sources → picks ≡ source_picks scope conds keep c.args.sources)
     (λ picks is scope all wide.
     is scope all (subst SourcesAreWide (sym same) wide) ∙ ap (source_picks scope conds keep) same)
     c.joined_picks.ensures

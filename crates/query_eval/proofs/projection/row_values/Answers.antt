@@ -1,8 +1,8 @@
 use Rattle.std.proofs.Common.{◌≡◌, ◌+◌, ◌++◌, ◌∷◌, List, drop, subst, ap, sym, ◌∙◌}
 use Rattle.ldv_value.specs.declared.value.Value.{Value}
-use Rattle.core_parts.specs.Placing.{AllPlaced}
+use Rattle.core_parts.specs.Placing.{AreAllPlaced}
 use Rattle.query_eval.specs.Projecting.{values_over, meaning}
-use Rattle.core_parts.specs.declared.placed.Placed.{Placed}
+use Rattle.core_parts.specs.declared.placed.BoundExpr.{BoundExpr}
 use Rattle.core_parts.proofs.Lists.{drop-step, moved-one}
 use Rattle.query_eval.proofs.projection.row_values.Goals as goal
 
@@ -13,10 +13,10 @@ loop-placed-preserved c = λ scope all.
     let row = c.args.row.now in
     let split : drop i exprs ≡ c.placed-item.result ∷ drop (i + 1) exprs = drop-step exprs i c.placed-item.result c.loop-placed-test.true c.placed-item.is in
     let before = c.loop-placed.invariant scope all in
-    let placed : AllPlaced scope (c.placed-item.result ∷ drop (i + 1) exprs) = subst (AllPlaced scope) split before.0 in (
+    let placed : AreAllPlaced scope (c.placed-item.result ∷ drop (i + 1) exprs) = subst (AreAllPlaced scope) split before.0 in (
       placed.1,
       ap (λ (values : List Value). values ++ values_over scope row (drop (i + 1) exprs)) c.in_ok-push.ensures.ok
           ∙ moved-one c.loop-placed.values (values_over scope row (drop (i + 1) exprs)) c.in_ok-value.value (meaning scope row c.placed-item.result).value (c.in_ok-value.ensures scope placed.0)
-          ∙ ap (λ (ps : List Placed). c.loop-placed.values ++ values_over scope row ps) (sym split)
+          ∙ ap (λ (ps : List BoundExpr). c.loop-placed.values ++ values_over scope row ps) (sym split)
           ∙ before.1,
     )

@@ -1,6 +1,6 @@
 use Rattle.std.proofs.Common.{◌≡◌, ◌∙◌, subst, [], true, false}
 use Rattle.proc_core.specs.Stops.{HasRunStopped}
-use Rattle.proc_core.specs.declared.stop.RunStop.{RunStop}
+use Rattle.proc_core.specs.declared.error.RunStop.{RunStop}
 use Rattle.run_model.specs.Core.{is_over}
 use Rattle.run_model.specs.Run.{run}
 use Rattle.run_model.specs.SqlDatabase.{sql_base}
@@ -20,11 +20,11 @@ returns-in-Ok-clause-logged c =
     record {
       ended = kept_ends c.args.budget c.args.world script.0 script.1 true (c.in-Ok.ensures.ended start stands);
       events =
-          c.in_ok-recorded-in-Ok.ensures.events
+          c.in_ok-recorded_run-in-Ok.ensures.events
           ∙ kept_told c.args.budget c.args.world script.0 script.1 c.in_ok-begun.begun.tracer c.in-Ok.ended.tracer
           c.in_ok-begun.ensures.told (c.in-Ok.ensures.told start stands);
-      steps = kept_counts c.args.budget c.args.world script.0 script.1 _ (c.in_ok-recorded-in-Ok.ensures.steps ∙ c.in-Ok.ensures.steps start stands);
-      logs = kept_logs c.args.budget c.args.world script.0 script.1 _ _ after.state.1 c.in_ok-recorded-in-Ok.ensures.logs;
+      steps = kept_counts c.args.budget c.args.world script.0 script.1 _ (c.in_ok-recorded_run-in-Ok.ensures.steps ∙ c.in-Ok.ensures.steps start stands);
+      logs = kept_logs c.args.budget c.args.world script.0 script.1 _ _ after.state.1 c.in_ok-recorded_run-in-Ok.ensures.logs;
     }
 
 pub returns-in-Err-NotEnded-clause-not_ended : goal.returns-in-Err-NotEnded-clause-not_ended

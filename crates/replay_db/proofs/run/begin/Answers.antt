@@ -1,6 +1,6 @@
 use Rattle.std.proofs.Common.{subst}
 use Rattle.proc_core.specs.Running.{Stands}
-use Rattle.run_model.specs.RunLaw.{started}
+use Rattle.run_model.specs.RunLaw.{start_state_of}
 use Rattle.run_model.specs.SqlDatabase.{SqlDatabase}
 use Rattle.sql_engine.specs.Asking.{database}
 use Rattle.run_model.proofs.StartScripts.{has_script, has_word}
@@ -17,6 +17,6 @@ start-requires-clause-script g c =
 
 pub returns-clause-state : goal.returns-clause-state
 returns-clause-state g c = λ script is.
-    subst (λ (db : SqlDatabase). Stands c.in_ok-begun.begun.machine (database c.in_ok-begun.begun.db) (started c.args.world.start c.args.world.seed c.args.world.files script db))
+    subst (λ (db : SqlDatabase). Stands c.in_ok-begun.begun.machine (database c.in_ok-begun.begun.db) (start_state_of c.args.world.start c.args.world.seed c.args.world.files script db))
     c.in_ok-tree.ensures.database
     (c.in_ok-begun.ensures.state script c.args.world.files c.in_ok-tree.ensures.tree (start_script_is c.args.world script c.in_ok-tree.field-0.tree c.in_ok-tree.ensures.tree is))

@@ -1,6 +1,6 @@
 use Rattle.std.proofs.Common.{◌≡◌, subst, refl, [], true, false}
 use Rattle.proc_core.specs.Stops.{HasRunStopped}
-use Rattle.proc_core.specs.declared.stop.RunStop.{RunStop}
+use Rattle.proc_core.specs.declared.error.RunStop.{RunStop}
 use Rattle.run_model.specs.Core.{is_over}
 use Rattle.run_model.specs.Run.{run}
 use Rattle.run_model.specs.SqlDatabase.{sql_base}

@@ -1,7 +1,7 @@
 use Rattle.std.proofs.Common.{◌≡◌, sym, ◌∙◌, subst, false}
 use Rattle.std.specs.Prelude.{None}
 use Rattle.proc_core.specs.Stops.{HasStopped}
-use Rattle.proc_core.specs.declared.stop.Stopped.{Stopped}
+use Rattle.proc_core.specs.declared.error.Stopped.{Stopped}
 use Rattle.proc_core.proofs.Advances.{all_ended_same}
 use Rattle.proc_core.proofs.StepSame.{over_same}
 use Rattle.run_model.specs.Core.{is_over}

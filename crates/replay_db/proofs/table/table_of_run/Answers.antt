@@ -52,8 +52,8 @@ returns c =
     ap (λ (d : SqlDatabase). table_at name d.tables) (sym two.state.1)
     ∙ ap (λ (e : StoreHistory). table_at name (database e).tables) (sym c.db.ensures)
     ∙ c.in_ok-table.ensures in
-    gives_due c.judged.result _
-    (c.judged.ensures
+    gives_due c.table_verdict.result _
+    (c.table_verdict.ensures
     ∙ due_is budget step early name c.args.world script.0 script.1 c.first_part-early.ensures.within c.first_part-early.ensures.whole
     (has_ended c.in_ok-gone.gone.machine) c.in_ok-gone.gone.steps c.in_ok-table.table
     (gone_ended budget step early name c.args.world script.0 script.1 c.first_part-early.ensures.within c.first_part-early.ensures.whole

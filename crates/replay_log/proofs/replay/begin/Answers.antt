@@ -1,11 +1,11 @@
 use Rattle.std.proofs.Common.{◌≡◌, ◌∙◌, List, sym, ap, subst, true}
 use Rattle.std.specs.List.{All}
-use Rattle.ldv_value.specs.FileState.{IsFile, file_precedes, untouched}
+use Rattle.ldv_value.specs.FileState.{IsFile, file_precedes, initial_files}
 use Rattle.ldv_value.specs.Sorted.{is_strictly_sorted}
 use Rattle.proc_core.specs.Running.{Stands}
 use Rattle.run_model.specs.LogDatabase.{LogDatabase}
 use Rattle.run_model.specs.Package.{own_world}
-use Rattle.run_model.specs.RunLaw.{started}
+use Rattle.run_model.specs.RunLaw.{start_state_of}
 use Rattle.ldv_value.proofs.ValidFiles.{files_are, files_sorted}
 use Rattle.run_model.proofs.StartScripts.{has_script, has_word}
 use Rattle.proc_core.proofs.StartScripts.{start_script_is}
@@ -23,14 +23,14 @@ start-requires-clause-words c = has_word (own_world c.args.«package») c.requir
 pub start-requires-clause-script : goal.start-requires-clause-script
 start-requires-clause-script c =
     let sorted = c.in_ok-tree.ensures.sorted (subst (λ (files : List File). is_strictly_sorted file_precedes files ≡ true) (sym c.in_ok-own.ensures) (files_sorted (own_world c.args.«package»).files c.requires.files)) in
-    let tree : c.in_ok-tree.tree ≡ untouched (own_world c.args.«package»).files = sorted ∙ ap untouched c.in_ok-own.ensures in
+    let tree : c.in_ok-tree.tree ≡ initial_files (own_world c.args.«package»).files = sorted ∙ ap initial_files c.in_ok-own.ensures in
     let script = has_script (own_world c.args.«package») c.requires.script in
     (script.0, start_script_is (own_world c.args.«package») script.0 c.in_ok-tree.tree tree script.1)
 
 pub returns-clause-state : goal.returns-clause-state
 returns-clause-state c = λ script is.
     let sorted = c.in_ok-tree.ensures.sorted (subst (λ (files : List File). is_strictly_sorted file_precedes files ≡ true) (sym c.in_ok-own.ensures) (files_sorted (own_world c.args.«package»).files c.requires.files)) in
-    let tree : c.in_ok-tree.tree ≡ untouched (own_world c.args.«package»).files = sorted ∙ ap untouched c.in_ok-own.ensures in
-    subst (λ (db : LogDatabase). Stands c.in_ok-begun.begun.machine c.in_ok-begun.begun.db (started c.args.«package».start c.args.«package».seed (own_world c.args.«package»).files script db))
+    let tree : c.in_ok-tree.tree ≡ initial_files (own_world c.args.«package»).files = sorted ∙ ap initial_files c.in_ok-own.ensures in
+    subst (λ (db : LogDatabase). Stands c.in_ok-begun.begun.machine c.in_ok-begun.begun.db (start_state_of c.args.«package».start c.args.«package».seed (own_world c.args.«package»).files script db))
     c.of_logs-db.ensures
     (c.in_ok-begun.ensures.state script (own_world c.args.«package»).files tree (start_script_is (own_world c.args.«package») script c.in_ok-tree.tree tree is))

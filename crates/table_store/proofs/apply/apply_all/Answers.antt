@@ -3,7 +3,7 @@ use Rattle.std.specs.Ordering.{nat_cmp}
 use Rattle.std.specs.BTreeMap.{get}
 use Rattle.table_store.specs.Histories.{changed_by}
 use Rattle.table_store.specs.RowChains.{Chains, histories_of}
-use Rattle.table_store.specs.RowChanges.{changes_given, RiseFrom, AllFitKinds, AllReady}
+use Rattle.table_store.specs.RowChanges.{changes_given, RiseFrom, AllFitKinds, AreReady}
 use Rattle.table_store.specs.declared.change.RowChange.{RowChange}
 use Rattle.table_store.proofs.ChangeLaws.{changed_first, still_ready, rise_lower, unchanged, nil_from}
 use Rattle.table_store.proofs.apply.apply_all.Goals as goal
@@ -15,7 +15,7 @@ loop-change-init c =
     record {
       chained = c.requires.chained;
       apart = subst (λ (l : List RowChange). RiseFrom 0 l) (sym same) c.requires.apart;
-      ready = subst (λ (l : List RowChange). AllReady (λ q. get nat_cmp c.args.chains.now.held q) c.args.time l) (sym same) c.requires.ready;
+      ready = subst (λ (l : List RowChange). AreReady (λ q. get nat_cmp c.args.chains.now.held q) c.args.time l) (sym same) c.requires.ready;
       fits = subst (λ (l : List RowChange). AllFitKinds c.args.grid.now.kinds l) (sym same) c.requires.fits;
       seen = ap (λ (l : List RowChange). map (changed_by (changes_given c.args.time l)) (histories_of (λ q. get nat_cmp c.args.chains.now.held q) c.args.grid.now.slots)) same;
       kinds = refl;
@@ -32,7 +32,7 @@ loop-change-preserved c =
     let inv = c.loop-change.invariant in
     let split : c.loop-change.change-iterator.rest.items ≡ change ∷ rest = search rules in
     let apart : RiseFrom 0 (change ∷ rest) = subst (λ (l : List RowChange). RiseFrom 0 l) split inv.apart in
-    let ready : AllReady old time (change ∷ rest) = subst (λ (l : List RowChange). AllReady old time l) split inv.ready in
+    let ready : AreReady old time (change ∷ rest) = subst (λ (l : List RowChange). AreReady old time l) split inv.ready in
     let fits : AllFitKinds c.loop-change.grid.kinds (change ∷ rest) = subst (λ (l : List RowChange). AllFitKinds c.loop-change.grid.kinds l) split inv.fits in
     let next : change.number < change.number + 1 = omega arith in
     record {

@@ -1,7 +1,7 @@
 use Rattle.std.proofs.Common.{◌∙◌, ◌<◌, ap, sym, subst, refl, get_or, false, arith}
 use Rattle.std.specs.Ordering.{nat_cmp}
 use Rattle.std.specs.BTreeMap.{get}
-use Rattle.row_version.specs.History.{deleted}
+use Rattle.row_version.specs.History.{delete_at}
 use Rattle.table_store.specs.Grid.{Rows, Slot, no_slot}
 use Rattle.table_store.specs.RowChains.{Chains, AreChained, histories_of}
 use Rattle.table_store.proofs.ChangeLaws.{others_apart, slot_changed, chained_changed, open_by}
@@ -15,7 +15,7 @@ returns-clause-chained c =
     let slot : Slot = record (get_or slots c.args.slot no_slot) { stands = false } in
     let below : c.args.number < c.args.grid.now.next = omega (arith, c.tell_order.ensures.below c.args.slot c.requires.within, c.requires.is) in
     subst (λ (r : Rows). AreChained new r.slots r.next) (sym c.clear.ensures)
-    (chained_changed old new c.args.number (deleted c.args.time) c.end.ensures.changes (open_by (old c.args.number) c.args.time c.requires.ready) c.end.ensures.others
+    (chained_changed old new c.args.number (delete_at c.args.time) c.end.ensures.changes (open_by (old c.args.number) c.args.time c.requires.ready) c.end.ensures.others
     slots c.args.grid.now.next c.args.slot slot c.requires.chained c.requires.within c.requires.is c.requires.is
     (others_apart slots c.tell_order.ensures.rising c.args.slot c.args.number c.requires.within c.requires.is) below refl)
 
@@ -26,5 +26,5 @@ returns-clause-seen c =
     let slots = c.args.grid.now.slots in
     let slot : Slot = record (get_or slots c.args.slot no_slot) { stands = false } in
     ap (λ (r : Rows). histories_of new r.slots) c.clear.ensures
-    ∙ slot_changed old new c.args.number (deleted c.args.time) c.end.ensures.changes (open_by (old c.args.number) c.args.time c.requires.ready) c.end.ensures.others
+    ∙ slot_changed old new c.args.number (delete_at c.args.time) c.end.ensures.changes (open_by (old c.args.number) c.args.time c.requires.ready) c.end.ensures.others
     slots c.args.slot slot c.requires.within c.requires.is c.requires.is (others_apart slots c.tell_order.ensures.rising c.args.slot c.args.number c.requires.within c.requires.is)

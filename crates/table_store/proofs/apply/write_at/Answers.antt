@@ -1,7 +1,7 @@
 use Rattle.std.proofs.Common.{◌≡◌, ◌∙◌, ◌<◌, ap, sym, subst, ℕ, get_or, true, cond, Some, None, List, arith}
 use Rattle.std.specs.Ordering.{nat_cmp}
 use Rattle.std.specs.BTreeMap.{get}
-use Rattle.row_version.specs.History.{written}
+use Rattle.row_version.specs.History.{write_at}
 use Rattle.table_store.specs.Types.{Value}
 use Rattle.table_store.specs.Grid.{Rows, Slot, no_slot}
 use Rattle.table_store.specs.RowChains.{Chains, AreChained, IsKept, histories_of}
@@ -20,7 +20,7 @@ returns-clause-chained c =
     let stands : was.stands ≡ true = stood_by (old c.args.number) was c.args.time (subst (λ (n : ℕ). IsKept (old n) was) c.requires.is (c.requires.chained.kept c.args.slot c.requires.within)) c.requires.ready in
     let values : Some copies.for_chain ≡ cond was.stands (Some copies.for_columns) None = ap (λ (v : List Value). Some v) (sym c.requires.same) ∙ sym (ap (λ b. cond b (Some copies.for_columns) None) stands) in
     subst (λ (r : Rows). AreChained new r.slots r.next) (sym c.set.ensures)
-    (chained_changed old new c.args.number (written c.args.time copies.for_chain) c.add.ensures.changes (open_by (old c.args.number) c.args.time c.requires.ready) c.add.ensures.others
+    (chained_changed old new c.args.number (write_at c.args.time copies.for_chain) c.add.ensures.changes (open_by (old c.args.number) c.args.time c.requires.ready) c.add.ensures.others
     slots c.args.grid.now.next c.args.slot slot c.requires.chained c.requires.within c.requires.is c.requires.is
     (others_apart slots c.tell_order.ensures.rising c.args.slot c.args.number c.requires.within c.requires.is) below values)
 
@@ -32,5 +32,5 @@ returns-clause-seen c =
     let slots = c.args.grid.now.slots in
     let slot : Slot = record (get_or slots c.args.slot no_slot) { values = copies.for_columns } in
     ap (λ (r : Rows). histories_of new r.slots) c.set.ensures
-    ∙ slot_changed old new c.args.number (written c.args.time copies.for_chain) c.add.ensures.changes (open_by (old c.args.number) c.args.time c.requires.ready) c.add.ensures.others
+    ∙ slot_changed old new c.args.number (write_at c.args.time copies.for_chain) c.add.ensures.changes (open_by (old c.args.number) c.args.time c.requires.ready) c.add.ensures.others
     slots c.args.slot slot c.requires.within c.requires.is c.requires.is (others_apart slots c.tell_order.ensures.rising c.args.slot c.args.number c.requires.within c.requires.is)

@@ -1,7 +1,7 @@
 use Rattle.std.proofs.Common.{◌≡◌, ◌∙◌, ◌<◌, ◌≤◌, ap, length, get_or, List, arith}
 use Rattle.std.proofs.lemmas.List.{get_or_default, take_all}
 use Rattle.table_store.specs.ChildPairs.{first_number, is_child_in, no_foreign}
-use Rattle.table_store.specs.Histories.{last_next, rows_now}
+use Rattle.table_store.specs.Histories.{last_next_number, rows_now}
 use Rattle.table_store.specs.Types.{Foreign, Schema}
 use Rattle.table_store.proofs.ChildRowLaws.{foreigns_more, foreigns_none, rising_rows}
 use Rattle.table_store.proofs.child_rows.first_child_in.Goals as goal
@@ -34,7 +34,7 @@ loop-place-preserved c =
     let is : c.index-foreigns-place.result ≡ get_or h.schema.foreign place no_foreign =
     c.index-foreigns-place.is ∙ get_or_default xs place c.index-foreigns-place.result no_foreign inside ∙ ap (λ (l : List Foreign). get_or l place no_foreign) same in
     c.lower_of-first.ensures
-    ∙ foreigns_more c.args.given.now c.args.target.now c.args.keys.now.keys (rows_now h.slots) (rising_rows h.slots (last_next h.nexts) c.tell_order.ensures) h.schema.foreign place c.index-foreigns-place.result no_foreign
+    ∙ foreigns_more c.args.given.now c.args.target.now c.args.keys.now.keys (rows_now h.slots) (rising_rows h.slots (last_next_number h.nexts) c.tell_order.ensures) h.schema.foreign place c.index-foreigns-place.result no_foreign
     within is c.loop-place.first c.in_ok-found.found c.loop-place.invariant c.in_ok-found.ensures
 
 pub returns : goal.returns

@@ -2,7 +2,7 @@ use Rattle.std.proofs.Common.{◌≡◌, sym, subst, not, Option, ℕ, true}
 use Rattle.ldv_value.proofs.Booleans.{and-second}
 use Rattle.table_store.specs.ChildPairs.{IsNextOf, is_child, refers}
 use Rattle.table_store.specs.ChildSteps.{IsStep}
-use Rattle.table_store.specs.Histories.{last_next, rows_now}
+use Rattle.table_store.specs.Histories.{last_next_number, rows_now}
 use Rattle.table_store.specs.Stops.{is_among}
 use Rattle.table_store.specs.Types.{Foreign, TableRow}
 use Rattle.table_store.specs.declared.child_rows.Search.{Search}
@@ -32,5 +32,5 @@ returns-in_ok-search-in-Some c =
     let next = subst (λ (o : Option ℕ). IsNextOf (refers f key) rows c.args.from o) c.in-Some.is
     (subst (λ (g : Foreign). IsNextOf (refers g key) rows c.args.from c.in_ok-found.found) (sym c.requires.there) c.in_ok-found.ensures) in
     subst (λ (s : Search). IsStep (is_child given f key) rows c.args.from s) (sym c.in_ok-search-in-Some.ensures)
-    (step_some (is_child given f key) rows (refers f key) may 0 c.args.from c.in-Some.number (rising_rows h.slots (last_next h.nexts) c.tell_order.ensures)
-    (small_rows h.slots (last_next h.nexts) c.tell_order.ensures c.tell_small.ensures) c.requires.from next)
+    (step_some (is_child given f key) rows (refers f key) may 0 c.args.from c.in-Some.number (rising_rows h.slots (last_next_number h.nexts) c.tell_order.ensures)
+    (small_rows h.slots (last_next_number h.nexts) c.tell_order.ensures c.tell_small.ensures) c.requires.from next)

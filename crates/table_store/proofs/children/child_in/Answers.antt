@@ -2,7 +2,7 @@ use Rattle.std.proofs.Common.{◌≡◌, ◌∙◌, ap, sym, List, ℕ}
 use Rattle.std.specs.Option.{option_map}
 use Rattle.sql_model.specs.Scope.{is_table}
 use Rattle.table_store.specs.ChildPairs.{first_number, given_in, is_child_in}
-use Rattle.table_store.specs.Histories.{last_next, rows_now, table_now}
+use Rattle.table_store.specs.Histories.{last_next_number, rows_now, table_now}
 use Rattle.table_store.specs.Referring.{child_stop}
 use Rattle.table_store.specs.Stops.{are_sorted_numbers}
 use Rattle.table_store.proofs.ChildRowLaws.{given_sorted, no_child, one_child}
@@ -25,4 +25,4 @@ returns-in_ok-stop-in-Some c =
     let first : c.in_ok-first.first ≡ first_number (is_child_in (given_in (is_table c.args.target.now (table_now h)) c.args.numbers.now) c.args.target.now c.args.lost.now.keys h.schema.foreign) (rows_now h.slots) =
     c.in_ok-first.ensures ∙ ap (λ (given : List ℕ). first_number (is_child_in given c.args.target.now c.args.lost.now.keys h.schema.foreign) (rows_now h.slots)) c.given_in-given.ensures in
     c.in_ok-stop-in-Some.ensures
-    ∙ ap (option_map child_stop) (one_child c.args.target.now c.args.numbers.now c.args.lost.now h (last_next h.nexts) c.tell_order.ensures c.in-Some.number (sym c.in-Some.is ∙ first))
+    ∙ ap (option_map child_stop) (one_child c.args.target.now c.args.numbers.now c.args.lost.now h (last_next_number h.nexts) c.tell_order.ensures c.in-Some.number (sym c.in-Some.is ∙ first))

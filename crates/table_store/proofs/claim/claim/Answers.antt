@@ -1,11 +1,11 @@
 use Rattle.std.proofs.Common.{rules, ◌≡◌, ◌≤◌, ◌∙◌, ◌+◌, ◌++◌, ◌==◌, sym, subst, List, length, false, Option}
 use Rattle.std.specs.Prelude.{◌^◌}
-use Rattle.sql_model.specs.Changes.{KeyClash, clash_by, clash_after, numbered}
+use Rattle.sql_model.specs.Changes.{KeyClash, clash_by, clash_after, numbered_rows}
 use Rattle.table_store.specs.Types.{TableRow}
 use Rattle.table_store.specs.Claims.{claim_stop}
 use Rattle.table_store.specs.Histories.{rows_now}
 use Rattle.table_store.specs.IndexView.{held_in}
-use Rattle.table_store.specs.KeyIndex.{Held, AreHeld, AreIndexed}
+use Rattle.table_store.specs.KeyIndex.{HeldKeys, AreHeld, AreIndexed}
 use Rattle.table_store.specs.Stops.{StopsAs}
 use Rattle.table_store.proofs.ClaimLaws.{keyed_held, keyed_clash, on_ok}
 use Rattle.table_store.proofs.IndexLaws.{index_alike, indexed_by}
@@ -23,7 +23,7 @@ pub returns-clause-ok : goal.returns-clause-ok
 returns-clause-ok c =
     let places = c.args.places.now in
     let new : Held = λ q. held_in c.claim_all.new.index q in
-    let rows = rows_now c.args.stored.now.slots ++ numbered c.args.next c.args.values.now in
+    let rows = rows_now c.args.stored.now.slots ++ numbered_rows c.args.next c.args.values.now in
     on_ok (c.args.next + length c.args.values.now ≤ 2 ^ 32 → AreHeld places new rows) (c.args.next + length c.args.values.now ≤ 2 ^ 32 → AreIndexed places new rows) c.claim_all.result
     (λ are few. indexed_by places new rows (are few)) c.claim_all.ensures.ok
 
@@ -32,7 +32,7 @@ returns-clause-stop c =
     let places = c.args.places.now in
     let slots = c.args.stored.now.slots in
     let old : Held = λ q. held_in c.args.index.now q in
-    let more : List TableRow = numbered c.args.next c.args.values.now in
+    let more : List TableRow = numbered_rows c.args.next c.args.values.now in
     let keyed : (length places == 0) ≡ false = search rules in
     let same : clash_by places (rows_now slots ++ more) ≡ clash_after places (rows_now slots) more =
     keyed_clash places (rows_now slots ++ more) keyed

@@ -1,17 +1,17 @@
 use Rattle.std.proofs.Common.{◌≡◌, ◌∙◌, ◌++◌, ◌+◌, ap, sym, subst, ℕ, List, take, drop, get_or, [], None, Option, arith, append-nil}
 use Rattle.std.specs.Prelude.{find, Err}
 use Rattle.std.proofs.lemmas.List.{take_all}
-use Rattle.sql_model.specs.Changes.{KeyClash, clash_or, clash_after, numbered}
+use Rattle.sql_model.specs.Changes.{KeyClash, clash_or, clash_after, numbered_rows}
 use Rattle.sql_model.specs.Keys.{values_at}
 use Rattle.table_store.specs.Types.{Value, TableRow}
 use Rattle.table_store.specs.Claims.{claim_stop}
 use Rattle.table_store.specs.Histories.{rows_now}
 use Rattle.table_store.specs.HighKeys.{high_in}
 use Rattle.table_store.specs.IndexView.{held_in}
-use Rattle.table_store.specs.KeyIndex.{Held, AreHeld, has_key}
+use Rattle.table_store.specs.KeyIndex.{HeldKeys, AreHeld, has_key}
 use Rattle.table_store.specs.RowOrder.{AreInOrder}
 use Rattle.table_store.specs.Stops.{StopsAs}
-use Rattle.table_store.proofs.ClaimLaws.{left_clash, not_taken, claim_taken, held_front, none_left}
+use Rattle.table_store.proofs.ClaimLaws.{left_clash, not_taken, claim_taken, held_front, clash_after-none}
 use Rattle.table_store.proofs.HighLaws.{both, widened, narrowed, old_few, all_few}
 use Rattle.table_store.proofs.claim.claim_all.Goals as goal
 
@@ -26,8 +26,8 @@ loop-count-init c =
     record {
       held = subst (λ (l : List TableRow). AreHeld places (both old high) l) (sym (append-nil rows)) (widened places old high c.new-high.ensures rows c.requires.held);
       low = λ few q. c.new-high.ensures q;
-      clash = ap (λ (l : List TableRow). clash_after places l (numbered (c.args.next + 0) values)) (append-nil rows)
-          ∙ ap (λ (n : ℕ). clash_after places rows (numbered n values)) start;
+      clash = ap (λ (l : List TableRow). clash_after places l (numbered_rows (c.args.next + 0) values)) (append-nil rows)
+          ∙ ap (λ (n : ℕ). clash_after places rows (numbered_rows n values)) start;
     }
 
 pub loop-count-preserved : goal.loop-count-preserved
@@ -38,14 +38,14 @@ loop-count-preserved c =
     let rows = rows_now c.args.stored.now.slots in
     let count = c.loop-count.count in
     let within = c.loop-count-test.true in
-    let earlier = find (has_key places (values_at places (get_or values count []))) (rows ++ numbered next (take count values)) in
+    let earlier = find (has_key places (values_at places (get_or values count []))) (rows ++ numbered_rows next (take count values)) in
     let row : TableRow = record { number = next + count; values = get_or values count [] } in
     let none : earlier ≡ None = not_taken places next (get_or values count []) earlier c.in-Ok.ensures.stop in
     record {
       held = c.in-Ok.ensures.ok;
       low = λ few. c.claim_one.ensures.low (omega (arith, few));
       clash = sym (left_clash places next rows values count within
-          ∙ ap (λ (o : Option TableRow). clash_or o row (clash_after places (rows ++ numbered next (take (count + 1) values)) (numbered (next + (count + 1)) (drop (count + 1) values)))) none)
+          ∙ ap (λ (o : Option TableRow). clash_or o row (clash_after places (rows ++ numbered_rows next (take (count + 1) values)) (numbered_rows (next + (count + 1)) (drop (count + 1) values)))) none)
           ∙ c.loop-count.invariant.clash;
     }
 
@@ -55,7 +55,7 @@ returns-in-Err-clause-kept c =
     let low : Held = λ q. held_in c.claim_one.new.index q in
     let high : Held = λ q. high_in c.claim_one.new.high q in
     narrowed c.args.places.now low high (rows_now stored.slots) (old_few stored.slots stored.next c.tell_order.ensures.order c.tell_order.ensures.small)
-    (held_front c.args.places.now (both low high) (rows_now stored.slots) (numbered c.args.next (take c.loop-count.count c.args.values.now)) c.claim_one.ensures.kept)
+    (held_front c.args.places.now (both low high) (rows_now stored.slots) (numbered_rows c.args.next (take c.loop-count.count c.args.values.now)) c.claim_one.ensures.kept)
 
 pub returns-in-Err-clause-stop : goal.returns-in-Err-clause-stop
 returns-in-Err-clause-stop c =
@@ -65,9 +65,9 @@ returns-in-Err-clause-stop c =
     let rows = rows_now c.args.stored.now.slots in
     let count = c.loop-count.count in
     let within = c.loop-count-test.true in
-    let earlier = find (has_key places (values_at places (get_or values count []))) (rows ++ numbered next (take count values)) in
+    let earlier = find (has_key places (values_at places (get_or values count []))) (rows ++ numbered_rows next (take count values)) in
     let row : TableRow = record { number = next + count; values = get_or values count [] } in
-    let rest = clash_after places (rows ++ numbered next (take (count + 1) values)) (numbered (next + (count + 1)) (drop (count + 1) values)) in
+    let rest = clash_after places (rows ++ numbered_rows next (take (count + 1) values)) (numbered_rows (next + (count + 1)) (drop (count + 1) values)) in
     subst (λ (o : Option KeyClash). StopsAs {X = Unit {0}} (claim_stop places next o) (Err c.in-Err.stop)) (sym (left_clash places next rows values count within) ∙ c.loop-count.invariant.clash)
     (claim_taken places next row earlier rest c.in-Err.stop c.in-Err.ensures.stop)
 
@@ -77,7 +77,7 @@ returns-clause-kept c =
     let low : Held = λ q. held_in c.loop-count.index q in
     let high : Held = λ q. high_in c.loop-count.high q in
     narrowed c.args.places.now low high (rows_now stored.slots) (old_few stored.slots stored.next c.tell_order.ensures.order c.tell_order.ensures.small)
-    (held_front c.args.places.now (both low high) (rows_now stored.slots) (numbered c.args.next (take c.loop-count.count c.args.values.now)) c.loop-count.invariant.held)
+    (held_front c.args.places.now (both low high) (rows_now stored.slots) (numbered_rows c.args.next (take c.loop-count.count c.args.values.now)) c.loop-count.invariant.held)
 
 pub returns-clause-ok : goal.returns-clause-ok
 returns-clause-ok c = λ few.
@@ -88,11 +88,11 @@ returns-clause-ok c = λ few.
     let high : Held = λ q. high_in c.loop-count.high q in
     let all : take c.loop-count.count values ≡ values = take_all c.loop-count.count values (omega arith) in
     let order : AreInOrder stored.slots c.args.next = subst (λ (n : ℕ). AreInOrder stored.slots n) c.requires.next c.tell_order.ensures.order in
-    narrowed places low high (rows_now stored.slots ++ numbered c.args.next values) (all_few stored.slots c.args.next order (omega (arith, c.requires.next, c.tell_order.ensures.small)) values few)
-    (subst (λ (l : List (List Value)). AreHeld places (both low high) (rows_now stored.slots ++ numbered c.args.next l)) all c.loop-count.invariant.held)
+    narrowed places low high (rows_now stored.slots ++ numbered_rows c.args.next values) (all_few stored.slots c.args.next order (omega (arith, c.requires.next, c.tell_order.ensures.small)) values few)
+    (subst (λ (l : List (List Value)). AreHeld places (both low high) (rows_now stored.slots ++ numbered_rows c.args.next l)) all c.loop-count.invariant.held)
 
 pub returns-clause-stop : goal.returns-clause-stop
 returns-clause-stop c =
     let places = c.args.places.now in
-    let rows = rows_now c.args.stored.now.slots ++ numbered c.args.next (take c.loop-count.count c.args.values.now) in
-    ap (claim_stop places c.args.next) (sym c.loop-count.invariant.clash ∙ none_left places rows (c.args.next + c.loop-count.count) c.args.values.now c.loop-count.count (omega arith))
+    let rows = rows_now c.args.stored.now.slots ++ numbered_rows c.args.next (take c.loop-count.count c.args.values.now) in
+    ap (claim_stop places c.args.next) (sym c.loop-count.invariant.clash ∙ clash_after-none places rows (c.args.next + c.loop-count.count) c.args.values.now c.loop-count.count (omega arith))

@@ -7,7 +7,7 @@ use Rattle.std.proofs.lemmas.Result.{on_ok_weaker}
 use Rattle.sql_model.specs.KeyOrder.{key_order}
 use Rattle.sql_model.specs.Keys.{key_at}
 use Rattle.table_store.specs.Types.{RowKey}
-use Rattle.table_store.specs.KeyIndex.{int_key, last_under, Held}
+use Rattle.table_store.specs.KeyIndex.{int_key, last_under, HeldKeys}
 use Rattle.table_store.proofs.IndexViewLaws.{Ints, put_int, put_other}
 use Rattle.table_store.proofs.index.add_row.Goals as goal
 

@@ -7,7 +7,7 @@ use Rattle.sql_model.specs.KeyOrder.{key_order}
 use Rattle.sql_model.specs.Keys.{values_at, key_at}
 use Rattle.table_store.specs.Types.{TableRow, RowKey}
 use Rattle.table_store.specs.IndexView.{held_as}
-use Rattle.table_store.specs.KeyIndex.{AreHeld, Held, has_key, int_key, last_under}
+use Rattle.table_store.specs.KeyIndex.{AreHeld, HeldKeys, has_key, int_key, last_under}
 use Rattle.table_store.proofs.IndexLaws.{held_pushed, earlier_none}
 use Rattle.table_store.proofs.IndexViewLaws.{Ints, same_both}
 use Rattle.table_store.proofs.index.fill.Goals as goal
@@ -38,5 +38,5 @@ returns c =
     let new : Held = λ q. held_as ints (others q) (int_key q.values) in
     let same : (q : RowKey) → new q ≡ old q = same_both pairs ints others others c.in_ok-ints.ensures (λ q. refl) in
     let all : take c.loop-row.row-index rows ≡ rows = take_all c.loop-row.row-index rows (omega arith) in
-    subst (λ (h : Held). AreHeld places h rows) (λ j q. sym (same q) j)
+    subst (λ (h : HeldKeys). AreHeld places h rows) (λ j q. sym (same q) j)
     (subst (λ (l : List TableRow). AreHeld places old l) all c.loop-row.invariant)

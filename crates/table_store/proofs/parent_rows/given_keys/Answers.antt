@@ -1,6 +1,6 @@
 use Rattle.std.proofs.Common.{◌∙◌, ap, List, arith}
 use Rattle.std.proofs.lemmas.List.{take_all}
-use Rattle.table_store.specs.ParentRows.{last_given}
+use Rattle.table_store.specs.ParentRows.{last_row_with}
 use Rattle.table_store.specs.Types.{TableRow}
 use Rattle.table_store.proofs.ParentLaws.{last_more, last_start}
 use Rattle.table_store.proofs.parent_rows.given_keys.Goals as goal
@@ -16,4 +16,4 @@ loop-row-preserved c = λ wanted.
 pub returns : goal.returns
 returns c = λ wanted.
     c.loop-row.invariant wanted
-    ∙ ap (λ (rows : List TableRow). last_given c.args.key.now rows wanted) (take_all c.loop-row.row-index c.args.rows.now (omega arith))
+    ∙ ap (λ (rows : List TableRow). last_row_with c.args.key.now rows wanted) (take_all c.loop-row.row-index c.args.rows.now (omega arith))

@@ -1,7 +1,7 @@
 use Rattle.std.proofs.Common.{◌≡◌, ◌∙◌, ap, sym, List, true}
 use Rattle.std.specs.List.{flat_map}
 use Rattle.table_store.specs.Histories.{table_now, tables_now}
-use Rattle.table_store.specs.ParentRows.{last_given, number_in, parents_in_row}
+use Rattle.table_store.specs.ParentRows.{last_row_with, number_in, parents_in_row}
 use Rattle.table_store.specs.Stops.{are_sorted_numbers, are_sorted_rows}
 use Rattle.table_store.specs.Types.{Schema, TableRow, Value}
 use Rattle.table_store.proofs.NowLaws.{now_at}
@@ -27,8 +27,8 @@ returns-clause-parents c = λ apart.
     let rows : List TableRow = c.args.rows.now in
     let sorted : are_sorted_rows rows ≡ true = put_sorted rows (table_now own) c.requires.put in
     let is : c.as_slice.result.now ≡ numbers rows = c.as_slice.ensures.value ∙ c.in_ok-numbers.ensures in
-    let given : (key : List Value) → number_in c.in_ok-given.given key ≡ last_given own.schema.key rows key =
-    λ key. c.in_ok-given.ensures key ∙ ap (λ (s : Schema). last_given s.key rows key) c.schema.ensures in
+    let given : (key : List Value) → number_in c.in_ok-given.given key ≡ last_row_with own.schema.key rows key =
+    λ key. c.in_ok-given.ensures key ∙ ap (λ (s : Schema). last_row_with s.key rows key) c.schema.ensures in
     c.in_ok-members.ensures.parents
     ∙ (λ j. flat_map (λ (row : TableRow). parents_in_row store (λ key. given key j) (is j) own.name own.schema.foreign row.values) rows)
     ∙ parents_are store own c.requires.there c.tell_formed.ensures rows sorted apart

@@ -5,7 +5,7 @@ use Rattle.table_store.specs.Afterwards.{has_put, in_set}
 use Rattle.table_store.specs.Histories.{tables_now}
 use Rattle.table_store.specs.Referring.{parent_stop}
 use Rattle.table_store.specs.Types.{RowKey}
-use Rattle.table_store.specs.declared.stop.StoreStop.TheVariants.{NoParent}
+use Rattle.table_store.specs.declared.error.StoreStop.TheVariants.{NoParent}
 use Rattle.table_store.proofs.PutLaws.{missing_none, missing_some, refers_none}
 use Rattle.table_store.proofs.parents.missing_by.Goals as goal
 

@@ -7,11 +7,11 @@ use Rattle.table_store.specs.Claims.{both_stop}
 use Rattle.table_store.specs.GivenKeys.{AreJudged, with_claims}
 use Rattle.table_store.specs.Histories.{rows_now}
 use Rattle.table_store.specs.IndexView.{held_in}
-use Rattle.table_store.specs.KeyIndex.{Held}
+use Rattle.table_store.specs.KeyIndex.{HeldKeys}
 use Rattle.table_store.specs.Stops.{replaced_by, StopsAs}
 use Rattle.table_store.specs.declared.clash.Clash.{Clash}
 use Rattle.table_store.specs.declared.index.Index.{Index}
-use Rattle.table_store.specs.declared.stop.StoreStop.{StoreStop}
+use Rattle.table_store.specs.declared.error.StoreStop.{StoreStop}
 use Rattle.table_store.proofs.GivenKeyLaws.{judged_start, judged_none, judged_first, none_then}
 use Rattle.table_store.proofs.InsertLaws.{RisesFrom, rows_rise}
 use Rattle.table_store.proofs.RekeyLaws.{stop_as}

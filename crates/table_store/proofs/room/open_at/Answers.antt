@@ -1,7 +1,7 @@
 use Rattle.std.proofs.Common.{◌∙◌, ◌∷◌, [], sym}
 use Rattle.std.specs.Ordering.{nat_cmp}
 use Rattle.std.specs.BTreeMap.{get}
-use Rattle.row_version.specs.History.{History, written}
+use Rattle.row_version.specs.History.{History, write_at}
 use Rattle.table_store.specs.RowChains.{Chains}
 use Rattle.table_store.proofs.ChangeLaws.{opened_chained, opened_seen, none_by, room_kept}
 use Rattle.table_store.proofs.room.open_at.Goals as goal
@@ -12,7 +12,7 @@ returns-clause-chained c =
     let new : Chains = λ q. get nat_cmp c.open.new.self.held q in
     let chain : History = c.in_ok-chain.chain in
     opened_chained old new c.args.grid.now.slots c.args.grid.now.next c.args.slot c.args.number chain c.requires.chained c.tell_order.ensures.rising c.tell_order.ensures.below c.requires.within c.requires.is
-    (none_by (old c.args.number) (sym c.has.ensures ∙ c.if-has.false)) (c.in_ok-chain.ensures ∙ (λ j. written (c.since.ensures j) (c.in_ok-copy_values.ensures j) ∷ [])) c.in_ok-open.ensures.ok c.open.ensures.others
+    (none_by (old c.args.number) (sym c.has.ensures ∙ c.if-has.false)) (c.in_ok-chain.ensures ∙ (λ j. write_at (c.since.ensures j) (c.in_ok-copy_values.ensures j) ∷ [])) c.in_ok-open.ensures.ok c.open.ensures.others
 
 pub returns-clause-seen : goal.returns-clause-seen
 returns-clause-seen c =
@@ -20,7 +20,7 @@ returns-clause-seen c =
     let new : Chains = λ q. get nat_cmp c.open.new.self.held q in
     let chain : History = c.in_ok-chain.chain in
     opened_seen old new c.args.grid.now.slots c.args.grid.now.next c.args.slot c.args.number chain c.requires.chained c.tell_order.ensures.rising c.tell_order.ensures.below c.requires.within c.requires.is
-    (none_by (old c.args.number) (sym c.has.ensures ∙ c.if-has.false)) (c.in_ok-chain.ensures ∙ (λ j. written (c.since.ensures j) (c.in_ok-copy_values.ensures j) ∷ [])) c.in_ok-open.ensures.ok c.open.ensures.others
+    (none_by (old c.args.number) (sym c.has.ensures ∙ c.if-has.false)) (c.in_ok-chain.ensures ∙ (λ j. write_at (c.since.ensures j) (c.in_ok-copy_values.ensures j) ∷ [])) c.in_ok-open.ensures.ok c.open.ensures.others
 
 pub returns-clause-kept : goal.returns-clause-kept
 returns-clause-kept c =

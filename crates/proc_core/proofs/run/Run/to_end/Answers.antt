@@ -3,7 +3,7 @@ use Rattle.std.specs.Prelude.{None}
 use Rattle.run_model.specs.Run.{move}
 use Rattle.run_model.specs.State.{State}
 use Rattle.run_model.proofs.Equations.{steps-zero}
-use Rattle.proc_core.specs.declared.stop.Stopped.{Stopped}
+use Rattle.proc_core.specs.declared.error.Stopped.{Stopped}
 use Rattle.proc_core.specs.Running.{Stands}
 use Rattle.proc_core.specs.Stops.{HasStopped}
 use Rattle.proc_core.proofs.Advances.{never_stuck_from}

@@ -10,8 +10,8 @@ returns-then-self-clause-room c =
     omega (arith, seen_made a.counts.items a.room a.made c.args.self.now c.self.view_is, seen_room a.counts.items a.room a.made c.args.self.now c.self.view_is, c.if-self.true)
 
 -- all the room is taken
-pub widened-requires-clause-few : goal.widened-requires-clause-few
-widened-requires-clause-few c =
+pub widen_tree-requires-clause-few : goal.widen_tree-requires-clause-few
+widen_tree-requires-clause-few c =
     let a = c.self.inside in
     let few : a.room < 2 ^ 30 = omega (arith, seen_made a.counts.items a.room a.made c.args.self.now c.self.view_is, c.if-self.false, c.requires) in
     widen_small a.room a.height a.made a.counts.items c.self.invariant few

@@ -5,7 +5,7 @@ use Rattle.std.specs.BTreeMap.{get, is_at}
 use Rattle.std.specs.Ordering.{int_cmp}
 use Rattle.std.proofs.lemmas.Result.{on_ok_weaker, on_err_weaker}
 use Rattle.sql_model.specs.KeyOrder.{key_order}
-use Rattle.table_store.specs.KeyIndex.{int_key, Held}
+use Rattle.table_store.specs.KeyIndex.{int_key, HeldKeys}
 use Rattle.table_store.proofs.IndexViewLaws.{Ints, put_int, put_other, same_both}
 use Rattle.table_store.proofs.index.Index.put.Goals as goal
 

@@ -1,7 +1,7 @@
 use Rattle.std.specs.BTreeMap.{get}
 use Rattle.std.specs.Ordering.{int_cmp}
 use Rattle.sql_model.specs.KeyOrder.{key_order}
-use Rattle.table_store.specs.KeyIndex.{Held}
+use Rattle.table_store.specs.KeyIndex.{HeldKeys}
 use Rattle.table_store.proofs.IndexViewLaws.{Ints, taken_both}
 use Rattle.table_store.proofs.index.Index.set_all.Goals as goal
 

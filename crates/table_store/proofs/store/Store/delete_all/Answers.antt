@@ -2,11 +2,11 @@ use Rattle.std.proofs.Common.{◌≡◌, ◌∙◌, ap, sym, subst, List, Option
 use Rattle.std.specs.Prelude.{Err}
 use Rattle.sql_model.specs.Scope.{table_at}
 use Rattle.sql_model.specs.Tables.{is_valid_table}
-use Rattle.table_store.specs.Histories.{TableHistory, removed, table_now, tables_now}
+use Rattle.table_store.specs.Histories.{TableHistory, table_without, table_now, tables_now}
 use Rattle.table_store.specs.Referring.{orphan_stop}
 use Rattle.table_store.specs.Stops.{StopsAs, is_among, with_removed, all_stand}
 use Rattle.table_store.specs.Types.{Table}
-use Rattle.table_store.specs.declared.stop.StoreStop.{StoreStop}
+use Rattle.table_store.specs.declared.error.StoreStop.{StoreStop}
 use Rattle.table_store.specs.StoreView.{no_table}
 use Rattle.table_store.proofs.FormedLaws.{removed_valid}
 use Rattle.table_store.proofs.LaterLaws.{alone_is, later_is}
@@ -43,7 +43,7 @@ invariant_of-self-in-Ok c =
     let found = c.in-Some.ensures.found in
     let there : TableHistory = get_or tables place no_table in
     let valid = valid_there a.catalog tables a.time c.self.invariant c.args.table.now place found.0 found.1 in
-    after_stored a.catalog tables a.time c.self.invariant c.args.self.now c.self.view_is c.args.table.now place found c.args.time c.requires.later (removed c.args.time c.args.numbers.now) (remove_is c.args.time c.args.numbers.now) c.delete_in.new.tables.items c.in-Ok.ensures.ok
+    after_stored a.catalog tables a.time c.self.invariant c.args.self.now c.self.view_is c.args.table.now place found c.args.time c.requires.later (table_without c.args.time c.args.numbers.now) (remove_is c.args.time c.args.numbers.now) c.delete_in.new.tables.items c.in-Ok.ensures.ok
     (ap is_valid_table (removed_now c.args.time c.args.numbers.now there) ∙ removed_valid (table_now there) valid c.args.numbers.now)
 
 pub returns-in-Ok-clause-ok : goal.returns-in-Ok-clause-ok
@@ -52,7 +52,7 @@ returns-in-Ok-clause-ok c =
     let tables = a.tables.items in
     let place = c.in-Some.place in
     let found = c.in-Some.ensures.found in
-    after_is a.catalog tables a.time c.self.invariant c.args.self.now c.self.view_is c.args.table.now place found c.args.time c.requires.later (removed c.args.time c.args.numbers.now) (remove_is c.args.time c.args.numbers.now) c.delete_in.new.tables.items c.in-Ok.ensures.ok
+    after_is a.catalog tables a.time c.self.invariant c.args.self.now c.self.view_is c.args.table.now place found c.args.time c.requires.later (table_without c.args.time c.args.numbers.now) (remove_is c.args.time c.args.numbers.now) c.delete_in.new.tables.items c.in-Ok.ensures.ok
 
 pub returns-in-Ok-clause-now : goal.returns-in-Ok-clause-now
 returns-in-Ok-clause-now c =
@@ -61,7 +61,7 @@ returns-in-Ok-clause-now c =
     let place = c.in-Some.place in
     let found = c.in-Some.ensures.found in
     let there : TableHistory = get_or tables place no_table in
-    after_now a.catalog tables a.time c.self.invariant c.args.self.now c.self.view_is c.args.table.now place found c.args.time c.requires.later (removed c.args.time c.args.numbers.now) (remove_is c.args.time c.args.numbers.now) c.delete_in.new.tables.items c.in-Ok.ensures.ok (with_removed c.args.numbers.now) (removed_now c.args.time c.args.numbers.now there)
+    after_now a.catalog tables a.time c.self.invariant c.args.self.now c.self.view_is c.args.table.now place found c.args.time c.requires.later (table_without c.args.time c.args.numbers.now) (remove_is c.args.time c.args.numbers.now) c.delete_in.new.tables.items c.in-Ok.ensures.ok (with_removed c.args.numbers.now) (removed_now c.args.time c.args.numbers.now there)
 
 pub returns-in-Ok-clause-earlier : goal.returns-in-Ok-clause-earlier
 returns-in-Ok-clause-earlier c =
@@ -69,7 +69,7 @@ returns-in-Ok-clause-earlier c =
     let tables = a.tables.items in
     let place = c.in-Some.place in
     let found = c.in-Some.ensures.found in
-    after_kept a.catalog tables a.time c.self.invariant c.args.self.now c.self.view_is c.args.table.now place found c.args.time c.requires.later (removed c.args.time c.args.numbers.now) (remove_is c.args.time c.args.numbers.now) c.delete_in.new.tables.items c.in-Ok.ensures.ok
+    after_kept a.catalog tables a.time c.self.invariant c.args.self.now c.self.view_is c.args.table.now place found c.args.time c.requires.later (table_without c.args.time c.args.numbers.now) (remove_is c.args.time c.args.numbers.now) c.delete_in.new.tables.items c.in-Ok.ensures.ok
 
 pub returns-in-Ok-clause-stop : goal.returns-in-Ok-clause-stop
 returns-in-Ok-clause-stop c =

@@ -3,14 +3,14 @@ use Rattle.std.specs.Prelude.{Err}
 use Rattle.std.specs.Option.{option_map}
 use Rattle.sql_model.specs.Scope.{table_at}
 use Rattle.table_store.specs.Types.{Table}
-use Rattle.sql_model.specs.Changes.{numbered}
+use Rattle.sql_model.specs.Changes.{numbered_rows}
 use Rattle.sql_model.specs.Tables.{is_valid_table}
 use Rattle.table_store.specs.Referring.{missing_stop}
-use Rattle.table_store.specs.Histories.{tables_now, TableHistory, inserted, table_now}
+use Rattle.table_store.specs.Histories.{tables_now, TableHistory, table_with_rows, table_now}
 use Rattle.table_store.specs.Stops.{with_changed, with_inserted, have_shape, insert_stop}
 use Rattle.table_store.specs.StoreView.{no_table}
-use Rattle.table_store.specs.declared.stop.StoreStop.{StoreStop}
-use Rattle.table_store.specs.declared.stop.StoreStop.TheVariants.{HasChild}
+use Rattle.table_store.specs.declared.error.StoreStop.{StoreStop}
+use Rattle.table_store.specs.declared.error.StoreStop.TheVariants.{HasChild}
 use Rattle.table_store.proofs.LaterLaws.{later_is, whole_none, whole_stops, childless, same_error}
 use Rattle.table_store.proofs.FormedLaws.{or_none, inserted_valid}
 use Rattle.table_store.proofs.StoreChangeLaws.{insert_is, valid_there, at_place, later_there, given_there, after_stored, after_is, after_now, after_kept, not_missing}
@@ -46,7 +46,7 @@ invariant_of-self-in-Ok c =
     let found = c.in-Some.ensures.found in
     let there : TableHistory = get_or tables place no_table in
     let valid = valid_there a.catalog tables a.time c.self.invariant c.args.table.now place found.0 found.1 in
-    after_stored a.catalog tables a.time c.self.invariant c.args.self.now c.self.view_is c.args.table.now place found c.args.time c.requires.later (inserted c.args.time c.args.rows) (insert_is c.args.time c.args.rows) c.insert_in.new.tables.items c.in-Ok.ensures.ok
+    after_stored a.catalog tables a.time c.self.invariant c.args.self.now c.self.view_is c.args.table.now place found c.args.time c.requires.later (table_with_rows c.args.time c.args.rows) (insert_is c.args.time c.args.rows) c.insert_in.new.tables.items c.in-Ok.ensures.ok
     (ap is_valid_table (inserted_now c.args.time c.args.rows there) ∙ inserted_valid (table_now there) valid c.args.rows (given_there a.catalog tables a.time c.self.invariant c.args.self.now c.self.view_is c.args.table.now place found c.args.time c.requires.later (λ table. have_shape c.args.rows table ≡ true) c.requires.shape) (or_none (insert_stop c.args.rows (table_now there)) c.in_ok-later-in-Some.later c.in-Ok.ensures.stop).0)
 
 pub returns-in-Ok-clause-ok : goal.returns-in-Ok-clause-ok
@@ -55,7 +55,7 @@ returns-in-Ok-clause-ok c =
     let tables = a.tables.items in
     let place = c.in-Some.place in
     let found = c.in-Some.ensures.found in
-    after_is a.catalog tables a.time c.self.invariant c.args.self.now c.self.view_is c.args.table.now place found c.args.time c.requires.later (inserted c.args.time c.args.rows) (insert_is c.args.time c.args.rows) c.insert_in.new.tables.items c.in-Ok.ensures.ok
+    after_is a.catalog tables a.time c.self.invariant c.args.self.now c.self.view_is c.args.table.now place found c.args.time c.requires.later (table_with_rows c.args.time c.args.rows) (insert_is c.args.time c.args.rows) c.insert_in.new.tables.items c.in-Ok.ensures.ok
 
 pub returns-in-Ok-clause-now : goal.returns-in-Ok-clause-now
 returns-in-Ok-clause-now c =
@@ -64,7 +64,7 @@ returns-in-Ok-clause-now c =
     let place = c.in-Some.place in
     let found = c.in-Some.ensures.found in
     let there : TableHistory = get_or tables place no_table in
-    after_now a.catalog tables a.time c.self.invariant c.args.self.now c.self.view_is c.args.table.now place found c.args.time c.requires.later (inserted c.args.time c.args.rows) (insert_is c.args.time c.args.rows) c.insert_in.new.tables.items c.in-Ok.ensures.ok (with_inserted c.args.rows) (inserted_now c.args.time c.args.rows there)
+    after_now a.catalog tables a.time c.self.invariant c.args.self.now c.self.view_is c.args.table.now place found c.args.time c.requires.later (table_with_rows c.args.time c.args.rows) (insert_is c.args.time c.args.rows) c.insert_in.new.tables.items c.in-Ok.ensures.ok (with_inserted c.args.rows) (inserted_now c.args.time c.args.rows there)
 
 pub returns-in-Ok-clause-earlier : goal.returns-in-Ok-clause-earlier
 returns-in-Ok-clause-earlier c =
@@ -72,7 +72,7 @@ returns-in-Ok-clause-earlier c =
     let tables = a.tables.items in
     let place = c.in-Some.place in
     let found = c.in-Some.ensures.found in
-    after_kept a.catalog tables a.time c.self.invariant c.args.self.now c.self.view_is c.args.table.now place found c.args.time c.requires.later (inserted c.args.time c.args.rows) (insert_is c.args.time c.args.rows) c.insert_in.new.tables.items c.in-Ok.ensures.ok
+    after_kept a.catalog tables a.time c.self.invariant c.args.self.now c.self.view_is c.args.table.now place found c.args.time c.requires.later (table_with_rows c.args.time c.args.rows) (insert_is c.args.time c.args.rows) c.insert_in.new.tables.items c.in-Ok.ensures.ok
 
 pub returns-in-Ok-clause-stop : goal.returns-in-Ok-clause-stop
 returns-in-Ok-clause-stop c =
@@ -84,7 +84,7 @@ returns-in-Ok-clause-stop c =
     let db : List Table = tables_now c.args.self.now in
     let o : Option Table = table_at c.args.table.now db in
     let at : o ≡ Some (table_now there) = at_place a.catalog tables a.time c.self.invariant c.args.self.now c.self.view_is c.args.table.now place found c.args.time c.requires.later in
-    let rest : Table → Option StoreStop = λ (own : Table). missing_stop own.schema.foreign (numbered own.next c.args.rows) (with_changed own.name (with_inserted c.args.rows) db) in
+    let rest : Table → Option StoreStop = λ (own : Table). missing_stop own.schema.foreign (numbered_rows own.next c.args.rows) (with_changed own.name (with_inserted c.args.rows) db) in
     let same : rest (table_now there) ≡ c.in_ok-later-in-Some.later = later_is rest o (table_now there) c.in_ok-later-in-Some.later at c.in_ok-later-in-Some.ensures in
     whole_none (insert_stop c.args.rows) rest o (table_now there) c.in_ok-later-in-Some.later at same c.in-Ok.ensures.stop
 
@@ -98,7 +98,7 @@ returns-in-Err-clause-stop c =
     let db : List Table = tables_now c.args.self.now in
     let o : Option Table = table_at c.args.table.now db in
     let at : o ≡ Some (table_now there) = at_place a.catalog tables a.time c.self.invariant c.args.self.now c.self.view_is c.args.table.now place found c.args.time c.requires.later in
-    let rest : Table → Option StoreStop = λ (own : Table). missing_stop own.schema.foreign (numbered own.next c.args.rows) (with_changed own.name (with_inserted c.args.rows) db) in
+    let rest : Table → Option StoreStop = λ (own : Table). missing_stop own.schema.foreign (numbered_rows own.next c.args.rows) (with_changed own.name (with_inserted c.args.rows) db) in
     let same : rest (table_now there) ≡ c.in_ok-later-in-Some.later = later_is rest o (table_now there) c.in_ok-later-in-Some.later at c.in_ok-later-in-Some.ensures in
     whole_stops (ℕ) (insert_stop c.args.rows) rest o (table_now there) c.in_ok-later-in-Some.later c.in-Err.stop at same c.in-Err.ensures.stop
 
@@ -112,7 +112,7 @@ returns-in-Err-clause-childless c = λ child row key is.
     let db : List Table = tables_now c.args.self.now in
     let o : Option Table = table_at c.args.table.now db in
     let at : o ≡ Some (table_now there) = at_place a.catalog tables a.time c.self.invariant c.args.self.now c.self.view_is c.args.table.now place found c.args.time c.requires.later in
-    let rest : Table → Option StoreStop = λ (own : Table). missing_stop own.schema.foreign (numbered own.next c.args.rows) (with_changed own.name (with_inserted c.args.rows) db) in
+    let rest : Table → Option StoreStop = λ (own : Table). missing_stop own.schema.foreign (numbered_rows own.next c.args.rows) (with_changed own.name (with_inserted c.args.rows) db) in
     let same : rest (table_now there) ≡ c.in_ok-later-in-Some.later = later_is rest o (table_now there) c.in_ok-later-in-Some.later at c.in_ok-later-in-Some.ensures in
     childless child row key c.args.rows db o c.in-Err.stop
     (whole_stops (ℕ) (insert_stop c.args.rows) rest o (table_now there) c.in_ok-later-in-Some.later c.in-Err.stop at same c.in-Err.ensures.stop)

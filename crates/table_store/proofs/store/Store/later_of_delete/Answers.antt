@@ -5,7 +5,7 @@ use Rattle.table_store.specs.Referring.{orphan_stop}
 use Rattle.table_store.specs.Stops.{all_stand, is_among, with_removed}
 use Rattle.table_store.specs.Histories.{tables_now}
 use Rattle.table_store.specs.Types.{Table}
-use Rattle.table_store.specs.declared.stop.StoreStop.{StoreStop}
+use Rattle.table_store.specs.declared.error.StoreStop.{StoreStop}
 use Rattle.table_store.proofs.NowLaws.{not_absent, given_now, now_at}
 use Rattle.table_store.proofs.RefusalLaws.{own_history}
 use Rattle.table_store.proofs.store.Store.later_of_delete.Goals as goal

@@ -3,10 +3,10 @@ use Rattle.std.specs.Option.{option_map}
 use Rattle.std.specs.Option.{option_or}
 use Rattle.std.proofs.Common.{◌≡◌, true}
 use Rattle.table_store.specs.Referring.{is_of, missing_stop, orphan_stop}
-use Rattle.table_store.specs.Stops.{all_stood, with_changed, with_replaced}
+use Rattle.table_store.specs.Stops.{had_rows, with_changed, with_replaced}
 use Rattle.table_store.specs.Histories.{tables_now}
 use Rattle.table_store.specs.Types.{Table}
-use Rattle.table_store.specs.declared.stop.StoreStop.{StoreStop}
+use Rattle.table_store.specs.declared.error.StoreStop.{StoreStop}
 use Rattle.table_store.proofs.NowLaws.{not_absent, given_now, now_at}
 use Rattle.table_store.proofs.RefusalLaws.{own_history}
 use Rattle.table_store.proofs.store.Store.later_of_replace.Goals as goal
@@ -18,7 +18,7 @@ pub replace_refusal-requires-clause-there : goal.replace_refusal-requires-clause
 replace_refusal-requires-clause-there c = own_history c.args.table.now c.args.self.now c.in-Some.own.now c.in-Some.ensures.table
 
 pub replace_refusal-requires-clause-stand : goal.replace_refusal-requires-clause-stand
-replace_refusal-requires-clause-stand c = given_now (λ table. all_stood c.args.rows.now table ≡ true) c.args.table.now c.args.self.now c.in-Some.own.now c.in-Some.ensures.table c.requires.stand
+replace_refusal-requires-clause-stand c = given_now (λ table. had_rows c.args.rows.now table ≡ true) c.args.table.now c.args.self.now c.in-Some.own.now c.in-Some.ensures.table c.requires.stand
 
 pub returns : goal.returns
 returns c =

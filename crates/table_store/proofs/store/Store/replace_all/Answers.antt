@@ -4,10 +4,10 @@ use Rattle.table_store.specs.Types.{Table, TableRow}
 use Rattle.sql_model.specs.Tables.{is_valid_table}
 use Rattle.table_store.specs.Referring.{is_of, missing_stop, orphan_stop}
 use Rattle.std.specs.Option.{option_or}
-use Rattle.table_store.specs.Histories.{tables_now, TableHistory, replaced, table_now}
-use Rattle.table_store.specs.Stops.{with_changed, with_replaced, have_shape, values_of, all_stood, replace_stop}
+use Rattle.table_store.specs.Histories.{tables_now, TableHistory, table_with_values, table_now}
+use Rattle.table_store.specs.Stops.{with_changed, with_replaced, have_shape, values_of, had_rows, replace_stop}
 use Rattle.table_store.specs.StoreView.{no_table}
-use Rattle.table_store.specs.declared.stop.StoreStop.{StoreStop}
+use Rattle.table_store.specs.declared.error.StoreStop.{StoreStop}
 use Rattle.table_store.proofs.LaterLaws.{later_is, whole_none, whole_stops}
 use Rattle.table_store.proofs.FormedLaws.{or_none, replaced_valid}
 use Rattle.table_store.proofs.StoreChangeLaws.{replace_is, valid_there, at_place, later_there, given_there, after_stored, after_is, after_now, after_kept, not_missing}
@@ -40,7 +40,7 @@ replace_in-requires-clause-stand c =
     let tables = a.tables.items in
     let place = c.in-Some.place in
     let found = c.in-Some.ensures.found in
-    given_there a.catalog tables a.time c.self.invariant c.args.self.now c.self.view_is c.args.table.now place found c.args.time c.requires.later (λ table. all_stood c.args.rows table ≡ true) c.requires.stand
+    given_there a.catalog tables a.time c.self.invariant c.args.self.now c.self.view_is c.args.table.now place found c.args.time c.requires.later (λ table. had_rows c.args.rows table ≡ true) c.requires.stand
 
 pub invariant_of-self-in-Ok : goal.invariant_of-self-in-Ok
 invariant_of-self-in-Ok c =
@@ -50,7 +50,7 @@ invariant_of-self-in-Ok c =
     let found = c.in-Some.ensures.found in
     let there : TableHistory = get_or tables place no_table in
     let valid = valid_there a.catalog tables a.time c.self.invariant c.args.table.now place found.0 found.1 in
-    after_stored a.catalog tables a.time c.self.invariant c.args.self.now c.self.view_is c.args.table.now place found c.args.time c.requires.later (replaced c.args.time c.args.rows) (replace_is c.args.time c.args.rows) c.replace_in.new.tables.items c.in-Ok.ensures.ok
+    after_stored a.catalog tables a.time c.self.invariant c.args.self.now c.self.view_is c.args.table.now place found c.args.time c.requires.later (table_with_values c.args.time c.args.rows) (replace_is c.args.time c.args.rows) c.replace_in.new.tables.items c.in-Ok.ensures.ok
     (ap is_valid_table c.in-Ok.ensures.now ∙ replaced_valid (table_now there) valid c.args.rows (given_there a.catalog tables a.time c.self.invariant c.args.self.now c.self.view_is c.args.table.now place found c.args.time c.requires.later (λ table. have_shape (values_of c.args.rows) table ≡ true) c.requires.shape) (or_none (replace_stop c.args.rows (table_now there)) c.in_ok-later-in-Some.later c.in-Ok.ensures.stop).0)
 
 pub returns-in-Ok-clause-ok : goal.returns-in-Ok-clause-ok
@@ -59,7 +59,7 @@ returns-in-Ok-clause-ok c =
     let tables = a.tables.items in
     let place = c.in-Some.place in
     let found = c.in-Some.ensures.found in
-    after_is a.catalog tables a.time c.self.invariant c.args.self.now c.self.view_is c.args.table.now place found c.args.time c.requires.later (replaced c.args.time c.args.rows) (replace_is c.args.time c.args.rows) c.replace_in.new.tables.items c.in-Ok.ensures.ok
+    after_is a.catalog tables a.time c.self.invariant c.args.self.now c.self.view_is c.args.table.now place found c.args.time c.requires.later (table_with_values c.args.time c.args.rows) (replace_is c.args.time c.args.rows) c.replace_in.new.tables.items c.in-Ok.ensures.ok
 
 pub returns-in-Ok-clause-now : goal.returns-in-Ok-clause-now
 returns-in-Ok-clause-now c =
@@ -68,7 +68,7 @@ returns-in-Ok-clause-now c =
     let place = c.in-Some.place in
     let found = c.in-Some.ensures.found in
     let there : TableHistory = get_or tables place no_table in
-    after_now a.catalog tables a.time c.self.invariant c.args.self.now c.self.view_is c.args.table.now place found c.args.time c.requires.later (replaced c.args.time c.args.rows) (replace_is c.args.time c.args.rows) c.replace_in.new.tables.items c.in-Ok.ensures.ok (with_replaced c.args.rows) c.in-Ok.ensures.now
+    after_now a.catalog tables a.time c.self.invariant c.args.self.now c.self.view_is c.args.table.now place found c.args.time c.requires.later (table_with_values c.args.time c.args.rows) (replace_is c.args.time c.args.rows) c.replace_in.new.tables.items c.in-Ok.ensures.ok (with_replaced c.args.rows) c.in-Ok.ensures.now
 
 pub returns-in-Ok-clause-earlier : goal.returns-in-Ok-clause-earlier
 returns-in-Ok-clause-earlier c =
@@ -76,7 +76,7 @@ returns-in-Ok-clause-earlier c =
     let tables = a.tables.items in
     let place = c.in-Some.place in
     let found = c.in-Some.ensures.found in
-    after_kept a.catalog tables a.time c.self.invariant c.args.self.now c.self.view_is c.args.table.now place found c.args.time c.requires.later (replaced c.args.time c.args.rows) (replace_is c.args.time c.args.rows) c.replace_in.new.tables.items c.in-Ok.ensures.ok
+    after_kept a.catalog tables a.time c.self.invariant c.args.self.now c.self.view_is c.args.table.now place found c.args.time c.requires.later (table_with_values c.args.time c.args.rows) (replace_is c.args.time c.args.rows) c.replace_in.new.tables.items c.in-Ok.ensures.ok
 
 pub returns-in-Ok-clause-stop : goal.returns-in-Ok-clause-stop
 returns-in-Ok-clause-stop c =

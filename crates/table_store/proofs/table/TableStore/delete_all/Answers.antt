@@ -1,17 +1,17 @@
 use Rattle.std.proofs.Common.{◌≡◌, ◌∙◌, ◌<◌, ap, sym, subst, ℕ, List, map, Option}
 use Rattle.std.specs.Prelude.{Err}
 use Rattle.row_version.specs.History.{Change}
-use Rattle.table_store.specs.Histories.{RowHistory, NextSince, TableHistory, changed_by, last_since, last_next, noted, rows_now, dropped, removed}
+use Rattle.table_store.specs.Histories.{RowHistory, NextSince, TableHistory, changed_by, last_since, last_next_number, nexts_with, rows_now, rows_without, table_without}
 use Rattle.table_store.specs.ChildPairs.{Pairs, AreReferred, StayReferred, pair_in}
 use Rattle.table_store.specs.IndexView.{held_in}
-use Rattle.table_store.specs.KeyIndex.{Held, AreIndexed}
+use Rattle.table_store.specs.KeyIndex.{HeldKeys, AreIndexed}
 use Rattle.table_store.specs.Nexts.{nexts_of}
 use Rattle.table_store.specs.RowChains.{RowsHistory}
 use Rattle.table_store.specs.RowChanges.{removal, changes_given, RiseFrom, AllFitKinds, AllStand}
 use Rattle.table_store.specs.Stops.{StopsAs}
 use Rattle.table_store.specs.TableView.{IsStored}
 use Rattle.table_store.specs.declared.change.RowChange.{RowChange}
-use Rattle.table_store.specs.declared.stop.StoreStop.{StoreStop}
+use Rattle.table_store.specs.declared.error.StoreStop.{StoreStop}
 use Rattle.table_store.proofs.ClaimLaws.{stop_due}
 use Rattle.table_store.proofs.TableChangeLaws.{before_all, removals_rise, removals_stand, removals_fit, changes_removed, stored_changed, indexed_removed, referred_removed}
 use Rattle.table_store.proofs.table.TableStore.delete_all.Goals as goal
@@ -61,14 +61,14 @@ returns-clause-ok c =
     let time = c.args.time in
     let numbers = c.args.numbers.now in
     let is = c.in_ok-given.ensures ∙ ap (map removal) c.items.ensures in
-    let slots : c.change_rows.new.rows.slots ≡ dropped time numbers a.rows.slots =
+    let slots : c.change_rows.new.rows.slots ≡ rows_without time numbers a.rows.slots =
     ap (λ (r : RowsHistory). r.slots) c.in_ok-change_rows.ensures.ok
     ∙ ap (λ (l : List RowChange). map (changed_by (changes_given time l)) a.rows.slots) is
     ∙ ap (λ (changes : List (ℕ × Change)). map (changed_by changes) a.rows.slots) (changes_removed time numbers) in
-    let nexts : nexts_of c.change_rows.new.nexts.items ≡ noted time (last_next (nexts_of a.nexts.items)) (nexts_of a.nexts.items) =
-    c.in_ok-change_rows.ensures.nexts ∙ ap (λ (n : ℕ). noted time n (nexts_of a.nexts.items)) (sym c.self.invariant.next) in
+    let nexts : nexts_of c.change_rows.new.nexts.items ≡ nexts_with time (last_next_number (nexts_of a.nexts.items)) (nexts_of a.nexts.items) =
+    c.in_ok-change_rows.ensures.nexts ∙ ap (λ (n : ℕ). nexts_with time n (nexts_of a.nexts.items)) (sym c.self.invariant.next) in
     let made : TableHistory = record { name = a.name; schema = a.schema; slots = a.rows.slots; nexts = nexts_of a.nexts.items } in
-    (λ j. record { name = made.name; schema = made.schema; slots = slots j; nexts = nexts j }) ∙ ap (removed time numbers) c.self.view_is
+    (λ j. record { name = made.name; schema = made.schema; slots = slots j; nexts = nexts j }) ∙ ap (table_without time numbers) c.self.view_is
 
 pub returns-in-Some-clause-stop : goal.returns-in-Some-clause-stop
 returns-in-Some-clause-stop c =

@@ -4,21 +4,21 @@ use Rattle.std.proofs.lemmas.Bool.{ltb-false}
 use Rattle.std.specs.List.{list_any, list_all}
 use Rattle.std.specs.Option.{option_or}
 use Rattle.ldv_value.specs.Limits.{max_next}
-use Rattle.sql_model.specs.Changes.{numbered, refuses_null, clash_by}
+use Rattle.sql_model.specs.Changes.{numbered_rows, refuses_null, clash_by}
 use Rattle.table_store.specs.Types.{Value, TableRow}
 use Rattle.table_store.specs.Claims.{claim_stop}
 use Rattle.table_store.specs.Grid.{AreNumberedFrom, are_of_kinds, next_after}
-use Rattle.table_store.specs.Histories.{NextSince, TableHistory, added, inserted, last_since, noted, rows_now, table_now}
+use Rattle.table_store.specs.Histories.{NextSince, TableHistory, history_of_new_row, table_with_rows, last_since, nexts_with, rows_now, table_now}
 use Rattle.table_store.specs.ChildPairs.{Pairs, AreReferred, pair_in}
 use Rattle.table_store.specs.IndexView.{held_in}
-use Rattle.table_store.specs.KeyIndex.{Held, AreIndexed}
+use Rattle.table_store.specs.KeyIndex.{HeldKeys, AreIndexed}
 use Rattle.table_store.specs.Nexts.{nexts_of}
 use Rattle.table_store.specs.RowChains.{RowsHistory}
 use Rattle.table_store.specs.RowOrder.{AreInOrder}
 use Rattle.table_store.specs.Stops.{has_shape, insert_stop, stop_if, StopsAs}
 use Rattle.table_store.specs.TableView.{IsStored}
-use Rattle.table_store.specs.declared.stop.StoreStop.{StoreStop}
-use Rattle.table_store.specs.declared.stop.StoreStop.TheVariants.{NotNull, Full}
+use Rattle.table_store.specs.declared.error.StoreStop.{StoreStop}
+use Rattle.table_store.specs.declared.error.StoreStop.TheVariants.{NotNull, Full}
 use Rattle.table_store.proofs.ClaimLaws.{stop_before, stop_first, stop_later}
 use Rattle.table_store.proofs.IndexLaws.{index_alike}
 use Rattle.table_store.proofs.InsertLaws.{null_stop, insert_stop_by, numbered_order, numbered_len, shapes_fit}
@@ -45,12 +45,12 @@ returns-in-Err-clause-stop c =
     (λ j. list_any (λ values. list_any refuses_null (zip (sym c.items.ensures j) values)) (sym c.items-2.ensures j)) ∙ sym c.any_lacks_value.ensures in
     let held : Held = λ q. held_in a.index q in
     let order : AreInOrder made.slots next = subst (λ (n : ℕ). AreInOrder a.rows.slots n) (sym c.next-next.ensures) c.tell_order.ensures.order in
-    let whole : insert_stop rows (table_now made) ≡ option_or (claim_stop a.schema.key next (clash_by a.schema.key (rows_now a.rows.slots ++ numbered next c.items-3.result.now))) (stop_if (nat_lt max_next (next + length rows)) Full) =
+    let whole : insert_stop rows (table_now made) ≡ option_or (claim_stop a.schema.key next (clash_by a.schema.key (rows_now a.rows.slots ++ numbered_rows next c.items-3.result.now))) (stop_if (nat_lt max_next (next + length rows)) Full) =
     insert_stop_by rows made next c.items-3.result.now held (index_alike a.index) order c.self.invariant.indexed (c.next-next.ensures ∙ sym c.self.invariant.next) c.items-3.ensures (same ∙ c.if-any_lacks_value.false) in
     stop_before ℕ ℕ (insert_stop rows (table_now c.args.self.now)) c.args.later c.in-Err.stop
     (subst (λ (t : TableHistory). StopsAs {X = ℕ} (insert_stop rows (table_now t)) (Err c.in-Err.stop)) c.self.view_is
     (subst (λ (o : Option StoreStop). StopsAs {X = ℕ} o (Err c.in-Err.stop)) (sym whole)
-    (stop_first (Unit {0}) ℕ (claim_stop a.schema.key next (clash_by a.schema.key (rows_now a.rows.slots ++ numbered next c.items-3.result.now))) (stop_if (nat_lt max_next (next + length rows)) Full) c.in-Err.stop c.in-Err.ensures.stop)))
+    (stop_first (Unit {0}) ℕ (claim_stop a.schema.key next (clash_by a.schema.key (rows_now a.rows.slots ++ numbered_rows next c.items-3.result.now))) (stop_if (nat_lt max_next (next + length rows)) Full) c.in-Err.stop c.in-Err.ensures.stop)))
 
 pub returns-then-is_full-clause-stop : goal.returns-then-is_full-clause-stop
 returns-then-is_full-clause-stop c =
@@ -62,7 +62,7 @@ returns-then-is_full-clause-stop c =
     (λ j. list_any (λ values. list_any refuses_null (zip (sym c.items.ensures j) values)) (sym c.items-2.ensures j)) ∙ sym c.any_lacks_value.ensures in
     let held : Held = λ q. held_in a.index q in
     let order : AreInOrder made.slots next = subst (λ (n : ℕ). AreInOrder a.rows.slots n) (sym c.next-next.ensures) c.tell_order.ensures.order in
-    let whole : insert_stop rows (table_now made) ≡ option_or (claim_stop a.schema.key next (clash_by a.schema.key (rows_now a.rows.slots ++ numbered next c.items-3.result.now))) (stop_if (nat_lt max_next (next + length rows)) Full) =
+    let whole : insert_stop rows (table_now made) ≡ option_or (claim_stop a.schema.key next (clash_by a.schema.key (rows_now a.rows.slots ++ numbered_rows next c.items-3.result.now))) (stop_if (nat_lt max_next (next + length rows)) Full) =
     insert_stop_by rows made next c.items-3.result.now held (index_alike a.index) order c.self.invariant.indexed (c.next-next.ensures ∙ sym c.self.invariant.next) c.items-3.ensures (same ∙ c.if-any_lacks_value.false) in
     let full : nat_lt max_next (next + length rows) ≡ c.is_full.result = ap (λ (n : ℕ). nat_lt max_next (next + n)) (sym c.len.ensures) ∙ sym c.is_full.ensures in
     ap (λ (o : Option StoreStop). option_or o c.args.later)
@@ -79,7 +79,7 @@ returns-in-Some-clause-stop c =
     (λ j. list_any (λ values. list_any refuses_null (zip (sym c.items.ensures j) values)) (sym c.items-2.ensures j)) ∙ sym c.any_lacks_value.ensures in
     let held : Held = λ q. held_in a.index q in
     let order : AreInOrder made.slots next = subst (λ (n : ℕ). AreInOrder a.rows.slots n) (sym c.next-next.ensures) c.tell_order.ensures.order in
-    let whole : insert_stop rows (table_now made) ≡ option_or (claim_stop a.schema.key next (clash_by a.schema.key (rows_now a.rows.slots ++ numbered next c.items-3.result.now))) (stop_if (nat_lt max_next (next + length rows)) Full) =
+    let whole : insert_stop rows (table_now made) ≡ option_or (claim_stop a.schema.key next (clash_by a.schema.key (rows_now a.rows.slots ++ numbered_rows next c.items-3.result.now))) (stop_if (nat_lt max_next (next + length rows)) Full) =
     insert_stop_by rows made next c.items-3.result.now held (index_alike a.index) order c.self.invariant.indexed (c.next-next.ensures ∙ sym c.self.invariant.next) c.items-3.ensures (same ∙ c.if-any_lacks_value.false) in
     let full : nat_lt max_next (next + length rows) ≡ c.is_full.result = ap (λ (n : ℕ). nat_lt max_next (next + n)) (sym c.len.ensures) ∙ sym c.is_full.ensures in
     let none : insert_stop rows (table_now c.args.self.now) ≡ None =
@@ -97,7 +97,7 @@ returns-clause-stop c =
     (λ j. list_any (λ values. list_any refuses_null (zip (sym c.items.ensures j) values)) (sym c.items-2.ensures j)) ∙ sym c.any_lacks_value.ensures in
     let held : Held = λ q. held_in a.index q in
     let order : AreInOrder made.slots next = subst (λ (n : ℕ). AreInOrder a.rows.slots n) (sym c.next-next.ensures) c.tell_order.ensures.order in
-    let whole : insert_stop rows (table_now made) ≡ option_or (claim_stop a.schema.key next (clash_by a.schema.key (rows_now a.rows.slots ++ numbered next c.items-3.result.now))) (stop_if (nat_lt max_next (next + length rows)) Full) =
+    let whole : insert_stop rows (table_now made) ≡ option_or (claim_stop a.schema.key next (clash_by a.schema.key (rows_now a.rows.slots ++ numbered_rows next c.items-3.result.now))) (stop_if (nat_lt max_next (next + length rows)) Full) =
     insert_stop_by rows made next c.items-3.result.now held (index_alike a.index) order c.self.invariant.indexed (c.next-next.ensures ∙ sym c.self.invariant.next) c.items-3.ensures (same ∙ c.if-any_lacks_value.false) in
     let full : nat_lt max_next (next + length rows) ≡ c.is_full.result = ap (λ (n : ℕ). nat_lt max_next (next + n)) (sym c.len.ensures) ∙ sym c.is_full.ensures in
     let none : insert_stop rows (table_now c.args.self.now) ≡ None =
@@ -112,7 +112,7 @@ add_rows-requires-clause-numbered c =
     let next : ℕ = c.next-next.result in
     let full : nat_lt max_next (next + length rows) ≡ c.is_full.result = ap (λ (n : ℕ). nat_lt max_next (next + n)) (sym c.len.ensures) ∙ sym c.is_full.ensures in
     let few : next + length rows ≤ max_next = ltb-false max_next (next + length rows) (full ∙ c.if-is_full.false) in
-    let made_is : c.in_ok-made.made ≡ numbered a.rows.next rows = c.in_ok-made.ensures ∙ ap (λ (n : ℕ). numbered n rows) c.next-next.ensures in
+    let made_is : c.in_ok-made.made ≡ numbered_rows a.rows.next rows = c.in_ok-made.ensures ∙ ap (λ (n : ℕ). numbered_rows n rows) c.next-next.ensures in
     subst (λ (l : List TableRow). AreNumberedFrom a.rows.next l) (sym made_is) (numbered_order a.rows.next rows (omega (arith, few, c.next-next.ensures)))
 
 pub add_rows-requires-clause-few : goal.add_rows-requires-clause-few
@@ -139,27 +139,27 @@ invariant_of-self-2 c =
     let next : ℕ = c.next-next.result in
     let time = c.args.time in
     let nexts = nexts_of a.nexts.items in
-    let more : List TableRow = numbered a.rows.next rows in
+    let more : List TableRow = numbered_rows a.rows.next rows in
     let old : Held = λ q. held_in a.index q in
     let new : Held = λ q. held_in c.claim.new.index q in
-    let made_is : c.in_ok-made.made ≡ numbered a.rows.next rows = c.in_ok-made.ensures ∙ ap (λ (n : ℕ). numbered n rows) c.next-next.ensures in
+    let made_is : c.in_ok-made.made ≡ numbered_rows a.rows.next rows = c.in_ok-made.ensures ∙ ap (λ (n : ℕ). numbered_rows n rows) c.next-next.ensures in
     let later : last_since nexts < time = subst (λ (t : TableHistory). last_since t.nexts < time) (sym c.self.view_is) c.requires.later in
-    let claimed : rows_now a.rows.slots ++ numbered next c.items-3.result.now ≡ rows_now a.rows.slots ++ more = λ j. rows_now a.rows.slots ++ numbered (c.next-next.ensures j) (c.items-3.ensures j) in
+    let claimed : rows_now a.rows.slots ++ numbered_rows next c.items-3.result.now ≡ rows_now a.rows.slots ++ more = λ j. rows_now a.rows.slots ++ numbered_rows (c.next-next.ensures j) (c.items-3.ensures j) in
     let full : nat_lt max_next (next + length rows) ≡ c.is_full.result = ap (λ (n : ℕ). nat_lt max_next (next + n)) (sym c.len.ensures) ∙ sym c.is_full.ensures in
     let few : next + length rows ≤ max_next = ltb-false max_next (next + length rows) (full ∙ c.if-is_full.false) in
     let fits : next + length c.items-3.result.now ≤ 2 ^ 32 = omega (arith, few, ap length c.items-3.ensures) in
     let indexed : AreIndexed a.schema.key new (rows_now a.rows.slots ++ more) = subst (λ (l : List TableRow). AreIndexed a.schema.key new l) claimed (c.in-Ok.ensures.ok fits) in
-    let rows_are : c.add_rows.new.rows ≡ record a.rows { slots = a.rows.slots ++ map (added time) more; next = next_after a.rows.next more } =
-    c.in_ok-add_rows.ensures.ok ∙ ap (λ (l : List TableRow). record a.rows { slots = a.rows.slots ++ map (added time) l; next = next_after a.rows.next l }) made_is in
-    let nexts_are : nexts_of c.add_rows.new.nexts.items ≡ noted time (next_after a.rows.next more) nexts =
-    c.in_ok-add_rows.ensures.nexts ∙ ap (λ (l : List TableRow). noted time (next_after a.rows.next l) nexts) made_is in
+    let rows_are : c.add_rows.new.rows ≡ record a.rows { slots = a.rows.slots ++ map (history_of_new_row time) more; next = next_after a.rows.next more } =
+    c.in_ok-add_rows.ensures.ok ∙ ap (λ (l : List TableRow). record a.rows { slots = a.rows.slots ++ map (history_of_new_row time) l; next = next_after a.rows.next l }) made_is in
+    let nexts_are : nexts_of c.add_rows.new.nexts.items ≡ nexts_with time (next_after a.rows.next more) nexts =
+    c.in_ok-add_rows.ensures.nexts ∙ ap (λ (l : List TableRow). nexts_with time (next_after a.rows.next l) nexts) made_is in
     let pairs : Pairs = pair_in a.children in
     let wider : Pairs = pair_in c.add_all.new.index in
     let items : c.items-4.result.now ≡ more = c.items-4.ensures ∙ made_is in
     let referred = referred_inserted a.schema.foreign pairs wider (rows_now a.rows.slots) more c.add_all.ensures.kept c.self.invariant.referred
     (subst (λ (l : List TableRow). AreReferred wider a.schema.foreign l) items c.in_ok-add_all.ensures.ok) in
     subst (λ (r : RowsHistory). IsStored a.schema r new wider (nexts_of c.add_rows.new.nexts.items)) (sym rows_are)
-    (subst (λ (n : List NextSince). IsStored a.schema (record a.rows { slots = a.rows.slots ++ map (added time) more; next = next_after a.rows.next more }) new wider n) (sym nexts_are)
+    (subst (λ (n : List NextSince). IsStored a.schema (record a.rows { slots = a.rows.slots ++ map (history_of_new_row time) more; next = next_after a.rows.next more }) new wider n) (sym nexts_are)
     (stored_inserted a.schema a.rows old new pairs wider nexts time rows c.self.invariant later indexed referred))
 
 pub returns-clause-ok : goal.returns-clause-ok
@@ -169,14 +169,14 @@ returns-clause-ok c =
     let next : ℕ = c.next-next.result in
     let time = c.args.time in
     let nexts = nexts_of a.nexts.items in
-    let more : List TableRow = numbered a.rows.next rows in
-    let made_is : c.in_ok-made.made ≡ numbered a.rows.next rows = c.in_ok-made.ensures ∙ ap (λ (n : ℕ). numbered n rows) c.next-next.ensures in
-    let slots : c.add_rows.new.rows.slots ≡ a.rows.slots ++ map (added time) more =
-    ap (λ (r : RowsHistory). r.slots) c.in_ok-add_rows.ensures.ok ∙ ap (λ (l : List TableRow). a.rows.slots ++ map (added time) l) made_is in
-    let nexts_are : nexts_of c.add_rows.new.nexts.items ≡ noted time (next_after a.rows.next more) nexts =
-    c.in_ok-add_rows.ensures.nexts ∙ ap (λ (l : List TableRow). noted time (next_after a.rows.next l) nexts) made_is in
+    let more : List TableRow = numbered_rows a.rows.next rows in
+    let made_is : c.in_ok-made.made ≡ numbered_rows a.rows.next rows = c.in_ok-made.ensures ∙ ap (λ (n : ℕ). numbered_rows n rows) c.next-next.ensures in
+    let slots : c.add_rows.new.rows.slots ≡ a.rows.slots ++ map (history_of_new_row time) more =
+    ap (λ (r : RowsHistory). r.slots) c.in_ok-add_rows.ensures.ok ∙ ap (λ (l : List TableRow). a.rows.slots ++ map (history_of_new_row time) l) made_is in
+    let nexts_are : nexts_of c.add_rows.new.nexts.items ≡ nexts_with time (next_after a.rows.next more) nexts =
+    c.in_ok-add_rows.ensures.nexts ∙ ap (λ (l : List TableRow). nexts_with time (next_after a.rows.next l) nexts) made_is in
     let made : TableHistory = record { name = a.name; schema = a.schema; slots = a.rows.slots; nexts = nexts } in
-    (λ j. record { name = made.name; schema = made.schema; slots = slots j; nexts = nexts_are j }) ∙ inserted_by a.name a.schema a.rows nexts time rows c.self.invariant.next ∙ ap (inserted time rows) c.self.view_is
+    (λ j. record { name = made.name; schema = made.schema; slots = slots j; nexts = nexts_are j }) ∙ inserted_by a.name a.schema a.rows nexts time rows c.self.invariant.next ∙ ap (table_with_rows time rows) c.self.view_is
 
 pub invariant_of-self-in_err-add_all : goal.invariant_of-self-in_err-add_all
 invariant_of-self-in_err-add_all c =

@@ -7,17 +7,17 @@ use Rattle.sql_model.specs.Changes.{has_null, clash_by}
 use Rattle.table_store.specs.Types.{TableRow}
 use Rattle.table_store.specs.Claims.{both_stop}
 use Rattle.table_store.specs.GivenKeys.{with_claims}
-use Rattle.table_store.specs.Histories.{RowHistory, NextSince, TableHistory, changed_by, last_since, last_next, noted, replaced, rewritten, rows_now, table_now}
+use Rattle.table_store.specs.Histories.{RowHistory, NextSince, TableHistory, changed_by, last_since, last_next_number, nexts_with, table_with_values, rows_with_values, rows_now, table_now}
 use Rattle.table_store.specs.ChildPairs.{Pairs, AreReferred, StayReferred, pair_in}
 use Rattle.table_store.specs.IndexView.{held_in}
-use Rattle.table_store.specs.KeyIndex.{Held, AreIndexed}
+use Rattle.table_store.specs.KeyIndex.{HeldKeys, AreIndexed}
 use Rattle.table_store.specs.Nexts.{nexts_of}
 use Rattle.table_store.specs.RowChains.{RowsHistory}
 use Rattle.table_store.specs.RowChanges.{rewrite, changes_given, RiseFrom, AllFitKinds, AllStand}
-use Rattle.table_store.specs.Stops.{values_of, has_shape, all_stood, replaced_by, with_replaced, replace_stop, StopsAs}
+use Rattle.table_store.specs.Stops.{values_of, has_shape, had_rows, replaced_by, with_replaced, replace_stop, StopsAs}
 use Rattle.table_store.specs.TableView.{IsStored}
 use Rattle.table_store.specs.declared.change.RowChange.{RowChange}
-use Rattle.table_store.specs.declared.stop.StoreStop.{StoreStop}
+use Rattle.table_store.specs.declared.error.StoreStop.{StoreStop}
 use Rattle.table_store.specs.declared.index.Index.{Index}
 use Rattle.table_store.proofs.IndexChangeLaws.{claims_kept, indexed_same}
 use Rattle.table_store.proofs.ClaimLaws.{stop_before, stop_later}
@@ -29,7 +29,7 @@ pub claims_of-requires-clause-stand : goal.claims_of-requires-clause-stand
 claims_of-requires-clause-stand c =
     let a = c.self.inside in
     subst (λ (l : List TableRow). list_all (λ row. list_any (λ old. old.number == row.number) (rows_now a.rows.slots)) l ≡ true) (sym c.items-3.ensures)
-    (subst (λ (t : TableHistory). all_stood c.args.rows (table_now t) ≡ true) (sym c.self.view_is) c.requires.stand)
+    (subst (λ (t : TableHistory). had_rows c.args.rows (table_now t) ≡ true) (sym c.self.view_is) c.requires.stand)
 
 pub change_rows-requires-clause-before : goal.change_rows-requires-clause-before
 change_rows-requires-clause-before c =
@@ -122,7 +122,7 @@ invariant_of-self-2 c =
     let made : TableHistory = record { name = a.name; schema = a.schema; slots = a.rows.slots; nexts = nexts } in
     let given = c.in_ok-given.given.items in
     let later : last_since nexts < time = subst (λ (t : TableHistory). last_since t.nexts < time) (sym c.self.view_is) c.requires.later in
-    let stood = subst (λ (t : TableHistory). all_stood rows (table_now t) ≡ true) (sym c.self.view_is) c.requires.stand in
+    let stood = subst (λ (t : TableHistory). had_rows rows (table_now t) ≡ true) (sym c.self.view_is) c.requires.stand in
     let stand : GivenStand rows a.rows.slots = given_stand time rows (table_now made) a.rows.slots a.rows.next refl c.tell_order.ensures.order stood in
     let claims : Held = λ key. held_in c.in-Ok.claims key in
     let opened : Held = λ key. held_in c.open_all.new.self key in
@@ -145,14 +145,14 @@ returns-clause-ok c =
     let a = c.self.inside in
     let time = c.args.time in
     let rows = c.args.rows in
-    let slots : c.change_rows.new.rows.slots ≡ rewritten time rows a.rows.slots =
+    let slots : c.change_rows.new.rows.slots ≡ rows_with_values time rows a.rows.slots =
     ap (λ (r : RowsHistory). r.slots) c.in_ok-change_rows.ensures.ok
     ∙ ap (λ (l : List RowChange). map (changed_by (changes_given time l)) a.rows.slots) c.in_ok-given.ensures
     ∙ ap (λ (changes : List (ℕ × Change)). map (changed_by changes) a.rows.slots) (changes_written time rows) in
-    let nexts : nexts_of c.change_rows.new.nexts.items ≡ noted time (last_next (nexts_of a.nexts.items)) (nexts_of a.nexts.items) =
-    c.in_ok-change_rows.ensures.nexts ∙ ap (λ (n : ℕ). noted time n (nexts_of a.nexts.items)) (sym c.self.invariant.next) in
+    let nexts : nexts_of c.change_rows.new.nexts.items ≡ nexts_with time (last_next_number (nexts_of a.nexts.items)) (nexts_of a.nexts.items) =
+    c.in_ok-change_rows.ensures.nexts ∙ ap (λ (n : ℕ). nexts_with time n (nexts_of a.nexts.items)) (sym c.self.invariant.next) in
     let made : TableHistory = record { name = a.name; schema = a.schema; slots = a.rows.slots; nexts = nexts_of a.nexts.items } in
-    (λ j. record { name = made.name; schema = made.schema; slots = slots j; nexts = nexts j }) ∙ ap (replaced time rows) c.self.view_is
+    (λ j. record { name = made.name; schema = made.schema; slots = slots j; nexts = nexts j }) ∙ ap (table_with_values time rows) c.self.view_is
 
 pub returns-clause-now : goal.returns-clause-now
 returns-clause-now c =
@@ -160,6 +160,6 @@ returns-clause-now c =
     let time = c.args.time in
     let rows = c.args.rows in
     let made : TableHistory = record { name = a.name; schema = a.schema; slots = a.rows.slots; nexts = nexts_of a.nexts.items } in
-    let stood = subst (λ (t : TableHistory). all_stood rows (table_now t) ≡ true) (sym c.self.view_is) c.requires.stand in
+    let stood = subst (λ (t : TableHistory). had_rows rows (table_now t) ≡ true) (sym c.self.view_is) c.requires.stand in
     let stand : GivenStand rows a.rows.slots = given_stand time rows (table_now made) a.rows.slots a.rows.next refl c.tell_order.ensures.order stood in
-    subst (λ (t : TableHistory). table_now (replaced time rows t) ≡ with_replaced rows (table_now t)) c.self.view_is (replaced_now time rows made stand)
+    subst (λ (t : TableHistory). table_now (table_with_values time rows t) ≡ with_replaced rows (table_now t)) c.self.view_is (replaced_now time rows made stand)

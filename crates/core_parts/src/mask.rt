@@ -1,0 +1,255 @@
+//! Tests of single columns, by which the rows of a source can be chosen before conditions are evaluated.
+
+ghost use Rattle.std.specs.Prelude.{◌≡◌, ◌+◌, ◌++◌, option_to_list, IfOk, IfSome, OnOk, true};
+ghost use Rattle.core_parts.specs.Constants.{IsConstant};
+ghost use Rattle.core_parts.specs.Equality.{IsColumn};
+ghost use Rattle.core_parts.specs.Masking.{AreMasks, AreExact, IsFound, IsTest, fits, suits, commuted_cmp};
+ghost use Rattle.core_parts.specs.Types.{Compare, Int};
+ghost use Rattle.sql_model.specs.declared.expr.Expr.TheVariants.{Both, IsNull};
+
+use crate::constants::constant_of;
+use crate::equality::is_column;
+use crate::placed::BoundExpr;
+use ldv_value::{Cmp, Value};
+use sql_model::{Column, Columns, Expr, Operator};
+use std::alloc::{AllocError, Global};
+
+/// A test of a value: its comparison with a number is True, or it is NULL, or it isn't NULL.
+#[derive(Clone, Copy)]
+pub enum MaskTest {
+    Compares(Cmp, i64),
+    IsNull,
+    IsNotNull,
+}
+
+/// A test of the values in a column of a table, by the column's place from 0.
+#[derive(Clone, Copy)]
+pub struct Mask {
+    pub column: usize,
+    pub test: MaskTest,
+}
+
+/// The masks of a source: tests of single columns that hold in each joined row for which the conditions are
+/// True. The columns of the source come after `before` values of the joined row. A comparison is of a column
+/// of numbers.
+pub fn masks_of(
+    alloc: Global,
+    conds: &[BoundExpr],
+    before: u128,
+    columns: &Columns,
+) -> Result<Vec<Mask>, AllocError>
+    ensures { IfOk result (λ masks. AreMasks conds.now before columns.now masks.items) }
+{
+    let mut masks = Vec::new(alloc);
+    for cond in conds {
+        let mask = mask_of(alloc, cond, before, columns)?;
+        add_mask(&mut masks, mask)?;
+    }
+    Ok(masks)
+}
+
+/// The masks of a source that say all that the conditions say, if each condition is one: a joined row meets
+/// the conditions just where it passes the masks.
+pub fn exact_masks(
+    alloc: Global,
+    conds: &[BoundExpr],
+    before: u128,
+    columns: &Columns,
+) -> Result<Option<Vec<Mask>>, AllocError>
+    ensures { IfOk result (λ found.
+        IfSome found (λ masks. AreExact conds.now before columns.now masks.items)) }
+{
+    let mut masks = Vec::new(alloc);
+    for cond in conds {
+        let found = mask_of(alloc, cond, before, columns)?;
+        match found {
+            None => return Ok(None),
+            Some(mask) => masks.push(mask)?,
+        }
+    }
+    Ok(Some(masks))
+}
+
+// Adds a mask, if there is one.
+fn add_mask(masks: &mut Vec<Mask>, mask: Option<Mask>) -> Result<(), AllocError>
+    ensures { OnOk result (masks.new.items ≡ masks.old.items ++ option_to_list mask) }
+{
+    if let Some(mask) = mask {
+        masks.push(mask)?;
+    }
+    Ok(())
+}
+
+// The mask of a condition, if it tests a column of the source.
+fn mask_of(
+    alloc: Global,
+    cond: &BoundExpr,
+    before: u128,
+    columns: &Columns,
+) -> Result<Option<Mask>, AllocError>
+    ensures { IfOk result (λ found. IfSome found (IsFound cond.now before columns.now)) }
+{
+    let Some(place) = cond.places.get(0) else {
+        return Ok(None);
+    };
+    let Some(column) = column_at(before, *place) else {
+        return Ok(None);
+    };
+    match test_of(alloc, &cond.expr)? {
+        None => Ok(None),
+        Some(test) => Ok(fitting_mask(columns, Mask { column, test })),
+    }
+}
+
+// The column at a place of the joined row, of those after some values.
+fn column_at(before: u128, place: usize) -> Option<usize>
+    ensures { IfSome result (λ column. before + column ≡ place) }
+{
+    let place = place as u128;
+    if place < before {
+        None
+    } else {
+        Some((place - before) as usize)
+    }
+}
+
+// The mask, if its column suits.
+fn fitting_mask(columns: &Columns, mask: Mask) -> Option<Mask>
+    ensures { IfSome result (λ found. (found ≡ mask) × (fits columns.now mask ≡ true)) }
+{
+    if fits(columns, mask) {
+        Some(mask)
+    } else {
+        None
+    }
+}
+
+fn fits(columns: &Columns, mask: Mask) -> bool
+    ensures { result ≡ fits columns.now mask }
+{
+    match columns.get(mask.column) {
+        None => false,
+        Some(column) => suits(mask.test, column),
+    }
+}
+
+fn suits(test: MaskTest, column: &Column) -> bool
+    ensures { result ≡ suits test column.now }
+{
+    match test {
+        MaskTest::Compares(_, _) => !column.text,
+        MaskTest::IsNull => true,
+        MaskTest::IsNotNull => true,
+    }
+}
+
+// The test of a column that an expression is.
+fn test_of(alloc: Global, expr: &Expr) -> Result<Option<MaskTest>, AllocError>
+    ensures { IfOk result (λ found. IfSome found (IsTest expr.now)) }
+{
+    match expr {
+        Expr::Both(operator, left, right) => match operator {
+            Operator::Compare(test) => comparison(alloc, *test, left.get(), right.get()),
+            _ => Ok(None),
+        },
+        Expr::IsNull(inner, negative) => Ok(null_test(inner.get(), *negative)),
+        _ => Ok(None),
+    }
+}
+
+#[tactic(auto, using(crate::proofs::MaskLaws::null_tests))]
+fn null_test(inner: &Expr, negative: bool) -> Option<MaskTest>
+    ensures { IfSome result (IsTest (IsNull inner.now negative)) }
+{
+    if !is_column(inner) {
+        return None;
+    }
+    if negative {
+        Some(MaskTest::IsNotNull)
+    } else {
+        Some(MaskTest::IsNull)
+    }
+}
+
+fn comparison(
+    alloc: Global,
+    test: Cmp,
+    left: &Expr,
+    right: &Expr,
+) -> Result<Option<MaskTest>, AllocError>
+    ensures { IfOk result (λ found. IfSome found (IsTest (Both (Compare test) left.now right.now))) }
+{
+    if is_column(left) {
+        return number_after(alloc, test, left, right);
+    }
+    if is_column(right) {
+        return number_before(alloc, test, left, right);
+    }
+    Ok(None)
+}
+
+#[tactic(auto, using(crate::proofs::MaskLaws::column_number))]
+fn number_after(
+    alloc: Global,
+    test: Cmp,
+    left: &Expr,
+    right: &Expr,
+) -> Result<Option<MaskTest>, AllocError>
+    requires { IsColumn left.now }
+    ensures { IfOk result (λ found. IfSome found (IsTest (Both (Compare test) left.now right.now))) }
+{
+    match number_of(alloc, right)? {
+        None => Ok(None),
+        Some(number) => Ok(Some(MaskTest::Compares(test, number))),
+    }
+}
+
+#[tactic(auto, using(crate::proofs::MaskLaws::number_column))]
+fn number_before(
+    alloc: Global,
+    test: Cmp,
+    left: &Expr,
+    right: &Expr,
+) -> Result<Option<MaskTest>, AllocError>
+    requires { IsColumn right.now }
+    ensures { IfOk result (λ found. IfSome found (IsTest (Both (Compare test) left.now right.now))) }
+{
+    match number_of(alloc, left)? {
+        None => Ok(None),
+        Some(number) => Ok(Some(MaskTest::Compares(commuted_cmp(test), number))),
+    }
+}
+
+// The number that an expression is over every row.
+fn number_of(alloc: Global, expr: &Expr) -> Result<Option<i64>, AllocError>
+    ensures { IfOk result (λ found. IfSome found (λ number. IsConstant expr.now (Int number))) }
+{
+    match constant_of(alloc, expr)? {
+        None => Ok(None),
+        Some(value) => Ok(number_in(value)),
+    }
+}
+
+fn number_in(value: Value) -> Option<i64>
+    ensures { IfSome result (λ number. value ≡ Int number) }
+{
+    match value {
+        Value::Int(number) => Some(number),
+        Value::Null => None,
+        Value::Text(_) => None,
+    }
+}
+
+// The operator with its sides exchanged.
+fn commuted_cmp(test: Cmp) -> Cmp
+    ensures { result ≡ commuted_cmp test }
+{
+    match test {
+        Cmp::Eq => Cmp::Eq,
+        Cmp::Ne => Cmp::Ne,
+        Cmp::Lt => Cmp::Gt,
+        Cmp::Le => Cmp::Ge,
+        Cmp::Gt => Cmp::Lt,
+        Cmp::Ge => Cmp::Le,
+    }
+}

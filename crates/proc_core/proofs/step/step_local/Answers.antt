@@ -1,0 +1,25 @@
+use Rattle.std.proofs.Common.{rules, ◌≡◌, ◌∙◌, List, map, ap, subst}
+use Rattle.proc_core.specs.Types.{Act}
+use Rattle.run_model.specs.Events.{event_at}
+use Rattle.run_model.specs.Step.{local_step, ends_at, status_acts}
+use Rattle.proc_core.specs.SlotStep.{slot_status_in}
+use Rattle.proc_core.specs.Stands.{AppendsEvents}
+use Rattle.proc_core.proofs.Counts.{fewer_next}
+use Rattle.proc_core.proofs.Machines.{ends_same, told_more}
+use Rattle.proc_core.proofs.step.step_local.Goals as goal
+
+pub returns-clause-told : goal.returns-clause-told
+returns-clause-told g c = λ core is.
+    let who = c.args.who in
+    let mid = g.T.Tracer.events c.execute_local.new.tracer in
+    let new = g.T.Tracer.events c.tell_status.new.tracer in
+    let status : c.status_in.result ≡ slot_status_in c.execute_local.new.machine.processes.items c.args.who.number = search rules in
+    told_more g.T.Tracer.KEEPS (g.T.Tracer.events c.args.tracer.now) mid new who.step who.number (local_step who.number core).acts
+    (ends_at who.number (local_step who.number core).core) (c.in_ok-execute_local.ensures.told core is)
+    (subst (λ (acts : List Act). AppendsEvents g.T.Tracer.KEEPS mid new (map (event_at who.step who.number) acts))
+    (ap status_acts status ∙ ends_same c.execute_local.new.machine who.number (local_step who.number core).core (c.in_ok-execute_local.ensures.core core is))
+    c.in_ok-tell_status.ensures)
+
+pub returns-clause-counted : goal.returns-clause-counted
+returns-clause-counted g c =
+    fewer_next c.execute_local.new.machine c.args.who.step (c.in_ok-execute_local.ensures.counted c.args.who.step c.requires.counted)

@@ -1,0 +1,35 @@
+//! Why a run has no end.
+
+use run_model::ProcName;
+use std::alloc::AllocError;
+
+/// Why a step has no end.
+#[derive(Drop)]
+pub enum Stopped {
+    /// The database had no reply: the process, and the number of its replies so far.
+    Diverged { process: ProcName, index: u32 },
+    /// Out of memory.
+    NoMemory,
+}
+
+impl From<AllocError> for Stopped {
+    ghost use Rattle.std.specs.Prelude.{◌≡◌};
+    ghost use Rattle.proc_core.specs.declared.error.Stopped.TheVariants.{NoMemory};
+
+    ghost from_gives = { λ _ stop. stop ≡ NoMemory };
+
+    fn from(_error: AllocError) -> Stopped {
+        Stopped::NoMemory
+    }
+}
+
+/// Why a run has no end.
+#[derive(Drop)]
+pub enum RunStop {
+    /// Not all processes have ended after the steps of the budget.
+    NotEnded,
+    /// The database had no reply: the process, and the number of its replies so far.
+    Diverged { process: ProcName, index: u32 },
+    /// Out of memory.
+    NoMemory,
+}

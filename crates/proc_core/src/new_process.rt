@@ -1,0 +1,236 @@
+//! A step of a `spawn`.
+
+ghost use Rattle.std.specs.Prelude.{◌≡◌, ◌+◌, ◌++◌, ◌∷◌, [], ◌<◌, Some, length, map, slice_get, slice_set};
+ghost use Rattle.std.specs.Prelude.{OnOk};
+ghost use Rattle.ldv_value.specs.Limits.{max_processes};
+ghost use Rattle.proc_core.specs.Types.{Spawned, Unspawned};
+ghost use Rattle.run_model.specs.Core.{Core};
+ghost use Rattle.run_model.specs.Events.{event_at};
+ghost use Rattle.run_model.specs.Step.{local_step};
+ghost use Rattle.run_model.specs.StepBase.{bad_path};
+ghost use Rattle.script_code.specs.declared.code.Code.{Code};
+ghost use Rattle.proc_core.specs.Counts.{CountsBelow};
+ghost use Rattle.proc_core.specs.SlotReady.{Grows};
+ghost use Rattle.proc_core.specs.SlotSpawn.{HasChild, IsNoChild, slot_spawning_at};
+ghost use Rattle.proc_core.specs.SlotStep.{HasRoom};
+ghost use Rattle.proc_core.specs.Slots.{slot_ended, slot_went_to};
+ghost use Rattle.proc_core.specs.Stands.{IsCore, AppendsEvents};
+ghost use Rattle.proc_core.specs.declared.process.SlotProcess.{SlotProcess};
+
+use crate::computed::BAD_PATH;
+use crate::keep::end_at;
+use crate::machine::Machine;
+use crate::process::SlotProcess;
+use crate::program::{Program, program_at};
+use crate::spawn::make_child;
+use crate::spawn_request::Spawning;
+use crate::tell::{PathAct, Who, tell_path};
+use ldv_value::{Utf8, Values};
+use run_model::Tracer;
+use script_code::Code;
+use std::alloc::AllocError;
+
+// Ends a process, whose value is no path.
+fn end_misused(machine: &mut Machine, number: usize)
+    requires { number < length machine.old.processes.items }
+    ensures left { (r : SlotProcess) → slice_get machine.old.processes.items number ≡ Some r
+        → machine.new.processes.items
+        ≡ slice_set machine.old.processes.items number (slot_ended bad_path r) }
+    ensures others { IsNoChild machine.old machine.new }
+{
+    end_at(BAD_PATH, number, &mut machine.processes);
+}
+
+fn go_to_at(place: u32, number: usize, processes: &mut Vec<SlotProcess>)
+    requires { number < length processes.old.items }
+    ensures { (r : SlotProcess) → slice_get processes.old.items number ≡ Some r
+        → processes.new.items ≡ slice_set processes.old.items number (slot_went_to place r) }
+{
+    let process = &mut processes[number];
+    process.go_to(place);
+}
+
+// A process goes on at the place of a label.
+fn jump_at(machine: &mut Machine, place: u32, number: usize)
+    requires { number < length machine.old.processes.items }
+    ensures left { (r : SlotProcess) → slice_get machine.old.processes.items number ≡ Some r
+        → machine.new.processes.items
+        ≡ slice_set machine.old.processes.items number (slot_went_to place r) }
+    ensures others { IsNoChild machine.old machine.new }
+{
+    go_to_at(place, number, &mut machine.processes);
+}
+
+// How a `spawn` ends that is refused.
+fn refuse<T: Tracer>(
+    machine: &mut Machine,
+    who: Who,
+    path: &Utf8,
+    found: bool,
+    place: u32,
+    tracer: &mut T,
+) -> Result<(), AllocError>
+    requires { who.number < length machine.old.processes.items }
+    ensures left { OnOk result ((r : SlotProcess)
+        → slice_get machine.old.processes.items who.number ≡ Some r
+        → machine.new.processes.items
+        ≡ slice_set machine.old.processes.items who.number (slot_went_to place r)) }
+    ensures others { OnOk result (IsNoChild machine.old machine.new) }
+    ensures told { OnOk result (AppendsEvents T.KEEPS (T.events tracer.old) (T.events tracer.new)
+        (map (event_at who.step who.number) (Unspawned path.now found ∷ []))) }
+{
+    tell_path(who, PathAct::Unspawned(found), path, tracer)?;
+    jump_at(machine, place, who.number);
+    Ok(())
+}
+
+// Notes which process was made last from a path.
+fn note_runner(machine: &mut Machine, path: Utf8, number: usize) -> Result<(), AllocError>
+    ensures { OnOk result (machine.new ≡ record machine.old { runners = machine.new.runners }) }
+{
+    machine.runners.insert(path.into_string(), number)?;
+    Ok(())
+}
+
+// Adds a resolved script.
+fn add_code(machine: &mut Machine, code: Code) -> Result<(), AllocError>
+    ensures { OnOk result (machine.new
+        ≡ record machine.old { codes = machine.old.codes ++ code ∷ [] }) }
+{
+    machine.codes.push(code)?;
+    Ok(())
+}
+
+// Makes a child, which runs the script of an index.
+fn launch<T: Tracer>(
+    machine: &mut Machine,
+    who: Who,
+    slot: usize,
+    index: usize,
+    path: Utf8,
+    arguments: &Values,
+    tracer: &mut T,
+) -> Result<(), AllocError>
+    requires within { who.number < length machine.old.processes.items }
+    requires few { length machine.old.processes.items < max_processes }
+    requires held { index < length machine.old.codes }
+    requires room { HasRoom (slice_get machine.old.processes.items who.number) }
+    requires counted { CountsBelow who.step machine.old }
+    ensures made { OnOk result ((r : SlotProcess) (code : Code)
+        → slice_get machine.old.processes.items who.number ≡ Some r
+        → slice_get machine.old.codes index ≡ Some code
+        → HasChild machine.old who.number slot index code r arguments.now machine.new) }
+    ensures told { OnOk result (AppendsEvents T.KEEPS (T.events tracer.old) (T.events tracer.new)
+        (map (event_at who.step who.number) (Spawned path ∷ []))) }
+{
+    tell_path(who, PathAct::Spawned, &path, tracer)?;
+    let number = machine.processes.len();
+    make_child(machine, who.number, slot, index, arguments)?;
+    note_runner(machine, path, number)?;
+    Ok(())
+}
+
+// Makes a child, which runs a script that isn't resolved yet by any process.
+fn launch_new<T: Tracer>(
+    machine: &mut Machine,
+    who: Who,
+    slot: usize,
+    code: Code,
+    path: Utf8,
+    arguments: &Values,
+    tracer: &mut T,
+) -> Result<(), AllocError>
+    requires within { who.number < length machine.old.processes.items }
+    requires few { length machine.old.processes.items < max_processes }
+    requires room { HasRoom (slice_get machine.old.processes.items who.number) }
+    requires counted { CountsBelow who.step machine.old }
+    ensures made { OnOk result ((r : SlotProcess)
+        → slice_get machine.old.processes.items who.number ≡ Some r
+        → HasChild (record machine.old { codes = machine.old.codes ++ code ∷ [] }) who.number slot
+        (length machine.old.codes) code r arguments.now machine.new) }
+    ensures told { OnOk result (AppendsEvents T.KEEPS (T.events tracer.old) (T.events tracer.new)
+        (map (event_at who.step who.number) (Spawned path ∷ []))) }
+{
+    let index = machine.codes.len();
+    add_code(machine, code)?;
+    launch(machine, who, slot, index, path, arguments, tracer)?;
+    Ok(())
+}
+
+fn spawn_path<T: Tracer>(
+    machine: &mut Machine,
+    who: Who,
+    child: usize,
+    path: Utf8,
+    arguments: Values,
+    place: u32,
+    tracer: &mut T,
+) -> Result<(), AllocError>
+    requires says { slot_spawning_at machine.old who.number
+        ≡ Some (record { child = child; path = Some path; arguments = arguments; place = place }) }
+    requires within { who.number < length machine.old.processes.items }
+    requires room { HasRoom (slice_get machine.old.processes.items who.number) }
+    requires counted { CountsBelow who.step machine.old }
+    ensures core { OnOk result ((c : Core) → IsCore machine.old c
+        → IsCore machine.new (local_step who.number c).core) }
+    ensures told { OnOk result ((c : Core) → IsCore machine.old c
+        → AppendsEvents T.KEEPS (T.events tracer.old)
+        (T.events tracer.new) (map (event_at who.step who.number)
+        (local_step who.number c).acts)) }
+    ensures grows { OnOk result (Grows machine.old who.number machine.new) }
+    ensures counted { OnOk result (CountsBelow (who.step + 1) machine.new) }
+{
+    match program_at(machine, &path)? {
+        Program::Absent => {
+            refuse(machine, who, &path, false, place, tracer)?;
+            Ok(())
+        }
+        Program::Refused => {
+            refuse(machine, who, &path, true, place, tracer)?;
+            Ok(())
+        }
+        Program::Known(index) => {
+            launch(machine, who, child, index, path, &arguments, tracer)?;
+            Ok(())
+        }
+        Program::New(code) => {
+            launch_new(machine, who, child, code, path, &arguments, tracer)?;
+            Ok(())
+        }
+    }
+}
+
+/// A step of a `spawn`.
+pub(crate) fn spawn<T: Tracer>(
+    machine: &mut Machine,
+    who: Who,
+    spawning: Spawning,
+    tracer: &mut T,
+) -> Result<(), AllocError>
+    requires says { slot_spawning_at machine.old who.number ≡ Some spawning }
+    requires within { who.number < length machine.old.processes.items }
+    requires room { HasRoom (slice_get machine.old.processes.items who.number) }
+    requires counted { CountsBelow who.step machine.old }
+    ensures core { OnOk result ((c : Core) → IsCore machine.old c
+        → IsCore machine.new (local_step who.number c).core) }
+    ensures told { OnOk result ((c : Core) → IsCore machine.old c
+        → AppendsEvents T.KEEPS (T.events tracer.old)
+        (T.events tracer.new) (map (event_at who.step who.number)
+        (local_step who.number c).acts)) }
+    ensures grows { OnOk result (Grows machine.old who.number machine.new) }
+    ensures counted { OnOk result (CountsBelow (who.step + 1) machine.new) }
+{
+    let Spawning {
+        child,
+        path,
+        arguments,
+        place,
+    } = spawning;
+    match path {
+        None => {
+            end_misused(machine, who.number);
+            Ok(())
+        }
+        Some(path) => spawn_path(machine, who, child, path, arguments, place, tracer),
+    }
+}

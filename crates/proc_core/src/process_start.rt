@@ -1,0 +1,146 @@
+//! Processes as they begin.
+
+ghost use Rattle.std.specs.Prelude.{◌≡◌, ◌+◌, ◌<◌, ◌∷◌, None, IfOk, OnOk, List as Items, drop, length, map};
+ghost use Rattle.std.specs.Prelude.{replicate};
+ghost use Rattle.ldv_value.specs.declared.value.Value.TheVariants.{Null};
+ghost use Rattle.proc_core.specs.Types.{Instr, Value};
+ghost use Rattle.run_model.specs.Core.{NameBinding, argument_name, arguments_from, argument_variables};
+ghost use Rattle.run_model.specs.Core.{new_process};
+ghost use Rattle.proc_core.specs.Slots.{value_held, Holds};
+
+use crate::file_slots::FileSlots;
+use crate::process::{SlotCursor, SlotProcess};
+use itoa::Buffer;
+use ldv_value::{Bytes, CopyItem, List, Parts, Utf8, Value, Values};
+use script_code::{Code, NameTable};
+use sql_model::Replies;
+use std::alloc::{AllocError, Global};
+
+// So many slots of variables that weren't set.
+fn unset_variables(alloc: Global, count: usize) -> Result<Values, AllocError>
+    ensures { IfOk result (λ slots. slots ≡ replicate count Null) }
+{
+    let mut slots = Vec::with_capacity(alloc, count)?;
+    for _slot in 0..count {
+        slots.push(Value::Null)?;
+    }
+    Ok(Values::of_vec(slots))
+}
+
+fn no_cursors(alloc: Global, count: usize) -> Result<List<Option<SlotCursor>>, AllocError>
+    ensures { IfOk result (λ slots. slots ≡ replicate count None) }
+{
+    let mut slots = Vec::with_capacity(alloc, count)?;
+    for _slot in 0..count {
+        slots.push(None)?;
+    }
+    Ok(List::of_vec(slots))
+}
+
+fn no_children(alloc: Global, count: usize) -> Result<List<Option<u32>>, AllocError>
+    ensures { IfOk result (λ slots. slots ≡ replicate count None) }
+{
+    let mut slots = Vec::with_capacity(alloc, count)?;
+    for _slot in 0..count {
+        slots.push(None)?;
+    }
+    Ok(List::of_vec(slots))
+}
+
+// Gives a variable a value, in front of what other names mean.
+fn bind_first(names: &NameTable, name: &Utf8, value: Value, slots: &mut Values)
+    ensures { (bs : Items (NameBinding Value)) → slots.old ≡ map (value_held bs) names.now
+        → slots.new ≡ map (value_held (record { name = name.now; bound = value } ∷ bs)) names.now }
+{
+    match names.find(name) {
+        None => {}
+        Some(slot) => {
+            if slot < slots.len() {
+                slots.replace(slot, value);
+            }
+        }
+    }
+}
+
+fn argument_name(alloc: Global, number: u64) -> Result<Utf8, AllocError>
+    ensures { IfOk result (λ name. name ≡ argument_name number) }
+{
+    let mut name = Utf8::new(alloc);
+    let mut buffer = Buffer::new();
+    name.push_str("arg")?;
+    name.push_str(buffer.format(number))?;
+    Ok(name)
+}
+
+// Gives the variable of one argument its value, in front of those of later ones.
+fn bind_argument(
+    alloc: Global,
+    names: &NameTable,
+    arguments: &[Value],
+    place: usize,
+    slots: &mut Values,
+) -> Result<(), AllocError>
+    requires { place < length arguments.now }
+    ensures { OnOk result (slots.old ≡ map (value_held (arguments_from (place + 1 + 1)
+        (drop (place + 1) arguments.now))) names.now
+        → slots.new ≡ map (value_held (arguments_from (place + 1) (drop place arguments.now))) names.now) }
+{
+    let name = argument_name(alloc, place as u64 + 1)?;
+    let value = arguments[place].copy_item(alloc)?;
+    bind_first(names, &name, value, slots);
+    Ok(())
+}
+
+fn bind_arguments(
+    alloc: Global,
+    names: &NameTable,
+    arguments: &[Value],
+) -> Result<Values, AllocError>
+    ensures { IfOk result (λ slots. slots ≡ map (value_held (arguments_from 1 arguments.now)) names.now) }
+{
+    let mut slots = unset_variables(alloc, names.len())?;
+    let mut left = arguments.len();
+    while left > 0 {
+        left -= 1;
+        bind_argument(alloc, names, arguments, left, &mut slots)?;
+    }
+    Ok(slots)
+}
+
+// The slots of the variables of a process with these arguments.
+fn variables(alloc: Global, names: &NameTable, arguments: &[Value]) -> Result<Values, AllocError>
+    ensures { IfOk result (λ slots. slots ≡ map (value_held (argument_variables arguments.now)) names.now) }
+{
+    let mut slots = bind_arguments(alloc, names, arguments)?;
+    let name = Utf8::of(alloc, "argc")?;
+    let count = arguments.len() as i64;
+    bind_first(names, &name, Value::Int(count), &mut slots);
+    Ok(slots)
+}
+
+/// A process that begins: its name, the index of its resolved script, and its arguments.
+pub(crate) fn begin(
+    alloc: Global,
+    name: Parts,
+    index: usize,
+    code: &Code,
+    arguments: &[Value],
+) -> Result<SlotProcess, AllocError>
+    ensures { IfOk result (λ r. (script : Items Instr)
+        → Holds code.now.scope index script r (new_process name script arguments.now)) }
+{
+    let scope = &code.scope;
+    Ok(SlotProcess {
+        name,
+        code: index,
+        place: 0,
+        variables: variables(alloc, &scope.variables, arguments)?,
+        files: FileSlots::closed_slots(alloc, scope.files.len())?,
+        cursors: no_cursors(alloc, scope.cursors.len())?,
+        children: no_children(alloc, scope.children.len())?,
+        spawned: 0,
+        printed: Bytes::new(alloc),
+        replies: Replies::new(alloc),
+        status: None,
+    })
+}
