@@ -16,7 +16,7 @@ ROOT is the top of a checkout, by default that of this script. Checked are
   on, and the libraries of the kit; and that its entry function and its first definition are where it says;
 - the boxes in docs/ARCHITECTURE.md against the parts of crates.txt;
 - its table of meanings: that what it names are files of specs, and that each file of specs that the sources
-  or the specs of another crate cite is among them;
+  or the specs of another crate cite is among them, and that these cite no file of specs/inner;
 - that README.md names each library of the kit among what is trusted;
 - each relative link of each document, with its heading where it names one;
 - each path in a document that begins with a folder of this repository or with a crate, such as
@@ -236,6 +236,9 @@ def check_entry(root: str, number: int, crate: str, cell: str, differ: Differenc
             differ.add(ARCHITECTURE, number, f'{file} has no function {word}')
 
 
+# A crate whose inner files a path of antt leads to.
+INNER = re.compile(r'\bRattle\.(\w+)\.specs\.inner\b')
+
 # A module of specs in a path of antt.
 CITED = re.compile(r'\bRattle\.(\w+)\.specs\.([A-Z]\w*)')
 
@@ -251,8 +254,18 @@ def cited_specs(root: str, crates: Dict[str, List[str]]) -> Dict[str, Dict[str, 
     return cited
 
 
+def check_inner(root: str, crates: Dict[str, List[str]], differ: Differences) -> None:
+    """Only a crate itself cites its inner files, and proofs of others."""
+    for crate in crates:
+        for file in files_of(root, crate, ('src', 'specs')):
+            for name in sorted(set(INNER.findall(COMMENT.sub('', read(root, file))))):
+                if name != crate:
+                    differ.add(file, 1, f'cites an inner file of {name}')
+
+
 def check_meanings(root: str, crates: Dict[str, List[str]], differ: Differences) -> None:
     """A row names files of specs, or says that all are meaning but those that it names."""
+    check_inner(root, crates, differ)
     cited = cited_specs(root, crates)
     for number, cells, head in tables(read(root, ARCHITECTURE)):
         if head[0] != 'Specs of':
@@ -262,7 +275,7 @@ def check_meanings(root: str, crates: Dict[str, List[str]], differ: Differences)
         for name in sorted(named):
             if not exists(root, f'crates/{crate}/specs/{name}.antt'):
                 differ.add(ARCHITECTURE, number, f'there is no crates/{crate}/specs/{name}.antt')
-        if cells[1].startswith('all but'):
+        if cells[1].startswith('all'):
             named = set(cited.get(crate, {})) - set(codes(cells[1]))
         for name in sorted(set(cited.get(crate, {})) - named - {'Types'}):
             differ.add(ARCHITECTURE, number, f'{cited[crate][name]} cites {name} of {crate}')

@@ -15,7 +15,7 @@ use Rattle.sql_model.specs.Scope.{InScope, is_table, table_at, catalog_of, schem
 use Rattle.sql_model.specs.Tables.{is_valid_table, are_distinct}
 use Rattle.dml_versions.specs.Changing.{IsCheckedOver}
 use Rattle.sql_model.specs.Tables.{AreWellFormed}
-use Rattle.dml_versions.specs.Making.{ArePlain}
+use Rattle.dml_versions.specs.inner.Making.{ArePlain}
 use Rattle.dml_versions.specs.Types.{Catalog, Checked, ColumnName, Expr, SqlRefusal, Statement, TheQuery, TheInsert, TheUpdate, TheDelete, Insert, Update, Schema, Table}
 
 -- ---- accepted statements

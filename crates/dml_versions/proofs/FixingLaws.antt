@@ -6,7 +6,7 @@ use Rattle.core_parts.specs.Fixing.{FixesKey as FixesBy}
 use Rattle.core_parts.specs.declared.placed.BoundExpr.{BoundExpr}
 use Rattle.sql_model.specs.Kinds.{names_in}
 use Rattle.sql_model.specs.Scope.{InScope, places_in, value_at}
-use Rattle.dml_versions.specs.Fixing.{FixesKey}
+use Rattle.dml_versions.specs.inner.Fixing.{FixesKey}
 use Rattle.dml_versions.specs.Types.{Expr, Value}
 
 pub key-fixed : (expr : Expr) (places key : List ℕ) (width : ℕ) (conds : List BoundExpr) (values : List Value)

@@ -13,7 +13,7 @@ use Rattle.sql_model.specs.Kinds.{names_in}
 use Rattle.sql_model.specs.Evaluation.{IsValue}
 use Rattle.sql_model.specs.Meaning.{eval, or_null}
 use Rattle.sql_model.specs.Scope.{InScope, same_text, environment, places_in}
-use Rattle.dml_versions.specs.Making.{place_given, places_given, value_from, values_from, place_set, value_by_set, values_by_set, AreSetsPlaced, IsPlain, ArePlain}
+use Rattle.dml_versions.specs.inner.Making.{place_given, places_given, value_from, values_from, place_set, value_by_set, values_by_set, AreSetsPlaced, IsPlain, ArePlain}
 use Rattle.dml_versions.specs.Types.{Column, Expr, Set, TableRow, Update, Value}
 
 -- ---- places of what passes a test

@@ -23,7 +23,7 @@ use Rattle.table_store.specs.Histories.{RowHistory, no_history, row_now, rows_no
 use Rattle.table_store.specs.declared.cell_test.ColumnTest.{ColumnTest}
 use Rattle.dml_versions.proofs.FoundLaws.{found-step}
 use Rattle.dml_versions.specs.Finding.{AllPass, CoverFound, found_at, found_from, found_row}
-use Rattle.dml_versions.specs.Testing.{AreTests, AreExactTests, cell_test, column_test}
+use Rattle.dml_versions.specs.inner.Testing.{AreTests, AreExactTests, cell_test, column_test}
 use Rattle.sql_model.specs.Changes.{is_matched}
 use Rattle.dml_versions.specs.Types.{Column, Expr, TableRow, Value}
 use Rattle.dml_versions.specs.declared.found.Found.{Found}

@@ -1,9 +1,7 @@
 pub mod Changing
 pub mod Finding
-pub mod Fixing
 pub mod Holding
-pub mod Making
 pub mod Needing
-pub mod Testing
 pub mod Types
 pub mod Versions
+pub mod inner

@@ -8,8 +8,8 @@ ghost use Rattle.dml_versions.specs.Finding.{found_at, found_from};
 ghost use Rattle.sql_model.specs.Changes.{is_matched};
 ghost use Rattle.sql_model.specs.Scope.{InScope};
 ghost use Rattle.sql_model.specs.Tables.{are_keys_unique, row_values};
-ghost use Rattle.dml_versions.specs.Fixing.{FixesKey};
-ghost use Rattle.dml_versions.specs.Testing.{AreTests, AreExactTests};
+ghost use Rattle.dml_versions.specs.inner.Fixing.{FixesKey};
+ghost use Rattle.dml_versions.specs.inner.Testing.{AreTests, AreExactTests};
 ghost use Rattle.table_store.specs.Histories.{table_now, no_history};
 ghost use Rattle.std.specs.Prelude.{ℕ, List as Items};
 

@@ -1,7 +1,7 @@
 //! The key that WHERE fixes.
 
 ghost use Rattle.std.specs.Prelude.{◌≡◌, Some, IfOk, IfSome};
-ghost use Rattle.dml_versions.specs.Fixing.{FixesKey};
+ghost use Rattle.dml_versions.specs.inner.Fixing.{FixesKey};
 
 use core_parts::{conjuncts_of, fixed_key};
 use ldv_value::{Places, Values};

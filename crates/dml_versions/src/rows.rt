@@ -2,8 +2,8 @@
 
 ghost use Rattle.std.specs.Prelude.{◌≡◌, [], map, IfOk};
 ghost use Rattle.std.specs.List.{AllByRecursion};
-ghost use Rattle.dml_versions.specs.Making.{place_given, places_given, IsPlain, ArePlain, value_from};
-ghost use Rattle.dml_versions.specs.Making.{values_from};
+ghost use Rattle.dml_versions.specs.inner.Making.{place_given, places_given, IsPlain, ArePlain, value_from};
+ghost use Rattle.dml_versions.specs.inner.Making.{values_from};
 ghost use Rattle.sql_model.specs.Changes.{plain_value};
 
 use ldv_value::{List, Names, RowList, Utf8, Value, Values};

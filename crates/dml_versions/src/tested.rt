@@ -3,7 +3,7 @@
 ghost use Rattle.std.specs.Prelude.{◌≡◌, List as Items, Some, IfOk, map, true, false};
 ghost use Rattle.core_parts.specs.Masking.{AreMasks};
 ghost use Rattle.core_parts.specs.declared.mask.Mask.{Mask as Given};
-ghost use Rattle.dml_versions.specs.Testing.{AreTests, AreExactTests, cell_test, column_test};
+ghost use Rattle.dml_versions.specs.inner.Testing.{AreTests, AreExactTests, cell_test, column_test};
 
 use core_parts::{Mask, MaskTest, BoundExpr, conjuncts_of, exact_masks, masks_of};
 use ldv_value::{List, Places};

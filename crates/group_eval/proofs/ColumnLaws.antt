@@ -8,9 +8,9 @@ use Rattle.core_parts.specs.Placing.{IsPlaced}
 use Rattle.core_parts.specs.declared.placed.BoundExpr.{BoundExpr}
 use Rattle.lineage.specs.declared.answer.Pick.{Pick}
 use Rattle.group_eval.proofs.SettleLaws.{column_first}
-use Rattle.group_eval.specs.Columns.{value_in, IsValueAt}
+use Rattle.group_eval.specs.inner.Columns.{value_in, IsValueAt}
 use Rattle.group_eval.specs.Folding.{pick_environment, pick_environments, value_over, group_meaning}
-use Rattle.group_eval.specs.Settling.{first_meaning, IsSettled}
+use Rattle.group_eval.specs.inner.Settling.{first_meaning, IsSettled}
 use Rattle.group_eval.specs.Types.{Expr, Fold, Value}
 use Rattle.sql_model.proofs.Folds.{fold-Column, fold-Count, fold-Aggregate}
 use Rattle.sql_model.specs.Kinds.{names_in, names_step}

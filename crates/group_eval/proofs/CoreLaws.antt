@@ -18,7 +18,7 @@ use Rattle.core_parts.specs.Checking.{core_at, places_at, IsChecked}
 use Rattle.group_eval.specs.Evaluating.{group_values, is_group_kept, ArePlaced, IsHavingPlaced, IsPlacedPlan, group_answer, answers_of, rejected_of, IsGroupedBy, IsGrouped}
 use Rattle.group_eval.specs.Folding.{first_row, pick_environments, group_meaning}
 use Rattle.group_eval.specs.Grouping.{key_of, is_under, picks_under, keyed_groups, pick_groups}
-use Rattle.group_eval.specs.Planning.{AreItems, IsHaving, IsPlan}
+use Rattle.group_eval.specs.inner.Planning.{AreItems, IsHaving, IsPlan}
 use Rattle.group_eval.specs.Types.{Catalog, Checked, ColumnName, Core, Expr, FromItem, Item, Query, Statement, TheQuery, Value}
 use Rattle.lineage.specs.Lineage.{union_of}
 use Rattle.group_eval.specs.Uniting.{lineage_of_picks}

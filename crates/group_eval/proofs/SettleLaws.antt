@@ -8,7 +8,7 @@ use Rattle.core_parts.proofs.Lists.{take-mapped, drop-mapped}
 use Rattle.core_parts.proofs.Places.{places-append}
 use Rattle.group_eval.specs.Folding.{first_row, pick_environment, pick_environments, value_over, group_meaning}
 use Rattle.core_parts.specs.Placing.{own_places, other_places, IsPlaced}
-use Rattle.group_eval.specs.Settling.{SettlesTo, first_meaning, IsSettled}
+use Rattle.group_eval.specs.inner.Settling.{SettlesTo, first_meaning, IsSettled}
 use Rattle.group_eval.specs.Types.{ColumnName, Expr, Fold, Operator, Value}
 use Rattle.core_parts.specs.declared.placed.BoundExpr.{BoundExpr}
 use Rattle.sql_model.proofs.Folds.{fold-Constant, fold-Column, fold-Negate, fold-Not, fold-Both, fold-IsNull, fold-Count, fold-Aggregate}

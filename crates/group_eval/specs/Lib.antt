@@ -1,8 +1,6 @@
-pub mod Columns
 pub mod Evaluating
 pub mod Folding
 pub mod Grouping
-pub mod Planning
-pub mod Settling
 pub mod Uniting
 pub mod Types
+pub mod inner

@@ -1,7 +1,7 @@
 //! The values that one column has over a group.
 
 ghost use Rattle.std.specs.Prelude.{◌≡◌, ◌++◌, ◌∷◌, [], List as Items, map, IfOk, IfSome, OnOk, Some, true};
-ghost use Rattle.group_eval.specs.Columns.{known_column, IsKnown, IsValueAt};
+ghost use Rattle.group_eval.specs.inner.Columns.{known_column, IsKnown, IsValueAt};
 ghost use Rattle.lineage.specs.declared.answer.Pick.{Pick as Given};
 ghost use Rattle.sql_model.specs.Meaning.{known_values};
 ghost use Rattle.sql_model.specs.Scope.{value_at};

@@ -13,8 +13,8 @@
 //! Groups are found by a map from the values of the GROUP BY columns to the number of the group, so the time
 //! grows with the number of rows and by a logarithm of the number of groups. Aggregates of one column that
 //! follow one another share one walk over the group (`columns`). `specs/Folding.antt` says what an expression
-//! means over a group of picks, `specs/Grouping.antt` which picks make a group, and `specs/Planning.antt` how
-//! the places of a checked statement belong to the expressions of a core.
+//! means over a group of picks, `specs/Grouping.antt` which picks make a group, and
+//! `specs/inner/Planning.antt` how the places of a checked statement belong to the expressions of a core.
 #![tactic(auto)]
 
 mod columns;

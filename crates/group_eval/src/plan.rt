@@ -3,7 +3,7 @@
 ghost use Rattle.std.specs.Prelude.{◌≡◌, ◌++◌, [], List as Items, ℕ, drop, IfOk, OnOk};
 ghost use Rattle.std.specs.Prelude.{option_to_list, unwrap_or};
 ghost use Rattle.std.specs.List.{flat_map};
-ghost use Rattle.group_eval.specs.Planning.{AreItems, IsHaving, IsPlan};
+ghost use Rattle.group_eval.specs.inner.Planning.{AreItems, IsHaving, IsPlan};
 ghost use Rattle.sql_model.specs.Kinds.{names_in};
 ghost use Rattle.sql_model.specs.Refusals.{core_names, items_of, names_of_items};
 ghost use Rattle.sql_model.specs.Scope.{InScope, places_in};

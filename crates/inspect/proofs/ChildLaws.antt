@@ -4,7 +4,7 @@ use Rattle.std.specs.Prelude.{if◌then◌else◌, Bool, Some, None, nat_le, sli
 use Rattle.std.proofs.lemmas.Bool.{leb-true}
 use Rattle.std.proofs.lemmas.List.Elements.{All-append, All-cons, All-nil, All-set}
 use Rattle.std.proofs.lemmas.Option.{get_or_from_slice_get, slice_get_cases}
-use Rattle.inspect.specs.ChildRoom.{HasRoom, HaveRoom, births, all_births}
+use Rattle.inspect.specs.inner.ChildRoom.{HasRoom, HaveRoom, births, all_births}
 use Rattle.ldv_value.proofs.Booleans.{and-first, and-second}
 use Rattle.ldv_value.specs.Limits.{max_processes}
 use Rattle.run_model.specs.ValidTrace.{made_after, IsTrace}

@@ -6,11 +6,11 @@ use Rattle.std.proofs.lemmas.List.{length-set, length_push, get_or_push, get_or_
 use Rattle.std.proofs.lemmas.Option.{none-some, same_Some, slice_get_cases, slice_get_read, slice_get_within, slice_get-get_or, slice_get_past}
 use Rattle.run_model.specs.OutcomeText.{name_text}
 use Rattle.inspect.specs.declared.process_names.Made.{Made}
-use Rattle.inspect.specs.Named.{NamedProcess}
-use Rattle.inspect.specs.ChildRoom.{HaveRoom}
+use Rattle.inspect.specs.inner.Named.{NamedProcess}
+use Rattle.inspect.specs.inner.ChildRoom.{HaveRoom}
 use Rattle.inspect.specs.ProcessNames.{first_process, parent_of, child_of, with_child, text_of, name_in}
-use Rattle.inspect.specs.ProcessPlaces.{name_after, names_after, names_of, name_at, named_by, named_by_all, named_of}
-use Rattle.inspect.specs.ProcessPlaces.{ComeAfter, MayAllGrow, made_of_first, next_child, made_with_child, made_with}
+use Rattle.inspect.specs.inner.ProcessPlaces.{name_after, names_after, names_of, name_at, named_by, named_by_all, named_of}
+use Rattle.inspect.specs.inner.ProcessPlaces.{ComeAfter, MayAllGrow, made_of_first, next_child, made_with_child, made_with}
 use Rattle.inspect.proofs.ChildLaws.{room_at}
 
 -- ---- names

@@ -1,8 +1,5 @@
 pub mod Types
-pub mod Named
 pub mod ProcessNames
-pub mod ChildRoom
-pub mod ProcessPlaces
 pub mod RowReports
 pub mod FileReports
 pub mod TraceReports
@@ -10,3 +7,4 @@ pub mod WhyReports
 pub mod DependsReports
 pub mod DependsSources
 pub mod Stopping
+pub mod inner

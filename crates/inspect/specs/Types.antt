@@ -9,4 +9,4 @@ pub use Rattle.run_model.specs.declared.package.PackedRow.{PackedRow}
 pub use Rattle.run_model.specs.declared.package.PackedTable.{PackedTable}
 pub use Rattle.trace_graph.specs.declared.node.Node.{Node}
 pub use Rattle.trace_graph.specs.declared.node.Node.TheVariants.{Path, Process, Row, Ask, Reply}
-pub use Rattle.inspect.specs.Named.{NamedProcess}
+pub use Rattle.inspect.specs.inner.Named.{NamedProcess}

@@ -4,7 +4,7 @@ use Rattle.std.specs.Int.{bit_not}
 use lib.Lanes.{zip2, chunk, put_chunk}
 use Rattle.std.proofs.lemmas.Simd.{length-zip2, length-chunk, get_or-chunk, get_or-put_chunk_below, get_or-put_chunk_at, get_or-put_chunk_above, get_or-zip2}
 use Rattle.std.proofs.lemmas.Bool.{cases_lt}
-use Rattle.lanes.specs.Merged.{IsMergedTo, without}
+use Rattle.lanes.specs.inner.Merged.{IsMergedTo, without}
 
 pub none_merged : (merge : ℕ → ℕ → ℕ) (old other : List ℕ) → IsMergedTo merge old other old 0
 none_merged merge old other = record { merged = λ k below. absurd (omega arith); kept = λ k from. refl }

@@ -6,7 +6,7 @@ use Rattle.std.proofs.lemmas.List.{get_or_past}
 use Rattle.std.proofs.lemmas.Nat.Bits.{bit_at-lt, bit_at-zero, bit_at_and, bit_at_or, bit_at_not}
 use Rattle.ldv_value.proofs.Booleans.{or-false, and-false, and-true}
 use Rattle.lanes.specs.Sets.{member, IsUnion, IsIntersection, IsDifference}
-use Rattle.lanes.specs.Merged.{IsMergedTo, without}
+use Rattle.lanes.specs.inner.Merged.{IsMergedTo, without}
 
 pub two : (p : ℕ) → p < 2 → (p ≡ 0) ⊎ (p ≡ 1)
 two zero small = inl refl

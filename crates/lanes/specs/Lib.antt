@@ -1,3 +1,3 @@
 pub mod Sets
 pub mod Selection
-pub mod Merged
+pub mod inner

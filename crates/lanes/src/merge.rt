@@ -2,7 +2,7 @@
 
 ghost use Rattle.std.specs.Prelude.{◌≡◌, ℕ, List, ◌+◌, ◌<◌, ◌≤◌, length, bit_and, bit_or};
 ghost use Rattle.std.specs.Simd.Lanes.{zip2, chunk, put_chunk};
-ghost use Rattle.lanes.specs.Merged.{without, IsMergedTo};
+ghost use Rattle.lanes.specs.inner.Merged.{without, IsMergedTo};
 
 use std::simd::prelude::*;
 

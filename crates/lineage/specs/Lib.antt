@@ -1,5 +1,5 @@
 pub mod Blocks
-pub mod Held
 pub mod Lineage
 pub mod Rows
 pub mod StandsFor
+pub mod inner

@@ -2,7 +2,7 @@
 
 ghost use Rattle.std.specs.Prelude.{◌≡◌, ◌++◌, ◌∷◌, [], IfOk, OnOk, OnErr};
 ghost use Rattle.std.specs.FinMap as finmap;
-ghost use Rattle.lineage.specs.Held.{rows_held, IsMany};
+ghost use Rattle.lineage.specs.inner.Held.{rows_held, IsMany};
 ghost use Rattle.lineage.specs.Lineage.{with_version, IsUnion};
 
 use crate::blocks::Row;

@@ -2,7 +2,7 @@
 
 ghost use Rattle.std.specs.Prelude.{◌≡◌, OnOk, OnErr};
 ghost use Rattle.std.specs.FinMap as finmap;
-ghost use Rattle.lineage.specs.Held.{rows_held};
+ghost use Rattle.lineage.specs.inner.Held.{rows_held};
 ghost use Rattle.lineage.specs.Lineage.{with_version, IsUnion};
 
 use crate::held::{Held, add_to, unite_with};
@@ -19,7 +19,7 @@ pub struct LineageRows {
 }
 
 impl Model for LineageRows {
-    ghost use Rattle.lineage.specs.Held.{rows_held};
+    ghost use Rattle.lineage.specs.inner.Held.{rows_held};
     ghost use Rattle.lineage.specs.Lineage.{Lineage, lineage_code};
 
     ghost Value = { Lineage };

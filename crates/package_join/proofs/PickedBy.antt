@@ -11,7 +11,7 @@ use Rattle.package_join.specs.Types.{PackedRow, Table, TableRow}
 use Rattle.package_join.specs.declared.joined.JoinedRun.{JoinedRun}
 use Rattle.package_join.specs.declared.joined.Reason.{Reason}
 use Rattle.package_join.specs.Joined.{is_among, is_reason, packed_by, picked_row, picked_table}
-use Rattle.package_join.specs.Picked.{reason_for}
+use Rattle.package_join.specs.inner.Picked.{reason_for}
 
 -- ---- names
 

@@ -9,7 +9,7 @@ use Rattle.ldv_value.specs.declared.value.Value.{Value}
 use Rattle.sql_model.specs.Changes.{KeyClash, shares_key, clash_or, clash_after, clash_by, key_clash}
 use Rattle.sql_model.specs.Keys.{same_values, values_at}
 use Rattle.package_join.specs.Types.{Table, TableRow}
-use Rattle.package_join.specs.TakenKeys.{unseen, seen_after, first_taken_row}
+use Rattle.package_join.specs.inner.TakenKeys.{unseen, seen_after, first_taken_row}
 
 abbrev pub later_number : KeyClash → ℕ
 later_number clash = clash.later.number

@@ -16,7 +16,7 @@ use Rattle.package_join.specs.declared.joins.JoinStop.{JoinStop}
 use Rattle.package_join.specs.Joined.{clash_of, joined_of, put_together, run_package, unless_clash}
 use Rattle.package_join.specs.Laws.{IsIncluded, ValidLaw}
 use Rattle.package_join.specs.Parts.{JoinsAs}
-use Rattle.package_join.specs.Picked.{without_logs}
+use Rattle.package_join.specs.inner.Picked.{without_logs}
 use Rattle.package_join.specs.Valid.{IsValidJoined}
 use Rattle.package_join.proofs.Picks.{pick_law, anew_law}
 

@@ -1,13 +1,12 @@
 pub mod Types
 pub mod Merging
 pub mod Same
-pub mod TakenKeys
 pub mod Joined
 pub mod Parts
 pub mod Worlds
 pub mod Layout
 pub mod Rooms
-pub mod Picked
 pub mod RunJoins
 pub mod Valid
 pub mod Laws
+pub mod inner

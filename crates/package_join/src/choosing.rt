@@ -6,7 +6,7 @@ ghost use Rattle.std.specs.Option.{option_or};
 ghost use Rattle.slicer.specs.Marks.{has_name, reason_at};
 ghost use Rattle.package_join.specs.Joined.{as_present, is_among, picked_file, picked_package, picked_table};
 ghost use Rattle.package_join.specs.Joined.{run_package};
-ghost use Rattle.package_join.specs.Picked.{file_by, need_for, reason_for, reason_if};
+ghost use Rattle.package_join.specs.inner.Picked.{file_by, need_for, reason_for, reason_if};
 
 use crate::copying::{copy_events, copy_file};
 use crate::joined::{Joined, JoinedRun, Reason, Reasons, Which};

@@ -1,7 +1,7 @@
 //! Copies of the parts of a package.
 
 ghost use Rattle.std.specs.Prelude.{◌≡◌, IfOk};
-ghost use Rattle.package_join.specs.Picked.{without_logs};
+ghost use Rattle.package_join.specs.inner.Picked.{without_logs};
 
 use ldv_value::{Bytes, CopyItem, List};
 use run_model::{

@@ -3,7 +3,7 @@
 ghost use Rattle.std.specs.Prelude.{◌≡◌, IfOk};
 ghost use Rattle.std.specs.Option.{option_map};
 ghost use Rattle.sql_model.specs.Changes.{key_clash};
-ghost use Rattle.package_join.specs.TakenKeys.{first_taken_row, unseen};
+ghost use Rattle.package_join.specs.inner.TakenKeys.{first_taken_row, unseen};
 
 use ldv_value::Places;
 use sql_model::{KeyOf, Table, TableRow};

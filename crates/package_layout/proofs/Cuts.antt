@@ -4,7 +4,7 @@ use Rattle.run_model.specs.declared.event.Event.{Event}
 use Rattle.package_layout.specs.declared.cutting.Cut.{Cut}
 use Rattle.package_layout.specs.declared.decode_error.DecodeError.{DecodeError}
 use Rattle.package_layout.specs.declared.decode_error.DecodeError.TheVariants.{NoMemory, Malformed}
-use Rattle.package_layout.specs.Cutting.{cut_onto}
+use Rattle.package_layout.specs.inner.Cutting.{cut_onto}
 use Rattle.package_layout.specs.Events.{event_at}
 use Rattle.package_layout.specs.Fields.{DecodeResult, ◌>>=◌, Decodes, items_at, made_at}
 use Rattle.package_layout.specs.Runs.{Run, runs_of}

@@ -11,8 +11,8 @@ use Rattle.run_model.specs.declared.event.Act.{Act}
 use Rattle.run_model.specs.declared.event.Act.TheVariants as acts
 use Rattle.run_model.specs.declared.event.Event.{Event}
 use Rattle.package_layout.specs.Runs.{Run, steps_from, at_step, run_events, events_in, last_step, is_run}
-use Rattle.package_layout.specs.RunTrace.{is_spawned, spawns_fit, made_by, run_rule, progress_by}
-use Rattle.package_layout.specs.Trace.{Progress, act_rule, event_rule, made_after, is_asked, asked_after, progress_after, follows, at_start, starts_on, starts, trace_test, asked_among}
+use Rattle.package_layout.specs.inner.RunTrace.{is_spawned, spawns_fit, made_by, run_rule, progress_by}
+use Rattle.package_layout.specs.inner.Trace.{Progress, act_rule, event_rule, made_after, is_asked, asked_after, progress_after, follows, at_start, starts_on, starts, trace_test, asked_among}
 use Rattle.package_layout.proofs.Runs.{last_from, last_step-is, run_some}
 use Rattle.package_layout.proofs.RunFields.{unasked_run}
 

@@ -16,7 +16,7 @@ use Rattle.run_model.specs.declared.event.Event.{Event}
 use Rattle.run_model.specs.declared.package.Package.{Package}
 use Rattle.package_layout.specs.Fields.{DecodeResult, both_at, number_at, list_at, list_spelling}
 use Rattle.package_layout.specs.Spelling.{file_spelling, table_spelling, log_spelling}
-use Rattle.package_layout.specs.Bare.{IsTypedBare}
+use Rattle.package_layout.specs.inner.Bare.{IsTypedBare}
 use Rattle.package_layout.specs.Plain.{has_tables}
 use Rattle.package_layout.specs.Typed.{IsU32, TypedFile, TypedTable, TypedLog}
 use Rattle.package_layout.specs.Room.{fits_u16_count, table_room, log_room}

@@ -2,7 +2,7 @@
 
 ghost use Rattle.std.specs.Prelude.{◌≡◌, ◌+◌, ◌<◌, ◌≤◌, ◌^◌, ◌∷◌, [], List as Items, Some, IfOk};
 ghost use Rattle.run_model.specs.declared.event.Event.{Event};
-ghost use Rattle.package_layout.specs.Cutting.{begun_count, cut_onto};
+ghost use Rattle.package_layout.specs.inner.Cutting.{begun_count, cut_onto};
 ghost use Rattle.package_layout.specs.Events.{event_at};
 ghost use Rattle.package_layout.specs.Fields.{Decodes, items_at, made_at};
 ghost use Rattle.package_layout.specs.RunPackages.{cut_at};

@@ -20,9 +20,9 @@
 //!   spelling of both versions (`round_trip_law`). The second version has all of every package.
 //!
 //! A run of a few bytes can stand for millions of events. So both versions are read into runs and judged
-//! there (`specs/RunPackages.antt`, `specs/RunTrace.antt`), and `read_package` makes the events last, of a
-//! package that is valid. `read_runs` gives the package with its runs and never makes them, and `spell_runs`
-//! writes it: their memory goes by the bytes that are read.
+//! there (`specs/RunPackages.antt`, `specs/inner/RunTrace.antt`), and `read_package` makes the events last,
+//! of a package that is valid. `read_runs` gives the package with its runs and never makes them, and
+//! `spell_runs` writes it: their memory goes by the bytes that are read.
 //!
 //! Clauses range over all numbers and lists, so `IsTyped` of `run_model` says what every package in
 //! memory meets: its numbers are those of their types, its texts are UTF-8. `spell` and `read_package` give

@@ -2,7 +2,7 @@
 
 ghost use Rattle.std.specs.Prelude.{◌≡◌, ◌++◌, OnOk};
 ghost use Rattle.std.specs.List.{AllByRecursion};
-ghost use Rattle.package_layout.specs.Bare.{BareParts, BareNumbers, IsTypedBare};
+ghost use Rattle.package_layout.specs.inner.Bare.{BareParts, BareNumbers, IsTypedBare};
 ghost use Rattle.package_layout.specs.Fields.{Decodes, Makes};
 ghost use Rattle.package_layout.specs.RunPackages.{cut_at, run_sections_at, run_sections_of, expanded_package};
 ghost use Rattle.package_layout.specs.Runs.{IsCut};

@@ -8,10 +8,10 @@ ghost use Rattle.sql_model.specs.SqlNames.{sql_name_test};
 ghost use Rattle.ldv_value.specs.Sorted.{is_strictly_sorted, text_precedes};
 ghost use Rattle.run_model.specs.ValidTrace.{need_precedes, member_precedes};
 ghost use Rattle.package_layout.specs.Runs.{events_in, is_run};
-ghost use Rattle.package_layout.specs.RunTrace.{is_spawned, made_by, progress_by, run_rule, spawns_fit};
-ghost use Rattle.package_layout.specs.Trace.{act_rule, event_rule, asked_after};
-ghost use Rattle.package_layout.specs.Trace.{follows, at_start, starts_on, starts};
-ghost use Rattle.package_layout.specs.Trace.{trace_test, asked_count, progress_of};
+ghost use Rattle.package_layout.specs.inner.RunTrace.{is_spawned, made_by, progress_by, run_rule, spawns_fit};
+ghost use Rattle.package_layout.specs.inner.Trace.{act_rule, event_rule, asked_after};
+ghost use Rattle.package_layout.specs.inner.Trace.{follows, at_start, starts_on, starts};
+ghost use Rattle.package_layout.specs.inner.Trace.{trace_test, asked_count, progress_of};
 
 use crate::run::Run;
 use crate::run_tests::last_step;

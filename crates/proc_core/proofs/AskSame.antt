@@ -19,9 +19,9 @@ use Rattle.proc_core.specs.declared.ask.Statement.{Statement}
 use Rattle.proc_core.specs.declared.machine.Machine.{Machine}
 use Rattle.proc_core.specs.declared.process.SlotCursor.{SlotCursor}
 use Rattle.proc_core.specs.declared.process.SlotProcess.{SlotProcess}
-use Rattle.proc_core.specs.Slots.{bound_value, cursor_in, HasReply, HaveReplies, Holds}
-use Rattle.proc_core.specs.SlotAsk.{statement_of, slot_ask, slot_ask_in, slot_ask_at, slot_replied, question_of}
-use Rattle.proc_core.specs.SlotStep.{next_slot_instr}
+use Rattle.proc_core.specs.inner.Slots.{bound_value, cursor_in, HasReply, HaveReplies, Holds}
+use Rattle.proc_core.specs.inner.SlotAsk.{statement_of, slot_ask, slot_ask_in, slot_ask_at, slot_replied, question_of}
+use Rattle.proc_core.specs.inner.SlotStep.{next_slot_instr}
 use Rattle.proc_core.specs.Stands.{IsProcess, AreProcesses, IsCore}
 use Rattle.proc_core.proofs.Holding.{value_same, values_same}
 use Rattle.proc_core.proofs.Lookups.{lookup_bound, lookup_other}

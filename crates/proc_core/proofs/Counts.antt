@@ -30,16 +30,16 @@ use Rattle.proc_core.specs.declared.cut.CutParts.{CutParts}
 use Rattle.proc_core.specs.declared.machine.Machine.{Machine}
 use Rattle.proc_core.specs.declared.process.SlotCursor.{SlotCursor}
 use Rattle.proc_core.specs.declared.process.SlotProcess.{SlotProcess}
-use Rattle.proc_core.specs.SlotAsk.{slot_replied}
-use Rattle.proc_core.specs.Counts.{counted_of, AreBelow, HaveFewer, CountsBelow, MaySpawn}
-use Rattle.proc_core.specs.SlotFiles.{slot_open_unless, slot_open_path, slot_open_for, slot_take_line, slot_read_next, slot_write_where, slot_write_text, slot_copy_where, slot_copy_between, slot_remove_found, slot_remove, slot_exists, slot_on_files}
-use Rattle.proc_core.specs.SlotOwn.{slot_own}
-use Rattle.proc_core.specs.SlotReplies.{slot_close_file, slot_with_values, slot_one_more, slot_take_row, slot_fetch_row, slot_next_row, slot_fetch_from}
-use Rattle.proc_core.specs.SlotSpawn.{HasChild, IsNoChild, slot_parent}
-use Rattle.proc_core.specs.SlotReady.{marked_by, marked, marked_parent, marked_above, refreshed}
-use Rattle.proc_core.specs.SlotStep.{slot_wait_until, slot_wait_with, slot_child_status, slot_is_runnable, slot_status_in, slot_effect}
-use Rattle.proc_core.specs.SlotVariables.{slot_cut_parts, split_value, slot_jump_where, slot_print_line}
-use Rattle.proc_core.specs.Slots.{open_at, cursor_of, cursor_at, child_at, slot_value, slot_values, slot_assign, slot_with_variable}
+use Rattle.proc_core.specs.inner.SlotAsk.{slot_replied}
+use Rattle.proc_core.specs.inner.Counts.{counted_of, AreBelow, HaveFewer, CountsBelow, MaySpawn}
+use Rattle.proc_core.specs.inner.SlotFiles.{slot_open_unless, slot_open_path, slot_open_for, slot_take_line, slot_read_next, slot_write_where, slot_write_text, slot_copy_where, slot_copy_between, slot_remove_found, slot_remove, slot_exists, slot_on_files}
+use Rattle.proc_core.specs.inner.SlotOwn.{slot_own}
+use Rattle.proc_core.specs.inner.SlotReplies.{slot_close_file, slot_with_values, slot_one_more, slot_take_row, slot_fetch_row, slot_next_row, slot_fetch_from}
+use Rattle.proc_core.specs.inner.SlotSpawn.{HasChild, IsNoChild, slot_parent}
+use Rattle.proc_core.specs.inner.SlotReady.{marked_by, marked, marked_parent, marked_above, refreshed}
+use Rattle.proc_core.specs.inner.SlotStep.{slot_wait_until, slot_wait_with, slot_child_status, slot_is_runnable, slot_status_in, slot_effect}
+use Rattle.proc_core.specs.inner.SlotVariables.{slot_cut_parts, split_value, slot_jump_where, slot_print_line}
+use Rattle.proc_core.specs.inner.Slots.{open_at, cursor_of, cursor_at, child_at, slot_value, slot_values, slot_assign, slot_with_variable}
 use Rattle.proc_core.proofs.Machines.{get_some}
 
 -- ---- an instruction that changes its own process only

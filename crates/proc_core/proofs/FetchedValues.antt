@@ -4,8 +4,8 @@ use Rattle.std.specs.Prelude.{reverse}
 use Rattle.std.proofs.lemmas.List.{reverse-append, reverse-reverse}
 use Rattle.proc_core.specs.Types.{Value}
 use Rattle.proc_core.specs.declared.process.SlotProcess.{SlotProcess}
-use Rattle.proc_core.specs.Slots.{slot_with_variable}
-use Rattle.proc_core.specs.SlotReplies.{slot_with_values}
+use Rattle.proc_core.specs.inner.Slots.{slot_with_variable}
+use Rattle.proc_core.specs.inner.SlotReplies.{slot_with_values}
 
 -- so many slots, from the end of a list of values
 abbrev pub slot_with_last : List ℕ → List Value → SlotProcess → SlotProcess

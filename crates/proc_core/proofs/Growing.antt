@@ -7,8 +7,8 @@ use Rattle.proc_core.specs.Types.{Value}
 use Rattle.script_code.specs.declared.code.Code.{Code}
 use Rattle.proc_core.specs.declared.machine.Machine.{Machine}
 use Rattle.proc_core.specs.declared.process.SlotProcess.{SlotProcess}
-use Rattle.proc_core.specs.SlotReady.{Grows}
-use Rattle.proc_core.specs.SlotSpawn.{slot_parent, HasChild, IsNoChild}
+use Rattle.proc_core.specs.inner.SlotReady.{Grows}
+use Rattle.proc_core.specs.inner.SlotSpawn.{slot_parent, HasChild, IsNoChild}
 use Rattle.proc_core.proofs.Machines.{get_some}
 
 one_more : {X : Type 0} (xs : List X) (x : X) → length (xs ++ x ∷ []) ≡ suc (length xs)

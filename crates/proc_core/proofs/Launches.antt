@@ -12,8 +12,8 @@ use Rattle.script_code.specs.Resolved.{IsCode}
 use Rattle.proc_core.specs.declared.machine.Machine.{Machine}
 use Rattle.proc_core.specs.declared.process.SlotProcess.{SlotProcess}
 use Rattle.proc_core.specs.declared.spawn_request.Spawning.{Spawning}
-use Rattle.proc_core.specs.SlotReady.{Grows}
-use Rattle.proc_core.specs.SlotSpawn.{slot_spawning_at, Runs, IsElse, HasChild}
+use Rattle.proc_core.specs.inner.SlotReady.{Grows}
+use Rattle.proc_core.specs.inner.SlotSpawn.{slot_spawning_at, Runs, IsElse, HasChild}
 use Rattle.proc_core.specs.Stands.{IsCore}
 use Rattle.proc_core.proofs.AskSame.{get_last}
 use Rattle.proc_core.proofs.Growing.{grows_made}

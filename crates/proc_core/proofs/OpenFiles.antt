@@ -16,9 +16,9 @@ use Rattle.run_model.specs.StepFiles.{path_in, if_allowed, allows_read}
 use Rattle.proc_core.specs.declared.copy.Copying.{Copying}
 use Rattle.proc_core.specs.declared.copy.Copying.TheVariants.{Misused, TooLong, Copied}
 use Rattle.proc_core.specs.declared.process.SlotProcess.{SlotProcess}
-use Rattle.proc_core.specs.Slots.{open_at, slot_ended, slot_went_on}
-use Rattle.proc_core.specs.SlotCopy.{CopiesTo, CopiesAt, copy_acts, slot_copied}
-use Rattle.proc_core.specs.SlotFiles.{Leaves, slot_at_place, slot_open_for, slot_copy_where, slot_copy_between, slot_take_line, slot_read_next, IsReadBy, read_acts}
+use Rattle.proc_core.specs.inner.Slots.{open_at, slot_ended, slot_went_on}
+use Rattle.proc_core.specs.inner.SlotCopy.{CopiesTo, CopiesAt, copy_acts, slot_copied}
+use Rattle.proc_core.specs.inner.SlotFiles.{Leaves, slot_at_place, slot_open_for, slot_copy_where, slot_copy_between, slot_take_line, slot_read_next, IsReadBy, read_acts}
 use Rattle.proc_core.specs.Stands.{AppendsEvents}
 
 -- what allows it is open

@@ -17,7 +17,7 @@ use Rattle.run_model.specs.declared.outcome.ProcOutcome.{ProcOutcome}
 use Rattle.script_code.specs.declared.code.Code.{Code}
 use Rattle.proc_core.specs.declared.machine.Machine.{Machine}
 use Rattle.proc_core.specs.declared.process.SlotProcess.{SlotProcess}
-use Rattle.proc_core.specs.SlotOutcome.{slot_outcome, slot_outcomes, name_cmp, slot_outcomes_by_name, slot_outcome_of}
+use Rattle.proc_core.specs.inner.SlotOutcome.{slot_outcome, slot_outcomes, name_cmp, slot_outcomes_by_name, slot_outcome_of}
 use Rattle.proc_core.specs.Stands.{IsProcess, AreProcesses, IsCore}
 
 -- ---- names in order

@@ -5,7 +5,7 @@ use Rattle.ldv_value.specs.FileState.{content_at}
 use Rattle.proc_core.specs.declared.machine.Machine.{Machine}
 use Rattle.proc_core.specs.declared.program.Program.{Program}
 use Rattle.proc_core.specs.declared.program.Program.TheVariants.{Absent, Refused, Known, New}
-use Rattle.proc_core.specs.SlotSpawn.{IsProgramOf, IsProgram}
+use Rattle.proc_core.specs.inner.SlotSpawn.{IsProgramOf, IsProgram}
 
 -- of the bytes of the file there
 pub program_there : (m : Machine) (path bytes : List ℕ) → content_at m.tree path ≡ Some bytes

@@ -21,9 +21,9 @@ use Rattle.script_code.specs.Resolved.{slot_of, HasName, slot_instr, HasAll, IsC
 use Rattle.proc_core.specs.declared.machine.Machine.{Machine}
 use Rattle.proc_core.specs.declared.process.SlotProcess.{SlotProcess}
 use Rattle.proc_core.specs.declared.spawn_request.Spawning.{Spawning}
-use Rattle.proc_core.specs.Slots.{Holds, slot_ended, slot_went_to}
-use Rattle.proc_core.specs.SlotSpawn.{slot_spawning, slot_spawning_in, slot_spawning_at, Runs, script_in, slot_parent, slot_with_new, IsElse, IsNoChild, HasChild}
-use Rattle.proc_core.specs.SlotStep.{next_slot_instr, IsKept}
+use Rattle.proc_core.specs.inner.Slots.{Holds, slot_ended, slot_went_to}
+use Rattle.proc_core.specs.inner.SlotSpawn.{slot_spawning, slot_spawning_in, slot_spawning_at, Runs, script_in, slot_parent, slot_with_new, IsElse, IsNoChild, HasChild}
+use Rattle.proc_core.specs.inner.SlotStep.{next_slot_instr, IsKept}
 use Rattle.proc_core.specs.Stands.{IsProcess, AreProcesses, IsCore, AppendsEvents}
 use Rattle.proc_core.proofs.Holding.{value_same, values_same, holds_ended, holds_went_to}
 use Rattle.proc_core.proofs.Machines.{AtSame, next_same, slot_process-at, replaced}

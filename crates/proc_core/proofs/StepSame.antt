@@ -18,8 +18,8 @@ use Rattle.proc_core.specs.declared.process.SlotProcess.{SlotProcess}
 use Rattle.proc_core.specs.declared.error.Stopped.{Stopped}
 use Rattle.proc_core.specs.declared.error.Stopped.TheVariants.{Diverged, NoMemory}
 use Rattle.proc_core.specs.declared.tell.Who.{Who}
-use Rattle.proc_core.specs.SlotAsk.{slot_ask_at, slot_replied}
-use Rattle.proc_core.specs.SlotStep.{slot_status_in}
+use Rattle.proc_core.specs.inner.SlotAsk.{slot_ask_at, slot_replied}
+use Rattle.proc_core.specs.inner.SlotStep.{slot_status_in}
 use Rattle.proc_core.specs.Stands.{IsCore, IsState, AppendsEvents}
 use Rattle.proc_core.specs.Stops.{asker_held, IsStop, HasStopped}
 use Rattle.proc_core.proofs.AskSame.{Asks, asks_nothing, asks_statement, took_core}

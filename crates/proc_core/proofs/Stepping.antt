@@ -6,7 +6,7 @@ use Rattle.ldv_value.proofs.Lists.{append-nil}
 use Rattle.script_code.specs.declared.code.Code.{Code}
 use Rattle.script_code.specs.declared.code.SlotInstr.{SlotInstr}
 use Rattle.script_code.specs.declared.code.SlotInstr.TheVariants.{Own, OnFiles, Spawn, Wait, Sql}
-use Rattle.proc_core.specs.Flags.{runnable_flags}
+use Rattle.proc_core.specs.inner.Flags.{runnable_flags}
 use Rattle.proc_core.specs.Types.{Event}
 use Rattle.run_model.specs.Core.{Core}
 use Rattle.run_model.specs.Database.{Base}
@@ -21,9 +21,9 @@ use Rattle.proc_core.specs.declared.machine.Machine.{Machine}
 use Rattle.proc_core.specs.declared.process.SlotProcess.{SlotProcess}
 use Rattle.proc_core.specs.declared.error.Stopped.{Stopped}
 use Rattle.proc_core.specs.Running.{Stands, has_ended}
-use Rattle.proc_core.specs.SlotAsk.{slot_ask, slot_ask_in, slot_ask_at}
-use Rattle.proc_core.specs.SlotReady.{Grows, refreshed}
-use Rattle.proc_core.specs.SlotStep.{IsKept, next_slot_instr, slot_is_kept}
+use Rattle.proc_core.specs.inner.SlotAsk.{slot_ask, slot_ask_in, slot_ask_at}
+use Rattle.proc_core.specs.inner.SlotReady.{Grows, refreshed}
+use Rattle.proc_core.specs.inner.SlotStep.{IsKept, next_slot_instr, slot_is_kept}
 use Rattle.proc_core.specs.Stands.{IsCore, IsState, AppendsEvents}
 use Rattle.proc_core.specs.Stops.{HasStopped}
 use Rattle.proc_core.proofs.Advances.{advanced, moved_step, scheduled_state}

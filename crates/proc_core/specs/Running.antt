@@ -3,7 +3,7 @@ use Rattle.std.specs.Prelude.{◌==◌, length, Bool}
 use Rattle.ready_set.specs.Ready.{numbers}
 use Rattle.run_model.specs.State.{State}
 use Rattle.proc_core.specs.declared.machine.Machine.{Machine}
-use Rattle.proc_core.specs.SlotReady.{IsReady}
+use Rattle.proc_core.specs.inner.SlotReady.{IsReady}
 use Rattle.proc_core.specs.Stands.{IsState}
 
 pub record Stands {Db : Type 0} (m : Machine) (db : Db) (s : State Db) : Type 0 where

@@ -10,7 +10,7 @@ use Rattle.script_code.specs.declared.code.Code.{Code}
 use Rattle.script_code.specs.Resolved.{IsCode}
 use Rattle.proc_core.specs.declared.machine.Machine.{Machine}
 use Rattle.proc_core.specs.declared.process.SlotProcess.{SlotProcess}
-use Rattle.proc_core.specs.Slots.{Holds}
+use Rattle.proc_core.specs.inner.Slots.{Holds}
 
 -- a process by slots, whose resolved script is one of these
 abbrev pub IsProcess : List Code → SlotProcess → Process → Type 0

@@ -3,9 +3,9 @@
 ghost use Rattle.std.specs.Prelude.{◌≡◌, ◌+◌, ◌<◌, ◌^◌, Some, length, slice_get, slice_set};
 ghost use Rattle.std.specs.Prelude.{IfOk, OnOk, OnSome};
 ghost use Rattle.std.specs.Option.{option_map};
-ghost use Rattle.proc_core.specs.Slots.{slot_values, slot_with_cursor};
-ghost use Rattle.proc_core.specs.SlotAsk.{statement_of, slot_ask, slot_ask_in, slot_ask_at, slot_replied};
-ghost use Rattle.proc_core.specs.SlotStep.{HasRoom};
+ghost use Rattle.proc_core.specs.inner.Slots.{slot_values, slot_with_cursor};
+ghost use Rattle.proc_core.specs.inner.SlotAsk.{statement_of, slot_ask, slot_ask_in, slot_ask_at, slot_replied};
+ghost use Rattle.proc_core.specs.inner.SlotStep.{HasRoom};
 ghost use Rattle.proc_core.specs.declared.process.SlotProcess.{SlotProcess};
 
 use crate::machine::{Codes, Machine, next_in};

@@ -8,7 +8,7 @@ ghost use Rattle.sql_model.specs.Meaning.{is_null};
 ghost use Rattle.run_model.specs.StepBase.{number_within};
 ghost use Rattle.run_model.specs.StepVariables.{calculation, concatenation, text_within, to_number, result_of};
 ghost use Rattle.run_model.specs.StepVariables.{number_or_misuse};
-ghost use Rattle.proc_core.specs.Slots.{computation_of};
+ghost use Rattle.proc_core.specs.inner.Slots.{computation_of};
 
 use itoa::Buffer;
 use ldv_value::{TEXT_LIMIT, Utf8, Value};

@@ -7,9 +7,9 @@ ghost use Rattle.run_model.specs.StepFiles.{allows_read, allows_write};
 ghost use Rattle.run_model.specs.Core.{OpenFile};
 ghost use Rattle.proc_core.specs.Types.{Read, Wrote};
 ghost use Rattle.run_model.specs.StepBase.{wrong_kind};
-ghost use Rattle.proc_core.specs.Slots.{open_at, slot_ended};
-ghost use Rattle.proc_core.specs.SlotCopy.{CopiesTo, CopiesAt, copy_acts, slot_copied};
-ghost use Rattle.proc_core.specs.SlotFiles.{Leaves, slot_copy_between, slot_open_for};
+ghost use Rattle.proc_core.specs.inner.Slots.{open_at, slot_ended};
+ghost use Rattle.proc_core.specs.inner.SlotCopy.{CopiesTo, CopiesAt, copy_acts, slot_copied};
+ghost use Rattle.proc_core.specs.inner.SlotFiles.{Leaves, slot_copy_between, slot_open_for};
 ghost use Rattle.proc_core.specs.Stands.{AppendsEvents};
 
 use crate::computed::{TOO_LONG, WRONG_KIND};

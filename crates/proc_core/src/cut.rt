@@ -5,8 +5,8 @@ ghost use Rattle.std.specs.Str.{IsCharBoundary};
 ghost use Rattle.sql_model.specs.Meaning.{or_null};
 ghost use Rattle.proc_core.specs.Types.{Text};
 ghost use Rattle.run_model.specs.StepVariables.{begins_with, first_place};
-ghost use Rattle.proc_core.specs.SlotVariables.{split_at_place, split_value, slot_cut, slot_cut_parts};
-ghost use Rattle.proc_core.specs.Slots.{slot_value};
+ghost use Rattle.proc_core.specs.inner.SlotVariables.{split_at_place, split_value, slot_cut, slot_cut_parts};
+ghost use Rattle.proc_core.specs.inner.Slots.{slot_value};
 
 use crate::computed::WRONG_KIND;
 use crate::process::SlotProcess;

@@ -1,7 +1,7 @@
 //! One step of an instruction that changes its own process only.
 
 ghost use Rattle.std.specs.Prelude.{◌≡◌, ◌+◌, ◌<◌, ◌^◌, OnOk};
-ghost use Rattle.proc_core.specs.SlotOwn.{slot_own};
+ghost use Rattle.proc_core.specs.inner.SlotOwn.{slot_own};
 
 use crate::cut::cut;
 use crate::process::SlotProcess;

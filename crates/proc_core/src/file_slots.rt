@@ -4,7 +4,7 @@ ghost use Rattle.std.specs.Prelude.{◌≡◌, IsTrue, Some, None, IfOk, replica
 ghost use Rattle.std.specs.Prelude.{option_map};
 ghost use Rattle.ldv_value.specs.Names.{path_test};
 ghost use Rattle.run_model.specs.Core.{OpenFile};
-ghost use Rattle.proc_core.specs.Slots.{flatten_option};
+ghost use Rattle.proc_core.specs.inner.Slots.{flatten_option};
 
 use ldv_value::{OpenMode, Utf8};
 use std::alloc::{AllocError, Global};

@@ -2,7 +2,7 @@
 
 ghost use Rattle.std.specs.Prelude.{◌≡◌, ◌+◌, ◌<◌, ◌^◌, OnSome, slice_get};
 ghost use Rattle.std.specs.Option.{option_map};
-ghost use Rattle.proc_core.specs.SlotStep.{next_slot_instr, HasRoom};
+ghost use Rattle.proc_core.specs.inner.SlotStep.{next_slot_instr, HasRoom};
 
 use crate::process::SlotProcess;
 use file_tree::Tree;

@@ -9,11 +9,11 @@ ghost use Rattle.run_model.specs.Events.{event_at};
 ghost use Rattle.run_model.specs.Step.{local_step};
 ghost use Rattle.run_model.specs.StepBase.{bad_path};
 ghost use Rattle.script_code.specs.declared.code.Code.{Code};
-ghost use Rattle.proc_core.specs.Counts.{CountsBelow};
-ghost use Rattle.proc_core.specs.SlotReady.{Grows};
-ghost use Rattle.proc_core.specs.SlotSpawn.{HasChild, IsNoChild, slot_spawning_at};
-ghost use Rattle.proc_core.specs.SlotStep.{HasRoom};
-ghost use Rattle.proc_core.specs.Slots.{slot_ended, slot_went_to};
+ghost use Rattle.proc_core.specs.inner.Counts.{CountsBelow};
+ghost use Rattle.proc_core.specs.inner.SlotReady.{Grows};
+ghost use Rattle.proc_core.specs.inner.SlotSpawn.{HasChild, IsNoChild, slot_spawning_at};
+ghost use Rattle.proc_core.specs.inner.SlotStep.{HasRoom};
+ghost use Rattle.proc_core.specs.inner.Slots.{slot_ended, slot_went_to};
 ghost use Rattle.proc_core.specs.Stands.{IsCore, AppendsEvents};
 ghost use Rattle.proc_core.specs.declared.process.SlotProcess.{SlotProcess};
 

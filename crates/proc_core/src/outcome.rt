@@ -4,8 +4,8 @@ ghost use Rattle.std.specs.Prelude.{◌≡◌, IfOk, unwrap_or};
 ghost use Rattle.ldv_value.specs.FileState.{content_at};
 ghost use Rattle.sql_model.specs.Sorting.{sorted_by};
 ghost use Rattle.run_model.specs.Outcome.{outcome_of_path, outcomes_of_paths};
-ghost use Rattle.proc_core.specs.SlotOutcome.{slot_outcome, slot_outcomes, slot_outcomes_by_name};
-ghost use Rattle.proc_core.specs.SlotOutcome.{name_cmp, slot_outcome_of};
+ghost use Rattle.proc_core.specs.inner.SlotOutcome.{slot_outcome, slot_outcomes, slot_outcomes_by_name};
+ghost use Rattle.proc_core.specs.inner.SlotOutcome.{name_cmp, slot_outcome_of};
 
 use crate::machine::Machine;
 use crate::process::SlotProcess;

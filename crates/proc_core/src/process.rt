@@ -1,7 +1,7 @@
 //! Processes, with slots in place of names.
 
 ghost use Rattle.std.specs.Prelude.{◌≡◌, ◌+◌, ◌<◌, ◌^◌};
-ghost use Rattle.proc_core.specs.Slots.{slot_ended, slot_went_on, slot_went_to, slot_with_variable};
+ghost use Rattle.proc_core.specs.inner.Slots.{slot_ended, slot_went_on, slot_went_to, slot_with_variable};
 
 use crate::file_slots::FileSlots;
 use ldv_value::{Bytes, List, Parts, Value, Values};

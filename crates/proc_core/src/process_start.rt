@@ -6,7 +6,7 @@ ghost use Rattle.ldv_value.specs.declared.value.Value.TheVariants.{Null};
 ghost use Rattle.proc_core.specs.Types.{Instr, Value};
 ghost use Rattle.run_model.specs.Core.{NameBinding, argument_name, arguments_from, argument_variables};
 ghost use Rattle.run_model.specs.Core.{new_process};
-ghost use Rattle.proc_core.specs.Slots.{value_held, Holds};
+ghost use Rattle.proc_core.specs.inner.Slots.{value_held, Holds};
 
 use crate::file_slots::FileSlots;
 use crate::process::{SlotCursor, SlotProcess};

@@ -2,7 +2,7 @@
 
 ghost use Rattle.std.specs.Prelude.{◌≡◌, IfOk, IfSome};
 ghost use Rattle.script_code.specs.Resolved.{IsRead};
-ghost use Rattle.proc_core.specs.SlotSpawn.{Runs, IsProgramRead, IsProgramOf, IsProgram};
+ghost use Rattle.proc_core.specs.inner.SlotSpawn.{Runs, IsProgramRead, IsProgramOf, IsProgram};
 
 use crate::machine::{Codes, Machine};
 use crate::process::SlotProcess;

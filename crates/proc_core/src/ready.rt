@@ -3,7 +3,7 @@
 ghost use Rattle.std.specs.Prelude.{◌≡◌, ◌<◌, length, slice_set};
 ghost use Rattle.std.specs.Option.{option_map};
 ghost use Rattle.proc_core.specs.Running.{has_ended};
-ghost use Rattle.proc_core.specs.SlotReady.{marked, marked_parent, refreshed};
+ghost use Rattle.proc_core.specs.inner.SlotReady.{marked, marked_parent, refreshed};
 
 use crate::keep::status_in;
 use crate::machine::{Codes, Machine};

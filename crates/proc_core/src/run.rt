@@ -12,7 +12,7 @@ ghost use Rattle.run_model.specs.Run.{move, run as state_after, steps as steps_m
 ghost use Rattle.run_model.specs.RunLaw.{MayRun, start_state_of};
 ghost use Rattle.run_model.specs.Schedule.{choose};
 ghost use Rattle.run_model.specs.State.{State};
-ghost use Rattle.proc_core.specs.Counts.{CountsBelow};
+ghost use Rattle.proc_core.specs.inner.Counts.{CountsBelow};
 ghost use Rattle.proc_core.specs.Running.{Stands, has_ended};
 ghost use Rattle.proc_core.specs.Stands.{HasStartScript, IsStartScript, AppendsEvents};
 ghost use Rattle.proc_core.specs.Stops.{HasStopped, HasRunStopped};

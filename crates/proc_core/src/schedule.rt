@@ -4,12 +4,12 @@ ghost use Rattle.std.specs.Prelude.{◌≡◌, ◌+◌, ◌<◌, ◌^◌, None, 
 ghost use Rattle.std.specs.Prelude.{slice_index_or};
 ghost use Rattle.std.specs.Option.{option_map};
 ghost use Rattle.run_model.specs.Core.{Core};
-ghost use Rattle.proc_core.specs.Flags.{runnable_flags};
+ghost use Rattle.proc_core.specs.inner.Flags.{runnable_flags};
 ghost use Rattle.ready_set.specs.Ready.{next_round, numbers};
 ghost use Rattle.run_model.specs.Schedule.{choose, core_after_choice, moved_x, at_random, pick_of};
-ghost use Rattle.proc_core.specs.SlotStep.{slot_is_runnable, slot_waits_at, slot_waits_for};
-ghost use Rattle.proc_core.specs.SlotStep.{slot_still_runs};
-ghost use Rattle.proc_core.specs.Slots.{child_at};
+ghost use Rattle.proc_core.specs.inner.SlotStep.{slot_is_runnable, slot_waits_at, slot_waits_for};
+ghost use Rattle.proc_core.specs.inner.SlotStep.{slot_still_runs};
+ghost use Rattle.proc_core.specs.inner.Slots.{child_at};
 ghost use Rattle.proc_core.specs.Stands.{IsCore};
 
 use crate::machine::{Codes, Machine, next_in};

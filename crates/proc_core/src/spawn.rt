@@ -7,10 +7,10 @@ ghost use Rattle.ldv_value.specs.Limits.{max_processes};
 ghost use Rattle.proc_core.specs.Types.{Instr};
 ghost use Rattle.run_model.specs.Core.{new_process};
 ghost use Rattle.script_code.specs.declared.code.Code.{Code};
-ghost use Rattle.proc_core.specs.Counts.{MaySpawn};
-ghost use Rattle.proc_core.specs.SlotSpawn.{HasChild, slot_parent, slot_with_new};
-ghost use Rattle.proc_core.specs.SlotStep.{HasRoom};
-ghost use Rattle.proc_core.specs.Slots.{Holds, slot_with_child};
+ghost use Rattle.proc_core.specs.inner.Counts.{MaySpawn};
+ghost use Rattle.proc_core.specs.inner.SlotSpawn.{HasChild, slot_parent, slot_with_new};
+ghost use Rattle.proc_core.specs.inner.SlotStep.{HasRoom};
+ghost use Rattle.proc_core.specs.inner.Slots.{Holds, slot_with_child};
 ghost use Rattle.proc_core.specs.declared.process.SlotProcess.{SlotProcess};
 
 use crate::process_start::begin;

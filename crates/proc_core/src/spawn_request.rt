@@ -2,8 +2,8 @@
 
 ghost use Rattle.std.specs.Prelude.{◌≡◌, ◌+◌, ◌<◌, ◌^◌, Some, IfOk, OnSome, length, slice_get};
 ghost use Rattle.std.specs.Option.{option_map};
-ghost use Rattle.proc_core.specs.SlotSpawn.{slot_spawning, slot_spawning_in, slot_spawning_at};
-ghost use Rattle.proc_core.specs.SlotStep.{HasRoom};
+ghost use Rattle.proc_core.specs.inner.SlotSpawn.{slot_spawning, slot_spawning_in, slot_spawning_at};
+ghost use Rattle.proc_core.specs.inner.SlotStep.{HasRoom};
 
 use crate::ask::values_of;
 use crate::files::path_of;

@@ -7,9 +7,9 @@ ghost use Rattle.script_parse.specs.Script.{script_of};
 ghost use Rattle.proc_core.specs.Types.{Instr, File, Text};
 ghost use Rattle.run_model.specs.Core.{new_process, start_core};
 ghost use Rattle.script_code.specs.Resolved.{IsCode, IsRead};
-ghost use Rattle.proc_core.specs.Counts.{CountsBelow};
-ghost use Rattle.proc_core.specs.SlotReady.{IsReady};
-ghost use Rattle.proc_core.specs.Slots.{Holds};
+ghost use Rattle.proc_core.specs.inner.Counts.{CountsBelow};
+ghost use Rattle.proc_core.specs.inner.SlotReady.{IsReady};
+ghost use Rattle.proc_core.specs.inner.Slots.{Holds};
 ghost use Rattle.proc_core.specs.Stands.{IsCore};
 
 use crate::process_start::begin;

@@ -3,7 +3,7 @@
 ghost use Rattle.std.specs.Prelude.{◌≡◌, ◌<◌, ◌^◌, ◌∷◌, [], map, OnOk};
 ghost use Rattle.run_model.specs.Events.{event_at};
 ghost use Rattle.run_model.specs.Step.{status_acts};
-ghost use Rattle.proc_core.specs.Acts.{path_act};
+ghost use Rattle.proc_core.specs.inner.Acts.{path_act};
 ghost use Rattle.proc_core.specs.Stands.{AppendsEvents};
 
 use ldv_value::Utf8;

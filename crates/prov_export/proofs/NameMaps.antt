@@ -8,7 +8,7 @@ use Rattle.std.specs.Cmp.{unsigned_tied}
 use Rattle.std.specs.Ordering.{nat_cmp, is_eq}
 use Rattle.std.proofs.lemmas.Bool.{eqb-true, eq-eqb}
 use Rattle.serde_json.specs.Data.{Data, Members, member}
-use Rattle.prov_export.specs.Names.{names_of}
+use Rattle.prov_export.specs.inner.Names.{names_of}
 use Rattle.prov_export.specs.Reading.{is_number, name_if, named_at, number_at}
 
 mapped : (b : Bool) (v : Bor (List ℕ)) (o : Option (Bor (List ℕ)))

@@ -2,8 +2,7 @@ pub mod Types
 pub mod Ids
 pub mod Document
 pub mod Reading
-pub mod Names
-pub mod ObjectRefs
 pub mod Stopping
 pub mod Dependence
 pub mod Laws
+pub mod inner

@@ -4,7 +4,7 @@ ghost use Rattle.std.specs.Prelude.{◌≡◌, string_bytes};
 ghost use Rattle.ldv_value.specs.Gives.{Gives};
 ghost use Rattle.serde_json.specs.View.{view, members_view};
 ghost use Rattle.prov_export.specs.Reading.{place_of, place_at, edge_in, edge_named, edge_by_name, edge_of};
-ghost use Rattle.prov_export.specs.ObjectRefs.{objects_seen};
+ghost use Rattle.prov_export.specs.inner.ObjectRefs.{objects_seen};
 ghost use Rattle.prov_export.specs.Reading.{each_from, edges_in};
 ghost use Rattle.prov_export.specs.Stopping.{Stops};
 

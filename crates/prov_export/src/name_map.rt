@@ -3,7 +3,7 @@
 ghost use Rattle.std.specs.Prelude.{◌≡◌, ℕ, Some, None, ◌==◌, if◌then◌else◌, option_map, OnOk, IfOk};
 ghost use Rattle.std.specs.Option.{option_or};
 ghost use Rattle.serde_json.specs.View.{view, members_view};
-ghost use Rattle.prov_export.specs.Names.{names_of};
+ghost use Rattle.prov_export.specs.inner.Names.{names_of};
 ghost use Rattle.prov_export.specs.Reading.{name_if, named_at};
 
 use crate::members::{Members, number_at};

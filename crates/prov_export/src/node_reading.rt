@@ -2,8 +2,8 @@
 
 ghost use Rattle.std.specs.Prelude.{◌≡◌, ℕ, Some, None, option_map, IfOk};
 ghost use Rattle.ldv_value.specs.Gives.{Gives};
-ghost use Rattle.prov_export.specs.Names.{names_of};
-ghost use Rattle.prov_export.specs.ObjectRefs.{objects_seen};
+ghost use Rattle.prov_export.specs.inner.Names.{names_of};
+ghost use Rattle.prov_export.specs.inner.ObjectRefs.{objects_seen};
 ghost use Rattle.prov_export.specs.Reading.{each_from, node_by, nodes_in};
 ghost use Rattle.prov_export.specs.Stopping.{Stops};
 

@@ -7,7 +7,7 @@ ghost use Rattle.trace_graph.specs.Graph.{Parts};
 ghost use Rattle.trace_graph.specs.WellFormed.{IsWellFormed, is_well_formed};
 ghost use Rattle.prov_export.specs.Document.{prov_text};
 ghost use Rattle.prov_export.specs.Laws.{IsTypedGraph};
-ghost use Rattle.prov_export.specs.ObjectRefs.{objects_seen};
+ghost use Rattle.prov_export.specs.inner.ObjectRefs.{objects_seen};
 ghost use Rattle.prov_export.specs.Reading.{json_of, parts_with, parts_in, taken_from, kept_as};
 ghost use Rattle.prov_export.specs.Reading.{prov_reading};
 ghost use Rattle.prov_export.specs.Stopping.{Stops};

@@ -9,7 +9,7 @@ use Rattle.sql_model.specs.KeyOrder.{order_total}
 use Rattle.core_parts.proofs.Listings.{moved}
 use Rattle.core_parts.specs.declared.refs_by.RefsBy.{RefsBy}
 use Rattle.core_parts.specs.Equality.{equals}
-use Rattle.query_eval.specs.Joining.{rows_listed, row_added, with_value}
+use Rattle.query_eval.specs.inner.Joining.{rows_listed, row_added, with_value}
 use Rattle.query_eval.specs.declared.source.SourceRow.{SourceRow}
 use Rattle.sql_model.specs.Meaning.{is_true, is_null}
 use Rattle.sql_model.specs.Scope.{value_at}

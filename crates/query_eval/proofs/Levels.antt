@@ -7,7 +7,7 @@ use Rattle.query_eval.proofs.Agree.{first_rows_tell}
 use Rattle.query_eval.proofs.Product.{extensions, filter_joined, flat_map_joined, products-more, pushed, EachSplits, all_of, all_there}
 use Rattle.core_parts.specs.Conditions.{meets}
 use Rattle.core_parts.specs.Equality.{equals}
-use Rattle.query_eval.specs.Joining.{combos, tests, is_ready, ready_conditions, later_conditions, extensions_left, extensions_of, extensions_of_all, EachHas, HasProbe, extensions_by_probe}
+use Rattle.query_eval.specs.inner.Joining.{combos, tests, is_ready, ready_conditions, later_conditions, extensions_left, extensions_of, extensions_of_all, EachHas, HasProbe, extensions_by_probe}
 use Rattle.core_parts.specs.Placing.{IsPlaced, AreAllPlaced}
 use Rattle.query_eval.specs.Sourcing.{joined_row_values, AreWide}
 use Rattle.query_eval.specs.Types.{ColumnName, Value}

@@ -16,7 +16,7 @@ use Rattle.lineage.proofs.Origins.{AreDistinct, distinct-sorted, stands-empty, s
 use Rattle.core_parts.proofs.Lists.{kept_twice}
 use Rattle.query_eval.proofs.Product.{filter_joined}
 use Rattle.core_parts.specs.Conditions.{AreConditions}
-use Rattle.query_eval.specs.Joining.{combos, tests}
+use Rattle.query_eval.specs.inner.Joining.{combos, tests}
 use Rattle.query_eval.specs.Picking.{rows_added, kept_rows, pick_of}
 use Rattle.query_eval.specs.Sourcing.{table_row, source_rows, joined_row_values, AreSources, are_kept, LeavesPicked}
 use Rattle.query_eval.specs.Types.{Core, FromItem, Table, TableRow, Value}

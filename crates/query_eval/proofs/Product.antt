@@ -3,7 +3,7 @@ use Rattle.std.proofs.Common.{◌≡◌, ◌∙◌, sym, ap, refl, Bool, true, f
 use Rattle.std.proofs.lemmas.Bool.{cases_Bool}
 use Rattle.std.specs.Prelude.{filter}
 use Rattle.std.specs.List.{flat_map}
-use Rattle.query_eval.specs.Joining.{combos, products}
+use Rattle.query_eval.specs.inner.Joining.{combos, products}
 use Rattle.query_eval.specs.declared.source.SourceRow.{SourceRow}
 
 -- each prefix with each row

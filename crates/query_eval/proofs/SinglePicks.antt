@@ -3,7 +3,7 @@ use Rattle.std.proofs.Common.{◌≡◌, ◌∙◌, sym, ap, refl, suc, Bool, tr
 use Rattle.std.specs.Prelude.{filter}
 use Rattle.core_parts.specs.Conditions.{meets}
 use Rattle.core_parts.specs.declared.placed.BoundExpr.{BoundExpr}
-use Rattle.query_eval.specs.Joining.{combos, tests}
+use Rattle.query_eval.specs.inner.Joining.{combos, tests}
 use Rattle.query_eval.specs.Picking.{pick_of, meets_row, row_lineage, row_pick, row_picks, source_picks}
 use Rattle.query_eval.specs.declared.source.Source.{Source}
 use Rattle.query_eval.specs.declared.source.SourceRow.{SourceRow}

@@ -32,7 +32,7 @@ use Rattle.query_eval.proofs.Picks.{all-stand}
 use Rattle.query_eval.proofs.Probes.{value-next}
 use Rattle.query_eval.proofs.Projections.{some-same}
 use Rattle.core_parts.specs.Conditions.{AreConditions}
-use Rattle.query_eval.specs.Conditions.{AreOfCore}
+use Rattle.query_eval.specs.inner.Conditions.{AreOfCore}
 use Rattle.core_parts.specs.Fixing.{FixesKey}
 use Rattle.core_parts.specs.Conditions.{meets}
 use Rattle.query_eval.specs.Leaving.{row_passes}

@@ -1,6 +1,4 @@
-pub mod Conditions
 pub mod Finishing
-pub mod Joining
 pub mod Keyed
 pub mod Leaving
 pub mod Merging
@@ -9,3 +7,4 @@ pub mod Projecting
 pub mod Sourcing
 pub mod Stored
 pub mod Types
+pub mod inner

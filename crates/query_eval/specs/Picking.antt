@@ -7,7 +7,7 @@ use Rattle.lineage.specs.declared.answer.Pick.{Pick}
 use Rattle.core_parts.specs.Checking.{core_at, WasChecked}
 use Rattle.core_parts.specs.Conditions.{meets}
 use Rattle.core_parts.specs.declared.placed.BoundExpr.{BoundExpr}
-use Rattle.query_eval.specs.Joining.{combos, tests}
+use Rattle.query_eval.specs.inner.Joining.{combos, tests}
 use Rattle.query_eval.specs.Sourcing.{joined_row_values, source_rows}
 use Rattle.query_eval.specs.Stored.{table_names, TellVersions}
 use Rattle.query_eval.specs.Types.{Checked, Core, Query}

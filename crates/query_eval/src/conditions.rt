@@ -4,7 +4,7 @@ ghost use Rattle.std.specs.Prelude.{◌≡◌, ◌++◌, List as Items, ℕ, dro
 ghost use Rattle.std.specs.List.{flat_map};
 ghost use Rattle.core_parts.specs.Checking.{HasCore};
 ghost use Rattle.core_parts.specs.Conditions.{Adds, AreConditions};
-ghost use Rattle.query_eval.specs.Conditions.{AreOfCore};
+ghost use Rattle.query_eval.specs.inner.Conditions.{AreOfCore};
 ghost use Rattle.sql_model.specs.Kinds.{names_in};
 ghost use Rattle.sql_model.specs.Refusals.{core_names, items_of, names_of_items};
 ghost use Rattle.sql_model.specs.Scope.{InScope, places_in};

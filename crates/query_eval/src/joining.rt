@@ -8,8 +8,8 @@ ghost use Rattle.std.specs.Prelude.{◌≡◌, ◌<◌, ◌≤◌, ◌+◌, ◌^
 ghost use Rattle.std.specs.Prelude.{map, not, IfOk, OnOk};
 ghost use Rattle.std.specs.List.{remove};
 ghost use Rattle.core_parts.specs.Conditions.{meets};
-ghost use Rattle.query_eval.specs.Joining.{combos, tests, is_ready, ready_conditions, later_conditions, extensions_left, extensions_of};
-ghost use Rattle.query_eval.specs.Joining.{extensions_of_all, EachHas, IsIndex, extensions_by_probe};
+ghost use Rattle.query_eval.specs.inner.Joining.{combos, tests, is_ready, ready_conditions, later_conditions, extensions_left, extensions_of};
+ghost use Rattle.query_eval.specs.inner.Joining.{extensions_of_all, EachHas, IsIndex, extensions_by_probe};
 ghost use Rattle.core_parts.specs.Placing.{IsPlaced, AreAllPlaced};
 ghost use Rattle.query_eval.specs.Sourcing.{joined_row_values, source_rows, AreWide, SourcesAreWide};
 ghost use Rattle.query_eval.specs.declared.source.SourceRow.{SourceRow as Given};

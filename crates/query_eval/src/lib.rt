@@ -9,9 +9,9 @@
 //!
 //! `lineage/specs/Rows.antt` says how picks and answers stand for rows: the values are equal, and the
 //! lineages are the same sets of rows, each at its version. Where lineage isn't kept it is empty, and the
-//! values are the same. Which way rows are found changes nothing of this: `specs/Joining.antt` has what the
-//! steps of a join give, and `proofs/Levels.antt` why they give the product's picked rows in its order. The
-//! rows of a core with one source aren't joined: they move into the picks (`single`).
+//! values are the same. Which way rows are found changes nothing of this: `specs/inner/Joining.antt` has what
+//! the steps of a join give, and `proofs/Levels.antt` why they give the product's picked rows in its order.
+//! The rows of a core with one source aren't joined: they move into the picks (`single`).
 //!
 //! Inside, a core reads sources: of each table in FROM the rows that may be in a picked combination, at their
 //! versions (`specs/Sourcing.antt`, `specs/Stored.antt`). Where conditions fix the whole key of a source by

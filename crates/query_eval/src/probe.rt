@@ -1,8 +1,8 @@
 //! The equality by which the rows of the next source are looked up.
 
 ghost use Rattle.std.specs.Prelude.{◌≡◌, ◌+◌, ◌<◌, IfSome, true};
-ghost use Rattle.query_eval.specs.Joining.{IsBetween, IsEquality, IsProbeOf, HasProbe};
-ghost use Rattle.query_eval.specs.Joining.{is_equal_sign};
+ghost use Rattle.query_eval.specs.inner.Joining.{IsBetween, IsEquality, IsProbeOf, HasProbe};
+ghost use Rattle.query_eval.specs.inner.Joining.{is_equal_sign};
 
 use core_parts::{BoundExpr, is_column, is_equal_test};
 use sql_model::{Expr, Operator};

@@ -5,7 +5,7 @@ use Rattle.std.specs.Prelude.{fold, replicate}
 use Rattle.std.proofs.lemmas.Bool.{cases_eq, eq-eqb, ne_eqb}
 use Rattle.std.proofs.lemmas.List.{append-nil, append_assoc, length-set, length-replicate, get_or-set_same, get_or-set_other, get_or-replicate}
 use Rattle.reach.specs.Types.{Edge}
-use Rattle.reach.specs.Incoming.{no_edges, edges_to, with_edge, incoming_of}
+use Rattle.reach.specs.inner.Incoming.{no_edges, edges_to, with_edge, incoming_of}
 use Rattle.reach.specs.Search.{edges_into}
 
 length_more : (lists : List (List Edge)) (edges : List Edge) → length (fold with_edge lists edges) ≡ length lists

@@ -14,7 +14,7 @@ use Rattle.trace_graph.specs.Graph.{Parts}
 use Rattle.reach.specs.Types.{Node, Edge}
 use Rattle.reach.specs.Order.{node_cmp}
 use Rattle.reach.specs.Found.{Times, is_open, open_source, open_sources}
-use Rattle.reach.specs.Marks.{Marks, marks_of, is_marked, marked_at, marked_below, SameNodes}
+use Rattle.reach.specs.inner.Marks.{Marks, marks_of, is_marked, marked_at, marked_below, SameNodes}
 use Rattle.reach.proofs.FoundLaws.{node_exact}
 use Rattle.reach.proofs.MarkLaws.{open_from_mark, mark_from_open, place_of_marked, marked_of_place}
 use Rattle.reach.proofs.Members.{in_nil, in_head, in_tail, in_cons, in_all, from_all, in_filter_map, from_filter_map}

@@ -2,8 +2,7 @@ pub mod Types
 pub mod Order
 pub mod Reach
 pub mod Found
-pub mod Marks
-pub mod Incoming
 pub mod Search
 pub mod ReachLaws
 pub mod Depends
+pub mod inner

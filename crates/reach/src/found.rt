@@ -6,7 +6,7 @@ ghost use Rattle.trace_graph.specs.Graph.{Parts, are_between};
 ghost use Rattle.trace_graph.specs.Building.{node_of};
 ghost use Rattle.reach.specs.Order.{node_cmp};
 ghost use Rattle.reach.specs.Found.{open_sources};
-ghost use Rattle.reach.specs.Marks.{is_marked, marked_at, marked_below, SameNodes};
+ghost use Rattle.reach.specs.inner.Marks.{is_marked, marked_at, marked_below, SameNodes};
 
 use crate::marks::open_marks;
 use std::alloc::{AllocError, Global};

@@ -2,7 +2,7 @@
 
 ghost use Rattle.std.specs.Prelude.{◌≡◌, length, IsTrue, IfOk, replicate};
 ghost use Rattle.trace_graph.specs.Graph.{are_between};
-ghost use Rattle.reach.specs.Incoming.{no_edges, incoming_of};
+ghost use Rattle.reach.specs.inner.Incoming.{no_edges, incoming_of};
 
 use std::alloc::{AllocError, Global};
 use trace_graph::{Edge, Edges};

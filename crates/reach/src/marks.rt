@@ -3,7 +3,7 @@
 ghost use Rattle.std.specs.Prelude.{◌≡◌, ◌<◌, length, IfOk, IsTrue};
 ghost use Rattle.trace_graph.specs.Graph.{are_between};
 ghost use Rattle.reach.specs.Found.{is_open};
-ghost use Rattle.reach.specs.Marks.{with_mark, marks_of};
+ghost use Rattle.reach.specs.inner.Marks.{with_mark, marks_of};
 
 use crate::latest::{reaches, time_at};
 use std::alloc::{AllocError, Global};

@@ -3,7 +3,7 @@
 ghost use Rattle.std.specs.Prelude.{◌≡◌, ◌<◌, length, IfOk, OnOk, ◌∷◌, []};
 ghost use Rattle.std.specs.List.Sorted.{IsPermutation};
 ghost use Rattle.std.specs.BinaryHeap.{heap_items};
-ghost use Rattle.reach.specs.Incoming.{edges_to};
+ghost use Rattle.reach.specs.inner.Incoming.{edges_to};
 ghost use Rattle.reach.specs.Search.{is_later, times_with_source, queue_after_edge, times_with_sources, queue_after_edges};
 ghost use Rattle.reach.specs.Search.{is_current, times_after_visit, visited_queue, start_times, ComeFrom};
 

@@ -6,7 +6,7 @@ use Rattle.std.proofs.lemmas.List.{length-set, ext_get_or, get_or_past, get_or-s
 use Rattle.std.proofs.lemmas.List.FromFn.{length-map-range_with_len, get_or-map-range_with_len}
 use Rattle.std.proofs.Math.Pow.{pow_mono}
 use Rattle.ready_set.specs.Ready.{ReadyView, numbers, count_below}
-use Rattle.ready_set.specs.Tree.{IsTree, SetsLeaf, IsWidened, sum_before, flags_of, IsKept}
+use Rattle.ready_set.specs.inner.Tree.{IsTree, SetsLeaf, IsWidened, sum_before, flags_of, IsKept}
 use Rattle.ready_set.proofs.NumberLaws.{number_there, length-numbers_from, count_past_at}
 use Rattle.ready_set.proofs.WayLaws.{twice_one, root_counts, IsFound}
 

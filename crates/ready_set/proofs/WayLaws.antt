@@ -4,7 +4,7 @@ use Rattle.std.proofs.lemmas.Bool.{cases_eq, cases_lt}
 use Rattle.std.proofs.lemmas.Nat.{pow-add, pow_pos, mul-le}
 use Rattle.std.proofs.Math.Nat.{pow-suc}
 use Rattle.std.proofs.Math.Pow.{pow_mono}
-use Rattle.ready_set.specs.Tree.{IsTree, sum_before}
+use Rattle.ready_set.specs.inner.Tree.{IsTree, sum_before}
 
 pow-suc-two : (k : ℕ) → 2 ^ suc k ≡ 2 * 2 ^ k
 pow-suc-two k = pow-suc 2 k ∙ omega arith

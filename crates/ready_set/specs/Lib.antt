@@ -1,3 +1,2 @@
 pub mod Ready
-pub mod Tree
-pub mod Seen
+pub mod inner

@@ -4,7 +4,7 @@ ghost use Rattle.std.specs.Prelude.{◌≡◌, ◌+◌, ◌^◌, ◌<◌, ◌≤
 ghost use Rattle.std.specs.Prelude.{IfOk, OnOk, OnErr, IsTrue, true, false, slice_get, slice_set};
 ghost use Rattle.std.specs.Prelude.{slice_index_or, if◌then◌else◌};
 ghost use Rattle.ready_set.specs.Ready.{numbers, count_below, next_round, at_round};
-ghost use Rattle.ready_set.specs.Tree.{IsTree, SetsLeaf};
+ghost use Rattle.ready_set.specs.inner.Tree.{IsTree, SetsLeaf};
 
 use crate::tree::{count_before, leaf_at, set_leaf, widen_tree};
 use std::alloc::{AllocError, Global};
@@ -27,7 +27,7 @@ impl Model for ReadySet {
 
     ghost Value = { ReadyView };
 
-    ghost use Rattle.ready_set.specs.Seen.{view_of, IsWhole};
+    ghost use Rattle.ready_set.specs.inner.Seen.{view_of, IsWhole};
 
     ghost view = { view_of };
 

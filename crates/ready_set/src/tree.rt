@@ -3,7 +3,7 @@
 
 ghost use Rattle.std.specs.Prelude.{◌≡◌, ℕ, ◌+◌, ◌-◌, ◌*◌, ◌%◌, ◌^◌, ◌<◌, ◌≤◌};
 ghost use Rattle.std.specs.Prelude.{length, slice_index, IfOk};
-ghost use Rattle.ready_set.specs.Tree.{IsTree, SetsLeaf, IsWidened, sum_before};
+ghost use Rattle.ready_set.specs.inner.Tree.{IsTree, SetsLeaf, IsWidened, sum_before};
 
 use std::alloc::{AllocError, Global};
 

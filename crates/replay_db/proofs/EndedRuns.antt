@@ -21,7 +21,7 @@ use Rattle.sql_model.specs.Tables.{have_distinct_columns}
 use Rattle.sql_model.specs.Tables.{are_distinct, is_database, is_described, tables_test}
 use Rattle.sql_model.specs.declared.table.Table.{Table}
 use Rattle.run_laws.proofs.BudgetLaw.{going_outcome}
-use Rattle.replay_db.specs.Recording.{HasNotEnded}
+use Rattle.replay_db.specs.inner.Recording.{HasNotEnded}
 use Rattle.replay_db.specs.Runs.{Stops}
 use Rattle.replay_db.specs.declared.error.EndStop.{EndStop}
 use Rattle.replay_db.specs.declared.error.EndStop.TheVariants.{NotEnded, NoMemory}

@@ -15,7 +15,7 @@ use Rattle.sql_model.specs.Sorting.{put_sorted, sorted_by}
 use Rattle.replay_db.specs.Types.{Log}
 use Rattle.run_laws.specs.declared.kept.Kept.{Kept}
 use Rattle.run_laws.specs.KeptReplies.{name_cmp, new_log, with_first, put_where, put_first, logs_kept}
-use Rattle.replay_db.specs.KeptGroups.{kept_cmp, is_of, with_last, logs_with, with_kept, grouped_onto, logs_of_kept}
+use Rattle.replay_db.specs.inner.KeptGroups.{kept_cmp, is_of, with_last, logs_with, with_kept, grouped_onto, logs_of_kept}
 
 pub kept_total : IsTotalOrder kept_cmp
 kept_total = on_total (λ (k : Kept). k.process.parts) nat_list_cmp_total

@@ -12,7 +12,7 @@ use Rattle.run_model.specs.Start.{start_script, start_state}
 use Rattle.run_model.specs.WorldRun.{ends_within, steps_by, events_within, logs_in, logs_by}
 use Rattle.run_laws.specs.KeptLaw.{KeepsRun}
 use Rattle.run_laws.specs.KeptReplies.{KeepingDatabase, keeping_base, logs_kept}
-use Rattle.replay_db.specs.Logging.{kept_start, IsLogged, packed_logs}
+use Rattle.replay_db.specs.inner.Logging.{kept_start, IsLogged, packed_logs}
 use Rattle.replay_db.specs.Runs.{package_within}
 use Rattle.replay_db.specs.Types.{Excluded, Event, Instr, Log, Package, World}
 use Rattle.replay_db.specs.declared.logged.Logged.{Logged}

@@ -18,7 +18,7 @@ use Rattle.sql_model.specs.Scope.{same_text}
 use Rattle.sql_model.specs.Statements.{refusal_of}
 use Rattle.sql_model.proofs.Equations.{need_is}
 use Rattle.sql_laws.proofs.StatementParts.{need_parts}
-use Rattle.package_layout.specs.Order.{is_below_next, rises, row_after_table, need_below}
+use Rattle.package_layout.specs.inner.Order.{is_below_next, rises, row_after_table, need_below}
 use Rattle.replay_db.specs.Types.{Statement, Table}
 use Rattle.replay_db.proofs.TraceLists.{equal_itself, less_next}
 

@@ -4,7 +4,7 @@ use Rattle.std.specs.List.{list_all, list_any, cons_option, AllByRecursion}
 use Rattle.std.proofs.lemmas.Bool.{and_parts, and_from, or_parts, or_from, cases_Bool}
 use Rattle.std.proofs.lemmas.Bool.Decides.{nat_tests}
 use Rattle.sql_model.proofs.SortedLists.{sorted-all, first-all}
-use Rattle.package_layout.specs.Order.{is_below_next, rises}
+use Rattle.package_layout.specs.inner.Order.{is_below_next, rises}
 use Rattle.sql_model.specs.Keys.{repeats}
 
 pub kept_if : {A : Type 0} (b : Bool) (z y : A) → (if b then Some z else None) ≡ Some y → y ≡ z

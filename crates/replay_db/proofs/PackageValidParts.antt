@@ -11,7 +11,7 @@ use Rattle.sql_model.specs.SqlNames.{sql_name_test}
 use Rattle.sql_model.specs.Tables.{schema_test, is_row, is_short, numbers_test, are_keys_unique}
 use Rattle.run_model.specs.Slice.{FileNeed, Whole, Present, file_need, packed_as, packed_file, files_needed, Reason, first_reason, packed_because, packed_row, rows_needed, is_table_needed, packed_table, tables_needed}
 use Rattle.sql_model.specs.Keys.{repeats, same_values, values_at}
-use Rattle.package_layout.specs.Order.{rises, is_below, file_below, table_below}
+use Rattle.package_layout.specs.inner.Order.{rises, is_below, file_below, table_below}
 use Rattle.package_layout.specs.Valid.{content_rule, file_rule, files_rule, rows_rule, table_rule, tables_rule}
 use Rattle.sql_model.specs.ForeignKeys.{have_parents}
 use Rattle.run_model.specs.ValidPackage.{packed_catalog}

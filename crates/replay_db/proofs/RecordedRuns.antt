@@ -4,7 +4,7 @@ use Rattle.std.specs.Prelude.{Some, None, if◌then◌else◌}
 use Rattle.run_model.specs.Package.{package_of}
 use Rattle.run_model.specs.Slice.{files_needed, tables_needed}
 use Rattle.run_model.specs.WorldRun.{ends_within}
-use Rattle.replay_db.specs.Recording.{HasNotEnded, IsTraced, package_of_traced}
+use Rattle.replay_db.specs.inner.Recording.{HasNotEnded, IsTraced, package_of_traced}
 use Rattle.replay_db.specs.Runs.{Stops, package_within}
 use Rattle.replay_db.specs.Types.{Mode, Included, Package, World}
 use Rattle.replay_db.specs.declared.error.EndStop.{EndStop}

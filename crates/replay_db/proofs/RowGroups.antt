@@ -13,7 +13,7 @@ use Rattle.ldv_value.proofs.SameBytes.{bytes_eq-true}
 use Rattle.ldv_value.proofs.Booleans.{and-parts}
 use Rattle.sql_model.specs.Scope.{same_text}
 use Rattle.package_layout.specs.Groups.{groups, group_of_one, after, add_all}
-use Rattle.package_layout.specs.Order.{rises, is_below, row_after_table}
+use Rattle.package_layout.specs.inner.Order.{rises, is_below, row_after_table}
 use Rattle.package_layout.proofs.Groups.{add_last}
 use Rattle.replay_db.proofs.TraceLists.{below_next, below_itself, filter_most, filter_fewer}
 

@@ -6,7 +6,7 @@ use Rattle.std.specs.List.{filter_map, cons_option, list_any}
 use Rattle.std.proofs.lemmas.Bool.{cases_Bool, and_parts, and_from}
 use Rattle.ldv_value.proofs.Booleans.{or-left, or-right}
 use Rattle.ldv_value.proofs.Lists.{found-passes}
-use Rattle.package_layout.specs.Order.{is_below_next, rises}
+use Rattle.package_layout.specs.inner.Order.{is_below_next, rises}
 use Rattle.run_model.specs.Between.{IsIn}
 
 -- ---- membership

@@ -11,7 +11,7 @@ use Rattle.std.proofs.lemmas.Bool.Decides.{nat_tests}
 pub use Rattle.sql_laws.proofs.ItemLists.{all_append, all_filter, all_found, all_map, all_of_map, all_flat_map}
 use Rattle.sql_model.proofs.SortedLists.{sorted-filter}
 use Rattle.ldv_value.proofs.Orderings.{is_lt-true}
-use Rattle.package_layout.specs.Order.{rises, is_below}
+use Rattle.package_layout.specs.inner.Order.{rises, is_below}
 
 -- ---- one text, or number, below another
 

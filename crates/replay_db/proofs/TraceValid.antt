@@ -21,7 +21,7 @@ use Rattle.run_model.specs.ValidTrace.{named_rule, are_named, ValidTrace}
 use Rattle.run_model.proofs.Equations.{run-zero, steps-suc}
 use Rattle.run_laws.proofs.RunSteps.{steps_most}
 use Rattle.package_layout.specs.Events.{TypedEvent, event_room}
-use Rattle.package_layout.specs.Trace.{follows, at_start, starts, trace_test, asked_count}
+use Rattle.package_layout.specs.inner.Trace.{follows, at_start, starts, trace_test, asked_count}
 use Rattle.package_layout.specs.Typed.{IsU32}
 use Rattle.package_layout.specs.Valid.{start_rule, trace_rule, reasons_rule}
 use Rattle.replay_db.specs.Worlds.{all_of_world, TypedWorld, world_rules}

@@ -12,7 +12,7 @@ use Rattle.run_model.specs.TypedPackage.{TypedTable}
 use Rattle.run_model.specs.ValidPackage.{file_rule, files_rule, table_rule}
 use Rattle.run_model.specs.ValidWorld.{all_of_file, all_of_table, all_of_world, TypedWorld, world_rules}
 use Rattle.run_model.proofs.ValidWorlds.{Ruled, ruled_by, RuledTable, ruled_table, RuledList, ruled_list}
-use Rattle.package_layout.specs.Order.{rises, is_below, file_below, table_below}
+use Rattle.package_layout.specs.inner.Order.{rises, is_below, file_below, table_below}
 use Rattle.replay_db.proofs.TraceLists.{all_map, all_of_map}
 
 -- ---- what is sorted

@@ -1,9 +1,7 @@
 pub mod Auditing
-pub mod KeptGroups
 pub mod Laws
-pub mod Logging
-pub mod Recording
 pub mod Runs
 pub mod TableAt
 pub mod Types
 pub mod Worlds
+pub mod inner

@@ -7,8 +7,8 @@ ghost use Rattle.run_model.specs.Events.{start_events};
 ghost use Rattle.run_model.specs.Start.{start_script};
 ghost use Rattle.sql_engine.specs.Asking.{database};
 ghost use Rattle.run_laws.specs.KeptReplies.{logs_kept};
-ghost use Rattle.replay_db.specs.Logging.{IsLogged, keeping_database, kept_start};
-ghost use Rattle.replay_db.specs.Recording.{HasNotEnded};
+ghost use Rattle.replay_db.specs.inner.Logging.{IsLogged, keeping_database, kept_start};
+ghost use Rattle.replay_db.specs.inner.Recording.{HasNotEnded};
 ghost use Rattle.replay_db.specs.Runs.{CanRun};
 ghost use Rattle.replay_db.specs.Types.{Instr};
 

@@ -5,8 +5,8 @@ ghost use Rattle.ldv_value.specs.Gives.{Gives};
 ghost use Rattle.ldv_value.specs.Limits.{max_steps};
 ghost use Rattle.run_model.specs.ValidTrace.{IsTrace};
 ghost use Rattle.slicer.specs.InitialRows.{ReadsInitialRows};
-ghost use Rattle.replay_db.specs.Logging.{packed_logs};
-ghost use Rattle.replay_db.specs.Recording.{package_of_traced};
+ghost use Rattle.replay_db.specs.inner.Logging.{packed_logs};
+ghost use Rattle.replay_db.specs.inner.Recording.{package_of_traced};
 ghost use Rattle.replay_db.specs.Runs.{CanRun, RecordsAs, Stops, package_within};
 ghost use Rattle.replay_db.specs.Types.{Included, Excluded};
 

@@ -4,7 +4,7 @@ ghost use Rattle.std.specs.Prelude.{◌≡◌, ◌++◌, [], IfOk, OnOk};
 ghost use Rattle.sql_model.specs.Sorting.{sorted_by};
 ghost use Rattle.run_model.specs.Database.{asked_by};
 ghost use Rattle.run_laws.specs.KeptReplies.{kept_of, logs_kept, new_log};
-ghost use Rattle.replay_db.specs.KeptGroups.{kept_cmp, logs_of_kept, is_of, logs_with, with_kept, with_last};
+ghost use Rattle.replay_db.specs.inner.KeptGroups.{kept_cmp, logs_of_kept, is_of, logs_with, with_kept, with_last};
 
 use ldv_value::{CopyItem, List, Utf8, Values};
 use run_laws::Kept;

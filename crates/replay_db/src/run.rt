@@ -11,7 +11,7 @@ ghost use Rattle.run_model.specs.SqlDatabase.{sql_base};
 ghost use Rattle.run_model.specs.Start.{start_script, start_state};
 ghost use Rattle.run_model.specs.WorldRun.{ends_within, events_within, outcome_within, steps_by};
 ghost use Rattle.sql_engine.specs.Asking.{database};
-ghost use Rattle.replay_db.specs.Recording.{HasNotEnded};
+ghost use Rattle.replay_db.specs.inner.Recording.{HasNotEnded};
 ghost use Rattle.replay_db.specs.Runs.{CanRun, RunsAs, Stops};
 ghost use Rattle.replay_db.specs.Types.{Instr};
 

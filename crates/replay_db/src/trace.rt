@@ -2,7 +2,7 @@
 
 ghost use Rattle.std.specs.Prelude.{◌≤◌, IfOk, IfErr};
 ghost use Rattle.ldv_value.specs.Limits.{max_steps};
-ghost use Rattle.replay_db.specs.Recording.{HasNotEnded, IsTraced};
+ghost use Rattle.replay_db.specs.inner.Recording.{HasNotEnded, IsTraced};
 ghost use Rattle.replay_db.specs.Runs.{CanRun};
 
 use crate::run::run_to_end;

@@ -7,8 +7,8 @@ use Rattle.sql_model.specs.Scope.{same_text}
 use Rattle.run_model.specs.Database.{Question, Gives, Diverges}
 use Rattle.run_model.specs.LogDatabase.{LogDatabase, entries_left, without_first, logs_after, no_lists, is_recorded, answer_from, log_base}
 use Rattle.replay_log.specs.Types.{Entry, Log, ProcName, Reply, Value}
-use Rattle.replay_log.specs.Left.{without_first_ones, logs_left, next_reply, question}
-use Rattle.replay_log.specs.Places.{no_log, IsAt, IsNowhere}
+use Rattle.replay_log.specs.inner.Left.{without_first_ones, logs_left, next_reply, question}
+use Rattle.replay_log.specs.inner.Places.{no_log, IsAt, IsNowhere}
 
 -- ---- a process that has no log
 

@@ -15,7 +15,7 @@ use Rattle.ldv_value.proofs.SameBytes.{bytes_eq-true, bytes_eq-itself, bytes_eq-
 use Rattle.run_model.specs.LogDatabase.{is_log_of}
 use Rattle.replay_log.specs.Types.{Log}
 use Rattle.run_model.specs.ValidPackage.{log_precedes}
-use Rattle.replay_log.specs.Places.{no_log, IsAt, IsNowhere}
+use Rattle.replay_log.specs.inner.Places.{no_log, IsAt, IsNowhere}
 
 -- ---- names
 

@@ -1,4 +1,3 @@
-pub mod Left
-pub mod Places
 pub mod Replays
 pub mod Types
+pub mod inner

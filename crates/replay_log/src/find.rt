@@ -4,7 +4,7 @@ ghost use Rattle.std.specs.Prelude.{◌≡◌, ◌<◌, ◌≤◌, ℕ, true, fa
 ghost use Rattle.ldv_value.specs.Sorted.{is_strictly_sorted, text_precedes};
 ghost use Rattle.run_model.specs.LogDatabase.{is_log_of};
 ghost use Rattle.run_model.specs.ValidPackage.{log_precedes};
-ghost use Rattle.replay_log.specs.Places.{no_log, IsAt, IsNowhere};
+ghost use Rattle.replay_log.specs.inner.Places.{no_log, IsAt, IsNowhere};
 
 use run_model::Log;
 

@@ -5,8 +5,8 @@
 //!
 //! It promises to the layers above:
 //! - `ReplyLog` is the database of recorded replies that `run_model` defines (`specs/LogDatabase.antt`
-//!   there): contracts see the logs that are left (`specs/Left.antt`). A question takes a logarithm of the
-//!   number of processes and one comparison with the recorded one;
+//!   there): contracts see the logs that are left (`specs/inner/Left.antt`). A question takes a logarithm of
+//!   the number of processes and one comparison with the recorded one;
 //! - `replay_excluded` gives the outcome of the package's run, or says that it hasn't ended, or where a
 //!   question wasn't the recorded one, exactly (`specs/Replays.antt`, over `specs/LogRun.antt` of
 //!   `run_model`). `replay_owned` is the same for a package that isn't needed any more, and copies nothing;

@@ -5,7 +5,7 @@ ghost use Rattle.std.specs.Prelude.{length, slice_get, IfOk, OnOk, OnErr};
 ghost use Rattle.sql_model.specs.Keys.{same_values};
 ghost use Rattle.sql_model.specs.Scope.{same_text};
 ghost use Rattle.run_model.specs.declared.package.Entry.{Entry};
-ghost use Rattle.replay_log.specs.Left.{next_reply};
+ghost use Rattle.replay_log.specs.inner.Left.{next_reply};
 
 use ldv_value::{Utf8, Values};
 use run_model::{Entries, Entry, Log, Stop};

@@ -6,8 +6,8 @@ ghost use Rattle.run_model.specs.Database.{Notes, Gives, Diverges, asked_event};
 ghost use Rattle.run_model.specs.LogDatabase.{log_base, no_lists};
 ghost use Rattle.replay_log.specs.Types.{Log as Recorded};
 ghost use Rattle.run_model.specs.ValidPackage.{log_precedes};
-ghost use Rattle.replay_log.specs.Left.{logs_left, question};
-ghost use Rattle.replay_log.specs.Places.{IsAt};
+ghost use Rattle.replay_log.specs.inner.Left.{logs_left, question};
+ghost use Rattle.replay_log.specs.inner.Places.{IsAt};
 
 use crate::find::index_of;
 use crate::next::take_next;
@@ -32,7 +32,7 @@ impl Model for ReplyLog {
     ghost use Rattle.ldv_value.specs.Sorted.{is_strictly_sorted};
     ghost use Rattle.replay_log.specs.Types.{Log};
     ghost use Rattle.run_model.specs.ValidPackage.{log_precedes};
-    ghost use Rattle.replay_log.specs.Left.{logs_left};
+    ghost use Rattle.replay_log.specs.inner.Left.{logs_left};
 
     ghost Value = { List Log };
 

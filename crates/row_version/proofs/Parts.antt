@@ -7,7 +7,7 @@ use Rattle.std.specs.List.Sorted.{IsNonDecreasingBy}
 use Rattle.std.proofs.lemmas.List.Sorted.{IsNonDecreasingBy-short, IsNonDecreasingBy-from_all_adjacent}
 use Rattle.ldv_value.specs.declared.value.Value.{Value}
 use Rattle.row_version.specs.History.{Change, History, delete_at, current_values, as_of, last_time, version as version_of, IsSorted, IsSortedFrom}
-use Rattle.row_version.specs.Versions.{change_of, changes_of, end_of, ended_by, history_of, IsChain}
+use Rattle.row_version.specs.inner.Versions.{change_of, changes_of, end_of, ended_by, history_of, IsChain}
 use Rattle.row_version.specs.declared.chain.Chain.TheInside.{Inside}
 use Rattle.row_version.specs.declared.versions.Version.{Version}
 use Rattle.row_version.proofs.Later.{current_after, as_of_after, sorted_after}

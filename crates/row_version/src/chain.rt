@@ -4,7 +4,7 @@ ghost use Rattle.std.specs.Prelude.{◌≡◌, ◌+◌, ◌-◌, ◌^◌, ◌<�
 ghost use Rattle.std.specs.Prelude.{IfOk, IsOk, IsSome, OnOk, OnErr};
 ghost use Rattle.std.specs.Option.{option_map};
 ghost use Rattle.row_version.specs.History.{write_at, delete_at, as_of, current_values, version, last_time, IsSorted};
-ghost use Rattle.row_version.specs.Versions.{ended_by};
+ghost use Rattle.row_version.specs.inner.Versions.{ended_by};
 
 use crate::versions::{Version, last_values, latest_by};
 use ldv_value::Values;
@@ -25,7 +25,7 @@ impl Model for Chain {
 
     ghost Value = { History };
 
-    ghost use Rattle.row_version.specs.Versions.{history_of, IsChain};
+    ghost use Rattle.row_version.specs.inner.Versions.{history_of, IsChain};
 
     ghost view = { history_of };
 

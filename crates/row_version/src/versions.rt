@@ -3,7 +3,7 @@
 ghost use Rattle.std.specs.Prelude.{◌≡◌};
 ghost use Rattle.std.specs.Option.{option_map};
 ghost use Rattle.row_version.specs.History.{as_of, current_values, IsSorted};
-ghost use Rattle.row_version.specs.Versions.{changes_of};
+ghost use Rattle.row_version.specs.inner.Versions.{changes_of};
 
 use ldv_value::Values;
 

@@ -4,7 +4,7 @@ use Rattle.std.specs.Prelude.{Option}
 use Rattle.script_parse.specs.declared.line_error.LineError.{LineError}
 use Rattle.script_parse.specs.declared.line_error.LineError.TheVariants.{Malformed, NoMemory}
 use Rattle.ldv_value.specs.Options.{◌>>=◌}
-use Rattle.script_parse.specs.Gives.{Fails}
+use Rattle.script_parse.specs.inner.Gives.{Fails}
 use Rattle.script_parse.specs.Forms.{each}
 
 -- these items, and then those of the rest

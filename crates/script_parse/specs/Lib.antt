@@ -1,6 +1,5 @@
 pub mod BadLine
 pub mod Forms
-pub mod Gives
 pub mod Grammar
 pub mod Keywords
 pub mod Lines
@@ -8,3 +7,4 @@ pub mod Names
 pub mod Number
 pub mod Script
 pub mod Tokens
+pub mod inner

@@ -3,7 +3,7 @@
 ghost use Rattle.std.specs.Prelude.{◌≡◌};
 ghost use Rattle.std.specs.Option.{option_map};
 ghost use Rattle.std.specs.Str.{is_utf8};
-ghost use Rattle.script_parse.specs.Gives.{GivesLine};
+ghost use Rattle.script_parse.specs.inner.Gives.{GivesLine};
 ghost use Rattle.script_parse.specs.Lines.{before_colon, label_in, line_of_word, form_of, first_nonblank, is_comment};
 ghost use Rattle.script_parse.specs.Lines.{line_of};
 

@@ -1,7 +1,7 @@
 //! Names and operands among the tokens of a line.
 
 ghost use Rattle.std.specs.Prelude.{◌≡◌, codes};
-ghost use Rattle.script_parse.specs.Gives.{GivesLine};
+ghost use Rattle.script_parse.specs.inner.Gives.{GivesLine};
 ghost use Rattle.script_parse.specs.Names.{is_reserved, name_test};
 ghost use Rattle.script_parse.specs.Forms.{each, is_word, name_in, name_of, word_operand, operand_of};
 ghost use Rattle.script_parse.specs.Forms.{operands_of, operands_from_one, names_from_one};

@@ -4,7 +4,7 @@ ghost use Rattle.std.specs.Prelude.{◌≡◌, List, Some, IfOk, IfErr, option_m
 ghost use Rattle.std.specs.BTreeMap.{get_by_text};
 ghost use Rattle.script_parse.specs.declared.script.Instr.{Instr};
 ghost use Rattle.script_parse.specs.BadLine.{IsFirstBadLine};
-ghost use Rattle.script_parse.specs.Gives.{GivesLine};
+ghost use Rattle.script_parse.specs.inner.Gives.{GivesLine};
 ghost use Rattle.script_parse.specs.Grammar.{IsScript};
 ghost use Rattle.script_parse.specs.Script.{script_of, first_bad_line, resolve, is_first, with_place};
 ghost use Rattle.script_parse.specs.Script.{instructions_of, first_unresolved_line, Answers, IfLine, look_up};

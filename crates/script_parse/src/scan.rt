@@ -1,7 +1,7 @@
 //! From the bytes of a line to its tokens.
 
 ghost use Rattle.std.specs.Prelude.{◌≡◌};
-ghost use Rattle.script_parse.specs.Gives.{GivesLine};
+ghost use Rattle.script_parse.specs.inner.Gives.{GivesLine};
 ghost use Rattle.script_parse.specs.Tokens.{is_blank, escape_of, step_between, step_in_word, step_in_text};
 ghost use Rattle.script_parse.specs.Tokens.{step_escaped, step_closed, step, finish, tokens_of};
 

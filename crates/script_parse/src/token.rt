@@ -2,7 +2,7 @@
 
 ghost use Rattle.std.specs.Prelude.{◌≡◌, OnErr, OnOk};
 ghost use Rattle.std.specs.Str.{is_utf8};
-ghost use Rattle.script_parse.specs.Gives.{GivesLine};
+ghost use Rattle.script_parse.specs.inner.Gives.{GivesLine};
 ghost use Rattle.ldv_value.specs.Texts.{text_of};
 ghost use Rattle.script_parse.specs.Tokens.{word_token, text_token};
 

@@ -12,7 +12,7 @@ use Rattle.run_model.specs.Slice.{Reason, is_read, reason_in}
 use Rattle.slicer.specs.declared.reasons.Why.{Why}
 use Rattle.slicer.specs.Marks.{reason_at, reason_of_read}
 use Rattle.lanes.specs.Sets.{member}
-use Rattle.slicer.specs.Rows.{asks, has_row, reason_due}
+use Rattle.slicer.specs.inner.Rows.{asks, has_row, reason_due}
 use Rattle.slicer.proofs.ReasonLaws.{reason_step}
 use Rattle.slicer.proofs.RowSetLaws.{rows_same}
 

@@ -11,7 +11,7 @@ use Rattle.lanes.specs.Sets.{member}
 use Rattle.sql_model.specs.Scope.{same_text}
 use Rattle.run_model.specs.Types.{Need}
 use Rattle.run_model.specs.Slice.{is_read}
-use Rattle.slicer.specs.Rows.{asks, is_of_block, are_of_block, is_in, has_row, words_in}
+use Rattle.slicer.specs.inner.Rows.{asks, is_of_block, are_of_block, is_in, has_row, words_in}
 use Rattle.slicer.proofs.RowSetLaws.{place_told, row_told}
 
 -- the known, and of others what isn't known

@@ -21,7 +21,7 @@ use Rattle.trace_graph.specs.Graph.{Parts, graph_of}
 use Rattle.trace_graph.specs.VersionLaws.{VersionsLaw, MadeLaw}
 use Rattle.slicer.specs.InitialRows.{ReadsInitialRows, is_row_of, at_first, is_seen, is_made, is_initial_node, is_packed}
 use Rattle.slicer.specs.Marks.{row_because, table_because, tables_because}
-use Rattle.slicer.specs.Rows.{graph_reason, tables_from}
+use Rattle.slicer.specs.inner.Rows.{graph_reason, tables_from}
 
 -- ---- what is packed
 

@@ -1,3 +1,3 @@
 pub mod InitialRows
 pub mod Marks
-pub mod Rows
+pub mod inner

@@ -4,7 +4,7 @@ ghost use Rattle.std.specs.Prelude.{◌≡◌, ◌==◌, ◌||◌, ◌≤◌, �
 ghost use Rattle.std.specs.Prelude.{IfOk, true, not};
 ghost use Rattle.std.specs.List.{list_all, list_any};
 ghost use Rattle.lanes.specs.Sets.{member};
-ghost use Rattle.slicer.specs.Rows.{asks, are_of_block, has_row, is_of_block};
+ghost use Rattle.slicer.specs.inner.Rows.{asks, are_of_block, has_row, is_of_block};
 
 use crate::row_set::{RowSet, set_bit};
 use crate::united::unite_rows;

@@ -7,7 +7,7 @@ ghost use Rattle.trace_graph.specs.Graph.{same_member, same_node};
 ghost use Rattle.trace_graph.specs.GraphLaws.{leads, passes_at};
 ghost use Rattle.trace_graph.specs.VersionLaws.{is_statement};
 ghost use Rattle.slicer.specs.InitialRows.{at_first, is_initial_node};
-ghost use Rattle.slicer.specs.Rows.{has_row, is_led};
+ghost use Rattle.slicer.specs.inner.Rows.{has_row, is_led};
 
 use crate::row_set::{RowSet, add_row, remove_row};
 use ldv_value::Utf8;

@@ -8,7 +8,7 @@ ghost use Rattle.std.specs.Option.{option_or};
 ghost use Rattle.ldv_value.specs.Options.{only_if};
 ghost use Rattle.run_model.specs.Slice.{Reason, reason_in, act_reason, first_reason};
 ghost use Rattle.lanes.specs.Sets.{member};
-ghost use Rattle.slicer.specs.Rows.{are_of_block, reason_due, has_row};
+ghost use Rattle.slicer.specs.inner.Rows.{are_of_block, reason_due, has_row};
 
 use crate::fresh::{fresh_rows, split_block};
 use crate::row_set::{RowSet, has_bit, has_row};

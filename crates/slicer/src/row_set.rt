@@ -5,7 +5,7 @@ ghost use Rattle.std.specs.Prelude.{None, OnOk};
 ghost use Rattle.std.specs.BTreeMap.{get, get_by_text};
 ghost use Rattle.std.specs.Ordering.{nat_cmp};
 ghost use Rattle.lanes.specs.Sets.{member};
-ghost use Rattle.slicer.specs.Rows.{has_number, has_row, is_row};
+ghost use Rattle.slicer.specs.inner.Rows.{has_number, has_row, is_row};
 
 use ldv_value::{List, Utf8};
 use std::alloc::{AllocError, Global};

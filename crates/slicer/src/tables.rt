@@ -6,7 +6,7 @@ ghost use Rattle.std.specs.Option.{option_map};
 ghost use Rattle.slicer.specs.Marks.{has_name, reason_at, reason_from, row_reason, row_because};
 ghost use Rattle.slicer.specs.Marks.{table_because, tables_because};
 ghost use Rattle.run_model.specs.Slice.{packed_because};
-ghost use Rattle.slicer.specs.Rows.{tables_from};
+ghost use Rattle.slicer.specs.inner.Rows.{tables_from};
 
 use crate::initial::initial_rows;
 use crate::lists::push_made;

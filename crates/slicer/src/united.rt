@@ -5,7 +5,7 @@ ghost use Rattle.std.specs.BTreeMap.{get, get_by_text};
 ghost use Rattle.std.specs.Ordering.{nat_cmp};
 ghost use Rattle.lanes.specs.Sets.{member, IsUnion, IsDifference};
 ghost use Rattle.sql_model.specs.Scope.{same_text};
-ghost use Rattle.slicer.specs.Rows.{words_at, words_in, is_in, has_number, has_row};
+ghost use Rattle.slicer.specs.inner.Rows.{words_at, words_in, is_in, has_number, has_row};
 
 use crate::row_set::{Numbers, RowSet, grow};
 use lanes::{minus_into, or_into};

@@ -5,7 +5,7 @@ use Rattle.std.specs.List.{list_all, list_any, flat_map}
 use Rattle.std.proofs.lemmas.List.Folds.{list_all-append, list_any-append}
 use Rattle.sql_model.specs.declared.expr.ColumnName.{ColumnName}
 use Rattle.sql_model.specs.Scope.{InScope, place_of, places_in}
-use Rattle.sql_check.specs.Sources.{is_among, all_among}
+use Rattle.sql_check.specs.inner.Sources.{is_among, all_among}
 use Rattle.std.proofs.lemmas.List.{map-append}
 
 module _ {X Y : Type 0} (p : Y → Bool) (f : X → List Y) where

@@ -15,7 +15,7 @@ use Rattle.sql_model.specs.declared.statement.Update.{Update}
 use Rattle.sql_model.specs.Kinds.{names_in, outer_names}
 use Rattle.sql_model.specs.Refusals.{tables_of_core, is_missing, items_of, names_of_items, core_names, update_names, insert_names, item_places, having_places}
 use Rattle.sql_model.specs.Scope.{InScope}
-use Rattle.sql_check.specs.Sources.{is_among, all_among}
+use Rattle.sql_check.specs.inner.Sources.{is_among, all_among}
 use Rattle.sql_check.proofs.Lists.{list_all-flat_map, all_among-append}
 use Rattle.ldv_value.proofs.Lists.{list_any-map}
 

@@ -14,7 +14,7 @@ use Rattle.sql_model.specs.declared.kind.Kind.TheVariants.{Int as IntKind, Truth
 use Rattle.sql_model.specs.Kinds.{kind_of_value, kind_of_column, is_number, is_logical, kind_if, kind_both, folded_kind, counted_kind, kind_step, kind, names_step, names_in, outer_step, outer_names, aggregate_step, has_aggregate, count_use, count_use_step, count_use_of, fold_counts, own_name_step, own_name}
 use Rattle.sql_model.specs.Scope.{InScope, is_meant, place_of, places_in}
 use Rattle.sql_model.proofs.Folds.{fold-Constant, fold-Column, fold-Negate, fold-Not, fold-Both, fold-IsNull, fold-Count, fold-Aggregate}
-use Rattle.sql_check.specs.Sources.{is_among, all_among}
+use Rattle.sql_check.specs.inner.Sources.{is_among, all_among}
 use Rattle.ldv_value.proofs.Booleans.{and-true}
 use Rattle.std.proofs.lemmas.List.{map-append}
 use Rattle.sql_check.proofs.Lists.{all_among-append}

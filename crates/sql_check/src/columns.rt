@@ -8,7 +8,7 @@ ghost use Rattle.sql_model.specs.Refusals.{answer_titles, core_lacks_column, is_
 ghost use Rattle.sql_model.specs.Refusals.{query_lacks_column, insert_lacks_column};
 ghost use Rattle.sql_model.specs.Refusals.{update_lacks_column, lacks_column};
 ghost use Rattle.sql_model.specs.Scope.{has_column, resolves, places_in};
-ghost use Rattle.sql_check.specs.Sources.{is_among, all_among};
+ghost use Rattle.sql_check.specs.inner.Sources.{is_among, all_among};
 
 use crate::output_column::{OutputColumn, answer_titles, is_order_key};
 use crate::core_names::{core_resolves, exprs_resolve, groups, names_of, optional_resolves};

@@ -4,7 +4,7 @@ ghost use Rattle.std.specs.Prelude.{◌≡◌, ◌++◌, IfOk, OnOk, find, filte
 ghost use Rattle.std.specs.Option.{option_copied};
 ghost use Rattle.sql_model.specs.Scope.{schema_at, columns_of, is_column, has_column, names_source, is_meant};
 ghost use Rattle.sql_model.specs.Scope.{scope_of, own_scope, resolves, place_of};
-ghost use Rattle.sql_check.specs.Sources.{entries};
+ghost use Rattle.sql_check.specs.inner.Sources.{entries};
 
 use ldv_value::Utf8;
 use sql_model::{Catalog, Column, ColumnName, FromItem, Schema};

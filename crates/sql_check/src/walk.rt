@@ -4,7 +4,7 @@ ghost use Rattle.std.specs.Prelude.{◌≡◌, ◌++◌, OnOk};
 ghost use Rattle.std.specs.List.{list_all};
 ghost use Rattle.sql_model.specs.Kinds.{names_in, outer_names};
 ghost use Rattle.sql_model.specs.Scope.{resolves, place_of, places_in};
-ghost use Rattle.sql_check.specs.Sources.{is_among, all_among};
+ghost use Rattle.sql_check.specs.inner.Sources.{is_among, all_among};
 
 use crate::scope::{Entry, place_of, resolves};
 use sql_model::Expr;

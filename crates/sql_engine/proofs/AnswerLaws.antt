@@ -20,7 +20,7 @@ use Rattle.query_eval.specs.Projecting.{IsProjected}
 use Rattle.query_eval.specs.Stored.{table_names}
 use Rattle.query_eval.specs.declared.finishing.Finished.{Finished}
 use Rattle.sql_engine.proofs.StoreLaws.{tell_versions}
-use Rattle.sql_engine.specs.Answering.{IsKept, AreRows, IsEvaluated, IsAsked, IsCore, AreUnited, AreAll, hidden_lineage, IsHidden, IsAnswer, IsAnswered, values_of}
+use Rattle.sql_engine.specs.inner.Answering.{IsKept, AreRows, IsEvaluated, IsAsked, IsCore, AreUnited, AreAll, hidden_lineage, IsHidden, IsAnswer, IsAnswered, values_of}
 use Rattle.sql_engine.specs.Types.{Answer, Checked, Core, Pick, Query, StoreHistory, Table, TheQuery}
 use Rattle.sql_engine.specs.declared.answered.Answered.{Answered}
 use Rattle.sql_engine.specs.declared.cores.CoreRows.{CoreRows}

@@ -18,9 +18,9 @@ use Rattle.run_model.specs.declared.database.Asker.{Asker}
 use Rattle.sql_model.specs.Texts.{statement_of}
 use Rattle.sql_engine.proofs.NeedLaws.{needs_are}
 use Rattle.sql_engine.proofs.StoreLaws.{answer_named, hidden_named, sorted_names}
-use Rattle.sql_engine.specs.Answering.{IsAnswer, IsAnswered, hidden_lineage}
+use Rattle.sql_engine.specs.inner.Answering.{IsAnswer, IsAnswered, hidden_lineage}
 use Rattle.sql_engine.specs.Asking.{database, lists_in, IsDone, IsOutcome, refusal_change, done_of}
-use Rattle.sql_engine.specs.Listing.{is_in, names_first, tables_asked, needs_of}
+use Rattle.sql_engine.specs.inner.Listing.{is_in, names_first, tables_asked, needs_of}
 use Rattle.sql_laws.proofs.DatabaseLaws.{database_law}
 use Rattle.sql_engine.specs.Types.{Catalog, Checked, H, L, Member, Need, Query, Reply, Rows, SqlRefusal, Statement, StoreHistory, Syntax, Table, TheQuery, TheInsert, TheUpdate, TheDelete, Value}
 use Rattle.sql_engine.specs.declared.answered.Answered.{Answered}

@@ -2,7 +2,7 @@
 use Rattle.std.proofs.Common.{◌≡◌, ◌∙◌, refl, List, [], ◌∷◌, ℕ, ◌||◌}
 use Rattle.std.specs.List.{flat_map, list_any}
 use Rattle.ldv_value.proofs.Lists.{list_any-append, list_any-map}
-use Rattle.sql_engine.specs.Listing.{is_text}
+use Rattle.sql_engine.specs.inner.Listing.{is_text}
 use Rattle.sql_engine.specs.Types.{Core}
 use Rattle.sql_model.specs.Refusals.{tables_of_core}
 use Rattle.sql_model.specs.declared.statement.FromItem.{FromItem}

@@ -23,7 +23,7 @@ use Rattle.lineage.specs.StandsFor.{origin_at, StandsFor}
 use Rattle.lineage.proofs.Laws.{row_total, same_row}
 use Rattle.lineage.proofs.Listed.{members-sorted}
 use Rattle.lineage.proofs.Origins.{stands-named}
-use Rattle.sql_engine.specs.Listing.{needs_of}
+use Rattle.sql_engine.specs.inner.Listing.{needs_of}
 use Rattle.sql_engine.specs.Types.{L, H, Rule}
 use Rattle.sql_laws.proofs.NeedsLaws.{needs_law}
 use Rattle.sql_model.specs.Needs.{NeededRow, Versions, needed_by, sorted_needs, read_of}

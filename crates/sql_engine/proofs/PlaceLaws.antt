@@ -4,7 +4,7 @@ use Rattle.std.specs.Prelude.{filter, map, slice_index_or}
 use Rattle.std.specs.List.{SwappedAt}
 use Rattle.std.proofs.lemmas.List.{take_all}
 use Rattle.std.proofs.lemmas.List.Filters.{FiltersInPlace, FiltersInPlace-more_no, FiltersInPlace-more_swap}
-use Rattle.sql_engine.specs.Taking.{InPlace, is_taken}
+use Rattle.sql_engine.specs.inner.Taking.{InPlace, is_taken}
 use Rattle.sql_engine.specs.declared.tables.Mark.{Mark}
 
 module _ (test : List ℕ → Bool) (all : List (List ℕ)) where

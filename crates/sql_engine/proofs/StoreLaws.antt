@@ -13,14 +13,14 @@ use Rattle.ldv_value.proofs.SameBytes.{bytes_eq-true, bytes_eq-itself}
 use Rattle.query_eval.proofs.StoredLaws.{names-sorted}
 use Rattle.query_eval.specs.Stored.{table_names, version_in, TellVersions}
 use Rattle.sql_engine.proofs.NeedLaws.{AreNamedIn}
-use Rattle.sql_engine.specs.Answering.{hidden_lineage}
+use Rattle.sql_engine.specs.inner.Answering.{hidden_lineage}
 use Rattle.sql_engine.specs.Types.{Query, StoreHistory, Table}
 use Rattle.sql_laws.proofs.ItemLists.{all_append}
 use Rattle.sql_laws.proofs.NeedsSound.{answer_good, each_rejected, others_good}
 use Rattle.sql_laws.proofs.TableNames.{less-differs, table-trans}
 use Rattle.sql_model.proofs.Databases.{sorted_of_database}
 use Rattle.sql_model.proofs.SortedLists.{sorted-all, sorted-tail}
-use Rattle.sql_engine.specs.Taking.{AreDistinct}
+use Rattle.sql_engine.specs.inner.Taking.{AreDistinct}
 use Rattle.sql_model.specs.Needs.{sums_up}
 use Rattle.sql_model.specs.QueryAnswer.{Origin, answer, cut, lineage_of, rejected}
 use Rattle.sql_model.specs.Scope.{same_text, is_table, table_at, rows_of}

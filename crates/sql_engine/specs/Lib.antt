@@ -1,5 +1,3 @@
-pub mod Answering
 pub mod Asking
-pub mod Listing
-pub mod Taking
 pub mod Types
+pub mod inner

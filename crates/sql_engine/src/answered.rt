@@ -3,7 +3,7 @@
 ghost use Rattle.std.specs.Prelude.{◌≡◌, ◌||◌, map, IfOk};
 ghost use Rattle.std.specs.List.{list_all, list_any};
 ghost use Rattle.core_parts.specs.Checking.{IsQuery};
-ghost use Rattle.sql_engine.specs.Answering.{values_of, IsAnswered, IsHidden};
+ghost use Rattle.sql_engine.specs.inner.Answering.{values_of, IsAnswered, IsHidden};
 ghost use Rattle.sql_model.specs.Needs.{has_merging, sums_up};
 ghost use Rattle.sql_model.specs.Refusals.{groups};
 

@@ -4,8 +4,8 @@ ghost use Rattle.std.specs.Prelude.{◌≡◌, ◌<◌, ◌≤◌, length, Some,
 ghost use Rattle.core_parts.specs.Checking.{IsQuery};
 ghost use Rattle.dml_versions.specs.Changing.{IsCheckedOver};
 ghost use Rattle.sql_engine.specs.Asking.{IsDone, IsOutcome, done_of};
-ghost use Rattle.sql_engine.specs.Listing.{tables_asked};
-ghost use Rattle.sql_engine.specs.Taking.{AreDistinct, IsFresh};
+ghost use Rattle.sql_engine.specs.inner.Listing.{tables_asked};
+ghost use Rattle.sql_engine.specs.inner.Taking.{AreDistinct, IsFresh};
 ghost use Rattle.sql_model.specs.Texts.{statement_of};
 ghost use Rattle.table_store.specs.Histories.{tables_now};
 

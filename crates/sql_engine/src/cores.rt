@@ -4,7 +4,7 @@ ghost use Rattle.std.specs.Prelude.{◌≡◌, ◌∷◌, ◌++◌, List as Item
 ghost use Rattle.lineage.specs.Rows.{AnswersStandFor};
 ghost use Rattle.sql_model.specs.Needs.{Versions};
 ghost use Rattle.core_parts.specs.Checking.{HasCore, IsQuery};
-ghost use Rattle.sql_engine.specs.Answering.{AreRows, IsEvaluated, IsCore, AreAll};
+ghost use Rattle.sql_engine.specs.inner.Answering.{AreRows, IsEvaluated, IsCore, AreAll};
 ghost use Rattle.sql_engine.specs.Types.{StoreHistory};
 ghost use Rattle.sql_model.specs.QueryAnswer.{Origin, AnswerRow, once, union_answers};
 ghost use Rattle.sql_model.specs.Refusals.{cores_of};

@@ -9,10 +9,10 @@
 //!
 //! The way of a text: `sql_parse` reads it, `sql_check` checks it against the catalog of the store, and then
 //! `asking` gives a change to `dml_versions`, and a query to `answered`. This evaluates the cores one by one
-//! (`cores`, by `query_eval` and `group_eval`), unites, sorts and cuts their rows (`specs/Answering.antt`),
-//! and `needs` lists the rows that these come from (`specs/Listing.antt`). At last `tables` marks the tables
-//! that the statement names and those of the rows that it needs, with all their parents
-//! (`specs/Taking.antt`).
+//! (`cores`, by `query_eval` and `group_eval`), unites, sorts and cuts their rows
+//! (`specs/inner/Answering.antt`), and `needs` lists the rows that these come from
+//! (`specs/inner/Listing.antt`). At last `tables` marks the tables that the statement names and those of the
+//! rows that it needs, with all their parents (`specs/inner/Taking.antt`).
 #![tactic(auto)]
 
 mod answered;

@@ -5,7 +5,7 @@ ghost use Rattle.std.specs.Cmp.Lexicographic.{slice_cmp};
 ghost use Rattle.std.specs.List.Sorted.{IsStrictlySortedBy};
 ghost use Rattle.std.specs.Ordering.{nat_cmp};
 ghost use Rattle.lineage.specs.Lineage.{IsNamed};
-ghost use Rattle.sql_engine.specs.Listing.{needs_of};
+ghost use Rattle.sql_engine.specs.inner.Listing.{needs_of};
 
 use core_parts::{needed_by, union_of_needs};
 use ldv_value::Names;

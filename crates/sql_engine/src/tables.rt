@@ -8,10 +8,10 @@
 ghost use Rattle.std.specs.Prelude.{◌≡◌, ◌+◌, ◌<◌, ◌≤◌, List as Items, [], ℕ, Bool, length, map, filter};
 ghost use Rattle.std.specs.Prelude.{IfOk, None, slice_index_or};
 ghost use Rattle.std.specs.List.{list_any, position};
-ghost use Rattle.sql_engine.specs.Listing.{is_text, names_table, tables_asked};
-ghost use Rattle.sql_engine.specs.Taking.{is_taken, is_waiting, taken_mark, first_mark, raised_at, with_name};
-ghost use Rattle.sql_engine.specs.Taking.{with_unless, with_more, with_reads, with_parents_of, marks_with_parents};
-ghost use Rattle.sql_engine.specs.Taking.{AreDistinct, AreMarks, IsFresh, InPlace};
+ghost use Rattle.sql_engine.specs.inner.Listing.{is_text, names_table, tables_asked};
+ghost use Rattle.sql_engine.specs.inner.Taking.{is_taken, is_waiting, taken_mark, first_mark, raised_at, with_name};
+ghost use Rattle.sql_engine.specs.inner.Taking.{with_unless, with_more, with_reads, with_parents_of, marks_with_parents};
+ghost use Rattle.sql_engine.specs.inner.Taking.{AreDistinct, AreMarks, IsFresh, InPlace};
 
 use ldv_value::{List, Names, Utf8};
 use sql_model::{Catalog, Core, Foreign, Need, Statement};

@@ -8,7 +8,6 @@ pub mod Grammar
 pub mod GrammarOfStatements
 pub mod GrammarOfTokens
 pub mod KeyOrder
-pub mod KeySets
 pub mod Keys
 pub mod Kinds
 pub mod Levels
@@ -33,3 +32,4 @@ pub mod TextBytes
 pub mod Texts
 pub mod Tokens
 pub mod Types
+pub mod inner

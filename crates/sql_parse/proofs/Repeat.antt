@@ -5,7 +5,7 @@ use Rattle.sql_parse.specs.declared.error.ParseStop.{ParseStop}
 use Rattle.sql_parse.specs.declared.error.ParseStop.TheVariants.{Syntax, NoMemory}
 use Rattle.sql_model.specs.declared.token.Token.{Token}
 use Rattle.ldv_value.specs.Options.{◌>>=◌}
-use Rattle.sql_parse.specs.Gives.{Fails}
+use Rattle.sql_parse.specs.inner.Gives.{Fails}
 use Rattle.sql_model.specs.Reader.{repeat}
 
 -- what a step leaves to do

@@ -6,7 +6,7 @@ use Rattle.sql_model.specs.declared.statement.Statement.{Statement}
 use Rattle.sql_parse.specs.declared.error.ParseStop.{ParseStop}
 use Rattle.sql_parse.specs.declared.error.ParseStop.TheVariants.{Syntax, NoMemory}
 use Rattle.sql_model.specs.GrammarOfStatements.{Reads}
-use Rattle.sql_parse.specs.Gives.{GivesParsed}
+use Rattle.sql_parse.specs.inner.Gives.{GivesParsed}
 use Rattle.sql_model.specs.Texts.{statement_of}
 use Rattle.sql_parse.proofs.StatementsLaw.{reading_sound, reading_complete}
 

@@ -10,7 +10,7 @@ use Rattle.sql_model.specs.declared.reading.LexState.TheVariants.{Between}
 use Rattle.sql_model.specs.declared.token.Token.{Token}
 use Rattle.sql_model.specs.Texts.{placed_token, with_parameters, statement_of, whole_statement}
 use Rattle.sql_model.specs.Tokens.{tokens_from}
-use Rattle.sql_parse.specs.Lexing.{given_from, given_of, next_at, statement_from, tokens_at}
+use Rattle.sql_parse.specs.inner.Lexing.{given_from, given_of, next_at, statement_from, tokens_at}
 use Rattle.sql_parse.proofs.Placed.{placed_first}
 
 pub given_begins : (text : List ℕ) (params : List Value) → given_from params [] 0 (tokens_at text 0 Between) ≡ given_of text params

@@ -1,3 +1,1 @@
-pub mod Gives
-pub mod LentTokens
-pub mod Lexing
+pub mod inner

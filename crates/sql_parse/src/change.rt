@@ -1,6 +1,6 @@
 //! Statements that change a table.
 
-ghost use Rattle.sql_parse.specs.Gives.{ReadsPart};
+ghost use Rattle.sql_parse.specs.inner.Gives.{ReadsPart};
 ghost use Rattle.sql_model.specs.Texts.{reads_columns, reads_insert, reads_set, reads_update, reads_delete};
 
 use crate::expression::expression;

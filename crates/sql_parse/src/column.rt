@@ -1,6 +1,6 @@
 //! Names of columns.
 
-ghost use Rattle.sql_parse.specs.Gives.{ReadsPart};
+ghost use Rattle.sql_parse.specs.inner.Gives.{ReadsPart};
 ghost use Rattle.sql_model.specs.Columns.{column_after, reads_column};
 
 use crate::reader::Reader;

@@ -2,7 +2,7 @@
 
 ghost use Rattle.std.specs.Prelude.{◌≡◌, ◌≤◌, ◌<◌, ◌+◌, ◌-◌, IfOk, Some};
 ghost use Rattle.ldv_value.specs.Limits.{max_depth};
-ghost use Rattle.sql_parse.specs.Gives.{GivesParsed, ReadsPart};
+ghost use Rattle.sql_parse.specs.inner.Gives.{GivesParsed, ReadsPart};
 ghost use Rattle.sql_model.specs.Expressions.{primary_expr, with_prefix, null_test, pair, operand_at, operand, joined};
 ghost use Rattle.sql_model.specs.Expressions.{joined_within, goes_on, joins_more, within, reads_expr};
 ghost use Rattle.sql_model.specs.Reader.{repeat};

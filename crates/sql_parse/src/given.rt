@@ -1,6 +1,6 @@
 //! The values of parameters in the places of their `?`.
 
-ghost use Rattle.sql_parse.specs.Gives.{GivesParsed};
+ghost use Rattle.sql_parse.specs.inner.Gives.{GivesParsed};
 ghost use Rattle.sql_model.specs.Texts.{placed_token};
 
 use crate::reader::is_word;

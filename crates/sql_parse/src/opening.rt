@@ -1,7 +1,7 @@
 //! How an operand begins.
 
 ghost use Rattle.std.specs.Prelude.{◌≡◌};
-ghost use Rattle.sql_parse.specs.Gives.{GivesParsed, ReadsPart};
+ghost use Rattle.sql_parse.specs.inner.Gives.{GivesParsed, ReadsPart};
 ghost use Rattle.sql_model.specs.Expressions.{negation, fold_opening, count_inside, count_opening};
 ghost use Rattle.sql_model.specs.Expressions.{column_opening, word_opening, opens, opening, inside_level};
 

@@ -4,7 +4,7 @@ ghost use Rattle.std.specs.Prelude.{List as Items, Option};
 ghost use Rattle.sql_model.specs.declared.token.Token.{Token};
 ghost use Rattle.sql_model.specs.Columns.{reads_column};
 ghost use Rattle.sql_model.specs.Expressions.{reads_expr};
-ghost use Rattle.sql_parse.specs.Gives.{ReadsPart};
+ghost use Rattle.sql_parse.specs.inner.Gives.{ReadsPart};
 ghost use Rattle.sql_model.specs.Parts.{another, list_of_parts, reads_tuple, reads_optional};
 ghost use Rattle.sql_model.specs.Reader.{reads_name};
 

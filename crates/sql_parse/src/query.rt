@@ -1,7 +1,7 @@
 //! Queries.
 
 ghost use Rattle.std.specs.Prelude.{◌≡◌, codes};
-ghost use Rattle.sql_parse.specs.Gives.{GivesParsed, ReadsPart};
+ghost use Rattle.sql_parse.specs.inner.Gives.{GivesParsed, ReadsPart};
 ghost use Rattle.sql_model.specs.Queries.{another_core, reads_cores, place_of, key_of, reads_key, tokens_after_direction};
 ghost use Rattle.sql_model.specs.Queries.{reads_order, reads_orders, bound_of, reads_bound, reads_limit};
 ghost use Rattle.sql_model.specs.Queries.{reads_query};

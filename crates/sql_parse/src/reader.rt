@@ -1,7 +1,7 @@
 //! Reading from the front of tokens.
 
 ghost use Rattle.std.specs.Prelude.{◌≡◌, ◌∷◌, [], length, MatchOption};
-ghost use Rattle.sql_parse.specs.Gives.{GivesParsed, ReadsPart, Passes};
+ghost use Rattle.sql_parse.specs.inner.Gives.{GivesParsed, ReadsPart, Passes};
 ghost use Rattle.sql_model.specs.Reader.{is_word, starts, tail, tokens_past, after_word, reads_token, name_in};
 ghost use Rattle.sql_model.specs.Reader.{name_of, reads_name};
 

@@ -4,8 +4,8 @@ ghost use Rattle.std.specs.Prelude.{◌≡◌, IfOk, IsErrOf, Some, None, length
 ghost use Rattle.sql_model.specs.declared.statement.Statement.{Statement};
 ghost use Rattle.sql_model.specs.GrammarOfStatements.{Reads as ReadsAs};
 ghost use Rattle.sql_parse.specs.declared.error.ParseStop.TheVariants.{Syntax};
-ghost use Rattle.sql_parse.specs.Gives.{GivesParsed, ReadsPart};
-ghost use Rattle.sql_parse.specs.Lexing.{given_of, statement_from};
+ghost use Rattle.sql_parse.specs.inner.Gives.{GivesParsed, ReadsPart};
+ghost use Rattle.sql_parse.specs.inner.Lexing.{given_of, statement_from};
 ghost use Rattle.sql_model.specs.TextBytes.{lower_case_of};
 ghost use Rattle.sql_model.specs.Texts.{reads_statement, is_end, whole_statement, statement_of};
 

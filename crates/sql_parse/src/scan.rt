@@ -6,9 +6,9 @@
 ghost use Rattle.std.specs.Prelude.{◌≡◌, ◌∷◌, [], ◌++◌, ◌+◌, ◌-◌, ◌<◌, ◌≤◌, List, ℕ, None, false};
 ghost use Rattle.std.specs.Prelude.{length, map, slice_index, slice_range};
 ghost use Rattle.std.specs.Prelude.{IfOk, IfSome, IsTrue, OnOk, OnSome};
-ghost use Rattle.sql_parse.specs.Gives.{GivesParsed};
-ghost use Rattle.sql_parse.specs.Lexing.{Lexes, LexesTo, blank_at, content_at, digit_at, given_of, inside_at};
-ghost use Rattle.sql_parse.specs.Lexing.{letter_at, pair_at, put_at, quote_at, tokens_at};
+ghost use Rattle.sql_parse.specs.inner.Gives.{GivesParsed};
+ghost use Rattle.sql_parse.specs.inner.Lexing.{Lexes, LexesTo, blank_at, content_at, digit_at, given_of, inside_at};
+ghost use Rattle.sql_parse.specs.inner.Lexing.{letter_at, pair_at, put_at, quote_at, tokens_at};
 ghost use Rattle.sql_model.specs.declared.reading.LexState.TheVariants.{Between, InNumber, InText};
 ghost use Rattle.sql_model.specs.GrammarOfTokens.{is_inside};
 ghost use Rattle.sql_model.specs.TextBytes.{is_blank, is_digit, is_upper, is_letter, lower_case_of};
@@ -203,7 +203,7 @@ fn quoted_text<'a>(alloc: Global, text: &[u8], at: usize) -> Result<(Lexeme<'a>,
 
 // The place after the byte of a text's content that stands at a place, where one does. A quote in it is
 // written twice.
-#[tactic(auto, using(crate::proofs::Cuts::byte_rules), unfolding(crate::specs::Lexing::content_at))]
+#[tactic(auto, using(crate::proofs::Cuts::byte_rules), unfolding(crate::specs::inner::Lexing::content_at))]
 fn content_next(text: &[u8], at: usize) -> Option<usize>
     ensures within { OnSome result (at < length text.now) }
     ensures onward { IfSome result (λ next. at < next) }
@@ -279,7 +279,7 @@ fn single_symbol<'a>(text: &'a [u8], at: usize) -> Result<(Lexeme<'a>, usize), P
     Ok((token, at + 1))
 }
 
-#[tactic(auto, unfolding(crate::specs::Lexing::blank_at))]
+#[tactic(auto, unfolding(crate::specs::inner::Lexing::blank_at))]
 fn is_blank_at(text: &[u8], at: usize) -> bool
     ensures test { result ≡ blank_at text.now at }
     ensures within { IsTrue result → at < length text.now }
@@ -288,7 +288,7 @@ fn is_blank_at(text: &[u8], at: usize) -> bool
     at < text.len() && blank(text[at])
 }
 
-#[tactic(auto, unfolding(crate::specs::Lexing::inside_at))]
+#[tactic(auto, unfolding(crate::specs::inner::Lexing::inside_at))]
 fn is_inside_at(text: &[u8], at: usize) -> bool
     ensures test { result ≡ inside_at text.now at }
     ensures within { IsTrue result → at < length text.now }
@@ -296,7 +296,7 @@ fn is_inside_at(text: &[u8], at: usize) -> bool
     at < text.len() && inside(text[at])
 }
 
-#[tactic(auto, unfolding(crate::specs::Lexing::digit_at))]
+#[tactic(auto, unfolding(crate::specs::inner::Lexing::digit_at))]
 fn is_digit_at(text: &[u8], at: usize) -> bool
     ensures test { result ≡ digit_at text.now at }
     ensures within { IsTrue result → at < length text.now }
@@ -305,14 +305,14 @@ fn is_digit_at(text: &[u8], at: usize) -> bool
     at < text.len() && digit(text[at])
 }
 
-#[tactic(auto, unfolding(crate::specs::Lexing::letter_at))]
+#[tactic(auto, unfolding(crate::specs::inner::Lexing::letter_at))]
 fn is_letter_at(text: &[u8], at: usize) -> bool
     ensures { result ≡ letter_at text.now at }
 {
     at < text.len() && letter(text[at])
 }
 
-#[tactic(auto, unfolding(crate::specs::Lexing::quote_at))]
+#[tactic(auto, unfolding(crate::specs::inner::Lexing::quote_at))]
 fn is_quote_at(text: &[u8], at: usize) -> bool
     ensures test { result ≡ quote_at text.now at }
     ensures within { IsTrue result → at < length text.now }
@@ -321,7 +321,7 @@ fn is_quote_at(text: &[u8], at: usize) -> bool
 }
 
 // Whether the byte at a place and the one after it are one symbol.
-#[tactic(auto, unfolding(crate::specs::Lexing::pair_at))]
+#[tactic(auto, unfolding(crate::specs::inner::Lexing::pair_at))]
 fn is_pair_at(text: &[u8], at: usize) -> bool
     requires { at < length text.now }
     ensures test { result ≡ pair_at text.now at }

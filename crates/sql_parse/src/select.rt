@@ -1,7 +1,7 @@
 //! Cores.
 
 ghost use Rattle.std.specs.Prelude.{◌≡◌, ◌++◌, OnOk, option_to_list};
-ghost use Rattle.sql_parse.specs.Gives.{ReadsPart};
+ghost use Rattle.sql_parse.specs.inner.Gives.{ReadsPart};
 ghost use Rattle.sql_model.specs.Queries.{reads_alias, reads_item, reads_items, reads_group, core_end};
 ghost use Rattle.sql_model.specs.Queries.{core_rest, reads_core};
 

@@ -1,7 +1,7 @@
 //! Sources of a core.
 
 ghost use Rattle.std.specs.Prelude.{◌≡◌};
-ghost use Rattle.sql_parse.specs.Gives.{ReadsPart};
+ghost use Rattle.sql_parse.specs.inner.Gives.{ReadsPart};
 ghost use Rattle.sql_model.specs.Queries.{is_name, names, second_name, reads_source, plain_source};
 ghost use Rattle.sql_model.specs.Queries.{joined_source, another_source, reads_sources};
 

@@ -3,8 +3,8 @@
 ghost use Rattle.std.specs.Prelude.{◌≡◌, IfOk};
 ghost use Rattle.std.specs.Str.{is_utf8};
 ghost use Rattle.ldv_value.specs.Texts.{text_of};
-ghost use Rattle.sql_parse.specs.Gives.{GivesParsed};
-ghost use Rattle.sql_parse.specs.LentTokens.{token_of};
+ghost use Rattle.sql_parse.specs.inner.Gives.{GivesParsed};
+ghost use Rattle.sql_parse.specs.inner.LentTokens.{token_of};
 ghost use Rattle.sql_model.specs.Tokens.{word_token, number_token, text_token, symbol_token};
 
 use crate::error::ParseStop;
@@ -36,7 +36,7 @@ pub(crate) struct Lexeme<'a> {
 
 impl<'a> Model for Lexeme<'a> {
     ghost use Rattle.sql_model.specs.declared.token.Token.{Token};
-    ghost use Rattle.sql_parse.specs.LentTokens.{token_of};
+    ghost use Rattle.sql_parse.specs.inner.LentTokens.{token_of};
 
     ghost Value = { Token };
 

@@ -7,10 +7,10 @@ use Rattle.std.proofs.lemmas.List.{length-set}
 use Rattle.row_version.specs.History.{Change, History, write_at, current_values, version, last_time, IsSorted, IsSortedFrom}
 use Rattle.row_version.proofs.Later.{current_after}
 use Rattle.table_store.specs.Types.{Value}
-use Rattle.table_store.specs.Grid.{Slot, no_slot}
+use Rattle.table_store.specs.inner.Grid.{Slot, no_slot}
 use Rattle.table_store.specs.Histories.{RowHistory, no_history, changed_by, with_change}
-use Rattle.table_store.specs.RowChains.{Chains, changes_or, history_of, histories_of, IsKept, AreChained, IsReady, HasRoom}
-use Rattle.table_store.specs.RowChanges.{change_given, changes_given, RiseFrom, AreReady, AllHaveRoom, HasRow, AllStand, AllThere, AreBefore}
+use Rattle.table_store.specs.inner.RowChains.{Chains, changes_or, history_of, histories_of, IsKept, AreChained, IsReady, HasRoom}
+use Rattle.table_store.specs.inner.RowChanges.{change_given, changes_given, RiseFrom, AreReady, AllHaveRoom, HasRow, AllStand, AllThere, AreBefore}
 use Rattle.table_store.specs.declared.change.RowChange.{RowChange}
 use Rattle.table_store.proofs.RowLaws.{row_is, in_slots, number_is}
 

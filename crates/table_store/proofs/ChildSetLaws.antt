@@ -13,7 +13,7 @@ use Rattle.std.specs.declared.ops.Bound.TheVariants.{Included, Unbounded}
 use Rattle.std.proofs.lemmas.Bool.{cases_lt}
 use Rattle.std.proofs.lemmas.Cmp.{tied_itself}
 use Rattle.ldv_value.proofs.Booleans.{not-so, true≢false}
-use Rattle.table_store.specs.ChildPairs.{IsFirstFrom, has_pair, pair_order}
+use Rattle.table_store.specs.inner.ChildPairs.{IsFirstFrom, has_pair, pair_order}
 
 -- ---- numbers, compared
 

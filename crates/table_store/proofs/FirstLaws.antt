@@ -7,7 +7,7 @@ use Rattle.std.specs.Option.{option_map, option_and_then, option_or}
 use Rattle.std.proofs.lemmas.Bool.{cases_Bool}
 use Rattle.ldv_value.proofs.Booleans.{or-parts}
 use Rattle.sql_model.specs.References.{first_in}
-use Rattle.table_store.specs.Afterwards.{first_some}
+use Rattle.table_store.specs.inner.Afterwards.{first_some}
 
 module _ {X Y : Type 0} (f : X → Option Y) where
   -- ---- a walk over the items

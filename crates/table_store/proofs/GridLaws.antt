@@ -12,7 +12,7 @@ use Rattle.sql_model.specs.Scope.{value_at}
 use Rattle.column_store.specs.Cells.{Cells, is_of_kind}
 use Rattle.table_store.specs.Scans.{null_passes, passes_test}
 use Rattle.column_store.specs.Columns.{values_at, kinds_of, no_cells, AreLong, ArePushed, AreSet, FitColumns}
-use Rattle.table_store.specs.Grid.{Slot, slots_of, slot_of, no_slot, new_slot, IsGrid, IsRising, fits_kinds, slot_null, slot_passes}
+use Rattle.table_store.specs.inner.Grid.{Slot, slots_of, slot_of, no_slot, new_slot, IsGrid, IsRising, fits_kinds, slot_null, slot_passes}
 use Rattle.column_store.proofs.FlagLaws.{same_below}
 
 pub slots_len : (numbers since : List ℕ) (standing : List Bool) (columns : List Cells) → length (slots_of numbers since standing columns) ≡ length numbers

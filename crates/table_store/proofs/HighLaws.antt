@@ -4,7 +4,7 @@ use Rattle.std.specs.Prelude.{◌^◌}
 use Rattle.sql_model.specs.Changes.{numbered_rows}
 use Rattle.sql_model.specs.Keys.{key_at}
 use Rattle.table_store.specs.Types.{Value, RowKey, TableRow}
-use Rattle.table_store.specs.Claims.{high_or}
+use Rattle.table_store.specs.inner.Claims.{high_or}
 use Rattle.table_store.specs.Histories.{RowHistory, rows_now}
 use Rattle.table_store.specs.KeyIndex.{HeldKeys, AreHeld}
 use Rattle.table_store.specs.RowOrder.{AreInOrder}

@@ -6,7 +6,7 @@ use Rattle.std.specs.List.Sorted.{IsNonDecreasingBy}
 use Rattle.std.specs.Option.{option_map_or}
 use Rattle.std.proofs.lemmas.List.Sorted.{IsNonDecreasingBy-short, IsNonDecreasingBy-from_all_adjacent}
 use Rattle.table_store.specs.Histories.{NextSince as Since, last_next_number, last_since, nexts_with}
-use Rattle.table_store.specs.Nexts.{nexts_of, AreInTimeFrom, AreInTime}
+use Rattle.table_store.specs.inner.Nexts.{nexts_of, AreInTimeFrom, AreInTime}
 use Rattle.table_store.specs.declared.nexts.NextSince.{NextSince}
 
 -- ---- the last number

@@ -24,9 +24,9 @@ use Rattle.sql_model.specs.QueryAnswer.{Origin}
 use Rattle.sql_model.specs.References.{has_key, parents_by, parents_in, reference}
 use Rattle.sql_model.specs.Scope.{is_table, table_at}
 use Rattle.sql_model.specs.Tables.{AreWellFormed, are_keys_unique}
-use Rattle.table_store.specs.Afterwards.{is_keyed}
+use Rattle.table_store.specs.inner.Afterwards.{is_keyed}
 use Rattle.table_store.specs.Histories.{RowHistory, StoreHistory, TableHistory, history_at, history_of_row, is_history, is_of_number, no_history, row_now, rows_now, slot_of_row, table_now, tables_now, version_now}
-use Rattle.table_store.specs.ParentRows.{if_stands, last_row_with, member_at, member_now, member_of, number_in, number_of_key, number_put, parent_by, parent_in, parent_number, parents_in_row, unless_given}
+use Rattle.table_store.specs.inner.ParentRows.{if_stands, last_row_with, member_at, member_now, member_of, number_in, number_of_key, number_put, parent_by, parent_in, parent_number, parents_in_row, unless_given}
 use Rattle.table_store.specs.Referring.{CanBePut, IsAtVersion, are_apart, origin_now, parents_now, version_at, with_put}
 use Rattle.table_store.specs.RowOrder.{AreInOrder}
 use Rattle.table_store.specs.Stops.{are_sorted_numbers, are_sorted_rows, has_number, is_among, replaced_by, values_of, with_changed}

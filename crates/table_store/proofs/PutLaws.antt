@@ -17,7 +17,7 @@ use Rattle.sql_model.specs.Meaning.{is_null}
 use Rattle.sql_model.specs.References.{MissingParent, first_in, reference, has_key, missing_key, missing_by, missing_parents}
 use Rattle.sql_model.specs.Scope.{same_text, is_table, table_at}
 use Rattle.sql_model.specs.Tables.{are_keys_unique}
-use Rattle.table_store.specs.Afterwards.{has_values, keeps, has_put, put_missing, missing_put, missing_in_row, missing_in_rows}
+use Rattle.table_store.specs.inner.Afterwards.{has_values, keeps, has_put, put_missing, missing_put, missing_in_row, missing_in_rows}
 use Rattle.table_store.specs.Stops.{replaced_by, is_among, had_rows, are_sorted_rows, with_inserted, with_changed}
 use Rattle.table_store.specs.Types.{Foreign, Table, TableRow, Value}
 use Rattle.table_store.proofs.FirstLaws.{first_flat, first_filter_map, first_agree, first_agree_of, first_map}

@@ -17,7 +17,7 @@ use Rattle.sql_model.specs.ForeignKeys.{fits_place, fits_parent, has_parents, ha
 use Rattle.sql_model.specs.References.{Orphan, has_key, is_lost}
 use Rattle.sql_model.specs.Scope.{is_table, table_at, schema_at, catalog_of}
 use Rattle.sql_model.specs.Tables.{AreWellFormed, are_keys_unique, is_valid_table}
-use Rattle.table_store.specs.Afterwards.{has_values, keeps, has_put, is_keyed, missing_in_rows, loses, orphan_in_tables, refers_to}
+use Rattle.table_store.specs.inner.Afterwards.{has_values, keeps, has_put, is_keyed, missing_in_rows, loses, orphan_in_tables, refers_to}
 use Rattle.table_store.specs.Histories.{StoreHistory, TableHistory, history_at, is_history, table_now}
 use Rattle.table_store.specs.Referring.{parent_stop, child_stop, missing_stop, orphan_stop, is_of}
 use Rattle.table_store.specs.Stops.{is_among, had_rows, are_sorted_rows, with_changed, with_inserted, with_removed, with_replaced}

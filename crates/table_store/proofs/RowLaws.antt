@@ -7,10 +7,10 @@ use Rattle.std.proofs.lemmas.List.{length-map, get_or-map, get_or_past}
 use Rattle.row_version.specs.History.{History, current_values}
 use Rattle.table_store.specs.Types.{Cmp, Value, Null, TableRow}
 use Rattle.table_store.specs.Scans.{null_passes, passes_test}
-use Rattle.table_store.specs.Grid.{Slot, no_slot, new_slot, AreNumberedFrom, next_after, slot_null, slot_passes}
+use Rattle.table_store.specs.inner.Grid.{Slot, no_slot, new_slot, AreNumberedFrom, next_after, slot_null, slot_passes}
 use Rattle.table_store.specs.RowOrder.{AreInOrder}
 use Rattle.table_store.specs.Histories.{RowHistory, no_history, history_of_new_row}
-use Rattle.table_store.specs.RowChains.{Chains, changes_or, history_of, histories_of, IsKept, AreChained}
+use Rattle.table_store.specs.inner.RowChains.{Chains, changes_or, history_of, histories_of, IsKept, AreChained}
 
 pub none_chained : (chains : Chains) → ((q : ℕ) → chains q ≡ None) → AreChained chains [] 0
 none_chained chains none = record {

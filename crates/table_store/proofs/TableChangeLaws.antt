@@ -15,14 +15,14 @@ use Rattle.sql_model.specs.Changes.{numbered_rows}
 use Rattle.sql_model.specs.Needs.{had_row}
 use Rattle.sql_model.specs.References.{reference}
 use Rattle.table_store.specs.Types.{Value, RowKey, Column, Foreign, Schema, Table, TableRow}
-use Rattle.table_store.specs.ChildPairs.{Pairs, AreReferred, IsReferred, KeepPairs, no_foreign}
-use Rattle.table_store.specs.Grid.{next_after}
+use Rattle.table_store.specs.inner.ChildPairs.{Pairs, AreReferred, IsReferred, KeepPairs, no_foreign}
+use Rattle.table_store.specs.inner.Grid.{next_after}
 use Rattle.table_store.specs.Histories.{RowHistory, NextSince, TableHistory, no_history, row_of, row_now, rows_now, row_as_of, rows_as_of, history_of_new_row, with_change, changed_by, row_write, row_delete, rows_with_values, rows_without, last_next_number, last_since, next_as_of, nexts_with, table_now, table_with_rows, table_with_values, table_without}
 use Rattle.table_store.specs.KeyIndex.{HeldKeys, AreHeld, AreIndexed}
-use Rattle.table_store.specs.RowChanges.{removal, rewrite, change_given, changes_given, RiseFrom, AllFitKinds, HasRow, AllStand, AreBefore}
+use Rattle.table_store.specs.inner.RowChanges.{removal, rewrite, change_given, changes_given, RiseFrom, AllFitKinds, HasRow, AllStand, AreBefore}
 use Rattle.table_store.specs.RowOrder.{AreInOrder}
 use Rattle.table_store.specs.Stops.{has_shape, values_of, are_sorted_rows, are_sorted_numbers, replaced_by, is_among, with_inserted, with_replaced, with_removed}
-use Rattle.table_store.specs.RowChains.{RowsHistory}
+use Rattle.table_store.specs.inner.RowChains.{RowsHistory}
 use Rattle.table_store.specs.TableView.{kinds_in, IsTimed, AreTimed, IsStored}
 use Rattle.table_store.specs.declared.change.RowChange.{RowChange}
 use Rattle.table_store.proofs.IndexChangeLaws.{indexed_wider}

@@ -17,7 +17,7 @@ use Rattle.sql_model.specs.Tables.{has_kind, each_value, fits, is_row, numbers_t
 use Rattle.table_store.specs.Types.{Cmp, Value, Null, Int, Text, Column, Table, TableRow}
 use Rattle.column_store.specs.Cells.{is_of_kind}
 use Rattle.table_store.specs.Scans.{passes_test}
-use Rattle.table_store.specs.Grid.{fits_kinds, are_of_kinds, AreNumberedFrom, next_after}
+use Rattle.table_store.specs.inner.Grid.{fits_kinds, are_of_kinds, AreNumberedFrom, next_after}
 use Rattle.table_store.specs.Histories.{RowHistory, no_history, slot_of_row, row_of, row_now, rows_now, is_of_number, history_of_row, version_now, history_of_new_row, table_now}
 use Rattle.table_store.specs.KeyIndex.{HeldKeys, AreHeld, AreIndexed}
 use Rattle.table_store.specs.RowOrder.{AreInOrder}

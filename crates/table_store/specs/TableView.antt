@@ -5,11 +5,11 @@ use Rattle.row_version.specs.History.{IsSorted, last_time}
 use Rattle.table_store.specs.Types.{Column, Schema, Table}
 use Rattle.table_store.specs.Histories.{RowHistory, NextSince, TableHistory, no_history, last_next_number}
 use Rattle.table_store.specs.Histories.{last_since, history_of_new_row, rows_now}
-use Rattle.table_store.specs.ChildPairs.{Pairs, AreReferred, pair_in}
-use Rattle.table_store.specs.IndexView.{held_in}
+use Rattle.table_store.specs.inner.ChildPairs.{Pairs, AreReferred, pair_in}
+use Rattle.table_store.specs.inner.IndexView.{held_in}
 use Rattle.table_store.specs.KeyIndex.{HeldKeys, AreIndexed}
-use Rattle.table_store.specs.Nexts.{nexts_of, AreInTime}
-use Rattle.table_store.specs.RowChains.{RowsHistory}
+use Rattle.table_store.specs.inner.Nexts.{nexts_of, AreInTime}
+use Rattle.table_store.specs.inner.RowChains.{RowsHistory}
 use Rattle.table_store.specs.declared.table.TableStore.TheInside.{Inside}
 
 abbrev pub seen_table : Inside → TableHistory

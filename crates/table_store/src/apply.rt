@@ -4,11 +4,11 @@ ghost use Rattle.std.specs.Prelude.{◌≡◌, ◌==◌, ℕ, ◌+◌, ◌<◌, 
 ghost use Rattle.std.specs.Prelude.{Some, None, OnOk, OnErr, IfOk, IsOk, IsSome, length, map, slice_index_or};
 ghost use Rattle.std.specs.Ordering.{nat_cmp};
 ghost use Rattle.std.specs.BTreeMap.{get};
-ghost use Rattle.table_store.specs.Grid.{no_slot, fits_kinds};
+ghost use Rattle.table_store.specs.inner.Grid.{no_slot, fits_kinds};
 ghost use Rattle.table_store.specs.Histories.{changed_by};
-ghost use Rattle.table_store.specs.RowChains.{AreChained, histories_of, HasRoom, IsReady};
-ghost use Rattle.table_store.specs.RowChanges.{change_given, changes_given, RiseFrom, FitKinds, AllFitKinds};
-ghost use Rattle.table_store.specs.RowChanges.{AreReady};
+ghost use Rattle.table_store.specs.inner.RowChains.{AreChained, histories_of, HasRoom, IsReady};
+ghost use Rattle.table_store.specs.inner.RowChanges.{change_given, changes_given, RiseFrom, FitKinds, AllFitKinds};
+ghost use Rattle.table_store.specs.inner.RowChanges.{AreReady};
 
 use crate::chains::Chains;
 use crate::change::{Copies, RowChange};

@@ -6,7 +6,7 @@ ghost use Rattle.std.specs.Option.{option_map};
 ghost use Rattle.std.specs.Ordering.{nat_cmp};
 ghost use Rattle.std.specs.BTreeMap.{get};
 ghost use Rattle.row_version.specs.History.{write_at, delete_at};
-ghost use Rattle.table_store.specs.RowChains.{IsReady, HasRoom};
+ghost use Rattle.table_store.specs.inner.RowChains.{IsReady, HasRoom};
 
 use ldv_value::Values;
 use row_version::Chain;

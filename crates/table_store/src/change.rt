@@ -1,7 +1,7 @@
 //! Changes that are given for rows: other values, or that a row is dropped.
 
 ghost use Rattle.std.specs.Prelude.{◌≡◌, List, [], ◌∷◌, ◌++◌, map, IfOk};
-ghost use Rattle.table_store.specs.RowChanges.{removal, rewrite};
+ghost use Rattle.table_store.specs.inner.RowChanges.{removal, rewrite};
 
 use ldv_value::Values;
 use sql_model::{TableRow, TableRows};

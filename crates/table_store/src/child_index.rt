@@ -3,8 +3,8 @@
 ghost use Rattle.std.specs.Prelude.{◌≡◌, ◌<◌, ℕ, List, true, false, OnOk, IfOk, IfSome, length};
 ghost use Rattle.std.specs.Prelude.{slice_index_or};
 ghost use Rattle.sql_model.specs.References.{reference};
-ghost use Rattle.table_store.specs.ChildPairs.{no_foreign, pair_in, AreReferred, IsFirstFrom, IsReferred};
-ghost use Rattle.table_store.specs.ChildPairs.{KeepBut, KeepPairs, StayReferred};
+ghost use Rattle.table_store.specs.inner.ChildPairs.{no_foreign, pair_in, AreReferred, IsFirstFrom, IsReferred};
+ghost use Rattle.table_store.specs.inner.ChildPairs.{KeepBut, KeepPairs, StayReferred};
 ghost use Rattle.table_store.specs.Histories.{no_history, rows_now};
 ghost use Rattle.table_store.specs.Types.{Foreign, Value};
 

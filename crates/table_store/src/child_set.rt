@@ -2,7 +2,7 @@
 
 ghost use Rattle.std.specs.Prelude.{◌≡◌, ℕ, true, false, OnOk, if◌then◌else◌, Some, None};
 ghost use Rattle.std.specs.Ordering.{is_eq, nat_cmp, ordering_then};
-ghost use Rattle.table_store.specs.ChildPairs.{has_pair, IsFirstFrom};
+ghost use Rattle.table_store.specs.inner.ChildPairs.{has_pair, IsFirstFrom};
 
 use std::alloc::{AllocError, Global};
 use std::cmp::Ord;

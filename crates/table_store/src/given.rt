@@ -2,7 +2,7 @@
 
 ghost use Rattle.std.specs.Prelude.{◌≡◌, ◌==◌, List, IfOk, map, true};
 ghost use Rattle.std.specs.List.{list_any};
-ghost use Rattle.table_store.specs.Afterwards.{has_values, in_set};
+ghost use Rattle.table_store.specs.inner.Afterwards.{has_values, in_set};
 ghost use Rattle.table_store.specs.Stops.{are_sorted_numbers};
 ghost use Rattle.table_store.specs.Types.{Value};
 

@@ -11,8 +11,8 @@ ghost use Rattle.table_store.specs.Types.{Null};
 ghost use Rattle.sql_model.specs.Keys.{values_at};
 ghost use Rattle.sql_model.specs.Scope.{value_at};
 ghost use Rattle.column_store.specs.LentCells.{lent_value};
-ghost use Rattle.table_store.specs.Grid.{IsRising, Slot, no_slot, fits_kinds, are_of_kinds, AreNumberedFrom};
-ghost use Rattle.table_store.specs.Grid.{next_after, new_slot, slot_null, slot_passes};
+ghost use Rattle.table_store.specs.inner.Grid.{IsRising, Slot, no_slot, fits_kinds, are_of_kinds, AreNumberedFrom};
+ghost use Rattle.table_store.specs.inner.Grid.{next_after, new_slot, slot_null, slot_passes};
 
 use crate::push::push_rows;
 use crate::scan::{keep_nulls_at, select};
@@ -38,11 +38,11 @@ pub(crate) struct Grid {
 }
 
 impl Model for Grid {
-    ghost use Rattle.table_store.specs.Grid.{Rows};
+    ghost use Rattle.table_store.specs.inner.Grid.{Rows};
 
     ghost Value = { Rows };
 
-    ghost use Rattle.table_store.specs.Grid.{seen_rows, IsTable};
+    ghost use Rattle.table_store.specs.inner.Grid.{seen_rows, IsTable};
 
     ghost view = { seen_rows };
 

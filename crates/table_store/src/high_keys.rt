@@ -3,7 +3,7 @@
 ghost use Rattle.std.specs.Prelude.{◌≡◌, cond, None, Some, OnOk, OnErr};
 ghost use Rattle.std.specs.BTreeMap.{is_at};
 ghost use Rattle.sql_model.specs.KeyOrder.{key_order};
-ghost use Rattle.table_store.specs.HighKeys.{high_in};
+ghost use Rattle.table_store.specs.inner.HighKeys.{high_in};
 ghost use Rattle.table_store.specs.Types.{RowKey};
 
 use sql_model::RowKey;

@@ -11,7 +11,7 @@ ghost use Rattle.sql_model.specs.KeyOrder.{key_order};
 ghost use Rattle.sql_model.specs.Keys.{values_at, key_at};
 ghost use Rattle.sql_model.specs.Tables.{are_keys_unique};
 ghost use Rattle.table_store.specs.Histories.{rows_now, row_now, no_history};
-ghost use Rattle.table_store.specs.IndexView.{held_as, held_in};
+ghost use Rattle.table_store.specs.inner.IndexView.{held_as, held_in};
 ghost use Rattle.table_store.specs.KeyIndex.{has_key, int_of, int_key, last_under, AreHeld, AreIndexed};
 
 use crate::key_map::KeyMap;

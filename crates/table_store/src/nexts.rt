@@ -2,7 +2,7 @@
 
 ghost use Rattle.std.specs.Prelude.{◌≡◌, List, [], ◌∷◌, IfOk};
 ghost use Rattle.table_store.specs.Histories.{last_next_number, last_since, next_as_of};
-ghost use Rattle.table_store.specs.Nexts.{nexts_of, AreInTime};
+ghost use Rattle.table_store.specs.inner.Nexts.{nexts_of, AreInTime};
 
 use std::alloc::{AllocError, Global};
 

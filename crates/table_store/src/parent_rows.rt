@@ -3,11 +3,11 @@
 ghost use Rattle.std.specs.Prelude.{◌≡◌, ◌++◌, ◌<◌, List, Some, IfOk, IfSome, OnOk, length, true};
 ghost use Rattle.std.specs.List.{AllByRecursion, flat_map, list_all};
 ghost use Rattle.sql_model.specs.Scope.{table_at};
-ghost use Rattle.table_store.specs.Afterwards.{is_keyed};
+ghost use Rattle.table_store.specs.inner.Afterwards.{is_keyed};
 ghost use Rattle.table_store.specs.Histories.{history_at, table_now, tables_now};
-ghost use Rattle.table_store.specs.ParentRows.{last_row_with, member_at, member_of, number_in, number_of_key};
-ghost use Rattle.table_store.specs.ParentRows.{number_put, parent_by, parent_in, parent_number};
-ghost use Rattle.table_store.specs.ParentRows.{parents_in_row, unless_given};
+ghost use Rattle.table_store.specs.inner.ParentRows.{last_row_with, member_at, member_of, number_in, number_of_key};
+ghost use Rattle.table_store.specs.inner.ParentRows.{number_put, parent_by, parent_in, parent_number};
+ghost use Rattle.table_store.specs.inner.ParentRows.{parents_in_row, unless_given};
 ghost use Rattle.table_store.specs.Referring.{are_apart, parents_now, CanBePut, IsAtVersion};
 ghost use Rattle.table_store.specs.Stops.{are_sorted_numbers};
 ghost use Rattle.table_store.specs.Types.{Value};

@@ -3,8 +3,8 @@
 ghost use Rattle.std.specs.Prelude.{◌≡◌, ℕ, ◌+◌, ◌^◌, ◌<◌, ◌≤◌, Bool, true, List, [], ◌∷◌, ◌++◌, length, map};
 ghost use Rattle.std.specs.Prelude.{slice_index_or, vec_len, vec_capacity, IsOk, IfOk};
 ghost use Rattle.column_store.specs.Columns.{no_cells, kinds_of};
-ghost use Rattle.table_store.specs.Grid.{IsGrid, slots_of, new_slot, fits_kinds};
-ghost use Rattle.table_store.specs.Grid.{are_of_kinds, AreNumberedFrom, next_after};
+ghost use Rattle.table_store.specs.inner.Grid.{IsGrid, slots_of, new_slot, fits_kinds};
+ghost use Rattle.table_store.specs.inner.Grid.{are_of_kinds, AreNumberedFrom, next_after};
 
 use column_store::{Bits, Column, push_cells};
 use sql_model::{TableRow, TableRows};

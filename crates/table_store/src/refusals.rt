@@ -3,7 +3,7 @@
 ghost use Rattle.std.specs.Prelude.{◌≡◌, ◌==◌, None, Some, IfOk, if◌then◌else◌, length, true};
 ghost use Rattle.std.specs.Option.{option_map, option_or};
 ghost use Rattle.sql_model.specs.Changes.{numbered_rows};
-ghost use Rattle.table_store.specs.Afterwards.{in_set, loses, orphan_in_tables};
+ghost use Rattle.table_store.specs.inner.Afterwards.{in_set, loses, orphan_in_tables};
 ghost use Rattle.table_store.specs.Histories.{history_at, table_now, tables_now};
 ghost use Rattle.table_store.specs.Referring.{child_stop, is_of, missing_stop, orphan_stop};
 ghost use Rattle.table_store.specs.Stops.{all_stand, had_rows, are_sorted_numbers, are_sorted_rows};

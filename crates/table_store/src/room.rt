@@ -4,9 +4,9 @@ ghost use Rattle.std.specs.Prelude.{◌≡◌, ◌==◌, ℕ, ◌+◌, ◌<◌, 
 ghost use Rattle.std.specs.Prelude.{Some, None, OnOk, OnErr, IfOk, IsSome, length, slice_index_or};
 ghost use Rattle.std.specs.Ordering.{nat_cmp};
 ghost use Rattle.std.specs.BTreeMap.{get};
-ghost use Rattle.table_store.specs.Grid.{no_slot};
-ghost use Rattle.table_store.specs.RowChains.{AreChained, histories_of, HasRoom};
-ghost use Rattle.table_store.specs.RowChanges.{IsThere, AllThere, AllHaveRoom};
+ghost use Rattle.table_store.specs.inner.Grid.{no_slot};
+ghost use Rattle.table_store.specs.inner.RowChains.{AreChained, histories_of, HasRoom};
+ghost use Rattle.table_store.specs.inner.RowChanges.{IsThere, AllThere, AllHaveRoom};
 
 use crate::chains::Chains;
 use crate::change::RowChange;

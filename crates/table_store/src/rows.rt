@@ -13,9 +13,9 @@ ghost use Rattle.column_store.specs.LentCells.{lent_value};
 ghost use Rattle.table_store.specs.Scans.{null_passes, passes_test};
 ghost use Rattle.table_store.specs.Types.{Null};
 ghost use Rattle.row_version.specs.History.{write_at, current_values, as_of, version};
-ghost use Rattle.table_store.specs.Grid.{are_of_kinds, AreNumberedFrom, next_after};
+ghost use Rattle.table_store.specs.inner.Grid.{are_of_kinds, AreNumberedFrom, next_after};
 ghost use Rattle.table_store.specs.Histories.{history_of_new_row, changed_by, no_history};
-ghost use Rattle.table_store.specs.RowChanges.{changes_given, RiseFrom, AllFitKinds, AllStand, AreBefore};
+ghost use Rattle.table_store.specs.inner.RowChanges.{changes_given, RiseFrom, AllFitKinds, AllStand, AreBefore};
 ghost use Rattle.table_store.specs.RowOrder.{AreInOrder};
 
 use crate::apply::apply_all;
@@ -38,11 +38,11 @@ pub(crate) struct Rows {
 }
 
 impl Model for Rows {
-    ghost use Rattle.table_store.specs.RowChains.{RowsHistory};
+    ghost use Rattle.table_store.specs.inner.RowChains.{RowsHistory};
 
     ghost Value = { RowsHistory };
 
-    ghost use Rattle.table_store.specs.RowChains.{seen_histories, IsRows};
+    ghost use Rattle.table_store.specs.inner.RowChains.{seen_histories, IsRows};
 
     ghost view = { seen_histories };
 

@@ -18,7 +18,7 @@ use Rattle.sql_model.specs.SqlNames.{sql_name_test}
 use Rattle.sql_model.specs.Tables.{column_names_test}
 use Rattle.sql_model.specs.declared.table.Column.{Column}
 use Rattle.world_json.specs.Faults.{is_key_named, is_foreign_named, is_table_named}
-use Rattle.world_json.specs.NameSets.{Names, is_known, is_key_known, is_foreign_known, is_parent_known, are_keys_known, is_table_known}
+use Rattle.world_json.specs.inner.NameSets.{Names, is_known, is_key_known, is_foreign_known, is_parent_known, are_keys_known, is_table_known}
 use Rattle.world_json.specs.declared.document.Draft.{Draft}
 use Rattle.world_json.specs.declared.document.DraftForeign.{DraftForeign}
 

@@ -4,7 +4,7 @@ use Rattle.std.specs.List.{list_all}
 use Rattle.ldv_value.specs.Limits.{max_rows}
 use Rattle.ldv_value.specs.declared.value.Value.{Value}
 use Rattle.sql_model.specs.declared.table.TableRow.{TableRow}
-use Rattle.world_json.specs.Numbers.{AreNumberedFrom}
+use Rattle.world_json.specs.inner.Numbers.{AreNumberedFrom}
 use Rattle.world_json.specs.Reading.{numbered_from}
 
 abbrev pub values_of : List TableRow → List (List Value)

@@ -12,7 +12,7 @@ use Rattle.run_model.specs.ValidWorld.{all_of_file, all_of_row, all_of_table, Ty
 use Rattle.run_model.specs.declared.world.World.{World}
 use Rattle.world_json.specs.Faults.{foreign_key, foreign_keys, is_next_right, is_table_within, is_within}
 use Rattle.world_json.specs.Reading.{numbered_from, table_as, world_as}
-use Rattle.world_json.specs.Typed.{TypedDraft, TypedDocument}
+use Rattle.world_json.specs.inner.Typed.{TypedDraft, TypedDocument}
 use Rattle.world_json.specs.declared.document.Document.{Document}
 use Rattle.world_json.specs.declared.document.Draft.{Draft}
 

@@ -6,7 +6,7 @@ ghost use Rattle.std.specs.Str.{IsUtf8};
 ghost use Rattle.run_model.specs.TypedPackage.{TypedColumn};
 ghost use Rattle.serde_json.specs.View.{view, items_view};
 ghost use Rattle.world_json.specs.Shape.{column_from, kind_of, column_as, foreign_in, foreign_of_two};
-ghost use Rattle.world_json.specs.Typed.{TypedDraftForeign};
+ghost use Rattle.world_json.specs.inner.Typed.{TypedDraftForeign};
 
 use crate::document::DraftForeign;
 use crate::shape::{FromItem, ShapeStop, name_of_text, read_array};
@@ -70,7 +70,7 @@ impl FromItem for Column {
 
 impl FromItem for DraftForeign {
     ghost use Rattle.world_json.specs.Shape.{foreign_of};
-    ghost use Rattle.world_json.specs.Typed.{TypedDraftForeign};
+    ghost use Rattle.world_json.specs.inner.Typed.{TypedDraftForeign};
 
     ghost of_item = { foreign_of };
 

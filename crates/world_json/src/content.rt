@@ -13,7 +13,7 @@ use std::alloc::Global;
 
 impl FromMember for File {
     ghost use Rattle.world_json.specs.Shape.{file_of};
-    ghost use Rattle.world_json.specs.Typed.{TypedDocumentFile};
+    ghost use Rattle.world_json.specs.inner.Typed.{TypedDocumentFile};
 
     ghost of_member = { file_of };
 

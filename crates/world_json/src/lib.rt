@@ -10,7 +10,7 @@
 //! - both are valid worlds, and can be run (`ValidWorld` and `CanRun` of `run_model/specs/ValidWorld.antt`).
 //!
 //! That numbers are those of their types and texts are UTF-8 is said by each call that makes them
-//! (`specs/Typed.antt`), since clauses range over all numbers and lists.
+//! (`specs/inner/Typed.antt`), since clauses range over all numbers and lists.
 //!
 //! The definitions: `specs/Shape.antt` has the members of a document and their types, `specs/Faults.antt`
 //! a test for each later fault, by the rules for tables of sql_model's `specs/Tables.antt`, and

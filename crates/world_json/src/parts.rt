@@ -8,7 +8,7 @@ ghost use Rattle.serde_json.specs.View.{view, members_view};
 ghost use Rattle.world_json.specs.Shape.{array_of, object_of, required_member, optional_member, whole_of, file_of};
 ghost use Rattle.world_json.specs.Shape.{is_width, table_from, table_in, table_of};
 ghost use Rattle.world_json.specs.Shape.{document_from, document_in, document_of};
-ghost use Rattle.world_json.specs.Typed.{TypedDocument, TypedDocumentFile, TypedDraft};
+ghost use Rattle.world_json.specs.inner.Typed.{TypedDocument, TypedDocumentFile, TypedDraft};
 
 use crate::document::{Document, Draft, DraftForeigns, Drafts};
 use crate::members::{has_only, take_member};
@@ -103,7 +103,7 @@ fn have_width(rows: &[TableRow], width: usize) -> bool
 
 impl FromMember for Draft {
     ghost use Rattle.world_json.specs.Shape.{table_of};
-    ghost use Rattle.world_json.specs.Typed.{TypedDraft};
+    ghost use Rattle.world_json.specs.inner.Typed.{TypedDraft};
 
     ghost of_member = { table_of };
 

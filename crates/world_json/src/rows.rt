@@ -24,7 +24,7 @@ pub(crate) struct NumberedRows {
 impl Model for NumberedRows {
     ghost use Rattle.std.specs.Prelude.{List, map};
     ghost use Rattle.ldv_value.specs.declared.value.Value.{Value as Cell};
-    ghost use Rattle.world_json.specs.Numbers.{AreNumberedFrom};
+    ghost use Rattle.world_json.specs.inner.Numbers.{AreNumberedFrom};
 
     ghost Value = { List (List Cell) };
 

@@ -5,8 +5,8 @@ ghost use Rattle.std.specs.List.{list_all, list_any};
 ghost use Rattle.ldv_value.specs.Names.{path_test};
 ghost use Rattle.sql_model.specs.Scope.{same_text, has_column};
 ghost use Rattle.world_json.specs.Faults.{is_named, is_table_named, is_start_named};
-ghost use Rattle.world_json.specs.NameSets.{is_known, is_key_known, is_foreign_known, are_keys_known};
-ghost use Rattle.world_json.specs.NameSets.{is_table_known};
+ghost use Rattle.world_json.specs.inner.NameSets.{is_known, is_key_known, is_foreign_known, are_keys_known};
+ghost use Rattle.world_json.specs.inner.NameSets.{is_table_known};
 
 use crate::document::{Document, Draft, DraftForeign, DraftForeigns, Drafts};
 use ldv_value::{Files, Names, Words, is_path};

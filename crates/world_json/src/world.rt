@@ -8,7 +8,7 @@ ghost use Rattle.world_json.specs.Faults.{is_within, is_table_within};
 ghost use Rattle.world_json.specs.Reading.{world_reading, reading_of_json, reading_of, referring_of, have_references};
 ghost use Rattle.world_json.specs.Reading.{world_as, table_as, IsFaultOf};
 ghost use Rattle.world_json.specs.SortedWorld.{is_sorted_world};
-ghost use Rattle.world_json.specs.Typed.{TypedDocument};
+ghost use Rattle.world_json.specs.inner.Typed.{TypedDocument};
 
 use crate::document::{Document, Draft, Drafts};
 use crate::fault::{WorldFault, WorldStop};

@@ -1,6 +1,6 @@
 use Rattle.std.proofs.Common.{List, subst, Option}
 use Rattle.std.specs.Prelude.{IfSome}
-use Rattle.dml_versions.specs.Fixing.{FixesKey}
+use Rattle.dml_versions.specs.inner.Fixing.{FixesKey}
 use Rattle.dml_versions.specs.Types.{Schema, Value}
 use Rattle.dml_versions.proofs.finding.found_rows.Goals as goal
 

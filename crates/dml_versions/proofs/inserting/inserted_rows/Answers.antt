@@ -5,7 +5,7 @@ use Rattle.dml_versions.proofs.CheckLaws.{values-plain}
 use Rattle.dml_versions.proofs.EntryLaws.{check-of, there-of}
 use Rattle.dml_versions.proofs.MadeLaws.{rows-new}
 use Rattle.dml_versions.proofs.TableLaws.{history-some}
-use Rattle.dml_versions.specs.Making.{values_from, places_given}
+use Rattle.dml_versions.specs.inner.Making.{values_from, places_given}
 use Rattle.dml_versions.specs.Types.{TheInsert, Column, Schema}
 use Rattle.dml_versions.proofs.inserting.inserted_rows.Goals as goal
 

@@ -4,7 +4,7 @@ use Rattle.core_parts.proofs.Lists.{IfSome-weaker}
 use Rattle.core_parts.specs.Fixing.{FixesKey as FixesBy}
 use Rattle.core_parts.specs.declared.placed.BoundExpr.{BoundExpr}
 use Rattle.dml_versions.proofs.FixingLaws.{key-fixed}
-use Rattle.dml_versions.specs.Fixing.{FixesKey}
+use Rattle.dml_versions.specs.inner.Fixing.{FixesKey}
 use Rattle.dml_versions.proofs.keys.key_by.Goals as goal
 
 pub returns : goal.returns

@@ -1,6 +1,6 @@
 use Rattle.std.proofs.Common.{◌≡◌, ◌++◌, map, length}
 use Rattle.std.specs.List.{AllByRecursion}
-use Rattle.dml_versions.specs.Making.{ArePlain, value_from}
+use Rattle.dml_versions.specs.inner.Making.{ArePlain, value_from}
 use Rattle.dml_versions.proofs.rows.given_rows.Given as goal
 
 abbrev pub invariant-loop-left : goal.invariant-loop-left

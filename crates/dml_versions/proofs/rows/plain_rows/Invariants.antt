@@ -1,7 +1,7 @@
 use Rattle.std.proofs.Common.{◌≡◌, ◌++◌, map, length}
 use Rattle.std.specs.List.{AllByRecursion}
 use Rattle.sql_model.specs.Changes.{plain_value}
-use Rattle.dml_versions.specs.Making.{ArePlain}
+use Rattle.dml_versions.specs.inner.Making.{ArePlain}
 use Rattle.dml_versions.proofs.rows.plain_rows.Given as goal
 
 abbrev pub invariant-loop-left : goal.invariant-loop-left

@@ -1,6 +1,6 @@
 use Rattle.std.proofs.Common.{◌≡◌, ◌++◌, map, length}
 use Rattle.sql_model.specs.Changes.{plain_value}
-use Rattle.dml_versions.specs.Making.{ArePlain}
+use Rattle.dml_versions.specs.inner.Making.{ArePlain}
 use Rattle.dml_versions.proofs.rows.plain_values.Given as goal
 
 abbrev pub invariant-loop-left : goal.invariant-loop-left

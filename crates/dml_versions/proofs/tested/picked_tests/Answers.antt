@@ -1,6 +1,6 @@
 use Rattle.std.proofs.Common.{subst, sym, Option}
 use Rattle.dml_versions.proofs.TestLaws.{no_tests, no_tests_exact}
-use Rattle.dml_versions.specs.Testing.{AreTests, AreExactTests}
+use Rattle.dml_versions.specs.inner.Testing.{AreTests, AreExactTests}
 use Rattle.dml_versions.specs.Types.{Expr}
 use Rattle.dml_versions.proofs.tested.picked_tests.Goals as goal
 

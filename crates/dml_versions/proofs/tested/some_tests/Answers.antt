@@ -1,7 +1,7 @@
 use Rattle.std.proofs.Common.{◌≡◌, ◌∙◌, sym, ap, subst, List, map}
 use Rattle.core_parts.specs.Masking.{AreMasks}
 use Rattle.core_parts.specs.declared.placed.BoundExpr.{BoundExpr}
-use Rattle.dml_versions.specs.Testing.{column_test}
+use Rattle.dml_versions.specs.inner.Testing.{column_test}
 use Rattle.dml_versions.proofs.tested.some_tests.Goals as goal
 
 pub returns-clause-tests : goal.returns-clause-tests

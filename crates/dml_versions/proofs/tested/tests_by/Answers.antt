@@ -6,7 +6,7 @@ use Rattle.core_parts.specs.Masking.{AreMasks, AreExact}
 use Rattle.core_parts.specs.declared.placed.BoundExpr.{BoundExpr}
 use Rattle.core_parts.specs.declared.mask.Mask.{Mask}
 use Rattle.dml_versions.proofs.TestLaws.{tests-are, exact-tests, exact-match, value-is}
-use Rattle.dml_versions.specs.Testing.{AreTests, AreExactTests, column_test}
+use Rattle.dml_versions.specs.inner.Testing.{AreTests, AreExactTests, column_test}
 use Rattle.dml_versions.specs.declared.tested.WhereTests.{WhereTests}
 use Rattle.dml_versions.proofs.tested.tests_by.Goals as goal
 

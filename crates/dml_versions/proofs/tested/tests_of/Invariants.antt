@@ -1,5 +1,5 @@
 use Rattle.std.proofs.Common.{◌≡◌, ◌++◌, map, drop}
-use Rattle.dml_versions.specs.Testing.{column_test}
+use Rattle.dml_versions.specs.inner.Testing.{column_test}
 use Rattle.dml_versions.proofs.tested.tests_of.Given as goal
 
 abbrev pub invariant-loop-mask : goal.invariant-loop-mask

@@ -1,5 +1,5 @@
 use Rattle.std.proofs.Common.{◌≡◌, map, take}
-use Rattle.dml_versions.specs.Making.{place_set}
+use Rattle.dml_versions.specs.inner.Making.{place_set}
 use Rattle.dml_versions.proofs.updates.sources_set.Given as goal
 
 abbrev pub invariant-loop-column : goal.invariant-loop-column

@@ -1,6 +1,6 @@
 use Rattle.std.proofs.Common.{◌≡◌, ◌++◌, List, length}
 use Rattle.sql_model.specs.Scope.{InScope}
-use Rattle.dml_versions.specs.Making.{AreSetsPlaced, value_by_set, values_by_set}
+use Rattle.dml_versions.specs.inner.Making.{AreSetsPlaced, value_by_set, values_by_set}
 use Rattle.std.specs.Prelude.{map, zip}
 use Rattle.dml_versions.proofs.updates.updated_values.Given as goal
 

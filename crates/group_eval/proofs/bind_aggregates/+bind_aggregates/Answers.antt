@@ -2,7 +2,7 @@ use Rattle.std.proofs.Common.{rules, ◌≡◌, map, drop, List, ℕ, refl}
 use Rattle.std.proofs.lemmas.Result.{IfOk-weaker}
 use Rattle.lineage.specs.declared.answer.Pick.{Pick}
 use Rattle.group_eval.proofs.SettleLaws.{as_forms}
-use Rattle.group_eval.specs.Settling.{SettlesTo}
+use Rattle.group_eval.specs.inner.Settling.{SettlesTo}
 use Rattle.sql_model.specs.declared.expr.Expr.TheVariants.{Aggregate}
 use Rattle.group_eval.proofs.bind_aggregates.+bind_aggregates.Goals as goal
 

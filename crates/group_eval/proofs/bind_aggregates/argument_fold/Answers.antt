@@ -2,7 +2,7 @@ use Rattle.std.proofs.Common.{◌≡◌, ◌∙◌, ap, sym, map, List}
 use Rattle.std.proofs.lemmas.Result.{IfOk-weaker}
 use Rattle.lineage.specs.declared.answer.Pick.{Pick}
 use Rattle.group_eval.proofs.ColumnLaws.{values_at_place}
-use Rattle.group_eval.specs.Columns.{known_column}
+use Rattle.group_eval.specs.inner.Columns.{known_column}
 use Rattle.group_eval.specs.Folding.{value_over}
 use Rattle.group_eval.specs.Types.{Value}
 use Rattle.sql_model.specs.Kinds.{names_in}

@@ -4,7 +4,7 @@ use Rattle.std.proofs.lemmas.List.{length-map}
 use Rattle.std.proofs.lemmas.Result.{IfOk-weaker}
 use Rattle.lineage.specs.declared.answer.Pick.{Pick}
 use Rattle.group_eval.proofs.SettleLaws.{settle-Count}
-use Rattle.group_eval.specs.Settling.{SettlesTo}
+use Rattle.group_eval.specs.inner.Settling.{SettlesTo}
 use Rattle.group_eval.specs.Types.{Expr}
 use Rattle.sql_model.specs.Meaning.{number_value}
 use Rattle.sql_model.specs.declared.expr.Expr.TheVariants.{Constant, Aggregate}

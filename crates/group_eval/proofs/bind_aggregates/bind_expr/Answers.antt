@@ -1,7 +1,7 @@
 use Rattle.std.proofs.Common.{map, drop, List, ℕ, subst}
 use Rattle.lineage.specs.declared.answer.Pick.{Pick}
 use Rattle.group_eval.proofs.SettleLaws.{settled_is}
-use Rattle.group_eval.specs.Settling.{SettlesTo}
+use Rattle.group_eval.specs.inner.Settling.{SettlesTo}
 use Rattle.group_eval.specs.Types.{Expr}
 use Rattle.group_eval.proofs.bind_aggregates.bind_expr.Goals as goal
 

@@ -1,5 +1,5 @@
 use Rattle.std.proofs.Common.{◌≡◌, ◌++◌, drop, map}
-use Rattle.group_eval.specs.Columns.{known_column}
+use Rattle.group_eval.specs.inner.Columns.{known_column}
 use Rattle.group_eval.proofs.columns.column_values.Given as goal
 
 abbrev pub invariant-loop-pick : goal.invariant-loop-pick

@@ -1,5 +1,5 @@
 use Rattle.std.proofs.Common.{◌≡◌, List, ◌++◌, drop, map}
-use Rattle.group_eval.specs.Columns.{IsKnown}
+use Rattle.group_eval.specs.inner.Columns.{IsKnown}
 use Rattle.group_eval.specs.Evaluating.{item_values}
 use Rattle.core_parts.specs.Placing.{AreAllPlaced}
 use Rattle.sql_model.specs.Scope.{InScope}

@@ -1,7 +1,7 @@
 use Rattle.std.proofs.Common.{◌≡◌, ◌∙◌, ◌++◌, sym, ap, subst, List, ℕ, OnOk, append-nil, arith, length, ◌<◌, ◌≤◌}
 use Rattle.run_model.specs.OutcomeText.{name_text}
 use Rattle.inspect.specs.ProcessNames.{name_in}
-use Rattle.inspect.specs.ProcessPlaces.{named_of}
+use Rattle.inspect.specs.inner.ProcessPlaces.{named_of}
 use Rattle.inspect.proofs.PlaceLaws.{no_name, name_there}
 use Rattle.inspect.proofs.process_names.append_made.Goals as goal
 

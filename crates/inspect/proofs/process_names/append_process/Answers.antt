@@ -1,8 +1,8 @@
 use Rattle.std.proofs.Common.{◌≡◌, ◌∙◌, ◌++◌, sym, ap, subst, List, OnOk}
 use Rattle.inspect.specs.declared.process_names.Made.{Made}
-use Rattle.inspect.specs.Named.{NamedProcess}
+use Rattle.inspect.specs.inner.Named.{NamedProcess}
 use Rattle.inspect.specs.ProcessNames.{name_in}
-use Rattle.inspect.specs.ProcessPlaces.{ComeAfter, named_of}
+use Rattle.inspect.specs.inner.ProcessPlaces.{ComeAfter, named_of}
 use Rattle.inspect.proofs.process_names.append_process.Goals as goal
 
 pub append_made-requires : goal.append_made-requires

@@ -1,6 +1,6 @@
 use Rattle.std.proofs.Common.{◌≡◌, ◌∙◌, ◌<◌, ◌++◌, subst, arith, ℕ, List, reverse}
 use Rattle.inspect.specs.declared.process_names.Made.{Made}
-use Rattle.inspect.specs.ProcessPlaces.{name_at}
+use Rattle.inspect.specs.inner.ProcessPlaces.{name_at}
 use Rattle.inspect.proofs.PlaceLaws.{goes_up, step_up}
 use Rattle.inspect.proofs.process_names.numbers_above.Goals as goal
 

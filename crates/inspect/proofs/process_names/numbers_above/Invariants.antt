@@ -1,6 +1,6 @@
 -- The name at the place that was reached, with the numbers so far from the last to the first, is the whole name.
 use Rattle.std.proofs.Common.{◌≡◌, ◌<◌, ◌++◌, length, reverse}
-use Rattle.inspect.specs.ProcessPlaces.{name_at}
+use Rattle.inspect.specs.inner.ProcessPlaces.{name_at}
 use Rattle.inspect.proofs.process_names.numbers_above.Given as goal
 
 abbrev pub invariant-loop-at : goal.invariant-loop-at

@@ -1,7 +1,7 @@
 use Rattle.std.proofs.Common.{◌≡◌, ◌∙◌, ◌+◌, ◌∷◌, sym, ap, subst, drop, ℕ, List}
 use Rattle.ldv_value.proofs.Places.{drop_item}
 use Rattle.inspect.specs.Types.{Event, NamedProcess}
-use Rattle.inspect.specs.ChildRoom.{HaveRoom, all_births}
+use Rattle.inspect.specs.inner.ChildRoom.{HaveRoom, all_births}
 use Rattle.inspect.specs.ProcessNames.{named_after, named_with}
 use Rattle.inspect.proofs.ChildLaws.{room_after}
 use Rattle.inspect.proofs.process_names.processes_within.Goals as goal

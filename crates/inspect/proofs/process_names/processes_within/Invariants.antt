@@ -1,5 +1,5 @@
 use Rattle.std.proofs.Common.{◌≡◌, drop}
-use Rattle.inspect.specs.ChildRoom.{HaveRoom, all_births}
+use Rattle.inspect.specs.inner.ChildRoom.{HaveRoom, all_births}
 use Rattle.inspect.specs.ProcessNames.{named_with, processes_of}
 use Rattle.inspect.proofs.process_names.processes_within.Given as goal
 

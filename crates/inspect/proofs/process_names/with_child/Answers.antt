@@ -1,10 +1,10 @@
 use Rattle.std.proofs.Common.{◌∙◌, sym, ap, refl, subst, List}
 use Rattle.std.specs.Prelude.{slice_get}
 use Rattle.inspect.specs.declared.process_names.Made.{Made}
-use Rattle.inspect.specs.Named.{NamedProcess}
-use Rattle.inspect.specs.ChildRoom.{HaveRoom}
+use Rattle.inspect.specs.inner.Named.{NamedProcess}
+use Rattle.inspect.specs.inner.ChildRoom.{HaveRoom}
 use Rattle.inspect.specs.ProcessNames.{with_child}
-use Rattle.inspect.specs.ProcessPlaces.{ComeAfter, named_of}
+use Rattle.inspect.specs.inner.ProcessPlaces.{ComeAfter, named_of}
 use Rattle.inspect.proofs.PlaceLaws.{may_grow, named_with, with_after}
 use Rattle.inspect.proofs.process_names.with_child.Goals as goal
 

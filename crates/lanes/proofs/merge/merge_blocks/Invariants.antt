@@ -1,5 +1,5 @@
 use Rattle.std.proofs.Common.{◌≤◌, length, ◌-◌}
-use Rattle.lanes.specs.Merged.{IsMergedTo}
+use Rattle.lanes.specs.inner.Merged.{IsMergedTo}
 use Rattle.lanes.proofs.merge.merge_blocks.Given as goal
 
 abbrev pub invariant-eights : goal.invariant-eights

@@ -1,5 +1,5 @@
 use Rattle.std.proofs.Common.{List, ℕ}
-use Rattle.lanes.specs.Merged.{IsMergedTo}
+use Rattle.lanes.specs.inner.Merged.{IsMergedTo}
 use Rattle.lanes.proofs.merge.merge_rest.Given as goal
 
 abbrev pub invariant-loop-place : goal.invariant-loop-place

@@ -1,5 +1,5 @@
 use Rattle.std.proofs.Common.{◌≡◌, ℕ, length, subst, arith, bit_and}
-use Rattle.lanes.specs.Merged.{IsMergedTo}
+use Rattle.lanes.specs.inner.Merged.{IsMergedTo}
 use Rattle.lanes.proofs.SetLaws.{intersection_is}
 use Rattle.lanes.proofs.plain.plain_and_into.Goals as goal
 

@@ -1,5 +1,5 @@
 use Rattle.std.proofs.Common.{bit_and}
-use Rattle.lanes.specs.Merged.{IsMergedTo}
+use Rattle.lanes.specs.inner.Merged.{IsMergedTo}
 use Rattle.lanes.proofs.plain.plain_and_into.Given as goal
 
 abbrev pub invariant-loop-place : goal.invariant-loop-place

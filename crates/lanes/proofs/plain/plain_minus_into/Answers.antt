@@ -1,5 +1,5 @@
 use Rattle.std.proofs.Common.{◌≡◌, ℕ, length, subst, arith}
-use Rattle.lanes.specs.Merged.{IsMergedTo, without}
+use Rattle.lanes.specs.inner.Merged.{IsMergedTo, without}
 use Rattle.lanes.proofs.SetLaws.{difference_is}
 use Rattle.lanes.proofs.plain.plain_minus_into.Goals as goal
 

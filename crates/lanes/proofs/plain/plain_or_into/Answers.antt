@@ -1,5 +1,5 @@
 use Rattle.std.proofs.Common.{◌≡◌, ℕ, length, subst, arith, bit_or}
-use Rattle.lanes.specs.Merged.{IsMergedTo}
+use Rattle.lanes.specs.inner.Merged.{IsMergedTo}
 use Rattle.lanes.proofs.SetLaws.{union_is}
 use Rattle.lanes.proofs.plain.plain_or_into.Goals as goal
 

@@ -1,7 +1,7 @@
 use Rattle.std.proofs.Common.{◌≡◌, ◌++◌, drop}
 use Rattle.std.specs.List.{filter_map}
 use Rattle.slicer.specs.Marks.{has_name}
-use Rattle.package_join.specs.Picked.{file_by}
+use Rattle.package_join.specs.inner.Picked.{file_by}
 use Rattle.package_join.proofs.choosing.files_by.Given as goal
 
 abbrev pub invariant-loop-file : goal.invariant-loop-file

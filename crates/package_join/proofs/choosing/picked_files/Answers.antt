@@ -1,7 +1,7 @@
 use Rattle.std.proofs.Common.{◌∙◌}
 use Rattle.std.specs.List.{filter_map}
 use Rattle.std.proofs.lemmas.Result.{IfOk-weaker}
-use Rattle.package_join.specs.Picked.{file_by}
+use Rattle.package_join.specs.inner.Picked.{file_by}
 use Rattle.package_join.proofs.choosing.picked_files.Goals as goal
 
 pub returns : goal.returns

@@ -5,7 +5,7 @@ use Rattle.ldv_value.specs.declared.value.Value.{Value}
 use Rattle.sql_model.specs.Keys.{same_values, values_at}
 use Rattle.sql_model.specs.KeyOrder.{values_order}
 use Rattle.sql_model.proofs.Seen.{seen_false}
-use Rattle.package_join.specs.TakenKeys.{first_taken_row}
+use Rattle.package_join.specs.inner.TakenKeys.{first_taken_row}
 use Rattle.package_join.proofs.TakenKeys.{one_seen, one_taken, seen_true}
 use Rattle.package_join.proofs.key_clash.first_taken_row.Goals as goal
 

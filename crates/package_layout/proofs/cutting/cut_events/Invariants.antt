@@ -1,5 +1,5 @@
 use Rattle.std.proofs.Common.{◌≡◌, ◌≤◌, ◌-◌}
-use Rattle.package_layout.specs.Cutting.{begun_count}
+use Rattle.package_layout.specs.inner.Cutting.{begun_count}
 use Rattle.package_layout.specs.Events.{event_at}
 use Rattle.package_layout.specs.Fields.{items_at}
 use Rattle.package_layout.proofs.Cuts.{with_cut, due}

@@ -1,5 +1,5 @@
 use Rattle.std.proofs.Common.{refl, length, ◌∙◌, ap}
-use Rattle.package_layout.specs.Trace.{asked_after}
+use Rattle.package_layout.specs.inner.Trace.{asked_after}
 use Rattle.package_layout.proofs.RunFields.{head_of}
 use Rattle.package_layout.proofs.RunTraces.{good_parts, fewer, next_asked}
 use Rattle.package_layout.proofs.trace.asked_count.Goals as goal

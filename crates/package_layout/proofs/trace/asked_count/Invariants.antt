@@ -1,7 +1,7 @@
 use Rattle.std.proofs.Common.{◌≡◌, ◌≤◌, ◌+◌, length, true}
 use Rattle.std.specs.List.{list_all}
 use Rattle.package_layout.specs.Runs.{events_in, is_run}
-use Rattle.package_layout.specs.Trace.{asked_among}
+use Rattle.package_layout.specs.inner.Trace.{asked_among}
 use Rattle.package_layout.proofs.trace.asked_count.Given as goal
 
 abbrev pub invariant-loop-left : goal.invariant-loop-left

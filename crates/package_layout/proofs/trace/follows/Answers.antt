@@ -1,5 +1,5 @@
 use Rattle.std.proofs.Common.{refl, length}
-use Rattle.package_layout.specs.Trace.{progress_of}
+use Rattle.package_layout.specs.inner.Trace.{progress_of}
 use Rattle.package_layout.proofs.RunFields.{head_of}
 use Rattle.package_layout.proofs.RunTraces.{good_parts, fewer, next_follows, last_follows}
 use Rattle.package_layout.proofs.trace.follows.Goals as goal

@@ -1,7 +1,7 @@
 use Rattle.std.proofs.Common.{◌≡◌, ◌≤◌, ◌+◌, length, true}
 use Rattle.std.specs.List.{list_all}
 use Rattle.package_layout.specs.Runs.{events_in, is_run}
-use Rattle.package_layout.specs.Trace.{follows, at_start, progress_of}
+use Rattle.package_layout.specs.inner.Trace.{follows, at_start, progress_of}
 use Rattle.package_layout.proofs.trace.follows.Given as goal
 
 -- those that are left say whether all are

@@ -1,5 +1,5 @@
 use Rattle.std.proofs.Common.{◌≡◌, take}
-use Rattle.proc_core.specs.Slots.{slot_values}
+use Rattle.proc_core.specs.inner.Slots.{slot_values}
 use Rattle.proc_core.proofs.ask.values_of.Given as goal
 
 abbrev pub invariant-loop-operand : goal.invariant-loop-operand

@@ -1,5 +1,5 @@
 use Rattle.run_model.specs.StepFiles.{allows_write}
-use Rattle.proc_core.specs.SlotFiles.{slot_open_for}
+use Rattle.proc_core.specs.inner.SlotFiles.{slot_open_for}
 use Rattle.proc_core.proofs.OpenFiles.{copy_left}
 use Rattle.proc_core.proofs.copy.copy.Goals as goal
 

@@ -1,7 +1,7 @@
 use Rattle.std.proofs.Common.{◌≡◌, List, refl, sym, subst, rules}
 use Rattle.std.specs.Prelude.{option_map, slice_get}
 use Rattle.proc_core.specs.declared.process.SlotProcess.{SlotProcess}
-use Rattle.proc_core.specs.SlotStep.{IsKept, next_slot_instr, slot_effect}
+use Rattle.proc_core.specs.inner.SlotStep.{IsKept, next_slot_instr, slot_effect}
 use Rattle.proc_core.proofs.Counts.{effect_counts, fewer_kept}
 use Rattle.proc_core.proofs.Growing.{grows_kept}
 use Rattle.proc_core.proofs.Machines.{get_none, none_core, none_told, next_core, next_told}

@@ -1,7 +1,7 @@
 use Rattle.std.proofs.Common.{refl}
 use Rattle.std.proofs.Common.{[]}
 use Rattle.run_model.specs.StepBase.{bad_path}
-use Rattle.proc_core.specs.Slots.{slot_ended}
+use Rattle.proc_core.specs.inner.Slots.{slot_ended}
 use Rattle.proc_core.proofs.Counts.{fewer_idle}
 use Rattle.proc_core.proofs.Growing.{grows_no_child}
 use Rattle.proc_core.proofs.SpawnSteps.{bad_core, bad_acts, told_by, told_nothing}

@@ -1,6 +1,6 @@
 use Rattle.std.proofs.Common.{refl, subst, length}
-use Rattle.proc_core.specs.SlotSpawn.{IsProgram}
-use Rattle.proc_core.specs.Slots.{slot_went_to}
+use Rattle.proc_core.specs.inner.SlotSpawn.{IsProgram}
+use Rattle.proc_core.specs.inner.Slots.{slot_went_to}
 use Rattle.proc_core.proofs.Counts.{fewer_idle, fewer_known, fewer_new}
 use Rattle.proc_core.proofs.Growing.{grows_no_child}
 use Rattle.proc_core.proofs.Launches.{known_core, known_acts, known_grows, new_core, new_acts, new_grows}

@@ -1,6 +1,6 @@
 use Rattle.std.proofs.Common.{◌∙◌, ap}
 use Rattle.sql_model.specs.Sorting.{sorted_by}
-use Rattle.proc_core.specs.SlotOutcome.{name_cmp}
+use Rattle.proc_core.specs.inner.SlotOutcome.{name_cmp}
 use Rattle.proc_core.proofs.outcome.outcomes_by_name_from.Goals as goal
 
 pub returns : goal.returns

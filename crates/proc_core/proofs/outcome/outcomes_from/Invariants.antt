@@ -1,5 +1,5 @@
 use Rattle.std.proofs.Common.{◌≡◌, ◌++◌, vec_len}
-use Rattle.proc_core.specs.SlotOutcome.{slot_outcomes}
+use Rattle.proc_core.specs.inner.SlotOutcome.{slot_outcomes}
 use Rattle.proc_core.proofs.outcome.outcomes_from.Given as goal
 
 abbrev pub invariant-loop-process : goal.invariant-loop-process

@@ -1,6 +1,6 @@
 use Rattle.std.proofs.Common.{◌≡◌, ◌∙◌, ap, map, reverse}
 use Rattle.std.proofs.lemmas.List.{take_all}
-use Rattle.proc_core.specs.SlotOutcome.{slot_outcome}
+use Rattle.proc_core.specs.inner.SlotOutcome.{slot_outcome}
 use Rattle.proc_core.proofs.Outcomes.{reversed}
 use Rattle.proc_core.proofs.outcome.outcomes_of.Goals as goal
 

@@ -1,5 +1,5 @@
 use Rattle.std.proofs.Common.{◌≡◌, map, take}
-use Rattle.proc_core.specs.SlotOutcome.{slot_outcome}
+use Rattle.proc_core.specs.inner.SlotOutcome.{slot_outcome}
 use Rattle.proc_core.proofs.outcome.outcomes_of.Given as goal
 
 abbrev pub invariant-loop-process : goal.invariant-loop-process

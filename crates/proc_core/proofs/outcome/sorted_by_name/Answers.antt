@@ -6,7 +6,7 @@ use Rattle.std.proofs.lemmas.List.MinMax.{ranks_by}
 use Rattle.std.proofs.lemmas.Fn.{always_returns_same}
 use Rattle.run_model.specs.declared.outcome.ProcOutcome.{ProcOutcome}
 use Rattle.sql_model.proofs.StableSorting.{sorted-is}
-use Rattle.proc_core.specs.SlotOutcome.{name_cmp}
+use Rattle.proc_core.specs.inner.SlotOutcome.{name_cmp}
 use Rattle.proc_core.proofs.Outcomes.{name_total}
 use Rattle.proc_core.proofs.outcome.sorted_by_name.Goals as goal
 

@@ -1,6 +1,6 @@
 use Rattle.std.proofs.Common.{◌≡◌, ◌+◌, ◌≤◌, drop, length, map}
 use Rattle.run_model.specs.Core.{arguments_from}
-use Rattle.proc_core.specs.Slots.{value_held}
+use Rattle.proc_core.specs.inner.Slots.{value_held}
 use Rattle.proc_core.proofs.process_start.bind_arguments.Given as goal
 
 abbrev pub invariant-loop-left : goal.invariant-loop-left

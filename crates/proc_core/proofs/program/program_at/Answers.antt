@@ -1,7 +1,7 @@
 use Rattle.std.proofs.Common.{◌≡◌, ap, sym, ◌∙◌, Some}
 use Rattle.std.proofs.lemmas.Result.{IfOk-weaker}
 use Rattle.ldv_value.specs.FileState.{content_at}
-use Rattle.proc_core.specs.SlotSpawn.{IsProgramOf, IsProgram}
+use Rattle.proc_core.specs.inner.SlotSpawn.{IsProgramOf, IsProgram}
 use Rattle.proc_core.proofs.Programs.{program_there}
 use Rattle.proc_core.proofs.program.program_at.Goals as goal
 

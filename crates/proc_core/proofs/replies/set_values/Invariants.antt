@@ -1,5 +1,5 @@
 use Rattle.std.proofs.Common.{◌≡◌, length}
-use Rattle.proc_core.specs.SlotReplies.{slot_with_values}
+use Rattle.proc_core.specs.inner.SlotReplies.{slot_with_values}
 use Rattle.proc_core.proofs.FetchedValues.{slot_with_last}
 use Rattle.proc_core.proofs.replies.set_values.Given as goal
 

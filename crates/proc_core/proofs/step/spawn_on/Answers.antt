@@ -2,7 +2,7 @@ use Rattle.std.proofs.Common.{rules, ◌≡◌, ◌∙◌, List, map, ap, subst}
 use Rattle.proc_core.specs.Types.{Act}
 use Rattle.run_model.specs.Events.{event_at}
 use Rattle.run_model.specs.Step.{local_step, ends_at, status_acts}
-use Rattle.proc_core.specs.SlotStep.{slot_status_in}
+use Rattle.proc_core.specs.inner.SlotStep.{slot_status_in}
 use Rattle.proc_core.specs.Stands.{AppendsEvents}
 use Rattle.proc_core.proofs.Machines.{ends_same, told_more}
 use Rattle.proc_core.proofs.step.spawn_on.Goals as goal

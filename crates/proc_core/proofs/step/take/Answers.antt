@@ -1,5 +1,5 @@
 use Rattle.std.proofs.Common.{refl, rules}
-use Rattle.proc_core.specs.SlotAsk.{slot_replied}
+use Rattle.proc_core.specs.inner.SlotAsk.{slot_replied}
 use Rattle.proc_core.proofs.Counts.{fewer_taken}
 use Rattle.proc_core.proofs.Growing.{grows_kept}
 use Rattle.proc_core.proofs.StepSame.{take_core}

@@ -1,4 +1,4 @@
-use Rattle.prov_export.specs.ObjectRefs.{objects_seen}
+use Rattle.prov_export.specs.inner.ObjectRefs.{objects_seen}
 use Rattle.prov_export.specs.Reading.{edge_of}
 use Rattle.prov_export.proofs.Each.{each_stops}
 use Rattle.prov_export.proofs.edge_reading.edges_by.Goals as goal

@@ -1,5 +1,5 @@
 use Rattle.std.proofs.Common.{◌≡◌, Some}
-use Rattle.prov_export.specs.ObjectRefs.{objects_seen}
+use Rattle.prov_export.specs.inner.ObjectRefs.{objects_seen}
 use Rattle.prov_export.specs.Reading.{each_from, edge_of}
 use Rattle.prov_export.proofs.edge_reading.edges_by.Given as goal
 

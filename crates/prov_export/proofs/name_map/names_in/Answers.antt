@@ -1,5 +1,5 @@
 use Rattle.serde_json.specs.View.{members_view}
-use Rattle.prov_export.specs.Names.{names_of}
+use Rattle.prov_export.specs.inner.Names.{names_of}
 use Rattle.prov_export.proofs.NameMaps.{none_at, both_noted}
 use Rattle.prov_export.proofs.name_map.names_in.Goals as goal
 

@@ -1,7 +1,7 @@
 use Rattle.std.proofs.Common.{◌∙◌, sym}
 use Rattle.std.proofs.lemmas.Result.{on_ok_weaker}
 use Rattle.serde_json.specs.View.{view}
-use Rattle.prov_export.specs.Names.{names_of}
+use Rattle.prov_export.specs.inner.Names.{names_of}
 use Rattle.prov_export.proofs.NameMaps.{member_noted, member_passed}
 use Rattle.prov_export.proofs.name_map.note.Goals as goal
 

@@ -2,7 +2,7 @@ use Rattle.std.proofs.Common.{◌∙◌, ℕ, List, string_bytes, sym, ap}
 use Rattle.std.specs.Option.{option_or}
 use Rattle.serde_json.specs.View.{view, members_view}
 use Rattle.serde_json.proofs.Views.{Entry}
-use Rattle.prov_export.specs.Names.{names_of}
+use Rattle.prov_export.specs.inner.Names.{names_of}
 use Rattle.prov_export.specs.Reading.{name_if, named_at}
 use Rattle.prov_export.proofs.NameMaps.{left_noted, option_or-None}
 use Rattle.prov_export.proofs.name_map.note_all.Goals as goal

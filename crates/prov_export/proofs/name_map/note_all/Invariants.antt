@@ -1,7 +1,7 @@
 use Rattle.std.proofs.Common.{◌≡◌, ℕ}
 use Rattle.std.specs.Option.{option_or}
 use Rattle.serde_json.specs.View.{members_view}
-use Rattle.prov_export.specs.Names.{names_of}
+use Rattle.prov_export.specs.inner.Names.{names_of}
 use Rattle.prov_export.specs.Reading.{named_at}
 use Rattle.prov_export.proofs.name_map.note_all.Given as goal
 

@@ -1,6 +1,6 @@
 use Rattle.std.proofs.Common.{◌∙◌, sym}
 use Rattle.std.proofs.lemmas.Result.{on_ok_weaker}
-use Rattle.prov_export.specs.Names.{names_of}
+use Rattle.prov_export.specs.inner.Names.{names_of}
 use Rattle.prov_export.proofs.NameMaps.{first_stays, new_noted}
 use Rattle.prov_export.proofs.name_map.note_at.Goals as goal
 

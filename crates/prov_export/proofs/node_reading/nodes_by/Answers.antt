@@ -1,4 +1,4 @@
-use Rattle.prov_export.specs.Names.{names_of}
+use Rattle.prov_export.specs.inner.Names.{names_of}
 use Rattle.prov_export.specs.Reading.{node_by}
 use Rattle.prov_export.proofs.Each.{each_stops}
 use Rattle.prov_export.proofs.node_reading.nodes_by.Goals as goal

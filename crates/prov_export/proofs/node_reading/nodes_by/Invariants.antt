@@ -1,5 +1,5 @@
 use Rattle.std.proofs.Common.{◌≡◌, Some}
-use Rattle.prov_export.specs.Names.{names_of}
+use Rattle.prov_export.specs.inner.Names.{names_of}
 use Rattle.prov_export.specs.Reading.{each_from, node_by}
 use Rattle.prov_export.proofs.node_reading.nodes_by.Given as goal
 

@@ -1,5 +1,5 @@
 use Rattle.std.proofs.Common.{◌++◌, ap}
-use Rattle.query_eval.specs.Joining.{with_value}
+use Rattle.query_eval.specs.inner.Joining.{with_value}
 use Rattle.query_eval.proofs.index.index_of.Goals as goal
 
 pub loop-row-init : goal.loop-row-init

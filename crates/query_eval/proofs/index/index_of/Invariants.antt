@@ -1,5 +1,5 @@
 use Rattle.std.proofs.Common.{◌≡◌, ◌++◌, drop}
-use Rattle.query_eval.specs.Joining.{rows_listed, with_value}
+use Rattle.query_eval.specs.inner.Joining.{rows_listed, with_value}
 use Rattle.query_eval.specs.Types.{Value}
 use Rattle.query_eval.proofs.index.index_of.Given as goal
 

@@ -1,5 +1,5 @@
 use Rattle.std.proofs.Common.{◌∙◌, ap, ◌++◌, ◌∷◌, [], List, map}
-use Rattle.query_eval.specs.Joining.{tests}
+use Rattle.query_eval.specs.inner.Joining.{tests}
 use Rattle.query_eval.specs.declared.source.SourceRow.{SourceRow}
 use Rattle.core_parts.proofs.Lists.{kept-one, left-one}
 use Rattle.query_eval.proofs.joining.extend_one.Goals as goal

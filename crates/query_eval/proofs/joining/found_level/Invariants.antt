@@ -1,5 +1,5 @@
 use Rattle.std.proofs.Common.{◌≡◌, ◌++◌, List, drop}
-use Rattle.query_eval.specs.Joining.{extensions_by_probe}
+use Rattle.query_eval.specs.inner.Joining.{extensions_by_probe}
 use Rattle.core_parts.specs.Placing.{AreAllPlaced}
 use Rattle.sql_model.specs.Scope.{InScope}
 use Rattle.query_eval.proofs.joining.found_level.Given as goal

@@ -1,5 +1,5 @@
 use Rattle.std.proofs.Common.{◌≡◌, ◌==◌, ◌∙◌, ap, sym, ◌++◌, ◌∷◌, [], List, length, true}
-use Rattle.query_eval.specs.Joining.{tests}
+use Rattle.query_eval.specs.inner.Joining.{tests}
 use Rattle.core_parts.specs.declared.placed.BoundExpr.{BoundExpr}
 use Rattle.core_parts.proofs.Lists.{none-counted}
 use Rattle.query_eval.proofs.joining.is_extension_met.Goals as goal

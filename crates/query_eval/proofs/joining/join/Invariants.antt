@@ -1,6 +1,6 @@
 use Rattle.std.proofs.Common.{◌≡◌, ◌≤◌, ◌*◌, ◌^◌, List, drop, map}
 use Rattle.std.specs.Prelude.{filter}
-use Rattle.query_eval.specs.Joining.{combos, tests, extensions_left, EachHas}
+use Rattle.query_eval.specs.inner.Joining.{combos, tests, extensions_left, EachHas}
 use Rattle.core_parts.specs.Placing.{AreAllPlaced}
 use Rattle.query_eval.specs.Sourcing.{source_rows, SourcesAreWide}
 use Rattle.sql_model.specs.Scope.{InScope}

@@ -1,6 +1,6 @@
 use Rattle.std.proofs.Common.{◌≡◌, ◌++◌, List}
 use Rattle.std.specs.Prelude.{filter}
-use Rattle.query_eval.specs.Joining.{tests}
+use Rattle.query_eval.specs.inner.Joining.{tests}
 use Rattle.core_parts.specs.Placing.{AreAllPlaced}
 use Rattle.sql_model.specs.Scope.{InScope}
 use Rattle.query_eval.proofs.joining.keep_matching.Given as goal

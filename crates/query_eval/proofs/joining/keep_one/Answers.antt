@@ -1,4 +1,4 @@
-use Rattle.query_eval.specs.Joining.{tests}
+use Rattle.query_eval.specs.inner.Joining.{tests}
 use Rattle.core_parts.proofs.Lists.{kept-one, left-one}
 use Rattle.query_eval.proofs.joining.keep_one.Goals as goal
 

@@ -1,5 +1,5 @@
 use Rattle.std.proofs.Common.{◌∙◌, subst, List}
-use Rattle.query_eval.specs.Joining.{HasProbe}
+use Rattle.query_eval.specs.inner.Joining.{HasProbe}
 use Rattle.core_parts.specs.declared.placed.BoundExpr.{BoundExpr}
 use Rattle.query_eval.proofs.Levels.{others-placed, probe-within, tied-level}
 use Rattle.query_eval.proofs.joining.next_level.Goals as goal

@@ -1,5 +1,5 @@
 use Rattle.std.proofs.Common.{◌≡◌, ◌++◌}
-use Rattle.query_eval.specs.Joining.{ready_conditions, later_conditions}
+use Rattle.query_eval.specs.inner.Joining.{ready_conditions, later_conditions}
 use Rattle.query_eval.proofs.joining.part.Given as goal
 
 abbrev pub invariant-loop-cond : goal.invariant-loop-cond

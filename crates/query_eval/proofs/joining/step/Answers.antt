@@ -1,5 +1,5 @@
 use Rattle.std.proofs.Common.{rules, ◌≡◌, ◌+◌, ◌∙◌, ap, sym, subst, ℕ}
-use Rattle.query_eval.specs.Joining.{ready_conditions, later_conditions, extensions_left, extensions_of_all, EachHas}
+use Rattle.query_eval.specs.inner.Joining.{ready_conditions, later_conditions, extensions_left, extensions_of_all, EachHas}
 use Rattle.core_parts.specs.Placing.{AreAllPlaced}
 use Rattle.query_eval.proofs.Levels.{ready_conditions-placed, later_conditions-placed, step-long, step-same}
 use Rattle.query_eval.proofs.joining.step.Goals as goal

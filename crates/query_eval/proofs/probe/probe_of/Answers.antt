@@ -1,5 +1,5 @@
 use Rattle.std.proofs.Common.{rules, ◌≡◌, ◌∷◌, ◌∙◌, ap, List, ℕ, drop, true}
-use Rattle.query_eval.specs.Joining.{IsBetween, IsEquality, IsProbeOf}
+use Rattle.query_eval.specs.inner.Joining.{IsBetween, IsEquality, IsProbeOf}
 use Rattle.core_parts.proofs.Lists.{IfSome-weaker}
 use Rattle.query_eval.proofs.Probes.{probe-is}
 use Rattle.query_eval.proofs.probe.probe_of.Goals as goal

@@ -1,5 +1,5 @@
 use Rattle.std.proofs.Common.{◌≡◌, true, rules}
-use Rattle.reach.specs.Marks.{is_marked}
+use Rattle.reach.specs.inner.Marks.{is_marked}
 use Rattle.reach.proofs.MarkLaws.{marked_put}
 use Rattle.reach.proofs.found.add_marked.Goals as goal
 

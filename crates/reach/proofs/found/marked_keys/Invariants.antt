@@ -1,7 +1,7 @@
 -- The keys so far are those of the first places.
 use Rattle.std.proofs.Common.{◌≡◌, map}
 use Rattle.trace_graph.specs.Building.{node_of}
-use Rattle.reach.specs.Marks.{marked_below}
+use Rattle.reach.specs.inner.Marks.{marked_below}
 use Rattle.reach.proofs.found.marked_keys.Given as goal
 
 abbrev pub invariant-loop-place : goal.invariant-loop-place

@@ -2,7 +2,7 @@ use Rattle.std.proofs.Common.{◌≡◌, ◌∙◌, ap, length, map, List}
 use Rattle.trace_graph.specs.Building.{node_of}
 use Rattle.reach.specs.Types.{Node, Edge}
 use Rattle.reach.specs.Found.{Times}
-use Rattle.reach.specs.Marks.{Marks, marks_of, marked_below}
+use Rattle.reach.specs.inner.Marks.{Marks, marks_of, marked_below}
 use Rattle.reach.proofs.SortedLaws.{sorted_open}
 use Rattle.reach.proofs.found.open_keys.Goals as goal
 

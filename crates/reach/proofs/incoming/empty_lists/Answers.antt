@@ -1,6 +1,6 @@
 use Rattle.std.proofs.Common.{◌≡◌, ◌∙◌, ap, ℕ, length, arith}
 use Rattle.std.specs.Prelude.{replicate}
-use Rattle.reach.specs.Incoming.{no_edges}
+use Rattle.reach.specs.inner.Incoming.{no_edges}
 use Rattle.reach.proofs.incoming.empty_lists.Goals as goal
 
 pub returns : goal.returns

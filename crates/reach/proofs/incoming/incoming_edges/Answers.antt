@@ -2,7 +2,7 @@ use Rattle.std.proofs.Common.{◌≡◌, ◌∙◌, ap, ℕ, List, length, drop}
 use Rattle.std.specs.Prelude.{fold, replicate}
 use Rattle.std.proofs.lemmas.List.{length-replicate}
 use Rattle.reach.specs.Types.{Edge}
-use Rattle.reach.specs.Incoming.{no_edges, with_edge}
+use Rattle.reach.specs.inner.Incoming.{no_edges, with_edge}
 use Rattle.reach.proofs.incoming.incoming_edges.Goals as goal
 
 pub loop-edge-init : goal.loop-edge-init

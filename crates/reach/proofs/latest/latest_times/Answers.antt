@@ -3,7 +3,7 @@ use Rattle.std.specs.BinaryHeap.{heap_items}
 use Rattle.reach.specs.Types.{Edge}
 use Rattle.reach.specs.Found.{Times}
 use Rattle.reach.specs.Search.{Queue}
-use Rattle.reach.specs.Incoming.{incoming_of}
+use Rattle.reach.specs.inner.Incoming.{incoming_of}
 use Rattle.reach.proofs.TurnLaws.{turn_lists, turn_from, turn_long, turn_within, turn_smaller, turn_stands, begin_long, begin_within, begin_stands}
 use Rattle.reach.proofs.latest.latest_times.Goals as goal
 

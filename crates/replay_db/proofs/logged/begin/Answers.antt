@@ -6,7 +6,7 @@ use Rattle.sql_engine.specs.Asking.{database}
 use Rattle.run_model.proofs.StartScripts.{has_script, has_word}
 use Rattle.proc_core.proofs.StartScripts.{start_script_is}
 use Rattle.run_laws.specs.KeptReplies.{KeepingDatabase}
-use Rattle.replay_db.specs.Logging.{keeping_database}
+use Rattle.replay_db.specs.inner.Logging.{keeping_database}
 use Rattle.replay_db.proofs.logged.begin.Goals as goal
 
 pub start-requires-clause-words : goal.start-requires-clause-words

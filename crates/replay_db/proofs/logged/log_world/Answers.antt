@@ -6,7 +6,7 @@ use Rattle.run_model.specs.Run.{run}
 use Rattle.run_model.specs.SqlDatabase.{sql_base}
 use Rattle.run_model.proofs.StartScripts.{has_script}
 use Rattle.run_laws.specs.KeptReplies.{keeping_base}
-use Rattle.replay_db.specs.Logging.{kept_start}
+use Rattle.replay_db.specs.inner.Logging.{kept_start}
 use Rattle.replay_db.proofs.LoggedRuns.{kept_ends, kept_counts, kept_told, kept_logs, kept_never}
 use Rattle.run_laws.proofs.SqlAnswers.{not_over}
 use Rattle.replay_db.proofs.logged.log_world.Goals as goal

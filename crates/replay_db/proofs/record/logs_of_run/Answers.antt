@@ -1,6 +1,6 @@
 use Rattle.std.proofs.Common.{subst}
-use Rattle.replay_db.specs.Logging.{IsLogged}
-use Rattle.replay_db.specs.Recording.{HasNotEnded}
+use Rattle.replay_db.specs.inner.Logging.{IsLogged}
+use Rattle.replay_db.specs.inner.Recording.{HasNotEnded}
 use Rattle.replay_db.specs.Types.{Excluded, World}
 use Rattle.replay_db.proofs.LoggedRuns.{package_logged}
 use Rattle.replay_db.proofs.RecordedRuns.{package_stops}

@@ -1,6 +1,6 @@
 use Rattle.std.proofs.Common.{◌≡◌, ap, ◌∙◌, subst}
 use Rattle.run_model.specs.WorldRun.{events_within}
-use Rattle.replay_db.specs.Recording.{HasNotEnded, IsTraced}
+use Rattle.replay_db.specs.inner.Recording.{HasNotEnded, IsTraced}
 use Rattle.replay_db.specs.Types.{Included, World}
 use Rattle.replay_db.proofs.RecordedRuns.{package_packed, package_stops}
 use Rattle.replay_db.proofs.RunTraces.{recorded_trace, recorded_rows}

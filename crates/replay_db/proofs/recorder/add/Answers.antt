@@ -1,5 +1,5 @@
 use Rattle.std.proofs.Common.{◌≡◌, ◌++◌, List, ap, sym, ◌∙◌, subst, OnOk}
-use Rattle.replay_db.specs.KeptGroups.{logs_with, with_kept}
+use Rattle.replay_db.specs.inner.KeptGroups.{logs_with, with_kept}
 use Rattle.replay_db.specs.Types.{Log}
 use Rattle.replay_db.proofs.KeptLogs.{last_kept}
 use Rattle.replay_db.proofs.recorder.add.Goals as goal

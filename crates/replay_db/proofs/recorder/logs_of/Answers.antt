@@ -1,5 +1,5 @@
 use Rattle.std.proofs.Common.{◌≡◌, List, ap, ◌∙◌, subst, IfOk}
-use Rattle.replay_db.specs.KeptGroups.{logs_of_kept}
+use Rattle.replay_db.specs.inner.KeptGroups.{logs_of_kept}
 use Rattle.replay_db.specs.Types.{Log}
 use Rattle.replay_db.proofs.KeptLogs.{grouped_sorted}
 use Rattle.replay_db.proofs.recorder.logs_of.Goals as goal

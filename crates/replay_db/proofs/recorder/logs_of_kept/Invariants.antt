@@ -1,5 +1,5 @@
 use Rattle.std.proofs.Common.{◌≡◌, []}
-use Rattle.replay_db.specs.KeptGroups.{grouped_onto}
+use Rattle.replay_db.specs.inner.KeptGroups.{grouped_onto}
 use Rattle.replay_db.proofs.recorder.logs_of_kept.Given as goal
 
 abbrev pub invariant-loop-kept : goal.invariant-loop-kept

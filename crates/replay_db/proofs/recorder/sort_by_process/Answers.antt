@@ -7,7 +7,7 @@ use Rattle.std.proofs.lemmas.Fn.{always_returns_same}
 use Rattle.sql_model.specs.Sorting.{sorted_by}
 use Rattle.sql_model.proofs.StableSorting.{sorted-is}
 use Rattle.run_laws.specs.declared.kept.Kept.{Kept}
-use Rattle.replay_db.specs.KeptGroups.{kept_cmp}
+use Rattle.replay_db.specs.inner.KeptGroups.{kept_cmp}
 use Rattle.replay_db.proofs.KeptLogs.{kept_total}
 use Rattle.replay_db.proofs.recorder.sort_by_process.Goals as goal
 

@@ -2,7 +2,7 @@ use Rattle.std.proofs.Common.{rules, arith}
 use Rattle.std.proofs.lemmas.List.Sorted.{IsPartitionPoint-from_clause}
 use Rattle.ldv_value.specs.Sorted.{text_precedes}
 use Rattle.replay_log.specs.Types.{Log}
-use Rattle.replay_log.specs.Places.{no_log}
+use Rattle.replay_log.specs.inner.Places.{no_log}
 use Rattle.replay_log.proofs.SortedLogs.{logs_parted}
 use Rattle.replay_log.proofs.find.first_from.Goals as goal
 

@@ -1,7 +1,7 @@
 use Rattle.std.proofs.Common.{◌≡◌, ◌∙◌, ◌<◌, ap, sym, length, get_or, arith}
 use Rattle.std.proofs.lemmas.List.{get_or_read}
 use Rattle.run_model.specs.LogDatabase.{is_log_of}
-use Rattle.replay_log.specs.Places.{no_log}
+use Rattle.replay_log.specs.inner.Places.{no_log}
 use Rattle.replay_log.proofs.SortedLogs.{found_at, found_nowhere, all_before}
 use Rattle.replay_log.proofs.find.index_of.Goals as goal
 

@@ -1,6 +1,6 @@
 use Rattle.std.proofs.Common.{◌≡◌, ◌∙◌, ◌<◌, ap, length, get_or, arith}
 use Rattle.std.proofs.lemmas.List.{get_or_read}
-use Rattle.replay_log.specs.Places.{no_log}
+use Rattle.replay_log.specs.inner.Places.{no_log}
 use Rattle.replay_log.specs.Types.{Log}
 use Rattle.replay_log.proofs.LeftLogs.{gives_next, diverges_next}
 use Rattle.replay_log.proofs.SortedLogs.{set_sorted}

@@ -1,7 +1,7 @@
 use Rattle.std.proofs.Common.{leb, ap, ◌∙◌, rules, sym, arith}
 use Rattle.std.proofs.lemmas.List.Sorted.{IsPartitionPoint-from_clause, IsPartitionedBy-leb}
 use Rattle.row_version.specs.History.{Change, current_values}
-use Rattle.row_version.specs.Versions.{change_of}
+use Rattle.row_version.specs.inner.Versions.{change_of}
 use Rattle.row_version.specs.declared.versions.Version.{Version}
 use Rattle.row_version.proofs.Parts.{times_sorted}
 use Rattle.row_version.proofs.Timed.{kept-in-front}

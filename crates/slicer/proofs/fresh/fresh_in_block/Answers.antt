@@ -1,5 +1,5 @@
 use Rattle.std.proofs.Common.{◌∙◌, ◌||◌, ap}
-use Rattle.slicer.specs.Rows.{has_row}
+use Rattle.slicer.specs.inner.Rows.{has_row}
 use Rattle.slicer.proofs.FreshLaws.{asks_in, fresh_told}
 use Rattle.slicer.proofs.fresh.fresh_in_block.Goals as goal
 

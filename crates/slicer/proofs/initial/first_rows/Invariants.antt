@@ -3,7 +3,7 @@ use Rattle.std.specs.List.{list_any}
 use Rattle.trace_graph.specs.declared.node.Node.TheVariants.{Row}
 use Rattle.trace_graph.specs.Graph.{same_node}
 use Rattle.slicer.specs.InitialRows.{at_first}
-use Rattle.slicer.specs.Rows.{has_row}
+use Rattle.slicer.specs.inner.Rows.{has_row}
 use Rattle.slicer.proofs.initial.first_rows.Given as goal
 
 abbrev pub invariant-loop-node : goal.invariant-loop-node

@@ -1,7 +1,7 @@
 use Rattle.std.proofs.Common.{◌≡◌, List, ℕ, drop}
 use Rattle.std.specs.Prelude.{◌&&◌, not}
 use Rattle.std.specs.List.{list_any}
-use Rattle.slicer.specs.Rows.{has_row, is_led}
+use Rattle.slicer.specs.inner.Rows.{has_row, is_led}
 use Rattle.slicer.proofs.initial.remove_all_made.Given as goal
 
 abbrev pub invariant-loop-edge : goal.invariant-loop-edge

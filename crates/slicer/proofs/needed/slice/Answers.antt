@@ -2,7 +2,7 @@ use Rattle.std.proofs.Common.{rules, ◌≡◌, ◌∙◌, ap, List}
 use Rattle.run_model.specs.declared.package.PackedTable.{PackedTable}
 use Rattle.run_model.specs.Slice.{tables_needed}
 use Rattle.slicer.specs.InitialRows.{is_packed}
-use Rattle.slicer.specs.Rows.{tables_from}
+use Rattle.slicer.specs.inner.Rows.{tables_from}
 use Rattle.slicer.proofs.InitialLaws.{tables_same, nodes_same}
 use Rattle.slicer.proofs.needed.slice.Goals as goal
 

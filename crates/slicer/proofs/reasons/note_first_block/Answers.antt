@@ -1,7 +1,7 @@
 use Rattle.std.proofs.Common.{◌∙◌, ap}
 use Rattle.std.specs.Option.{option_or}
 use Rattle.run_model.specs.Slice.{reason_in}
-use Rattle.slicer.specs.Rows.{reason_due}
+use Rattle.slicer.specs.inner.Rows.{reason_due}
 use Rattle.slicer.proofs.DueLaws.{reads_parts}
 use Rattle.slicer.proofs.reasons.note_first_block.Goals as goal
 

@@ -2,7 +2,7 @@ use Rattle.std.proofs.Common.{◌≡◌, List, ℕ, length}
 use Rattle.std.specs.Prelude.{Option}
 use Rattle.std.specs.Option.{option_or}
 use Rattle.run_model.specs.Slice.{Reason, reason_in}
-use Rattle.slicer.specs.Rows.{reason_due}
+use Rattle.slicer.specs.inner.Rows.{reason_due}
 use Rattle.slicer.proofs.reasons.note_reads.Given as goal
 
 abbrev pub invariant-loop-left : goal.invariant-loop-left

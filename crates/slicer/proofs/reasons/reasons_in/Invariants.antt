@@ -1,7 +1,7 @@
 use Rattle.std.proofs.Common.{◌≡◌, List, ℕ, drop}
 use Rattle.ldv_value.specs.Options.{only_if}
 use Rattle.run_model.specs.Slice.{first_reason}
-use Rattle.slicer.specs.Rows.{reason_due, has_row}
+use Rattle.slicer.specs.inner.Rows.{reason_due, has_row}
 use Rattle.slicer.proofs.reasons.reasons_in.Given as goal
 
 abbrev pub invariant-loop-event : goal.invariant-loop-event

@@ -3,7 +3,7 @@ use Rattle.std.specs.Prelude.{Option, Some, bytes_eq}
 use Rattle.std.specs.BTreeMap.{BTreeMap, get_by_text}
 use Rattle.std.proofs.lemmas.Result.{on_ok_weaker}
 use Rattle.std.proofs.lemmas.Map.Text.{btree_map_updates_text}
-use Rattle.slicer.specs.Rows.{has_among}
+use Rattle.slicer.specs.inner.Rows.{has_among}
 use Rattle.slicer.proofs.RowSetLaws.{rows_written}
 use Rattle.slicer.proofs.row_set.add_row.Goals as goal
 

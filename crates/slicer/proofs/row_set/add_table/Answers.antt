@@ -2,7 +2,7 @@ use Rattle.std.proofs.Common.{◌≡◌, ◌∙◌, ◌||◌, ◌==◌, ap, sym,
 use Rattle.std.specs.Prelude.{Option, Some, string_bytes, bytes_eq}
 use Rattle.std.specs.BTreeMap.{BTreeMap, get_by_text}
 use Rattle.std.proofs.lemmas.Map.Text.{btree_map_updates_text}
-use Rattle.slicer.specs.Rows.{has_number, has_among, has_row}
+use Rattle.slicer.specs.inner.Rows.{has_number, has_among, has_row}
 use Rattle.slicer.proofs.RowSetLaws.{rows_written, no_numbers}
 use Rattle.slicer.proofs.row_set.add_table.Goals as goal
 

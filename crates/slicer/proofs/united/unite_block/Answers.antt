@@ -2,7 +2,7 @@ use Rattle.std.proofs.Common.{rules, ◌≡◌, ◌∙◌, ◌&&◌, ◌||◌, n
 use Rattle.std.specs.Prelude.{Option, unwrap_or}
 use Rattle.std.proofs.lemmas.Result.{on_ok_weaker}
 use Rattle.lanes.specs.Sets.{member}
-use Rattle.slicer.specs.Rows.{words_at}
+use Rattle.slicer.specs.inner.Rows.{words_at}
 use Rattle.slicer.proofs.RowSetLaws.{block_written}
 use Rattle.slicer.proofs.united.unite_block.Goals as goal
 

@@ -1,7 +1,7 @@
 use Rattle.std.proofs.Common.{◌≡◌, ◌∙◌, ◌&&◌, ◌||◌, not, ap, sym, refl, List, ℕ, []}
 use Rattle.std.specs.Prelude.{Option, unwrap_or}
 use Rattle.lanes.specs.Sets.{member}
-use Rattle.slicer.specs.Rows.{words_at}
+use Rattle.slicer.specs.inner.Rows.{words_at}
 use Rattle.slicer.proofs.RowSetLaws.{block_written}
 use Rattle.slicer.proofs.united.unite_new_block.Goals as goal
 

@@ -3,7 +3,7 @@ use Rattle.std.specs.Prelude.{Option, Some, string_bytes, bytes_eq}
 use Rattle.std.specs.BTreeMap.{BTreeMap, get_by_text}
 use Rattle.std.proofs.lemmas.Map.Text.{btree_map_updates_text}
 use Rattle.lanes.specs.Sets.{member}
-use Rattle.slicer.specs.Rows.{has_number, has_among, has_row, is_in, words_among}
+use Rattle.slicer.specs.inner.Rows.{has_number, has_among, has_row, is_in, words_among}
 use Rattle.slicer.proofs.RowSetLaws.{rows_written, no_numbers, no_words}
 use Rattle.slicer.proofs.united.unite_new_table.Goals as goal
 

@@ -4,7 +4,7 @@ use Rattle.std.specs.BTreeMap.{BTreeMap, get_by_text}
 use Rattle.std.proofs.lemmas.Result.{on_ok_weaker}
 use Rattle.std.proofs.lemmas.Map.Text.{btree_map_updates_text}
 use Rattle.lanes.specs.Sets.{member}
-use Rattle.slicer.specs.Rows.{has_among, is_in, words_among}
+use Rattle.slicer.specs.inner.Rows.{has_among, is_in, words_among}
 use Rattle.slicer.proofs.RowSetLaws.{rows_written}
 use Rattle.slicer.proofs.united.unite_rows.Goals as goal
 

@@ -2,7 +2,7 @@ use Rattle.std.proofs.Common.{◌++◌, ap, ◌∙◌}
 use Rattle.std.specs.Prelude.{◌&&◌, ◌||◌, not}
 use Rattle.std.specs.List.{list_all}
 use Rattle.sql_model.specs.Refusals.{groups, item_places, having_places, has_ungrouped_column}
-use Rattle.sql_check.specs.Sources.{is_among}
+use Rattle.sql_check.specs.inner.Sources.{is_among}
 use Rattle.sql_check.proofs.columns.lacks_in_scope.Goals as goal
 
 pub returns-else-not-core_resolves : goal.returns-else-not-core_resolves

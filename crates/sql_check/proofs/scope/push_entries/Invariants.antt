@@ -1,5 +1,5 @@
 use Rattle.std.proofs.Common.{◌≡◌, ◌++◌, take}
-use Rattle.sql_check.specs.Sources.{entries}
+use Rattle.sql_check.specs.inner.Sources.{entries}
 use Rattle.sql_check.proofs.scope.push_entries.Given as goal
 
 abbrev pub invariant-loop-column : goal.invariant-loop-column

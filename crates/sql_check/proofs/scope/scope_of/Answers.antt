@@ -1,6 +1,6 @@
 use Rattle.std.proofs.Common.{◌+◌, ◌++◌, drop, ap, ◌∙◌}
 use Rattle.sql_model.specs.Scope.{in_source, scope_of}
-use Rattle.sql_check.specs.Sources.{entries}
+use Rattle.sql_check.specs.inner.Sources.{entries}
 use Rattle.sql_check.proofs.Steps.{flat_step}
 use Rattle.sql_check.proofs.scope.scope_of.Goals as goal
 

@@ -4,7 +4,7 @@ use Rattle.lineage.specs.Rows.{kept_origins, AnswersStandFor}
 use Rattle.lineage.specs.StandsFor.{StandsFor}
 use Rattle.query_eval.proofs.Merges.{lineage_of_answers-stands}
 use Rattle.query_eval.specs.Merging.{lineage_of_answers}
-use Rattle.sql_engine.specs.Answering.{IsAnswer, IsHidden}
+use Rattle.sql_engine.specs.inner.Answering.{IsAnswer, IsHidden}
 use Rattle.sql_engine.specs.Types.{Value}
 use Rattle.sql_engine.proofs.AnswerLaws.{answered_is}
 use Rattle.sql_model.specs.Needs.{sums_up}

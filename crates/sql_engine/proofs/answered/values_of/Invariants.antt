@@ -1,5 +1,5 @@
 use Rattle.std.proofs.Common.{◌≡◌, ◌++◌, map}
-use Rattle.sql_engine.specs.Answering.{values_of}
+use Rattle.sql_engine.specs.inner.Answering.{values_of}
 use Rattle.sql_engine.proofs.answered.values_of.Given as goal
 
 abbrev pub invariant-loop-answer : goal.invariant-loop-answer

@@ -2,8 +2,8 @@ use Rattle.std.proofs.Common.{◌≡◌, ◌∙◌, ap, subst, sym, List, ℕ, S
 use Rattle.sql_engine.proofs.AskLaws.{outcome_done, paired, same_catalog}
 use Rattle.sql_engine.proofs.StoreLaws.{distinct_names}
 use Rattle.sql_engine.specs.Asking.{IsDone}
-use Rattle.sql_engine.specs.Listing.{tables_asked}
-use Rattle.sql_engine.specs.Taking.{AreDistinct, IsFresh}
+use Rattle.sql_engine.specs.inner.Listing.{tables_asked}
+use Rattle.sql_engine.specs.inner.Taking.{AreDistinct, IsFresh}
 use Rattle.sql_engine.specs.Types.{Catalog, Statement}
 use Rattle.sql_engine.specs.declared.done.Done.{Done}
 use Rattle.sql_model.specs.Scope.{catalog_of}

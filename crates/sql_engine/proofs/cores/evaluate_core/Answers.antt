@@ -1,6 +1,6 @@
 use Rattle.std.proofs.Common.{◌∙◌, subst, sym}
 use Rattle.lineage.specs.Lineage.{Lineage}
-use Rattle.sql_engine.specs.Answering.{IsEvaluated}
+use Rattle.sql_engine.specs.inner.Answering.{IsEvaluated}
 use Rattle.sql_engine.proofs.AnswerLaws.{evaluated_groups, evaluated_plain}
 use Rattle.sql_engine.proofs.cores.evaluate_core.Goals as goal
 

@@ -2,7 +2,7 @@ use Rattle.std.proofs.Common.{◌≡◌, ◌∷◌, [], ◌+◌, ◌∙◌, ap, 
 use Rattle.std.specs.Prelude.{slice_get, is_some, IsTrue}
 use Rattle.std.proofs.lemmas.List.{drop_all}
 use Rattle.core_parts.proofs.Lists.{drop-step}
-use Rattle.sql_engine.specs.Answering.{AreUnited, AreRows}
+use Rattle.sql_engine.specs.inner.Answering.{AreUnited, AreRows}
 use Rattle.sql_engine.specs.Types.{Core}
 use Rattle.sql_engine.proofs.AnswerLaws.{all_rows, asked_cores, next_core, united_start, united_step, united_end}
 use Rattle.sql_model.specs.Refusals.{cores_of}

@@ -1,5 +1,5 @@
 use Rattle.std.proofs.Common.{◌≡◌, ◌+◌, ◌∷◌, drop}
-use Rattle.sql_engine.specs.Answering.{IsAsked, AreUnited}
+use Rattle.sql_engine.specs.inner.Answering.{IsAsked, AreUnited}
 use Rattle.sql_engine.specs.Types.{Query}
 use Rattle.sql_engine.proofs.cores.rows_from.Given as goal
 

@@ -2,7 +2,7 @@ use Rattle.std.proofs.Common.{◌≡◌, ◌∙◌, ap, sym, subst, arith, List,
 use Rattle.std.specs.Prelude.{filter, not}
 use Rattle.std.specs.List.{position}
 use Rattle.sql_engine.proofs.MarkLaws.{waiting-at, waits-within, finish-keeps, marks_with_parents-fewer}
-use Rattle.sql_engine.specs.Taking.{is_done, is_waiting, AreMarks}
+use Rattle.sql_engine.specs.inner.Taking.{is_done, is_waiting, AreMarks}
 use Rattle.sql_engine.specs.declared.tables.Mark.{Mark}
 use Rattle.sql_engine.proofs.tables.close.Goals as goal
 

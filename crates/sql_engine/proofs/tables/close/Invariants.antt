@@ -1,6 +1,6 @@
 use Rattle.std.proofs.Common.{List, ℕ, length, map}
 use Rattle.std.specs.Prelude.{filter, not}
-use Rattle.sql_engine.specs.Taking.{is_done, AreMarks}
+use Rattle.sql_engine.specs.inner.Taking.{is_done, AreMarks}
 use Rattle.sql_engine.proofs.tables.close.Given as goal
 
 abbrev pub invariant-tables : goal.invariant-tables

@@ -1,5 +1,5 @@
 use Rattle.std.proofs.Common.{◌≡◌, ◌++◌, drop, map}
-use Rattle.sql_engine.specs.Taking.{first_mark}
+use Rattle.sql_engine.specs.inner.Taking.{first_mark}
 use Rattle.sql_engine.proofs.tables.first_marks.Given as goal
 
 abbrev pub invariant-loop-name : goal.invariant-loop-name

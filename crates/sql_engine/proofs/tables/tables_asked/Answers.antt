@@ -1,8 +1,8 @@
 use Rattle.std.proofs.Common.{◌≡◌, ◌∙◌, ap, sym, subst, List, ℕ, length, map}
 use Rattle.std.specs.Prelude.{filter}
 use Rattle.sql_engine.proofs.MarkLaws.{first-marks, marks-are}
-use Rattle.sql_engine.specs.Listing.{is_in, names_first}
-use Rattle.sql_engine.specs.Taking.{first_mark, with_reads, is_taken, AreMarks}
+use Rattle.sql_engine.specs.inner.Listing.{is_in, names_first}
+use Rattle.sql_engine.specs.inner.Taking.{first_mark, with_reads, is_taken, AreMarks}
 use Rattle.sql_engine.specs.declared.tables.Mark.{Mark}
 use Rattle.sql_model.specs.ForeignKeys.{with_parents}
 use Rattle.sql_engine.proofs.tables.tables_asked.Goals as goal

@@ -1,5 +1,5 @@
 use Rattle.std.proofs.Common.{◌≡◌, drop}
-use Rattle.sql_engine.specs.Taking.{with_more}
+use Rattle.sql_engine.specs.inner.Taking.{with_more}
 use Rattle.sql_engine.proofs.tables.take_more.Given as goal
 
 abbrev pub invariant-loop-need : goal.invariant-loop-need

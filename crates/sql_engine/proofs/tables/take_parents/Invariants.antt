@@ -1,5 +1,5 @@
 use Rattle.std.proofs.Common.{◌≡◌, drop}
-use Rattle.sql_engine.specs.Taking.{with_parents_of}
+use Rattle.sql_engine.specs.inner.Taking.{with_parents_of}
 use Rattle.sql_engine.proofs.tables.take_parents.Given as goal
 
 abbrev pub invariant-loop-foreign : goal.invariant-loop-foreign

@@ -1,6 +1,6 @@
 use Rattle.std.proofs.Common.{◌≡◌, ◌≤◌, ◌-◌, length}
 use Rattle.sql_model.specs.declared.reading.LexState.TheVariants.{Between}
-use Rattle.sql_parse.specs.Lexing.{tokens_at}
+use Rattle.sql_parse.specs.inner.Lexing.{tokens_at}
 use Rattle.sql_parse.proofs.scan.blanks_end.Given as goal
 
 abbrev pub invariant-blanks : goal.invariant-blanks

@@ -1,7 +1,7 @@
 use Rattle.std.proofs.Common.{◌≡◌, ◌≤◌, ◌<◌, ◌-◌, length, get_or, false}
 use Rattle.sql_model.specs.declared.reading.LexState.TheVariants.{Between}
 use Rattle.sql_model.specs.TextBytes.{is_blank}
-use Rattle.sql_parse.specs.Lexing.{given_from, given_of, tokens_at}
+use Rattle.sql_parse.specs.inner.Lexing.{given_from, given_of, tokens_at}
 use Rattle.sql_parse.proofs.scan.tokens.Given as goal
 
 abbrev pub invariant-lexemes : goal.invariant-lexemes

@@ -1,7 +1,7 @@
 use Rattle.std.proofs.Common.{◌≡◌, ◌≤◌, ◌<◌, ◌-◌, length, drop, map, take}
 use Rattle.sql_model.specs.declared.reading.LexState.TheVariants.{Between, InWord}
 use Rattle.sql_model.specs.TextBytes.{lower_case_of}
-use Rattle.sql_parse.specs.Lexing.{tokens_at}
+use Rattle.sql_parse.specs.inner.Lexing.{tokens_at}
 use Rattle.sql_parse.proofs.scan.word_end.Given as goal
 
 abbrev pub invariant-letters : goal.invariant-letters

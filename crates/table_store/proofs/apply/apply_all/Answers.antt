@@ -2,8 +2,8 @@ use Rattle.std.proofs.Common.{rules, ◌≡◌, ◌∙◌, ◌∷◌, [], ◌+�
 use Rattle.std.specs.Ordering.{nat_cmp}
 use Rattle.std.specs.BTreeMap.{get}
 use Rattle.table_store.specs.Histories.{changed_by}
-use Rattle.table_store.specs.RowChains.{Chains, histories_of}
-use Rattle.table_store.specs.RowChanges.{changes_given, RiseFrom, AllFitKinds, AreReady}
+use Rattle.table_store.specs.inner.RowChains.{Chains, histories_of}
+use Rattle.table_store.specs.inner.RowChanges.{changes_given, RiseFrom, AllFitKinds, AreReady}
 use Rattle.table_store.specs.declared.change.RowChange.{RowChange}
 use Rattle.table_store.proofs.ChangeLaws.{changed_first, still_ready, rise_lower, unchanged, nil_from}
 use Rattle.table_store.proofs.apply.apply_all.Goals as goal

@@ -2,8 +2,8 @@ use Rattle.std.proofs.Common.{◌≡◌, map}
 use Rattle.std.specs.Ordering.{nat_cmp}
 use Rattle.std.specs.BTreeMap.{get}
 use Rattle.table_store.specs.Histories.{changed_by}
-use Rattle.table_store.specs.RowChains.{AreChained, histories_of}
-use Rattle.table_store.specs.RowChanges.{changes_given, RiseFrom, AllFitKinds, AreReady}
+use Rattle.table_store.specs.inner.RowChains.{AreChained, histories_of}
+use Rattle.table_store.specs.inner.RowChanges.{changes_given, RiseFrom, AllFitKinds, AreReady}
 use Rattle.table_store.proofs.apply.apply_all.Given as goal
 
 abbrev pub invariant-loop-change : goal.invariant-loop-change

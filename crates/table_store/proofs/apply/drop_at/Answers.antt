@@ -2,8 +2,8 @@ use Rattle.std.proofs.Common.{◌∙◌, ◌<◌, ap, sym, subst, refl, get_or, 
 use Rattle.std.specs.Ordering.{nat_cmp}
 use Rattle.std.specs.BTreeMap.{get}
 use Rattle.row_version.specs.History.{delete_at}
-use Rattle.table_store.specs.Grid.{Rows, Slot, no_slot}
-use Rattle.table_store.specs.RowChains.{Chains, AreChained, histories_of}
+use Rattle.table_store.specs.inner.Grid.{Rows, Slot, no_slot}
+use Rattle.table_store.specs.inner.RowChains.{Chains, AreChained, histories_of}
 use Rattle.table_store.proofs.ChangeLaws.{others_apart, slot_changed, chained_changed, open_by}
 use Rattle.table_store.proofs.apply.drop_at.Goals as goal
 

@@ -3,8 +3,8 @@ use Rattle.std.specs.Ordering.{nat_cmp}
 use Rattle.std.specs.BTreeMap.{get}
 use Rattle.row_version.specs.History.{write_at}
 use Rattle.table_store.specs.Types.{Value}
-use Rattle.table_store.specs.Grid.{Rows, Slot, no_slot}
-use Rattle.table_store.specs.RowChains.{Chains, AreChained, IsKept, histories_of}
+use Rattle.table_store.specs.inner.Grid.{Rows, Slot, no_slot}
+use Rattle.table_store.specs.inner.RowChains.{Chains, AreChained, IsKept, histories_of}
 use Rattle.table_store.proofs.ChangeLaws.{others_apart, slot_changed, chained_changed, open_by, stood_by}
 use Rattle.table_store.proofs.apply.write_at.Goals as goal
 

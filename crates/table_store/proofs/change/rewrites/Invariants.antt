@@ -1,5 +1,5 @@
 use Rattle.std.proofs.Common.{◌≡◌, ◌++◌, map}
-use Rattle.table_store.specs.RowChanges.{rewrite}
+use Rattle.table_store.specs.inner.RowChanges.{rewrite}
 use Rattle.table_store.proofs.change.rewrites.Given as goal
 
 abbrev pub invariant-loop-row : goal.invariant-loop-row

@@ -1,6 +1,6 @@
 use Rattle.std.proofs.Common.{subst, List, arith}
 use Rattle.std.proofs.lemmas.List.{take_all}
-use Rattle.table_store.specs.ChildPairs.{AreReferred, pair_in}
+use Rattle.table_store.specs.inner.ChildPairs.{AreReferred, pair_in}
 use Rattle.table_store.specs.Types.{TableRow}
 use Rattle.table_store.proofs.ChildIndexLaws.{keep_both, referred_more}
 use Rattle.table_store.proofs.child_index.add_all.Goals as goal

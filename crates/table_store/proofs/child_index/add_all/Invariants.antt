@@ -1,5 +1,5 @@
 use Rattle.std.proofs.Common.{take}
-use Rattle.table_store.specs.ChildPairs.{AreReferred, KeepPairs, pair_in}
+use Rattle.table_store.specs.inner.ChildPairs.{AreReferred, KeepPairs, pair_in}
 use Rattle.table_store.proofs.child_index.add_all.Given as goal
 
 abbrev pub invariant-loop-row : goal.invariant-loop-row

@@ -3,7 +3,7 @@ use Rattle.std.specs.Prelude.{IfSome, if◌then◌else◌}
 use Rattle.std.proofs.lemmas.Result.{on_ok_weaker}
 use Rattle.sql_model.specs.Keys.{values_at}
 use Rattle.sql_model.specs.References.{reference}
-use Rattle.table_store.specs.ChildPairs.{pair_in}
+use Rattle.table_store.specs.inner.ChildPairs.{pair_in}
 use Rattle.table_store.specs.Types.{RowKey, Value}
 use Rattle.table_store.proofs.child_index.add_by.Goals as goal
 

@@ -1,6 +1,6 @@
 use Rattle.std.proofs.Common.{◌≡◌, ◌<◌, ◌∙◌, ap, get_or, length, List, arith}
 use Rattle.std.proofs.lemmas.List.{get_or_default}
-use Rattle.table_store.specs.ChildPairs.{no_foreign, pair_in}
+use Rattle.table_store.specs.inner.ChildPairs.{no_foreign, pair_in}
 use Rattle.table_store.specs.Types.{Foreign}
 use Rattle.table_store.proofs.ChildIndexLaws.{keep_both, referred_by_more}
 use Rattle.table_store.proofs.child_index.add_row.Goals as goal

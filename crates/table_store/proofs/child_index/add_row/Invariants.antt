@@ -1,4 +1,4 @@
-use Rattle.table_store.specs.ChildPairs.{KeepPairs, pair_in}
+use Rattle.table_store.specs.inner.ChildPairs.{KeepPairs, pair_in}
 use Rattle.table_store.proofs.ChildIndexLaws.{IsReferredBy}
 use Rattle.table_store.proofs.child_index.add_row.Given as goal
 

@@ -1,4 +1,4 @@
-use Rattle.table_store.specs.ChildPairs.{StayReferred, pair_in}
+use Rattle.table_store.specs.inner.ChildPairs.{StayReferred, pair_in}
 use Rattle.table_store.specs.Histories.{rows_now}
 use Rattle.table_store.proofs.child_index.settle_all.Given as goal
 

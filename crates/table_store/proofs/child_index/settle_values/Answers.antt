@@ -1,6 +1,6 @@
 use Rattle.std.proofs.Common.{◌≡◌, ◌∙◌, ◌<◌, ap, sym, get_or, length, List, arith}
 use Rattle.std.proofs.lemmas.List.{get_or_default}
-use Rattle.table_store.specs.ChildPairs.{no_foreign}
+use Rattle.table_store.specs.inner.ChildPairs.{no_foreign}
 use Rattle.table_store.specs.Types.{Foreign}
 use Rattle.table_store.proofs.child_index.settle_values.Goals as goal
 

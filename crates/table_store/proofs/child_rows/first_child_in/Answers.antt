@@ -1,6 +1,6 @@
 use Rattle.std.proofs.Common.{◌≡◌, ◌∙◌, ◌<◌, ◌≤◌, ap, length, get_or, List, arith}
 use Rattle.std.proofs.lemmas.List.{get_or_default, take_all}
-use Rattle.table_store.specs.ChildPairs.{first_number, is_child_in, no_foreign}
+use Rattle.table_store.specs.inner.ChildPairs.{first_number, is_child_in, no_foreign}
 use Rattle.table_store.specs.Histories.{last_next_number, rows_now}
 use Rattle.table_store.specs.Types.{Foreign, Schema}
 use Rattle.table_store.proofs.ChildRowLaws.{foreigns_more, foreigns_none, rising_rows}

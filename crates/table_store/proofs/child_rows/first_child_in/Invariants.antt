@@ -1,5 +1,5 @@
 use Rattle.std.proofs.Common.{◌≡◌, take}
-use Rattle.table_store.specs.ChildPairs.{first_number, is_child_in}
+use Rattle.table_store.specs.inner.ChildPairs.{first_number, is_child_in}
 use Rattle.table_store.specs.Histories.{rows_now}
 use Rattle.table_store.proofs.child_rows.first_child_in.Given as goal
 

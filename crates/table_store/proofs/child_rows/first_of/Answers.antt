@@ -1,7 +1,7 @@
 use Rattle.std.proofs.Common.{◌∙◌, ap, sym, List}
 use Rattle.std.specs.Map.Iter.{deref}
 use Rattle.std.proofs.lemmas.Map.Iter.{rest_all, rest_more}
-use Rattle.table_store.specs.ChildPairs.{first_number, is_child_of, lower_of}
+use Rattle.table_store.specs.inner.ChildPairs.{first_number, is_child_of, lower_of}
 use Rattle.table_store.specs.Histories.{last_next_number, rows_now}
 use Rattle.table_store.specs.Types.{RowKey}
 use Rattle.table_store.proofs.ChildRowLaws.{keys_end, keys_more, rising_rows}

@@ -1,5 +1,5 @@
 use Rattle.std.proofs.Common.{◌≡◌}
-use Rattle.table_store.specs.ChildPairs.{first_number, is_child_of, lower_of}
+use Rattle.table_store.specs.inner.ChildPairs.{first_number, is_child_of, lower_of}
 use Rattle.table_store.specs.Histories.{rows_now}
 use Rattle.table_store.proofs.child_rows.first_of.Given as goal
 

@@ -1,7 +1,7 @@
 use Rattle.std.proofs.Common.{rules, ◌<◌, subst, arith}
 use Rattle.std.specs.Prelude.{◌^◌}
-use Rattle.table_store.specs.ChildPairs.{is_child}
-use Rattle.table_store.specs.ChildSteps.{IsStep}
+use Rattle.table_store.specs.inner.ChildPairs.{is_child}
+use Rattle.table_store.specs.inner.ChildSteps.{IsStep}
 use Rattle.table_store.specs.Histories.{rows_now}
 use Rattle.table_store.specs.declared.child_rows.Search.{Search}
 use Rattle.table_store.proofs.ChildRowLaws.{start_from}

@@ -1,6 +1,6 @@
 use Rattle.std.proofs.Common.{◌-◌, ◌^◌}
-use Rattle.table_store.specs.ChildPairs.{is_child}
-use Rattle.table_store.specs.ChildSteps.{AreFrom}
+use Rattle.table_store.specs.inner.ChildPairs.{is_child}
+use Rattle.table_store.specs.inner.ChildSteps.{AreFrom}
 use Rattle.table_store.specs.Histories.{rows_now}
 use Rattle.table_store.proofs.child_rows.first_under.Given as goal
 

@@ -2,7 +2,7 @@ use Rattle.std.proofs.Common.{◌∙◌, sym, get_or}
 use Rattle.std.proofs.lemmas.Bool.{eqb-true}
 use Rattle.std.proofs.lemmas.List.Quantifiers.{position-Some}
 use Rattle.ldv_value.proofs.Options.{none-some}
-use Rattle.table_store.specs.ChildPairs.{refers}
+use Rattle.table_store.specs.inner.ChildPairs.{refers}
 use Rattle.table_store.specs.Histories.{is_of_number, last_next_number, no_history}
 use Rattle.table_store.proofs.ChildRowLaws.{none_of_number, row_of_number}
 use Rattle.table_store.proofs.TableLaws.{slot_here_is}

@@ -1,6 +1,6 @@
 use Rattle.std.proofs.Common.{◌∙◌, ap, sym, get_or, List, Option, false}
 use Rattle.std.specs.Option.{option_map_or}
-use Rattle.table_store.specs.ChildPairs.{refers}
+use Rattle.table_store.specs.inner.ChildPairs.{refers}
 use Rattle.table_store.specs.Histories.{no_history, row_now, row_of}
 use Rattle.table_store.specs.Types.{TableRow, Value}
 use Rattle.table_store.proofs.StandingRows.{not-there}

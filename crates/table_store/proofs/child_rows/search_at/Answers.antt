@@ -1,6 +1,6 @@
 use Rattle.std.proofs.Common.{◌∙◌, ap, sym, Bool, Some}
 use Rattle.std.specs.Prelude.{if◌then◌else◌}
-use Rattle.table_store.specs.ChildSteps.{after}
+use Rattle.table_store.specs.inner.ChildSteps.{after}
 use Rattle.table_store.specs.declared.child_rows.Search.TheVariants.{Ends}
 use Rattle.table_store.proofs.child_rows.search_at.Goals as goal
 

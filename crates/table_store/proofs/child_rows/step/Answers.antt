@@ -1,7 +1,7 @@
 use Rattle.std.proofs.Common.{◌≡◌, sym, subst, not, Option, ℕ, true}
 use Rattle.ldv_value.proofs.Booleans.{and-second}
-use Rattle.table_store.specs.ChildPairs.{IsNextOf, is_child, refers}
-use Rattle.table_store.specs.ChildSteps.{IsStep}
+use Rattle.table_store.specs.inner.ChildPairs.{IsNextOf, is_child, refers}
+use Rattle.table_store.specs.inner.ChildSteps.{IsStep}
 use Rattle.table_store.specs.Histories.{last_next_number, rows_now}
 use Rattle.table_store.specs.Stops.{is_among}
 use Rattle.table_store.specs.Types.{Foreign, TableRow}

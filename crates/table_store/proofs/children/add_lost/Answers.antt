@@ -1,6 +1,6 @@
 use Rattle.std.proofs.Common.{◌∙◌, List}
 use Rattle.std.proofs.lemmas.Result.{on_ok_weaker}
-use Rattle.table_store.specs.Afterwards.{in_set}
+use Rattle.table_store.specs.inner.Afterwards.{in_set}
 use Rattle.table_store.specs.Histories.{table_now}
 use Rattle.table_store.specs.Types.{Value}
 use Rattle.table_store.proofs.ChildLaws.{no_key, one_key}

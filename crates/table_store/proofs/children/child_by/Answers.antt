@@ -2,7 +2,7 @@ use Rattle.std.proofs.Common.{◌≡◌, ◌∙◌, ap, sym}
 use Rattle.std.specs.Option.{option_map}
 use Rattle.sql_model.specs.Keys.{values_at}
 use Rattle.sql_model.specs.References.{child_of}
-use Rattle.table_store.specs.Afterwards.{in_set}
+use Rattle.table_store.specs.inner.Afterwards.{in_set}
 use Rattle.table_store.specs.Histories.{table_now}
 use Rattle.table_store.specs.Referring.{child_stop}
 use Rattle.table_store.specs.Types.{RowKey}

@@ -1,7 +1,7 @@
 use Rattle.std.proofs.Common.{◌≡◌, ◌∙◌, ap, sym, List, ℕ}
 use Rattle.std.specs.Option.{option_map}
 use Rattle.sql_model.specs.Scope.{is_table}
-use Rattle.table_store.specs.ChildPairs.{first_number, given_in, is_child_in}
+use Rattle.table_store.specs.inner.ChildPairs.{first_number, given_in, is_child_in}
 use Rattle.table_store.specs.Histories.{last_next_number, rows_now, table_now}
 use Rattle.table_store.specs.Referring.{child_stop}
 use Rattle.table_store.specs.Stops.{are_sorted_numbers}

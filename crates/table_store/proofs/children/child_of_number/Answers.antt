@@ -1,6 +1,6 @@
 use Rattle.std.proofs.Common.{◌∙◌, ap, get_or, ℕ, Option}
 use Rattle.std.specs.Option.{option_and_then, option_map}
-use Rattle.table_store.specs.Afterwards.{in_set, orphan_in_slot}
+use Rattle.table_store.specs.inner.Afterwards.{in_set, orphan_in_slot}
 use Rattle.table_store.specs.Histories.{no_history, table_now}
 use Rattle.table_store.specs.Referring.{child_stop}
 use Rattle.table_store.specs.Stops.{is_among}

@@ -1,6 +1,6 @@
 use Rattle.std.proofs.Common.{rules, ◌≡◌, ◌∙◌, ap, sym, get_or, map, is_some, true, false, arith}
 use Rattle.std.specs.Option.{option_map}
-use Rattle.table_store.specs.Afterwards.{in_set, orphan_in_table}
+use Rattle.table_store.specs.inner.Afterwards.{in_set, orphan_in_table}
 use Rattle.table_store.specs.Histories.{TableHistory}
 use Rattle.table_store.specs.Referring.{child_stop}
 use Rattle.table_store.specs.Stops.{is_among}

@@ -1,6 +1,6 @@
 use Rattle.std.proofs.Common.{◌∙◌, ap, List, ℕ, arith}
 use Rattle.std.proofs.lemmas.List.{take_all}
-use Rattle.table_store.specs.Afterwards.{in_set, loses}
+use Rattle.table_store.specs.inner.Afterwards.{in_set, loses}
 use Rattle.table_store.specs.Histories.{table_now}
 use Rattle.table_store.specs.Types.{Table}
 use Rattle.table_store.proofs.ChildLaws.{loses_more, loses_none, none_in}

@@ -1,5 +1,5 @@
 use Rattle.std.proofs.Common.{◌≡◌, List, take}
-use Rattle.table_store.specs.Afterwards.{in_set, loses}
+use Rattle.table_store.specs.inner.Afterwards.{in_set, loses}
 use Rattle.table_store.specs.Histories.{table_now}
 use Rattle.table_store.specs.Types.{Value}
 use Rattle.table_store.proofs.children.lost_keys.Given as goal

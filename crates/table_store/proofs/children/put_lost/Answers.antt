@@ -1,5 +1,5 @@
 use Rattle.std.proofs.Common.{◌∙◌, sym}
-use Rattle.table_store.specs.Afterwards.{in_set}
+use Rattle.table_store.specs.inner.Afterwards.{in_set}
 use Rattle.table_store.proofs.ChildLaws.{kept_key, lost_key}
 use Rattle.table_store.proofs.children.put_lost.Goals as goal
 

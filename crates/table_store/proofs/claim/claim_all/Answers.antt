@@ -4,10 +4,10 @@ use Rattle.std.proofs.lemmas.List.{take_all}
 use Rattle.sql_model.specs.Changes.{KeyClash, clash_or, clash_after, numbered_rows}
 use Rattle.sql_model.specs.Keys.{values_at}
 use Rattle.table_store.specs.Types.{Value, TableRow}
-use Rattle.table_store.specs.Claims.{claim_stop}
+use Rattle.table_store.specs.inner.Claims.{claim_stop}
 use Rattle.table_store.specs.Histories.{rows_now}
-use Rattle.table_store.specs.HighKeys.{high_in}
-use Rattle.table_store.specs.IndexView.{held_in}
+use Rattle.table_store.specs.inner.HighKeys.{high_in}
+use Rattle.table_store.specs.inner.IndexView.{held_in}
 use Rattle.table_store.specs.KeyIndex.{HeldKeys, AreHeld, has_key}
 use Rattle.table_store.specs.RowOrder.{AreInOrder}
 use Rattle.table_store.specs.Stops.{StopsAs}

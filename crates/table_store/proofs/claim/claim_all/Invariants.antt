@@ -2,10 +2,10 @@ use Rattle.std.proofs.Common.{◌≡◌, ◌+◌, ◌<◌, ◌++◌, take, drop,
 use Rattle.std.specs.Prelude.{◌^◌}
 use Rattle.sql_model.specs.Changes.{clash_after, numbered_rows}
 use Rattle.table_store.specs.Types.{RowKey}
-use Rattle.table_store.specs.Claims.{high_or}
+use Rattle.table_store.specs.inner.Claims.{high_or}
 use Rattle.table_store.specs.Histories.{rows_now}
-use Rattle.table_store.specs.HighKeys.{high_in}
-use Rattle.table_store.specs.IndexView.{held_in}
+use Rattle.table_store.specs.inner.HighKeys.{high_in}
+use Rattle.table_store.specs.inner.IndexView.{held_in}
 use Rattle.table_store.specs.KeyIndex.{AreHeld}
 use Rattle.table_store.proofs.claim.claim_all.Given as goal
 

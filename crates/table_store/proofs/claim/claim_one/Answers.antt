@@ -5,8 +5,8 @@ use Rattle.sql_model.specs.Changes.{numbered_rows}
 use Rattle.sql_model.specs.Keys.{key_at, values_at}
 use Rattle.table_store.specs.Types.{RowKey}
 use Rattle.table_store.specs.Histories.{rows_now}
-use Rattle.table_store.specs.HighKeys.{high_in}
-use Rattle.table_store.specs.IndexView.{held_in}
+use Rattle.table_store.specs.inner.HighKeys.{high_in}
+use Rattle.table_store.specs.inner.IndexView.{held_in}
 use Rattle.table_store.specs.KeyIndex.{HeldKeys, AreHeld, has_key}
 use Rattle.table_store.proofs.ClaimLaws.{none_from, put_kept, put_more}
 use Rattle.table_store.proofs.HighLaws.{both}

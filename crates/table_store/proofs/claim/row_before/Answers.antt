@@ -2,8 +2,8 @@ use Rattle.std.proofs.Common.{◌∙◌, ap, sym, ◌++◌, take, Some, None}
 use Rattle.std.specs.Prelude.{if◌then◌else◌}
 use Rattle.std.specs.Option.{option_map}
 use Rattle.sql_model.specs.Changes.{numbered_rows}
-use Rattle.table_store.specs.HighKeys.{high_in}
-use Rattle.table_store.specs.IndexView.{held_in}
+use Rattle.table_store.specs.inner.HighKeys.{high_in}
+use Rattle.table_store.specs.inner.IndexView.{held_in}
 use Rattle.table_store.specs.Types.{TableRow}
 use Rattle.table_store.specs.Histories.{rows_now}
 use Rattle.table_store.specs.KeyIndex.{HeldKeys}

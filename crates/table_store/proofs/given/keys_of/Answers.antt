@@ -2,7 +2,7 @@ use Rattle.std.proofs.Common.{◌≡◌, ◌∙◌, ◌||◌, ap, arith}
 use Rattle.std.specs.List.{list_any}
 use Rattle.std.proofs.lemmas.List.{take_all}
 use Rattle.sql_model.specs.Keys.{key_at, same_values}
-use Rattle.table_store.specs.Afterwards.{has_values}
+use Rattle.table_store.specs.inner.Afterwards.{has_values}
 use Rattle.table_store.proofs.ChildLaws.{any_next, none_in, put_in_set}
 use Rattle.table_store.proofs.given.keys_of.Goals as goal
 

@@ -1,6 +1,6 @@
 use Rattle.std.proofs.Common.{◌≡◌, List, take}
 use Rattle.std.specs.List.{list_any}
-use Rattle.table_store.specs.Afterwards.{has_values, in_set}
+use Rattle.table_store.specs.inner.Afterwards.{has_values, in_set}
 use Rattle.table_store.specs.Types.{Value}
 use Rattle.table_store.proofs.given.keys_of.Given as goal
 

@@ -2,7 +2,7 @@ use Rattle.std.proofs.Common.{leb, ap, ◌∙◌, rules, sym, arith}
 use Rattle.std.proofs.lemmas.List.Sorted.{IsPartitionPoint-from_clause, IsPartitionedBy-leb}
 use Rattle.row_version.proofs.Timed.{kept-in-front}
 use Rattle.table_store.specs.Histories.{NextSince as Since, last_next_number}
-use Rattle.table_store.specs.Nexts.{since_of}
+use Rattle.table_store.specs.inner.Nexts.{since_of}
 use Rattle.table_store.specs.declared.nexts.NextSince.{NextSince}
 use Rattle.table_store.proofs.NextLaws.{times_sorted}
 use Rattle.table_store.proofs.nexts.next_as_of.Goals as goal

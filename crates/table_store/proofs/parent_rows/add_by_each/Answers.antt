@@ -2,9 +2,9 @@ use Rattle.std.proofs.Common.{◌≡◌, ◌++◌, ◌∙◌, ap, sym, subst, ap
 use Rattle.std.specs.List.{AllByRecursion, filter_map, list_all}
 use Rattle.std.specs.Option.{option_to_list}
 use Rattle.std.proofs.lemmas.List.{take_all}
-use Rattle.table_store.specs.Afterwards.{is_keyed}
+use Rattle.table_store.specs.inner.Afterwards.{is_keyed}
 use Rattle.table_store.specs.Histories.{tables_now}
-use Rattle.table_store.specs.ParentRows.{number_in, parent_by}
+use Rattle.table_store.specs.inner.ParentRows.{number_in, parent_by}
 use Rattle.table_store.specs.Referring.{IsAtVersion}
 use Rattle.table_store.specs.Types.{Foreign, Member}
 use Rattle.table_store.proofs.FormedLaws.{all_at}

@@ -1,6 +1,6 @@
 use Rattle.std.proofs.Common.{◌≡◌, ◌++◌, take}
 use Rattle.std.specs.List.{AllByRecursion}
-use Rattle.table_store.specs.ParentRows.{number_in, parents_in_row}
+use Rattle.table_store.specs.inner.ParentRows.{number_in, parents_in_row}
 use Rattle.table_store.specs.Referring.{IsAtVersion}
 use Rattle.table_store.proofs.parent_rows.add_by_each.Given as goal
 

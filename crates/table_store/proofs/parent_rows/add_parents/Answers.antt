@@ -1,8 +1,8 @@
 use Rattle.std.proofs.Common.{◌∙◌, ◌++◌, ap}
 use Rattle.std.specs.List.{list_all}
-use Rattle.table_store.specs.Afterwards.{is_keyed}
+use Rattle.table_store.specs.inner.Afterwards.{is_keyed}
 use Rattle.table_store.specs.Histories.{tables_now}
-use Rattle.table_store.specs.ParentRows.{number_in, parents_in_row}
+use Rattle.table_store.specs.inner.ParentRows.{number_in, parents_in_row}
 use Rattle.table_store.specs.Types.{Schema}
 use Rattle.table_store.proofs.parent_rows.add_parents.Goals as goal
 

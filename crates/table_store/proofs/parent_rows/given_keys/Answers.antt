@@ -1,6 +1,6 @@
 use Rattle.std.proofs.Common.{◌∙◌, ap, List, arith}
 use Rattle.std.proofs.lemmas.List.{take_all}
-use Rattle.table_store.specs.ParentRows.{last_row_with}
+use Rattle.table_store.specs.inner.ParentRows.{last_row_with}
 use Rattle.table_store.specs.Types.{TableRow}
 use Rattle.table_store.proofs.ParentLaws.{last_more, last_start}
 use Rattle.table_store.proofs.parent_rows.given_keys.Goals as goal

@@ -1,5 +1,5 @@
 use Rattle.std.proofs.Common.{◌≡◌, List, take}
-use Rattle.table_store.specs.ParentRows.{last_row_with, number_in}
+use Rattle.table_store.specs.inner.ParentRows.{last_row_with, number_in}
 use Rattle.table_store.specs.Types.{Value}
 use Rattle.table_store.proofs.parent_rows.given_keys.Given as goal
 

@@ -1,6 +1,6 @@
 use Rattle.std.proofs.Common.{◌≡◌, ◌∙◌, ap, sym}
 use Rattle.sql_model.specs.Keys.{values_at}
-use Rattle.table_store.specs.ParentRows.{number_in}
+use Rattle.table_store.specs.inner.ParentRows.{number_in}
 use Rattle.table_store.specs.Types.{RowKey}
 use Rattle.table_store.proofs.ParentLaws.{parent_key, parent_null}
 use Rattle.table_store.proofs.parent_rows.parent_by.Goals as goal

@@ -1,6 +1,6 @@
 use Rattle.std.proofs.Common.{◌≡◌, ◌∙◌, ap, sym, List, ℕ, Option, Some, None}
 use Rattle.table_store.specs.Histories.{history_at, last_next_number, table_now, tables_now}
-use Rattle.table_store.specs.ParentRows.{member_of, number_in, parent_in, parent_number}
+use Rattle.table_store.specs.inner.ParentRows.{member_of, number_in, parent_in, parent_number}
 use Rattle.table_store.specs.Types.{Table}
 use Rattle.table_store.proofs.NowLaws.{now_at, now_none}
 use Rattle.table_store.proofs.ParentLaws.{member_is, member_version}

@@ -1,7 +1,7 @@
 use Rattle.std.proofs.Common.{◌≡◌, ◌++◌, ◌∙◌, ap, sym, subst, List, arith}
 use Rattle.std.specs.List.{AllByRecursion, flat_map}
 use Rattle.std.proofs.lemmas.List.{take_all}
-use Rattle.table_store.specs.ParentRows.{number_in, parents_in_row}
+use Rattle.table_store.specs.inner.ParentRows.{number_in, parents_in_row}
 use Rattle.table_store.specs.Referring.{IsAtVersion}
 use Rattle.table_store.specs.Types.{Member, TableRow}
 use Rattle.table_store.proofs.ParentLaws.{flat_more}

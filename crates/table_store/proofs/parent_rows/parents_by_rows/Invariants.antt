@@ -1,6 +1,6 @@
 use Rattle.std.proofs.Common.{◌≡◌, take}
 use Rattle.std.specs.List.{AllByRecursion, flat_map}
-use Rattle.table_store.specs.ParentRows.{number_in, parents_in_row}
+use Rattle.table_store.specs.inner.ParentRows.{number_in, parents_in_row}
 use Rattle.table_store.specs.Referring.{IsAtVersion}
 use Rattle.table_store.proofs.parent_rows.parents_by_rows.Given as goal
 

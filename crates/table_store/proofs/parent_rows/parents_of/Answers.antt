@@ -1,7 +1,7 @@
 use Rattle.std.proofs.Common.{◌≡◌, ◌∙◌, ap, sym, List, true}
 use Rattle.std.specs.List.{flat_map}
 use Rattle.table_store.specs.Histories.{table_now, tables_now}
-use Rattle.table_store.specs.ParentRows.{last_row_with, number_in, parents_in_row}
+use Rattle.table_store.specs.inner.ParentRows.{last_row_with, number_in, parents_in_row}
 use Rattle.table_store.specs.Stops.{are_sorted_numbers, are_sorted_rows}
 use Rattle.table_store.specs.Types.{Schema, TableRow, Value}
 use Rattle.table_store.proofs.NowLaws.{now_at}

@@ -1,6 +1,6 @@
 use Rattle.std.proofs.Common.{◌≡◌, ◌∙◌, ap, sym, List, ℕ, Option, Some, None, false}
 use Rattle.std.specs.Option.{option_map_or}
-use Rattle.table_store.specs.Afterwards.{has_put, in_set}
+use Rattle.table_store.specs.inner.Afterwards.{has_put, in_set}
 use Rattle.table_store.specs.Histories.{history_at, table_now, tables_now}
 use Rattle.table_store.specs.Types.{Table}
 use Rattle.table_store.proofs.NowLaws.{now_at, now_none}

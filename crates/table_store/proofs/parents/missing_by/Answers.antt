@@ -1,7 +1,7 @@
 use Rattle.std.proofs.Common.{◌≡◌, ◌∙◌, ap, sym, List, ℕ, Some}
 use Rattle.std.specs.Option.{option_map}
 use Rattle.sql_model.specs.Keys.{values_at}
-use Rattle.table_store.specs.Afterwards.{has_put, in_set}
+use Rattle.table_store.specs.inner.Afterwards.{has_put, in_set}
 use Rattle.table_store.specs.Histories.{tables_now}
 use Rattle.table_store.specs.Referring.{parent_stop}
 use Rattle.table_store.specs.Types.{RowKey}

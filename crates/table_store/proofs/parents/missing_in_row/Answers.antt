@@ -1,7 +1,7 @@
 use Rattle.std.proofs.Common.{◌∙◌, ap}
 use Rattle.std.specs.List.{list_all}
 use Rattle.std.specs.Option.{option_map}
-use Rattle.table_store.specs.Afterwards.{has_put, in_set, is_keyed, missing_in_row}
+use Rattle.table_store.specs.inner.Afterwards.{has_put, in_set, is_keyed, missing_in_row}
 use Rattle.table_store.specs.Histories.{tables_now}
 use Rattle.table_store.specs.Referring.{parent_stop}
 use Rattle.table_store.specs.Types.{Schema}

@@ -1,6 +1,6 @@
 use Rattle.std.proofs.Common.{rules, ◌≡◌, ◌∙◌, ap, sym, List, get_or, is_some, true, false, arith}
 use Rattle.std.specs.Option.{option_map}
-use Rattle.table_store.specs.Afterwards.{has_put, in_set, missing_in_row}
+use Rattle.table_store.specs.inner.Afterwards.{has_put, in_set, missing_in_row}
 use Rattle.table_store.specs.Histories.{tables_now}
 use Rattle.table_store.specs.Referring.{parent_stop}
 use Rattle.table_store.specs.Types.{Value}

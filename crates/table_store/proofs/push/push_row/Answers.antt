@@ -1,5 +1,5 @@
 use Rattle.std.proofs.Common.{◌∙◌}
-use Rattle.table_store.specs.Grid.{slots_of}
+use Rattle.table_store.specs.inner.Grid.{slots_of}
 use Rattle.table_store.proofs.GridLaws.{slots_pushed, fits_width, fits_columns, same_kinds}
 use Rattle.table_store.proofs.push.push_row.Goals as goal
 

@@ -1,7 +1,7 @@
 use Rattle.std.proofs.Common.{◌≡◌, ◌+◌, ◌≤◌, ◌<◌, ℕ, true, length, vec_len, ◌++◌, map}
 use Rattle.std.specs.Prelude.{slice_index_or, vec_capacity}
 use Rattle.column_store.specs.Columns.{no_cells, kinds_of}
-use Rattle.table_store.specs.Grid.{IsGrid, slots_of, new_slot, are_of_kinds, AreNumberedFrom, next_after}
+use Rattle.table_store.specs.inner.Grid.{IsGrid, slots_of, new_slot, are_of_kinds, AreNumberedFrom, next_after}
 use Rattle.table_store.proofs.push.push_rows.Given as goal
 
 abbrev pub invariant-loop-row : goal.invariant-loop-row

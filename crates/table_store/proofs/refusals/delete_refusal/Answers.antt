@@ -1,5 +1,5 @@
 use Rattle.std.proofs.Common.{◌∙◌, sym}
-use Rattle.table_store.specs.Afterwards.{in_set}
+use Rattle.table_store.specs.inner.Afterwards.{in_set}
 use Rattle.table_store.proofs.ChildLaws.{none_in}
 use Rattle.table_store.proofs.NowLaws.{now_at}
 use Rattle.table_store.proofs.RefusalLaws.{delete_child}

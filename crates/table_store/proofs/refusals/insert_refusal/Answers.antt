@@ -3,7 +3,7 @@ use Rattle.std.specs.List.{list_any}
 use Rattle.std.specs.Option.{option_map}
 use Rattle.std.proofs.lemmas.List.{map-id}
 use Rattle.sql_model.specs.Scope.{same_text, table_at}
-use Rattle.table_store.specs.Afterwards.{has_put, has_values, in_set, missing_in_rows, refers_to}
+use Rattle.table_store.specs.inner.Afterwards.{has_put, has_values, in_set, missing_in_rows, refers_to}
 use Rattle.table_store.specs.Histories.{table_now, tables_now}
 use Rattle.table_store.specs.Referring.{parent_stop}
 use Rattle.table_store.specs.Types.{Foreign, Table, Value}

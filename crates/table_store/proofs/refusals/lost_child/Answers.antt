@@ -2,7 +2,7 @@ use Rattle.std.proofs.Common.{◌≡◌, ◌∙◌, ap, sym, List, Bool, length,
 use Rattle.std.specs.Prelude.{◌==◌}
 use Rattle.std.specs.List.{list_any}
 use Rattle.std.specs.Option.{option_map}
-use Rattle.table_store.specs.Afterwards.{in_set, loses, orphan_in_tables, refers_to}
+use Rattle.table_store.specs.inner.Afterwards.{in_set, loses, orphan_in_tables, refers_to}
 use Rattle.table_store.specs.Histories.{TableHistory, table_now}
 use Rattle.table_store.specs.Referring.{child_stop}
 use Rattle.table_store.specs.Stops.{is_among}

@@ -4,7 +4,7 @@ use Rattle.std.specs.List.{list_any}
 use Rattle.std.specs.Option.{option_map}
 use Rattle.ldv_value.proofs.Lists.{sorted-under}
 use Rattle.sql_model.specs.Scope.{table_at}
-use Rattle.table_store.specs.Afterwards.{has_put, has_values, in_set, loses, missing_in_rows, orphan_in_tables, refers_to}
+use Rattle.table_store.specs.inner.Afterwards.{has_put, has_values, in_set, loses, missing_in_rows, orphan_in_tables, refers_to}
 use Rattle.table_store.specs.Histories.{TableHistory, table_now, tables_now}
 use Rattle.table_store.specs.Referring.{is_of, missing_stop, orphan_stop, parent_stop}
 use Rattle.table_store.specs.Stops.{are_sorted_numbers, is_among, with_changed, with_replaced}

@@ -1,6 +1,6 @@
 use Rattle.std.specs.Ordering.{nat_cmp}
 use Rattle.std.specs.BTreeMap.{get}
-use Rattle.table_store.specs.RowChains.{Chains}
+use Rattle.table_store.specs.inner.RowChains.{Chains}
 use Rattle.table_store.proofs.ChangeLaws.{grown_chained, grown_seen, room_grown}
 use Rattle.table_store.proofs.room.grow.Goals as goal
 

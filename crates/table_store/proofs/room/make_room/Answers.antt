@@ -1,6 +1,6 @@
 use Rattle.std.proofs.Common.{◌≡◌, ◌∙◌, sym, subst, get_or}
 use Rattle.column_store.proofs.FlagLaws.{default_free}
-use Rattle.table_store.specs.RowChanges.{IsThere, no_change}
+use Rattle.table_store.specs.inner.RowChanges.{IsThere, no_change}
 use Rattle.table_store.specs.declared.change.RowChange.{RowChange}
 use Rattle.table_store.proofs.room.make_room.Goals as goal
 

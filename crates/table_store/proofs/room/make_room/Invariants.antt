@@ -1,8 +1,8 @@
 use Rattle.std.proofs.Common.{◌≡◌, ℕ, ◌<◌, get_or}
 use Rattle.std.specs.Ordering.{nat_cmp}
 use Rattle.std.specs.BTreeMap.{get}
-use Rattle.table_store.specs.RowChains.{AreChained, histories_of, HasRoom}
-use Rattle.table_store.specs.RowChanges.{no_change}
+use Rattle.table_store.specs.inner.RowChains.{AreChained, histories_of, HasRoom}
+use Rattle.table_store.specs.inner.RowChanges.{no_change}
 use Rattle.table_store.proofs.room.make_room.Given as goal
 
 abbrev pub invariant-loop-change : goal.invariant-loop-change

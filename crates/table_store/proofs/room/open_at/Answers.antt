@@ -2,7 +2,7 @@ use Rattle.std.proofs.Common.{◌∙◌, ◌∷◌, [], sym}
 use Rattle.std.specs.Ordering.{nat_cmp}
 use Rattle.std.specs.BTreeMap.{get}
 use Rattle.row_version.specs.History.{History, write_at}
-use Rattle.table_store.specs.RowChains.{Chains}
+use Rattle.table_store.specs.inner.RowChains.{Chains}
 use Rattle.table_store.proofs.ChangeLaws.{opened_chained, opened_seen, none_by, room_kept}
 use Rattle.table_store.proofs.room.open_at.Goals as goal
 

@@ -1,6 +1,6 @@
 use Rattle.std.proofs.Common.{◌≡◌, true, take}
 use Rattle.std.specs.List.{list_all}
-use Rattle.world_json.specs.NameSets.{is_table_known}
+use Rattle.world_json.specs.inner.NameSets.{is_table_known}
 use Rattle.world_json.proofs.table_names.each_table_known.Given as goal
 
 abbrev pub invariant-loop-table : goal.invariant-loop-table

@@ -2,7 +2,7 @@ use Rattle.std.proofs.Common.{◌≡◌, ◌+◌, ◌≤◌, []}
 use Rattle.run_model.specs.Events.{events}
 use Rattle.run_model.specs.Run.{run, steps}
 use Rattle.run_model.specs.State.{State}
-use Rattle.proc_core.specs.Counts.{CountsBelow}
+use Rattle.proc_core.specs.inner.Counts.{CountsBelow}
 use Rattle.proc_core.specs.Running.{Stands}
 use Rattle.proc_core.specs.Stands.{AppendsEvents}
 use Rattle.proc_core.proofs.run.Run.to_end.Given as goal

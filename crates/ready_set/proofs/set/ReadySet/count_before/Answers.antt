@@ -1,6 +1,6 @@
 use Rattle.std.proofs.Common.{◌≡◌, ◌^◌, ◌+◌, ◌∙◌, List, Bool, ap, sym, arith}
 use Rattle.ready_set.specs.Ready.{count_below}
-use Rattle.ready_set.specs.Tree.{sum_before, flags_of}
+use Rattle.ready_set.specs.inner.Tree.{sum_before, flags_of}
 use Rattle.ready_set.proofs.SeenLaws.{seen_made, seen_flags, kept_small, sum-room}
 use Rattle.ready_set.proofs.set.ReadySet.count_before.Goals as goal
 

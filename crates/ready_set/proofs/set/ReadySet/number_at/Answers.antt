@@ -1,7 +1,7 @@
 use Rattle.std.proofs.Common.{◌≡◌, ◌^◌, ◌+◌, ◌∙◌, ℕ, List, Bool, length, get_or, ap, sym, arith}
 use Rattle.std.specs.Prelude.{slice_get}
 use Rattle.ready_set.specs.Ready.{numbers}
-use Rattle.ready_set.specs.Tree.{sum_before}
+use Rattle.ready_set.specs.inner.Tree.{sum_before}
 use Rattle.ready_set.proofs.SeenLaws.{seen_flags, total_is, found_is}
 use Rattle.ready_set.proofs.WayLaws.{IsFound}
 use Rattle.ready_set.proofs.set.ReadySet.number_at.Goals as goal

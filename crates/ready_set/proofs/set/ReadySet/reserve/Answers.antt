@@ -1,6 +1,6 @@
 use Rattle.std.proofs.Common.{◌≡◌, ◌<◌, ◌*◌, ◌+◌, ◌^◌, ℕ, List, subst, arith}
 use Rattle.std.proofs.lemmas.Nat.{pow_pos}
-use Rattle.ready_set.specs.Tree.{IsKept, IsWidened}
+use Rattle.ready_set.specs.inner.Tree.{IsKept, IsWidened}
 use Rattle.ready_set.proofs.SeenLaws.{seen_made, seen_room, widen_small, widen_low, kept-widen, length-flags_of}
 use Rattle.ready_set.proofs.set.ReadySet.reserve.Goals as goal
 

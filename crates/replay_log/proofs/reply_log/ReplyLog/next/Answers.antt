@@ -1,8 +1,8 @@
 use Rattle.std.proofs.Common.{◌≡◌, ◌∙◌, subst, refl, ℕ, List, IfOk}
 use Rattle.run_model.specs.Database.{Gives, Diverges}
 use Rattle.run_model.specs.LogDatabase.{log_base, no_lists}
-use Rattle.replay_log.specs.Left.{logs_left, question}
-use Rattle.replay_log.specs.Places.{IsAt, IsNowhere}
+use Rattle.replay_log.specs.inner.Left.{logs_left, question}
+use Rattle.replay_log.specs.inner.Places.{IsAt, IsNowhere}
 use Rattle.replay_log.specs.Types.{Log}
 use Rattle.replay_log.proofs.LeftLogs.{diverges_nowhere}
 use Rattle.replay_log.proofs.reply_log.ReplyLog.next.Goals as goal

@@ -4,7 +4,7 @@ use Rattle.std.specs.Ordering.{int_cmp}
 use Rattle.std.proofs.lemmas.Int.{to_z-of_z}
 use Rattle.std.proofs.lemmas.Result.{on_ok_weaker}
 use Rattle.sql_model.specs.KeyOrder.{key_order}
-use Rattle.table_store.specs.ChildPairs.{has_pair, pair_as, placed_order}
+use Rattle.table_store.specs.inner.ChildPairs.{has_pair, pair_as, placed_order}
 use Rattle.table_store.specs.KeyIndex.{int_key}
 use Rattle.table_store.proofs.ChildIndexLaws.{keep_as}
 use Rattle.table_store.proofs.child_index.ChildIndex.add.Goals as goal

@@ -3,7 +3,7 @@ use Rattle.std.specs.Prelude.{ℤ}
 use Rattle.std.specs.Ordering.{int_cmp}
 use Rattle.std.proofs.lemmas.Int.{to_z-of_z}
 use Rattle.sql_model.specs.KeyOrder.{key_order}
-use Rattle.table_store.specs.ChildPairs.{IsFirstFrom, has_pair, pair_as, placed_order}
+use Rattle.table_store.specs.inner.ChildPairs.{IsFirstFrom, has_pair, pair_as, placed_order}
 use Rattle.table_store.specs.KeyIndex.{int_key}
 use Rattle.table_store.specs.Types.{RowKey}
 use Rattle.table_store.proofs.child_index.ChildIndex.first_from.Goals as goal

@@ -3,7 +3,7 @@ use Rattle.std.specs.Prelude.{ℤ}
 use Rattle.std.specs.Ordering.{int_cmp, is_eq, nat_cmp, ordering_then}
 use Rattle.std.proofs.lemmas.Int.{to_z-of_z}
 use Rattle.sql_model.specs.KeyOrder.{key_order}
-use Rattle.table_store.specs.ChildPairs.{has_pair, placed_order}
+use Rattle.table_store.specs.inner.ChildPairs.{has_pair, placed_order}
 use Rattle.table_store.specs.KeyIndex.{int_key}
 use Rattle.table_store.proofs.ChildIndexLaws.{keep_at, other_int, other_key}
 use Rattle.table_store.proofs.child_index.ChildIndex.remove.Goals as goal

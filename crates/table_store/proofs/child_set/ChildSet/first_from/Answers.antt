@@ -1,7 +1,7 @@
 use Rattle.std.proofs.Common.{subst, sym, ℕ, Option}
 use Rattle.std.specs.Map.Iter.{deref}
 use Rattle.std.proofs.lemmas.Map.Iter.{rest_all, rest_more}
-use Rattle.table_store.specs.ChildPairs.{IsFirstFrom, has_pair}
+use Rattle.table_store.specs.inner.ChildPairs.{IsFirstFrom, has_pair}
 use Rattle.table_store.proofs.ChildSetLaws.{first_none, first_some}
 use Rattle.table_store.proofs.child_set.ChildSet.first_from.Goals as goal
 

@@ -1,5 +1,5 @@
 use Rattle.std.proofs.Common.{◌≡◌, ◌∙◌, ◌<◌, ap, length, List, Bool, false, arith}
-use Rattle.table_store.specs.Grid.{Slot, Rows, slots_of, slot_of}
+use Rattle.table_store.specs.inner.Grid.{Slot, Rows, slots_of, slot_of}
 use Rattle.table_store.proofs.GridLaws.{in_parts, seen_slot, slots_cleared, set_seen}
 use Rattle.table_store.proofs.grid.Grid.clear.Goals as goal
 

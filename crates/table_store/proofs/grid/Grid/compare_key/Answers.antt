@@ -2,7 +2,7 @@ use Rattle.std.proofs.Common.{◌∙◌, ◌<◌, ap, sym, length, arith}
 use Rattle.std.specs.Cmp.Lexicographic.{slice_cmp}
 use Rattle.ldv_value.specs.Order.{order}
 use Rattle.sql_model.specs.Keys.{values_at as key_values}
-use Rattle.table_store.specs.Grid.{Rows}
+use Rattle.table_store.specs.inner.Grid.{Rows}
 use Rattle.table_store.proofs.GridLaws.{in_parts, seen_within}
 use Rattle.table_store.proofs.grid.Grid.compare_key.Goals as goal
 

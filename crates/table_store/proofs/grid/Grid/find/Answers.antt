@@ -1,5 +1,5 @@
 use Rattle.std.proofs.Common.{ap}
-use Rattle.table_store.specs.Grid.{Rows}
+use Rattle.table_store.specs.inner.Grid.{Rows}
 use Rattle.table_store.proofs.GridLaws.{found_seen, absent_seen}
 use Rattle.table_store.proofs.grid.Grid.find.Goals as goal
 

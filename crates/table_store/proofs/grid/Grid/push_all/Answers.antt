@@ -1,6 +1,6 @@
 use Rattle.std.proofs.Common.{◌≡◌, ◌∙◌, ap, List, ◌++◌, map, rules, Bool, []}
 use Rattle.column_store.specs.Columns.{kinds_of}
-use Rattle.table_store.specs.Grid.{Rows, Slot, slots_of, are_of_kinds, new_slot, next_after}
+use Rattle.table_store.specs.inner.Grid.{Rows, Slot, slots_of, are_of_kinds, new_slot, next_after}
 use Rattle.table_store.proofs.GridLaws.{slots_same, same_kinds}
 use Rattle.table_store.proofs.grid.Grid.push_all.Goals as goal
 

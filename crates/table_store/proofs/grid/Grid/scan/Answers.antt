@@ -6,7 +6,7 @@ use Rattle.table_store.specs.Types.{Null}
 use Rattle.column_store.specs.Cells.{Cells}
 use Rattle.table_store.specs.Scans.{passes_test}
 use Rattle.column_store.specs.Columns.{no_cells}
-use Rattle.table_store.specs.Grid.{Slot, Rows, no_slot, slot_passes, slots_of}
+use Rattle.table_store.specs.inner.Grid.{Slot, Rows, no_slot, slot_passes, slots_of}
 use Rattle.column_store.proofs.FlagLaws.{default_free}
 use Rattle.table_store.proofs.GridLaws.{seen_len, scan_slot, column_within}
 use Rattle.table_store.proofs.grid.Grid.scan.Goals as goal

@@ -3,7 +3,7 @@ use Rattle.lanes.specs.Sets.{member}
 use Rattle.sql_model.specs.Scope.{value_at}
 use Rattle.table_store.specs.Scans.{null_passes}
 use Rattle.column_store.specs.Columns.{values_at}
-use Rattle.table_store.specs.Grid.{Slot, Rows, no_slot, slot_null}
+use Rattle.table_store.specs.inner.Grid.{Slot, Rows, no_slot, slot_null}
 use Rattle.table_store.proofs.GridLaws.{seen_len, nulls_slot}
 use Rattle.table_store.proofs.grid.Grid.scan_nulls.Goals as goal
 

@@ -1,5 +1,5 @@
 use Rattle.std.proofs.Common.{◌≡◌, ◌∙◌, ◌<◌, ap, length, arith}
-use Rattle.table_store.specs.Grid.{Slot, Rows, slots_of, slot_of, fits_kinds}
+use Rattle.table_store.specs.inner.Grid.{Slot, Rows, slots_of, slot_of, fits_kinds}
 use Rattle.table_store.proofs.GridLaws.{in_parts, seen_slot, slots_replaced, set_seen, fits_columns, fits_width, same_kinds}
 use Rattle.table_store.proofs.grid.Grid.set.Goals as goal
 

@@ -1,6 +1,6 @@
 use Rattle.std.proofs.Common.{◌≡◌, ◌∙◌, ◌+◌, ◌/◌, ap, sym, ℕ, List, length, get_or}
 use Rattle.lanes.specs.Sets.{member}
-use Rattle.table_store.specs.Grid.{Slot, Rows, no_slot}
+use Rattle.table_store.specs.inner.Grid.{Slot, Rows, no_slot}
 use Rattle.table_store.proofs.GridLaws.{seen_len, standing_slot}
 use Rattle.table_store.proofs.grid.Grid.standing_slots.Goals as goal
 

@@ -1,8 +1,8 @@
 use Rattle.std.proofs.Common.{◌∙◌, ap, sym, subst, List}
 use Rattle.std.specs.Ordering.{nat_cmp}
 use Rattle.std.specs.BTreeMap.{get}
-use Rattle.table_store.specs.RowChains.{Chains, RowsHistory, chains_of}
-use Rattle.table_store.specs.RowChanges.{AllThere, AllHaveRoom}
+use Rattle.table_store.specs.inner.RowChains.{Chains, RowsHistory, chains_of}
+use Rattle.table_store.specs.inner.RowChanges.{AllThere, AllHaveRoom}
 use Rattle.table_store.specs.declared.change.RowChange.{RowChange}
 use Rattle.table_store.proofs.ChangeLaws.{all_there, all_ready}
 use Rattle.table_store.proofs.rows.Rows.change_all.Goals as goal

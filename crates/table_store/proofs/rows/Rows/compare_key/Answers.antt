@@ -1,5 +1,5 @@
 use Rattle.std.proofs.Common.{◌∙◌, ap}
-use Rattle.table_store.specs.RowChains.{RowsHistory, chains_of}
+use Rattle.table_store.specs.inner.RowChains.{RowsHistory, chains_of}
 use Rattle.std.specs.Prelude.{Some}
 use Rattle.std.specs.Cmp.Lexicographic.{slice_cmp}
 use Rattle.ldv_value.specs.Order.{order}

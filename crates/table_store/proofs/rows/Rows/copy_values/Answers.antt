@@ -1,9 +1,9 @@
 use Rattle.std.proofs.Common.{◌≡◌, ◌∙◌, ap, Some, get_or}
 use Rattle.std.proofs.lemmas.Result.{IfOk-weaker}
 use Rattle.row_version.specs.History.{current_values}
-use Rattle.table_store.specs.Grid.{no_slot}
+use Rattle.table_store.specs.inner.Grid.{no_slot}
 use Rattle.table_store.specs.Histories.{no_history}
-use Rattle.table_store.specs.RowChains.{RowsHistory, chains_of}
+use Rattle.table_store.specs.inner.RowChains.{RowsHistory, chains_of}
 use Rattle.table_store.proofs.RowLaws.{values_are}
 use Rattle.table_store.proofs.rows.Rows.copy_values.Goals as goal
 

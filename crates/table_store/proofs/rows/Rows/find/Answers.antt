@@ -1,5 +1,5 @@
 use Rattle.std.proofs.Common.{ap}
-use Rattle.table_store.specs.RowChains.{RowsHistory, chains_of}
+use Rattle.table_store.specs.inner.RowChains.{RowsHistory, chains_of}
 use Rattle.table_store.proofs.RowLaws.{found_row, absent_row}
 use Rattle.table_store.proofs.rows.Rows.find.Goals as goal
 

@@ -1,7 +1,7 @@
 use Rattle.std.proofs.Common.{◌∙◌, ap, subst, sym, ℕ, ◌++◌, map}
-use Rattle.table_store.specs.Grid.{Rows, AreNumberedFrom, next_after}
+use Rattle.table_store.specs.inner.Grid.{Rows, AreNumberedFrom, next_after}
 use Rattle.table_store.specs.Histories.{history_of_new_row}
-use Rattle.table_store.specs.RowChains.{RowsHistory, chains_of, histories_of, AreChained}
+use Rattle.table_store.specs.inner.RowChains.{RowsHistory, chains_of, histories_of, AreChained}
 use Rattle.table_store.proofs.RowLaws.{rows_added, chained_added}
 use Rattle.table_store.proofs.rows.Rows.push_all.Goals as goal
 

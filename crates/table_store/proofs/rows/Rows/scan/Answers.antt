@@ -1,10 +1,10 @@
 use Rattle.std.proofs.Common.{◌≡◌, ◌∙◌, ap, subst}
-use Rattle.table_store.specs.RowChains.{RowsHistory, chains_of}
+use Rattle.table_store.specs.inner.RowChains.{RowsHistory, chains_of}
 use Rattle.std.proofs.Common.{w64, get_or}
 use Rattle.std.specs.Prelude.{ℤ}
 use Rattle.std.proofs.lemmas.Int.{to_z-of_z}
 use Rattle.lanes.specs.Sets.{member}
-use Rattle.table_store.specs.Grid.{no_slot, slot_passes}
+use Rattle.table_store.specs.inner.Grid.{no_slot, slot_passes}
 use Rattle.table_store.proofs.RowLaws.{scan_is}
 use Rattle.table_store.proofs.rows.Rows.scan.Goals as goal
 

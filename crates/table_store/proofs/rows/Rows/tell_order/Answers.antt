@@ -1,5 +1,5 @@
 use Rattle.std.proofs.Common.{ap, ℕ, subst}
-use Rattle.table_store.specs.RowChains.{RowsHistory, chains_of}
+use Rattle.table_store.specs.inner.RowChains.{RowsHistory, chains_of}
 use Rattle.table_store.specs.RowOrder.{AreInOrder}
 use Rattle.table_store.proofs.RowLaws.{in_order}
 use Rattle.table_store.proofs.rows.Rows.tell_order.Goals as goal

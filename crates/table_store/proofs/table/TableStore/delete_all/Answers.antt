@@ -2,12 +2,12 @@ use Rattle.std.proofs.Common.{◌≡◌, ◌∙◌, ◌<◌, ap, sym, subst, ℕ
 use Rattle.std.specs.Prelude.{Err}
 use Rattle.row_version.specs.History.{Change}
 use Rattle.table_store.specs.Histories.{RowHistory, NextSince, TableHistory, changed_by, last_since, last_next_number, nexts_with, rows_now, rows_without, table_without}
-use Rattle.table_store.specs.ChildPairs.{Pairs, AreReferred, StayReferred, pair_in}
-use Rattle.table_store.specs.IndexView.{held_in}
+use Rattle.table_store.specs.inner.ChildPairs.{Pairs, AreReferred, StayReferred, pair_in}
+use Rattle.table_store.specs.inner.IndexView.{held_in}
 use Rattle.table_store.specs.KeyIndex.{HeldKeys, AreIndexed}
-use Rattle.table_store.specs.Nexts.{nexts_of}
-use Rattle.table_store.specs.RowChains.{RowsHistory}
-use Rattle.table_store.specs.RowChanges.{removal, changes_given, RiseFrom, AllFitKinds, AllStand}
+use Rattle.table_store.specs.inner.Nexts.{nexts_of}
+use Rattle.table_store.specs.inner.RowChains.{RowsHistory}
+use Rattle.table_store.specs.inner.RowChanges.{removal, changes_given, RiseFrom, AllFitKinds, AllStand}
 use Rattle.table_store.specs.Stops.{StopsAs}
 use Rattle.table_store.specs.TableView.{IsStored}
 use Rattle.table_store.specs.declared.change.RowChange.{RowChange}

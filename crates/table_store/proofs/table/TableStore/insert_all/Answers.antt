@@ -6,14 +6,14 @@ use Rattle.std.specs.Option.{option_or}
 use Rattle.ldv_value.specs.Limits.{max_next}
 use Rattle.sql_model.specs.Changes.{numbered_rows, refuses_null, clash_by}
 use Rattle.table_store.specs.Types.{Value, TableRow}
-use Rattle.table_store.specs.Claims.{claim_stop}
-use Rattle.table_store.specs.Grid.{AreNumberedFrom, are_of_kinds, next_after}
+use Rattle.table_store.specs.inner.Claims.{claim_stop}
+use Rattle.table_store.specs.inner.Grid.{AreNumberedFrom, are_of_kinds, next_after}
 use Rattle.table_store.specs.Histories.{NextSince, TableHistory, history_of_new_row, table_with_rows, last_since, nexts_with, rows_now, table_now}
-use Rattle.table_store.specs.ChildPairs.{Pairs, AreReferred, pair_in}
-use Rattle.table_store.specs.IndexView.{held_in}
+use Rattle.table_store.specs.inner.ChildPairs.{Pairs, AreReferred, pair_in}
+use Rattle.table_store.specs.inner.IndexView.{held_in}
 use Rattle.table_store.specs.KeyIndex.{HeldKeys, AreIndexed}
-use Rattle.table_store.specs.Nexts.{nexts_of}
-use Rattle.table_store.specs.RowChains.{RowsHistory}
+use Rattle.table_store.specs.inner.Nexts.{nexts_of}
+use Rattle.table_store.specs.inner.RowChains.{RowsHistory}
 use Rattle.table_store.specs.RowOrder.{AreInOrder}
 use Rattle.table_store.specs.Stops.{has_shape, insert_stop, stop_if, StopsAs}
 use Rattle.table_store.specs.TableView.{IsStored}

@@ -1,6 +1,6 @@
 use Rattle.std.proofs.Common.{◌∙◌, ap, sym, subst, List}
 use Rattle.table_store.specs.Histories.{TableHistory, next_as_of}
-use Rattle.table_store.specs.Nexts.{nexts_of, AreInTime}
+use Rattle.table_store.specs.inner.Nexts.{nexts_of, AreInTime}
 use Rattle.table_store.specs.declared.nexts.NextSince.{NextSince}
 use Rattle.table_store.proofs.NowLaws.{next_last}
 use Rattle.table_store.proofs.table.TableStore.next_at.Goals as goal

@@ -1,11 +1,11 @@
 use Rattle.std.proofs.Common.{◌≡◌, ◌∙◌, ◌++◌, ◌∷◌, [], ap, refl, subst, sym, Bool, List, map, arith}
 use Rattle.table_store.specs.Types.{Schema, TableRow}
-use Rattle.table_store.specs.ChildPairs.{Pairs, AreReferred, pair_in}
+use Rattle.table_store.specs.inner.ChildPairs.{Pairs, AreReferred, pair_in}
 use Rattle.table_store.specs.Histories.{NextSince, history_of_new_row, rows_now}
-use Rattle.table_store.specs.IndexView.{held_in}
+use Rattle.table_store.specs.inner.IndexView.{held_in}
 use Rattle.table_store.specs.KeyIndex.{HeldKeys, AreIndexed}
-use Rattle.table_store.specs.Nexts.{nexts_of}
-use Rattle.table_store.specs.RowChains.{RowsHistory}
+use Rattle.table_store.specs.inner.Nexts.{nexts_of}
+use Rattle.table_store.specs.inner.RowChains.{RowsHistory}
 use Rattle.table_store.specs.TableView.{IsStored, kinds_in}
 use Rattle.table_store.proofs.TableLaws.{added_now, added_timed, added_indexed}
 use Rattle.table_store.proofs.table.TableStore.of_table.Goals as goal

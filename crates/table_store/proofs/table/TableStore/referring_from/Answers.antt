@@ -1,6 +1,6 @@
 use Rattle.std.proofs.Common.{◌<◌, length, subst, sym}
 use Rattle.std.specs.Prelude.{slice_index_or}
-use Rattle.table_store.specs.ChildPairs.{IsNextOf, no_foreign, pair_in, refers}
+use Rattle.table_store.specs.inner.ChildPairs.{IsNextOf, no_foreign, pair_in, refers}
 use Rattle.table_store.specs.Histories.{TableHistory, rows_now}
 use Rattle.table_store.proofs.ChildIndexLaws.{next_of}
 use Rattle.table_store.proofs.table.TableStore.referring_from.Goals as goal

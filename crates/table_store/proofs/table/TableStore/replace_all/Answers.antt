@@ -5,15 +5,15 @@ use Rattle.std.specs.Option.{option_or}
 use Rattle.row_version.specs.History.{Change}
 use Rattle.sql_model.specs.Changes.{has_null, clash_by}
 use Rattle.table_store.specs.Types.{TableRow}
-use Rattle.table_store.specs.Claims.{both_stop}
-use Rattle.table_store.specs.GivenKeys.{with_claims}
+use Rattle.table_store.specs.inner.Claims.{both_stop}
+use Rattle.table_store.specs.inner.GivenKeys.{with_claims}
 use Rattle.table_store.specs.Histories.{RowHistory, NextSince, TableHistory, changed_by, last_since, last_next_number, nexts_with, table_with_values, rows_with_values, rows_now, table_now}
-use Rattle.table_store.specs.ChildPairs.{Pairs, AreReferred, StayReferred, pair_in}
-use Rattle.table_store.specs.IndexView.{held_in}
+use Rattle.table_store.specs.inner.ChildPairs.{Pairs, AreReferred, StayReferred, pair_in}
+use Rattle.table_store.specs.inner.IndexView.{held_in}
 use Rattle.table_store.specs.KeyIndex.{HeldKeys, AreIndexed}
-use Rattle.table_store.specs.Nexts.{nexts_of}
-use Rattle.table_store.specs.RowChains.{RowsHistory}
-use Rattle.table_store.specs.RowChanges.{rewrite, changes_given, RiseFrom, AllFitKinds, AllStand}
+use Rattle.table_store.specs.inner.Nexts.{nexts_of}
+use Rattle.table_store.specs.inner.RowChains.{RowsHistory}
+use Rattle.table_store.specs.inner.RowChanges.{rewrite, changes_given, RiseFrom, AllFitKinds, AllStand}
 use Rattle.table_store.specs.Stops.{values_of, has_shape, had_rows, replaced_by, with_replaced, replace_stop, StopsAs}
 use Rattle.table_store.specs.TableView.{IsStored}
 use Rattle.table_store.specs.declared.change.RowChange.{RowChange}

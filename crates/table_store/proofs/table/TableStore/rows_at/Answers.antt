@@ -1,7 +1,7 @@
 use Rattle.std.proofs.Common.{◌≡◌, ◌∙◌, ◌≤◌, ap, sym, subst, List, ℕ}
 use Rattle.std.proofs.lemmas.Result.{IfOk-weaker}
 use Rattle.table_store.specs.Histories.{TableHistory, rows_now, rows_as_of, last_since}
-use Rattle.table_store.specs.Nexts.{nexts_of}
+use Rattle.table_store.specs.inner.Nexts.{nexts_of}
 use Rattle.table_store.specs.Types.{TableRow}
 use Rattle.table_store.specs.declared.nexts.NextSince.{NextSince}
 use Rattle.table_store.proofs.NowLaws.{rows_last}

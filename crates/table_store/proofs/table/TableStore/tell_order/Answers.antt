@@ -1,6 +1,6 @@
 use Rattle.std.proofs.Common.{sym, subst, ℕ}
 use Rattle.table_store.specs.Histories.{TableHistory, last_next_number}
-use Rattle.table_store.specs.Nexts.{nexts_of}
+use Rattle.table_store.specs.inner.Nexts.{nexts_of}
 use Rattle.table_store.specs.RowOrder.{AreInOrder}
 use Rattle.table_store.proofs.table.TableStore.tell_order.Goals as goal
 

@@ -1,7 +1,7 @@
 use Rattle.std.proofs.Common.{◌≡◌, ◌≤◌, ◌+◌, length, List, sym, subst, arith}
 use Rattle.ldv_value.specs.Limits.{max_rows}
 use Rattle.sql_model.specs.declared.table.TableRow.{TableRow}
-use Rattle.world_json.specs.Numbers.{AreNumberedFrom}
+use Rattle.world_json.specs.inner.Numbers.{AreNumberedFrom}
 use Rattle.world_json.proofs.Numbering.{numbered_push}
 use Rattle.world_json.proofs.rows.NumberedRows.push.Goals as goal
 

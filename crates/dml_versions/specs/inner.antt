@@ -1,0 +1,3 @@
+pub mod Fixing
+pub mod Making
+pub mod Testing

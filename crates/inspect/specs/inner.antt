@@ -1,0 +1,3 @@
+pub mod ChildRoom
+pub mod Named
+pub mod ProcessPlaces

@@ -1,0 +1,14 @@
+pub mod Acts
+pub mod Counts
+pub mod Flags
+pub mod SlotAsk
+pub mod SlotCopy
+pub mod SlotFiles
+pub mod SlotOutcome
+pub mod SlotOwn
+pub mod SlotReady
+pub mod SlotReplies
+pub mod SlotSpawn
+pub mod SlotStep
+pub mod SlotVariables
+pub mod Slots

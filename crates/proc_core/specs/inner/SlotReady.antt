@@ -1,0 +1,60 @@
+-- The set of processes that may run, over slots.
+use Rattle.std.specs.Prelude.{◌≡◌, ℕ, suc, ◌<◌, List, [], ◌∷◌, ◌++◌, length, slice_get, slice_set, Bool, true}
+use Rattle.std.specs.Prelude.{Option, Some, None}
+use Rattle.std.specs.List.{AllByRecursion}
+use Rattle.script_code.specs.declared.code.Code.{Code}
+use Rattle.proc_core.specs.inner.Flags.{runnable_flags}
+use Rattle.run_model.specs.Core.{NameBinding, Process, Core}
+use Rattle.proc_core.specs.declared.machine.Machine.{Machine}
+use Rattle.proc_core.specs.declared.process.SlotProcess.{SlotProcess}
+use Rattle.proc_core.specs.inner.SlotStep.{slot_is_runnable, slot_status_in}
+
+-- ---- what a step leaves of it
+
+-- one number more where a process was made, which may run, and else the same
+pub record Grows (m : Machine) (number : ℕ) (after : Machine) : Type 0 where
+  pub same : length after.processes.items ≡ length m.processes.items
+      → (after.ready ≡ m.ready) × (after.parents ≡ m.parents)
+  pub more : length after.processes.items ≡ suc (length m.processes.items)
+      → (after.ready.flags ≡ m.ready.flags ++ true ∷ []) × (after.parents ≡ m.parents ++ number ∷ [])
+
+-- ---- brought up to date
+
+module _ (codes : List Code) (rs : List SlotProcess) where
+  abbrev pub marked_by : ℕ → Option SlotProcess → List Bool → List Bool
+  marked_by number None flags = flags
+  marked_by number (Some r) flags = slice_set flags number (slot_is_runnable codes rs r)
+
+  -- the flag of a process says whether it may run
+  abbrev pub marked : ℕ → List Bool → List Bool
+  marked number flags = marked_by number (slice_get rs number) flags
+
+  abbrev pub marked_parent : Option ℕ → List Bool → List Bool
+  marked_parent None flags = flags
+  marked_parent (Some parent) flags = marked parent flags
+
+  -- of a process that has ended
+  abbrev pub marked_above : Option ℕ → Option ℕ → List Bool → List Bool
+  marked_above None parent flags = flags
+  marked_above (Some status) parent flags = marked_parent parent flags
+
+  -- after a step of a process: its flag, and where it has ended that of its parent
+  abbrev pub refreshed : List ℕ → ℕ → List Bool → List Bool
+  refreshed parents number flags =
+      marked_above (slot_status_in rs number) (slice_get parents number) (marked number flags)
+
+-- ---- what it is for a state
+
+-- a child was made by a process, and after it
+abbrev pub IsKin : List ℕ → ℕ → NameBinding ℕ → Type 0
+IsKin parents number b = (slice_get parents b.bound ≡ Some number) × (number < b.bound)
+
+abbrev pub AreKin : List ℕ → List Process → Type 0
+AreKin parents ps =
+    (number : ℕ) (p : Process) → slice_get ps number ≡ Some p
+    → AllByRecursion (IsKin parents number) p.children
+
+pub record IsReady (m : Machine) (c : Core) : Type 0 where
+  pub flags : m.ready.flags ≡ runnable_flags c.processes
+  pub count : length m.parents ≡ length c.processes
+  pub kin : AreKin m.parents c.processes

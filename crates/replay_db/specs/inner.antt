@@ -1,0 +1,3 @@
+pub mod KeptGroups
+pub mod Logging
+pub mod Recording

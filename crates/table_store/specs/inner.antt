@@ -1,0 +1,12 @@
+pub mod Afterwards
+pub mod ChildPairs
+pub mod ChildSteps
+pub mod Claims
+pub mod GivenKeys
+pub mod Grid
+pub mod HighKeys
+pub mod IndexView
+pub mod Nexts
+pub mod ParentRows
+pub mod RowChains
+pub mod RowChanges
