@@ -1,11 +1,7 @@
-//! Columns in memory: how the values of a column lie there. It knows no tables, rows or tests of values.
+//! Columns of values in memory: numbers as they lie with their NULLs as bits, and texts; rows are appended,
+//! replaced and copied at their slots.
 //!
-//! A `Column` has a cell for each slot: words with a bit for each NULL where it is one of numbers, and values
-//! where it is one of texts. Contracts see it as the list of its values (`specs/Cells.antt`), and several
-//! columns by their cells in a slot (`specs/Columns.antt`). It promises to the layer above that cells are
-//! added, replaced, copied, lent and compared as in these lists, that a cell for which there is room is added
-//! without memory, and that the words that `IntColumn` and `Bits` lend to a scan are those of the list
-//! (`specs/IntCells.antt`, `specs/Flags.antt`).
+//! What it promises stands in `docs/GUARANTEES.md`, how it works in `docs/ARCHITECTURE.md`.
 #![tactic(auto)]
 
 mod bits;

@@ -1,12 +1,7 @@
-//! The files of a run: bytes by path, and which paths the run touched.
+//! The files of a run: bytes by path, and which paths the run touched. Contracts see a `Tree` as one
+//! `FileState` of `ldv_value`.
 //!
-//! It promises to the layers above:
-//! - contracts see a `Tree` as one value, a `FileState` of `ldv_value`: the files sorted by path, and the
-//!   touched paths, sorted. How it lies in memory is seen nowhere;
-//! - each call that changes a tree leaves exactly what its definition in `FileState.antt` says, and each
-//!   refusal comes exactly where that file says. After a refusal, out of memory included, the tree is as it
-//!   was, with its touched paths;
-//! - `read_line` is the `read_line` of that file.
+//! What it promises stands in `docs/GUARANTEES.md`, how it works in `docs/ARCHITECTURE.md`.
 #![tactic(auto)]
 
 mod contents;

@@ -1,18 +1,7 @@
-//! Values, lists, texts and files: the vocabulary of every other crate.
+//! Values, lists, texts and files: the vocabulary of every other crate. `AllocError`, and a variant
+//! `NoMemory` of any error of this repository, means out of memory and nothing else.
 //!
-//! `AllocError`, and a variant `NoMemory` of any error of this repository, means out of memory and nothing
-//! else.
-//!
-//! It promises to the layers above:
-//! - each list type is a list: contracts see `List<X>` as the list of its items and `Utf8` as the list
-//!   of its bytes, whatever lies in memory;
-//! - `compare`, `same`, `holds` and `test` are the total order of values and three-valued logic
-//!   (`specs/Order.antt`);
-//! - `append_text` shows a value as `specs/Shown.antt` says;
-//! - `is_path` and `is_word` are the rules of `specs/Names.antt`.
-//!
-//! `specs/` has what the crates above share: the limits, what files mean, sorted lists, scanners, and how a
-//! result that may be out of memory is what a definition gives. Lemmas that they share are in `proofs/`.
+//! What it promises stands in `docs/GUARANTEES.md`, how it works in `docs/ARCHITECTURE.md`.
 #![tactic(auto)]
 
 mod bytes;

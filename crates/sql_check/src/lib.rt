@@ -1,14 +1,7 @@
-//! The check of SQL statements against schemas.
+//! The check of SQL statements against schemas: the refusals that only these decide, and the places of
+//! columns.
 //!
-//! It promises to the layers above that `check` returns what `checked_of` of `sql_model` gives for the
-//! statement and the catalog (its `specs/Places.antt`, over `Refusals`, `Kinds` and `Scope`): the statement
-//! with the places of its columns, or the first of the three refusals that applies, exactly where it gives
-//! that. Only out of memory is free (`specs/Gives.antt`). `check_places` gives the places alone, without a
-//! copy of the statement.
-//!
-//! The way of a statement: `tables` looks for tables that aren't there, `columns` for columns that aren't
-//! there or aren't grouped by, `clash` for kinds and counts that don't fit, over all of it before the next
-//! begins. Then `places` lists the places of its columns. `scope` says what a name can mean.
+//! What it promises stands in `docs/GUARANTEES.md`, how it works in `docs/ARCHITECTURE.md`.
 #![tactic(auto)]
 
 mod aggregate;

@@ -1,35 +1,7 @@
-//! SQL as this product has it: types of statements, tables, replies and needs, what statements mean, and
-//! the value of an expression over a row.
+//! SQL as this product has it: types of statements, tables, replies and needs, which texts are which
+//! statements, what these mean, and the value of an expression over a row.
 //!
-//! It promises to the layers above:
-//! - each part of a statement, a table, a reply or a need copies itself to an equal value;
-//! - `SqlRefusal::code` is the table of refusals of `docs/SQL.md`, and `is_sql_name` its rule for names;
-//! - `Catalog::of` copies the names and the schemas of tables;
-//! - `value_of` and `truth_of` give exactly what `specs/Meaning.antt` says that an expression means over a
-//!   row, where its columns are given by places (`specs/Evaluation.antt`);
-//! - `has_twice` says whether a list has an item twice, and `has_key_twice` whether two rows have one key;
-//!   `KeyOf` is the key of a row without a copy (`specs/Keys.antt`);
-//! - `meets_schema` and its parts are the rules of a schema, and `are_rows` and `are_short` those of
-//!   rows (`specs/Tables.antt`);
-//! - `have_parents` says whether each foreign key has a parent with a fitting key (`specs/ForeignKeys.antt`),
-//!   and `references_hold` whether each row that refers has a parent row (`specs/References.antt`);
-//! - members and needs are in the order of `specs/MemberOrder.antt`, and rows in that of their numbers, by
-//!   `Precedes`.
-//!
-//! `specs/` defines which texts are which statements: as a grammar (`GrammarOfTokens`, `Grammar` of
-//! expressions, `GrammarOfStatements`), and as a function from left to right (`Texts`, over `Tokens`,
-//! `Expressions`, `Queries` and others).
-//!
-//! It defines what a valid schema, a valid table and a database are (`Tables`), and what statements mean:
-//! `Scope` (which column a name means), `Kinds`, `Refusals` (the refusals that only the schemas decide) and
-//! `Places`; `Meaning` (expressions), `QueryAnswer` and `Sorting` (queries, with the rows that each answer
-//! row comes from), `Changes` (INSERT, UPDATE and DELETE, and the refusals that rows decide), `Statements`
-//! (refusal, reply and the tables after), `ForeignKeys` and `References` (what refers to what, and what that
-//! refuses and needs), `Needs` (the rows that a statement needs, and the versions that
-//! it makes) and `Origins` (lineages as sets). `Types` has the types under one name each.
-//!
-//! A recursive expression holds its parts in `Boxed` of `sqlite_items`, which contracts see as the part
-//! itself (`docs/DECISIONS.md`).
+//! What it promises stands in `docs/GUARANTEES.md`, how it works in `docs/ARCHITECTURE.md`.
 #![tactic(auto)]
 
 mod arithmetic;

@@ -1,19 +1,7 @@
-//! SQL's parser.
+//! SQL's parser: a text with its parameters as the statement as which it reads by the grammar of
+//! `sql_model`.
 //!
-//! It promises to the layers above that `parse` gives the statement as which a text with its parameters reads
-//! by the grammar, and `Syntax` exactly where there is none; only out of memory is free. The same is said
-//! with a function, `statement_of` of `sql_model` (`specs/Texts.antt`, over `Queries`, `Parts`, `Columns`,
-//! `Expressions`, `Operators` and `Tokens`).
-//!
-//! The grammar is apart from how it is read: relations of `sql_model` say form by form how bytes spell tokens
-//! (`specs/GrammarOfTokens.antt`), and which tokens are an expression (`specs/Grammar.antt`) or a statement
-//! (`specs/GrammarOfStatements.antt`, at last `Reads`). `reading_law` says that `statement_of` gives exactly
-//! the statement as which the text with its parameters reads, and that there is at most one. `token_law` and
-//! `expression_law` say the same of tokens and of expressions.
-//!
-//! The way of the text: `scan` cuts it into tokens, with the parameters in the places of their `?` (`given`),
-//! and the other modules read the tokens from left to right, each its part of the grammar. Tokens are lent
-//! from the text and from the parameters (`token`); what a statement keeps is copied where it is read.
+//! What it promises stands in `docs/GUARANTEES.md`, how it works in `docs/ARCHITECTURE.md`.
 #![tactic(auto)]
 
 mod change;
