@@ -96,7 +96,7 @@ impl Bits {
     }
 }
 
-// A further word where all bits of the words are taken.
+// Adds a word where all bits of the words are taken.
 #[tactic(auto, using(crate::proofs::FlagLaws::zero_word))]
 fn widen(words: &mut Vec<u64>, len: usize) -> Result<(), AllocError>
     requires { vec_len words.old ≡ (len + 63) / 64 }

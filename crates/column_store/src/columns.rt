@@ -77,7 +77,7 @@ pub fn set_cells(columns: &mut Vec<Column>, slot: usize, values: Values)
     }
 }
 
-// Moves a value out.
+// Moves the value at a place out, and leaves NULL there.
 fn take_value(values: &mut Vec<Value>, place: usize) -> Value
     requires { place < vec_len values.old }
     ensures value { result ≡ slice_index_or values.old.items place Null }
@@ -134,7 +134,7 @@ pub fn compare_cells(
     }
 }
 
-// No values against some.
+// How no values compare to some.
 fn compare_empty(values: &[Value]) -> Ordering
     ensures { result ≡ slice_cmp order [] values.now }
 {
@@ -144,7 +144,7 @@ fn compare_empty(values: &[Value]) -> Ordering
     }
 }
 
-// Past the last column there is NULL.
+// How the cell at a place compares to a value. Past the last column there is NULL.
 #[tactic(auto, using(crate::proofs::ColumnLaws::place_rules))]
 fn compare_at(columns: &Vec<Column>, slot: usize, place: usize, value: &Value) -> Ordering
     requires { (k : ℕ) → k < length columns.now.items
@@ -173,7 +173,7 @@ pub fn cell_at(columns: &Vec<Column>, slot: usize, place: usize) -> Cell<'_>
     column.cell(slot)
 }
 
-/// Columns with no cells, of texts where that is said.
+/// Columns with no cells, one for each item of `texts`: of texts where it is true, and else of numbers.
 pub fn empty_columns(alloc: Global, texts: &[bool]) -> Result<Vec<Column>, AllocError>
     ensures kinds { IfOk result (λ columns. kinds_of columns.items ≡ texts.now) }
     ensures empty { IfOk result (λ columns. AreLong 0 columns.items) }

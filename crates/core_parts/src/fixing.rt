@@ -124,7 +124,7 @@ fn constant_of_equality(alloc: Global, expr: &Expr) -> Result<Option<Value>, All
     }
 }
 
-// The same with its two sides.
+// The constant of a comparison of two sides, if it is an equality of a column with a constant.
 fn constant_between(
     alloc: Global,
     test: Cmp,
@@ -139,6 +139,7 @@ fn constant_between(
     constant_beside(alloc, left, right)
 }
 
+// The constant on one side of an equality, if a column is on the other.
 fn constant_beside(alloc: Global, left: &Expr, right: &Expr) -> Result<Option<Value>, AllocError>
     ensures { IfOk result (λ found. IfSome found (IsFixing (Both (Compare Eq) left.now right.now))) }
 {
@@ -151,6 +152,7 @@ fn constant_beside(alloc: Global, left: &Expr, right: &Expr) -> Result<Option<Va
     Ok(None)
 }
 
+// A constant after a column.
 #[tactic(auto, using(crate::proofs::FixingLaws::column_constant))]
 fn constant_after(alloc: Global, left: &Expr, right: &Expr) -> Result<Option<Value>, AllocError>
     requires { IsColumn left.now }
@@ -162,6 +164,7 @@ fn constant_after(alloc: Global, left: &Expr, right: &Expr) -> Result<Option<Val
     }
 }
 
+// A constant before a column.
 #[tactic(auto, using(crate::proofs::FixingLaws::constant_column))]
 fn constant_before(alloc: Global, left: &Expr, right: &Expr) -> Result<Option<Value>, AllocError>
     requires { IsColumn right.now }

@@ -133,6 +133,7 @@ fn fits(columns: &Columns, mask: Mask) -> bool
     }
 }
 
+// Whether a column can be tested so: only numbers are compared.
 fn suits(test: MaskTest, column: &Column) -> bool
     ensures { result ≡ suits test column.now }
 {
@@ -157,6 +158,7 @@ fn test_of(alloc: Global, expr: &Expr) -> Result<Option<MaskTest>, AllocError>
     }
 }
 
+// The test for NULL of what is a column.
 #[tactic(auto, using(crate::proofs::MaskLaws::null_tests))]
 fn null_test(inner: &Expr, negative: bool) -> Option<MaskTest>
     ensures { IfSome result (IsTest (IsNull inner.now negative)) }
@@ -171,6 +173,7 @@ fn null_test(inner: &Expr, negative: bool) -> Option<MaskTest>
     }
 }
 
+// The comparison of a column with a number, whichever stands first.
 fn comparison(
     alloc: Global,
     test: Cmp,

@@ -154,6 +154,7 @@ fn next_of_needs<'a>(
     }
 }
 
+// The first need of two lists as one, unless both are at their end.
 fn next_of<'a>(needs: &'a [Need], others: &'a [Need]) -> Option<Next<'a>>
     ensures { MatchOption result (IsLast needs.now others.now) (IsNext needs.now others.now) }
 {

@@ -23,7 +23,7 @@ impl<'a, X> Model for Refs<'a, X> {
 }
 
 impl<'a, X> Refs<'a, X> {
-    /// No reference. It takes no memory.
+    /// The empty list. It takes no memory.
     pub fn new(alloc: Global) -> Refs<'a, X>
         ensures { result ≡ [] }
     {

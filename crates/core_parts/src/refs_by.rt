@@ -17,7 +17,7 @@ pub struct RefsBy<'a, K: Ord, X> {
 }
 
 impl<'a, K: Ord + Drop, X> RefsBy<'a, K, X> {
-    /// No reference. It takes no memory.
+    /// No references under any key. It takes no memory.
     pub fn new(alloc: Global) -> RefsBy<'a, K, X>
         ensures { (key : K) → listed K.cmp result key ≡ [] }
     {

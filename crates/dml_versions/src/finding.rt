@@ -43,7 +43,7 @@ pub(crate) fn found_rows(
     }
 }
 
-// The same among the rows that pass the tests of single columns which WHERE makes.
+// The rows for which WHERE is True, among those that pass the tests of single columns that WHERE makes.
 fn found_in_slots(
     alloc: Global,
     table: &TableStore,
@@ -83,7 +83,8 @@ fn found_by_tests(
     Ok(found)
 }
 
-// The rows of the slots of a set, which has all of them. Where it has no other row, WHERE isn't evaluated.
+// The rows for which WHERE is True, all of which are in the slots of a set. Where `exact` is true, the set
+// has no other row, and WHERE isn't evaluated.
 fn found_among(
     alloc: Global,
     table: &TableStore,
@@ -122,7 +123,7 @@ fn after(words: &[u64], slot: u64) -> u64
     slot + 1
 }
 
-// The same by the values of the key, which WHERE fixes.
+// The row with the key that WHERE fixes, if WHERE is True for it.
 fn found_by_key(
     alloc: Global,
     table: &TableStore,
@@ -149,7 +150,7 @@ fn found_by_key(
     }
 }
 
-// Adds the row in a slot, if it stands and WHERE is True for it, which may be known.
+// Adds the row in a slot, if it stands and WHERE is True for it, which is known where `known` is true.
 fn add_found(
     alloc: Global,
     table: &TableStore,
@@ -182,7 +183,7 @@ fn add_found(
     }
 }
 
-// Whether WHERE is True over a row, or missing, where that isn't known.
+// Whether WHERE is True over a row, or missing. It isn't evaluated where that is known.
 fn is_met(
     alloc: Global,
     known: bool,

@@ -83,7 +83,7 @@ fn inserted_needs(
     }
 }
 
-// Their parents, where the numbers of the rows are within the limit.
+// The parents of the new rows, where the numbers of the rows are within the limit.
 fn within_needs(
     alloc: Global,
     insert: &Insert,

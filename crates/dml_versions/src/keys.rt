@@ -24,7 +24,7 @@ pub(crate) fn picked_key(
     }
 }
 
-// The same where there is a WHERE.
+// The key that a WHERE fixes, if it fixes one.
 fn key_by(
     alloc: Global,
     schema: &Schema,

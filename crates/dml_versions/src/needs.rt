@@ -22,7 +22,7 @@ use sql_model::{Member, Members, Need, Needs, Rule, TableRow, TableRows};
 use std::alloc::{AllocError, Global};
 use table_store::{Store, TableStore};
 
-/// The needs of matched rows, where lists are kept.
+/// The needs of matched rows, where lists are kept; else none.
 pub(crate) fn needs_of(
     alloc: Global,
     name: &Utf8,
@@ -196,7 +196,7 @@ fn has_row_at(needs: &[Need], place: usize, row: u32) -> bool
     }
 }
 
-/// Needs, and those of the parents of rows of a table, once these are put, where lists are kept.
+/// Needs, and those of the parents of rows of a table, once these are put, where lists are kept; else none.
 pub(crate) fn with_parents(
     store: &Store,
     name: &Utf8,

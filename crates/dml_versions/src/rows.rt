@@ -29,7 +29,7 @@ pub(crate) fn new_rows(
     }
 }
 
-// Where the values are those of all columns, in order.
+// The rows of an INSERT that names no columns: the values are those of all columns, in order.
 fn plain_rows(alloc: Global, rows: &[Exprs]) -> Result<RowList, AllocError>
     requires { AllByRecursion ArePlain rows.now }
     ensures { IfOk result (λ made. made ≡ map (map plain_value) rows.now) }
@@ -64,7 +64,7 @@ fn plain_values(alloc: Global, exprs: &[Expr]) -> Result<Values, AllocError>
     }
 }
 
-// Where columns are named.
+// The rows of an INSERT that names columns: each column takes the value at its source, or NULL.
 fn given_rows(
     alloc: Global,
     sources: &[Option<usize>],
@@ -128,7 +128,7 @@ fn plain_value(alloc: Global, expr: &Expr) -> Result<Value, AllocError>
     Ok(value)
 }
 
-// For each column, the place of its name.
+// For each column, the place of its name among those that an INSERT names; none where it isn't there.
 fn sources_given(
     alloc: Global,
     names: &[Utf8],

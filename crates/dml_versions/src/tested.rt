@@ -39,7 +39,7 @@ pub(crate) fn picked_tests(
     }
 }
 
-// The same where there is a WHERE.
+// The tests of columns that a WHERE makes: exact ones, if all of it is tests of single columns.
 fn tests_by(
     alloc: Global,
     columns: &Columns,
@@ -59,7 +59,7 @@ fn tests_by(
     }
 }
 
-// Tests that may leave more rows.
+// Tests that rows may pass for which WHERE isn't True.
 fn some_tests(
     alloc: Global,
     columns: &Columns,
@@ -77,7 +77,7 @@ fn some_tests(
     })
 }
 
-// Tests that leave no other.
+// Tests that only rows pass for which WHERE is True.
 fn exact_tests(alloc: Global, masks: &[Mask]) -> Result<WhereTests, AllocError>
     ensures { IfOk result (λ made. made.tests.items ≡ map column_test masks.now) }
 {

@@ -86,7 +86,7 @@ fn updated_value(
     }
 }
 
-// For each column, the place of its SET.
+// For each column, the place of its SET; none where it has none.
 fn sources_set(
     alloc: Global,
     sets: &[Set],

@@ -142,6 +142,7 @@ fn argument_fold(
     }
 }
 
+// An aggregate of a column, whose values are gathered once for all aggregates of it that follow one another.
 fn column_fold(
     alloc: Global,
     fold: Fold,
@@ -196,8 +197,8 @@ fn settled_value(
     value_of(alloc, &settled.expr, first, &settled.places)
 }
 
-/// The value of an expression over a group. `first` are the values of its first pick. No copy is made of a
-/// column or of an aggregate.
+/// The value of an expression over a group. `first` are the values of its first pick. An expression that is a
+/// column or an aggregate isn't copied.
 pub(crate) fn group_value(
     alloc: Global,
     placed: &BoundExpr,

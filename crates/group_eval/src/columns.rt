@@ -21,7 +21,7 @@ pub(crate) struct KnownColumn {
 }
 
 impl KnownColumn {
-    /// No column. It takes no memory.
+    /// Nothing gathered yet. It takes no memory.
     pub(crate) fn none(alloc: Global) -> KnownColumn
         ensures { (picks : Items Given) → IsKnown picks result }
     {

@@ -15,7 +15,7 @@ use lineage::Pick;
 use sql_model::{Expr, Fold, value_of};
 use std::alloc::{AllocError, Global};
 
-/// A count as a value: NULL outside 64 bits with a sign.
+/// A count as a value; NULL where it is no signed number of 64 bits.
 pub(crate) fn count_value(count: usize) -> Value
     ensures { result ≡ number_value (pos count) }
 {
@@ -26,7 +26,7 @@ pub(crate) fn count_value(count: usize) -> Value
     }
 }
 
-// A sum as a value: NULL outside 64 bits with a sign.
+// A sum as a value; NULL where it is no signed number of 64 bits.
 fn sum_value(sum: i128) -> Value
     ensures { result ≡ number_value sum }
 {
@@ -50,7 +50,7 @@ fn number_in(value: &Value) -> i64
     }
 }
 
-// The exact sum of fewer than 2^64 numbers of 64 bits stays within 128 bits.
+// The exact sum of numbers. That of fewer than 2^64 numbers of 64 bits stays within 128 bits.
 fn total(values: &[Value]) -> i128
     ensures { result ≡ total values.now }
 {
@@ -82,6 +82,7 @@ fn greater_of<'a>(a: &'a Value, b: &'a Value) -> &'a Value
     if compare(b, a).is_gt() { b } else { a }
 }
 
+// The least of one value and more.
 fn minimum_of<'a>(first: &'a Value, others: &'a [Value]) -> &'a Value
     ensures { result.now ≡ fold lesser_of first.now others.now }
 {
@@ -92,6 +93,7 @@ fn minimum_of<'a>(first: &'a Value, others: &'a [Value]) -> &'a Value
     best
 }
 
+// The greatest of one value and more.
 fn maximum_of<'a>(first: &'a Value, others: &'a [Value]) -> &'a Value
     ensures { result.now ≡ fold greater_of first.now others.now }
 {

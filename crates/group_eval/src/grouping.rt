@@ -29,7 +29,7 @@ pub struct Grouped {
     pub rejected: LineageSet,
 }
 
-// Nothing.
+// No answer row and no rejected group.
 fn no_group(alloc: Global) -> Grouped
     ensures answers { result.answers ≡ [] }
     ensures rejected { result.rejected ≡ finmap.empty }
@@ -126,7 +126,8 @@ fn add_answer(
     Ok(())
 }
 
-// Adds a group: its answer row, or its lineage to that of the rejected ones.
+// Adds a group: its answer row, or its lineage to that of the rejected ones. `first` has the values of
+// columns outside aggregates.
 fn add_group_from(
     alloc: Global,
     plan: &Plan,
@@ -145,7 +146,7 @@ fn add_group_from(
     }
 }
 
-// The same: its first pick has the values of columns outside aggregates.
+// Adds a group, of which the first pick, if there is one, has the values of columns outside aggregates.
 fn add_group(
     alloc: Global,
     plan: &Plan,
@@ -220,6 +221,7 @@ fn grouped_by_keys(alloc: Global, plan: &Plan, picks: &[Pick]) -> Result<Grouped
     evaluate_groups(alloc, plan, groups.as_slice())
 }
 
+// Evaluates all groups: without GROUP BY all picks are one.
 fn grouped_picks(alloc: Global, plan: &Plan, picks: &[Pick]) -> Result<Grouped, AllocError>
     ensures { IfOk result (λ grouped. (scope : Items InScope) → IsPlacedPlan scope plan.now
         → IsGroupedBy scope plan.now (pick_groups plan.now.group picks.now) grouped) }

@@ -42,7 +42,7 @@ fn no_members(alloc: Global, count: usize) -> Result<Vec<u64>, AllocError>
     vec![in alloc; 0; count]
 }
 
-/// A block of no row.
+/// A block without rows.
 pub(crate) fn no_rows(alloc: Global) -> Result<Block, AllocError>
     ensures long { IfOk result (λ block. length block.words.items ≡ 1024) }
     ensures words { IfOk result (λ block. (n : ℕ) → member block.words.items n ≡ false) }

@@ -30,7 +30,7 @@ impl Model for LineageRows {
 }
 
 impl LineageRows {
-    /// No row. It takes no memory.
+    /// The empty set. It takes no memory.
     pub fn empty(alloc: Global) -> LineageRows
         ensures { result ≡ finmap.empty }
     {

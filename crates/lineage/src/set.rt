@@ -47,7 +47,7 @@ impl Model for LineageSet {
 }
 
 impl LineageSet {
-    /// The set of no row. It takes no memory.
+    /// The empty set. It takes no memory.
     pub fn empty(alloc: Global) -> LineageSet
         ensures { result ≡ finmap.empty }
     {

@@ -25,6 +25,7 @@ pub(crate) fn version_at(versions: &Versions, n: usize) -> u32
     number_at(&versions.numbers, n - first)
 }
 
+// The number at a place; 0 past the end.
 fn number_at(numbers: &List<u32>, place: usize) -> u32
     ensures { result ≡ get_or numbers.now place 0 }
 {
@@ -45,7 +46,7 @@ fn begin(versions: &mut Versions, n: usize)
     }
 }
 
-// As many zeros, and then some numbers.
+// `count` zeros, and then some numbers.
 fn after_zeros(alloc: Global, count: usize, numbers: &List<u32>) -> Result<List<u32>, AllocError>
     ensures { IfOk result (λ made. made ≡ replicate count 0 ++ numbers.now) }
 {

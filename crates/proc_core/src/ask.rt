@@ -16,7 +16,8 @@ use script_code::{SlotInstr, SlotOperands};
 use sql_model::Reply;
 use std::alloc::{AllocError, Global};
 
-/// What a process asks: a text with parameters. A slot of a cursor gets the reply.
+/// A statement that a process asks: its text, its parameters, and the slot of the cursor that is to mean the
+/// reply.
 #[derive(Drop)]
 pub(crate) struct Statement {
     pub cursor: usize,
@@ -39,6 +40,7 @@ pub(crate) fn values_of(
     Ok(values)
 }
 
+// The statement, where the value of its text is a text.
 fn statement_of(cursor: usize, text: Value, params: Values) -> Option<Statement>
     ensures { result ≡ statement_of cursor text params }
 {
@@ -101,7 +103,7 @@ fn statement_of_process(
     statement_of_instr(alloc, next_in(codes, process), process)
 }
 
-/// What the next step of a process asks.
+/// The statement that the next step of a process asks, where it asks one.
 pub(crate) fn statement_at(machine: &Machine, number: usize) -> Result<Option<Statement>, AllocError>
     ensures asked { IfOk result (λ asked. asked ≡ slot_ask_at machine.now number) }
     ensures room { IfOk result (λ asked. OnSome asked
@@ -113,7 +115,7 @@ pub(crate) fn statement_at(machine: &Machine, number: usize) -> Result<Option<St
     }
 }
 
-// A process gets the reply to its statement.
+// Gives a process the reply to its statement: the cursor means it, before its first row.
 fn take_reply(cursor: usize, reply: Reply, process: &mut SlotProcess) -> Result<(), AllocError>
     requires { process.old.place + 1 < 2 ^ 64 }
     ensures { OnOk result (process.new ≡ slot_replied cursor reply process.old) }
@@ -132,7 +134,7 @@ fn take_reply(cursor: usize, reply: Reply, process: &mut SlotProcess) -> Result<
     Ok(())
 }
 
-/// A slot means a cursor.
+/// Sets the cursor in a slot.
 pub(crate) fn set_cursor(slot: usize, cursor: SlotCursor, process: &mut SlotProcess)
     ensures { process.new ≡ slot_with_cursor slot cursor process.old }
 {
@@ -141,7 +143,7 @@ pub(crate) fn set_cursor(slot: usize, cursor: SlotCursor, process: &mut SlotProc
     }
 }
 
-/// The process of a number gets the reply to its statement.
+/// Gives the process of a number the reply to its statement.
 pub(crate) fn take_at(
     cursor: usize,
     reply: Reply,

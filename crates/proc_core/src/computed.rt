@@ -56,7 +56,7 @@ fn number(op: CalcOp, m: i64, n: i64) -> Computed
     }
 }
 
-// A number that fits, as which a sum or a product is checked.
+// The result of checked arithmetic; misuse where it doesn't fit in 64 bits.
 #[tactic(auto, using(crate::proofs::Numbers::within_some, crate::proofs::Numbers::within_none))]
 fn within(number: Option<i64>) -> Computed
     ensures { (z : ℤ) → SomeIff number (FitsSigned w64 z) z → computation_of result ≡ number_within z }
@@ -125,6 +125,7 @@ pub(crate) fn to_number(value: &Value) -> Computed
     }
 }
 
+// The number that a text writes; misuse where it writes none.
 fn read(number: Option<i64>) -> Computed
     ensures { computation_of result ≡ number_or_misuse number }
 {

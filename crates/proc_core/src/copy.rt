@@ -47,7 +47,8 @@ fn tell_copy<T: Tracer>(
     tell_path(who, PathAct::Wrote, target, tracer)
 }
 
-// Appends the rest of an open file to another. It returns the place after what was copied.
+// Appends the rest of an open file to another. It returns the place after what was copied, or `None` where
+// the target would be too long.
 fn copy_between<T: Tracer>(
     source: &SlotFile,
     target: &SlotFile,
@@ -109,7 +110,7 @@ fn copy_at<T: Tracer>(
     Ok(how_copied(next))
 }
 
-// What becomes of the process that copies.
+// Moves the place in the source after what was copied and goes on, or ends by misuse.
 fn take_copy(copying: Copying, slot: usize, process: &mut SlotProcess)
     requires room { process.old.place + 1 < 2 ^ 64 }
     ensures misused { copying ≡ Copying.Misused → process.new ≡ slot_ended wrong_kind process.old }

@@ -60,7 +60,8 @@ fn first_place(by: &[u8], text: &[u8]) -> Option<usize>
     None
 }
 
-// The parts around a text at a place, before and after which the whole text may be cut.
+// The parts of a text before and after another one that stands in it at a place; where it stands nowhere,
+// all of the text and nothing.
 fn split_at_place(
     alloc: Global,
     place: Option<usize>,
@@ -116,6 +117,7 @@ fn split_text(alloc: Global, by: &str, text: &str) -> Result<CutParts, AllocErro
     split_at_place(alloc, place, by, text)
 }
 
+// Gives the variables their parts, or ends by misuse.
 fn cut_parts(before: usize, after: usize, parts: Option<CutParts>, process: &mut SlotProcess)
     requires { process.old.place + 1 < 2 ^ 64 }
     ensures { process.new ≡ slot_cut_parts before after parts process.old }

@@ -1,4 +1,4 @@
-//! One step of an instruction that changes its own process only.
+//! The instructions that change their own process only, told apart.
 
 ghost use Rattle.std.specs.Prelude.{◌≡◌, ◌+◌, ◌<◌, ◌^◌, OnOk};
 ghost use Rattle.proc_core.specs.inner.SlotOwn.{slot_own};

@@ -65,6 +65,7 @@ impl SlotFile {
         self.place
     }
 
+    // Moves how far it was read.
     fn move_to(&mut self, place: u32)
         ensures { self.new ≡ record self.old { place = place } }
     {
@@ -88,7 +89,7 @@ impl Model for FileSlots {
 }
 
 impl FileSlots {
-    /// So many slots, in which no file is open.
+    /// `count` slots, in none of which a file is open.
     pub(crate) fn closed_slots(alloc: Global, count: usize) -> Result<FileSlots, AllocError>
         ensures { IfOk result (λ slots. slots ≡ replicate count None) }
     {

@@ -74,7 +74,7 @@ fn open_kind(mode: OpenMode, found: bool) -> PathAct
     }
 }
 
-// How an open ends that isn't refused.
+// Ends an `open` that isn't refused: it is reported, and the slot means the open file.
 fn finish_open<T: Tracer>(
     found: bool,
     slot: usize,
@@ -97,7 +97,7 @@ fn finish_open<T: Tracer>(
     Ok(())
 }
 
-// How an open ends that is refused.
+// Ends an `open` that is refused: it is reported, and the process goes on at the label.
 fn refuse_open<T: Tracer>(
     found: bool,
     path: &Utf8,
@@ -115,6 +115,7 @@ fn refuse_open<T: Tracer>(
     Ok(())
 }
 
+// Opens a path.
 fn open_there<T: Tracer>(
     slot: usize,
     mode: OpenMode,
@@ -209,7 +210,7 @@ pub(crate) fn open_to_write(process: &SlotProcess, slot: usize) -> Option<&SlotF
     }
 }
 
-// What was read of an open file.
+// Gives a variable the line that was read, goes on at the label at the end of the file, or ends by misuse.
 fn take_line(read: LineRead, to: usize, slot: usize, place: u32, process: &mut SlotProcess)
     requires room { process.old.place + 1 < 2 ^ 64 }
     ensures { (file : OpenFile) → open_at slot process.old ≡ Some file
@@ -248,7 +249,7 @@ fn read<T: Tracer>(
     }
 }
 
-// What a read of an open file leaves of the process, or that there was none to read.
+// Takes what was read, or ends by misuse where the slot has no file that is open for reading.
 fn take_read(read: Option<LineRead>, to: usize, slot: usize, place: u32, process: &mut SlotProcess)
     requires { process.old.place + 1 < 2 ^ 64 }
     ensures { (st : FileState) → IsReadBy (slot_open_for allows_read slot process.old) st read
@@ -283,7 +284,7 @@ fn read_line<T: Tracer>(
     Ok(())
 }
 
-// Appends a line to the open file in a slot. It returns the status of misuse.
+// Appends a line to the open file in a slot. It returns the status of misuse, where it is misuse.
 fn append<T: Tracer>(
     slot: usize,
     line: &Bytes,
@@ -435,7 +436,7 @@ fn number_of_test(found: bool) -> i64
     if found { 1 } else { 0 }
 }
 
-/// Executes an instruction that changes its own process and files.
+/// Executes an instruction that reads or changes files.
 pub(crate) fn execute_on_files<T: Tracer>(
     alloc: Global,
     instr: &FileInstr,

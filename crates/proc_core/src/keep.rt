@@ -1,4 +1,4 @@
-//! Steps that ask nothing.
+//! Steps that ask nothing and make no process.
 
 ghost use Rattle.std.specs.Prelude.{◌≡◌, ◌+◌, ◌<◌, ◌^◌, length, Some, map, slice_get, slice_set};
 ghost use Rattle.std.specs.Prelude.{ℕ, OnOk, OnSome};
@@ -40,6 +40,7 @@ pub(crate) fn end_at(status: u8, number: usize, processes: &mut Vec<SlotProcess>
     process.end(status);
 }
 
+// Executes an instruction that changes its own process only.
 fn own_at(
     alloc: Global,
     instr: &OwnInstr,
@@ -55,6 +56,7 @@ fn own_at(
     execute_own(alloc, instr, process)
 }
 
+// Executes an instruction on files.
 fn files_at<T: Tracer>(
     alloc: Global,
     instr: &FileInstr,
@@ -79,7 +81,8 @@ fn files_at<T: Tracer>(
     execute_on_files(alloc, instr, process, tree, who, tracer)
 }
 
-// The step of a `wait`, by the child that its name means and by the status of that.
+// Makes the step of a `wait`, by the child that its name means and that child's status, if it has ended. The
+// scheduler lets no process step that still has to wait.
 fn wait_with<T: Tracer>(
     to: usize,
     child: Option<u32>,
@@ -141,6 +144,7 @@ pub(crate) fn status_in(processes: &[SlotProcess], number: usize) -> Option<u8>
     }
 }
 
+// Makes the step of a `wait`.
 fn wait_at<T: Tracer>(
     to: usize,
     slot: usize,
@@ -166,7 +170,8 @@ fn wait_at<T: Tracer>(
     wait_with(to, child, status, process, who, tracer)
 }
 
-// The step of an instruction; none is after the last one.
+// Executes an instruction. After the last one there is none, and the process ends. An `sql` comes here where
+// what it would ask isn't a text, and a `spawn` never.
 fn execute_local_instr<T: Tracer>(
     alloc: Global,
     instr: Option<&SlotInstr>,
@@ -255,7 +260,7 @@ pub(crate) fn is_kept_at(machine: &Machine, number: usize) -> bool
     is_kept(next_of(&machine.codes, &machine.processes, number))
 }
 
-/// The next step of a process, which asks nothing and makes no process.
+/// Makes the next step of a process, which asks nothing and makes no process.
 pub(crate) fn execute_local<T: Tracer>(
     machine: &mut Machine,
     who: Who,

@@ -12,7 +12,7 @@ use script_code::{Code, SlotInstr};
 use std::alloc::Global;
 use std::collections::BTreeMap;
 
-/// Resolved scripts.
+/// Resolved scripts, which the processes that run them share.
 pub(crate) type Codes = List<Code>;
 
 /// The files, the processes in creation order, and the scheduler.
@@ -37,7 +37,8 @@ pub(crate) struct Machine {
     pub runners: BTreeMap<String, usize>,
 }
 
-/// The next instruction of a process, by its creation number. After the last one there is none.
+/// The next instruction of a process, by its creation number. There is none after the last one, and none of a
+/// process that isn't there.
 pub(crate) fn next_of<'a>(
     codes: &'a Codes,
     processes: &[SlotProcess],

@@ -1,4 +1,4 @@
-//! A step of a `spawn`.
+//! The step of a `spawn`: what is at its path, and what comes of that.
 
 ghost use Rattle.std.specs.Prelude.{◌≡◌, ◌+◌, ◌++◌, ◌∷◌, [], ◌<◌, Some, length, map, slice_get, slice_set};
 ghost use Rattle.std.specs.Prelude.{OnOk};
@@ -30,7 +30,7 @@ use run_model::Tracer;
 use script_code::Code;
 use std::alloc::AllocError;
 
-// Ends a process, whose value is no path.
+// Ends a process whose `spawn` has no path.
 fn end_misused(machine: &mut Machine, number: usize)
     requires { number < length machine.old.processes.items }
     ensures left { (r : SlotProcess) → slice_get machine.old.processes.items number ≡ Some r
@@ -41,6 +41,7 @@ fn end_misused(machine: &mut Machine, number: usize)
     end_at(BAD_PATH, number, &mut machine.processes);
 }
 
+// Lets the process of a number go on at the place of a label.
 fn go_to_at(place: u32, number: usize, processes: &mut Vec<SlotProcess>)
     requires { number < length processes.old.items }
     ensures { (r : SlotProcess) → slice_get processes.old.items number ≡ Some r
@@ -50,7 +51,7 @@ fn go_to_at(place: u32, number: usize, processes: &mut Vec<SlotProcess>)
     process.go_to(place);
 }
 
-// A process goes on at the place of a label.
+// The same in a machine, all else of which stays.
 fn jump_at(machine: &mut Machine, place: u32, number: usize)
     requires { number < length machine.old.processes.items }
     ensures left { (r : SlotProcess) → slice_get machine.old.processes.items number ≡ Some r
@@ -61,7 +62,7 @@ fn jump_at(machine: &mut Machine, place: u32, number: usize)
     go_to_at(place, number, &mut machine.processes);
 }
 
-// How a `spawn` ends that is refused.
+// Ends the step of a `spawn` that is refused: it is reported, and the process goes on at the label.
 fn refuse<T: Tracer>(
     machine: &mut Machine,
     who: Who,
@@ -101,7 +102,7 @@ fn add_code(machine: &mut Machine, code: Code) -> Result<(), AllocError>
     Ok(())
 }
 
-// Makes a child, which runs the script of an index.
+// Makes a child that runs the resolved script at an index, and reports it.
 fn launch<T: Tracer>(
     machine: &mut Machine,
     who: Who,
@@ -130,7 +131,7 @@ fn launch<T: Tracer>(
     Ok(())
 }
 
-// Makes a child, which runs a script that isn't resolved yet by any process.
+// Adds a resolved script, and makes a child that runs it.
 fn launch_new<T: Tracer>(
     machine: &mut Machine,
     who: Who,
@@ -157,6 +158,7 @@ fn launch_new<T: Tracer>(
     Ok(())
 }
 
+// Makes the step of a `spawn` of a path.
 fn spawn_path<T: Tracer>(
     machine: &mut Machine,
     who: Who,
@@ -200,7 +202,8 @@ fn spawn_path<T: Tracer>(
     }
 }
 
-/// A step of a `spawn`.
+/// Makes the step of a `spawn`: a child is made, or the process goes on at the label, or it ends where the
+/// value isn't a path.
 pub(crate) fn spawn<T: Tracer>(
     machine: &mut Machine,
     who: Who,

@@ -21,12 +21,12 @@ pub(crate) struct SlotProcess {
     pub name: Parts,
     /// The index of its resolved script.
     pub code: usize,
-    /// Of its next instruction.
+    /// The index of its next instruction.
     pub place: usize,
     pub variables: Values,
     pub files: FileSlots,
     pub cursors: List<Option<SlotCursor>>,
-    /// Creation numbers.
+    /// The creation numbers of the children that its slots mean.
     pub children: List<Option<u32>>,
     /// How many children it made.
     pub spawned: u32,

@@ -16,7 +16,7 @@ use script_code::{Code, NameTable};
 use sql_model::Replies;
 use std::alloc::{AllocError, Global};
 
-// So many slots of variables that weren't set.
+// Slots of `count` variables that aren't set.
 fn unset_variables(alloc: Global, count: usize) -> Result<Values, AllocError>
     ensures { IfOk result (λ slots. slots ≡ replicate count Null) }
 {
@@ -47,7 +47,7 @@ fn no_children(alloc: Global, count: usize) -> Result<List<Option<u32>>, AllocEr
     Ok(List::of_vec(slots))
 }
 
-// Gives a variable a value, in front of what other names mean.
+// Sets the variable of a name, where the script has that name.
 fn bind_first(names: &NameTable, name: &Utf8, value: Value, slots: &mut Values)
     ensures { (bs : Items (NameBinding Value)) → slots.old ≡ map (value_held bs) names.now
         → slots.new ≡ map (value_held (record { name = name.now; bound = value } ∷ bs)) names.now }
@@ -72,7 +72,7 @@ fn argument_name(alloc: Global, number: u64) -> Result<Utf8, AllocError>
     Ok(name)
 }
 
-// Gives the variable of one argument its value, in front of those of later ones.
+// Sets the variable of the argument at a place, where the script has its name.
 fn bind_argument(
     alloc: Global,
     names: &NameTable,
@@ -91,6 +91,7 @@ fn bind_argument(
     Ok(())
 }
 
+// Slots of variables, of which those of the arguments are set.
 fn bind_arguments(
     alloc: Global,
     names: &NameTable,
@@ -107,7 +108,7 @@ fn bind_arguments(
     Ok(slots)
 }
 
-// The slots of the variables of a process with these arguments.
+// The slots of the variables of a process with these arguments: `argc` and `arg1`, `arg2` and so on are set.
 fn variables(alloc: Global, names: &NameTable, arguments: &[Value]) -> Result<Values, AllocError>
     ensures { IfOk result (λ slots. slots ≡ map (value_held (argument_variables arguments.now)) names.now) }
 {

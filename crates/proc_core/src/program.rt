@@ -1,4 +1,4 @@
-//! What there is to run at a path.
+//! The program that a `spawn` finds at a path.
 
 ghost use Rattle.std.specs.Prelude.{◌≡◌, IfOk, IfSome};
 ghost use Rattle.script_code.specs.Resolved.{IsRead};
@@ -15,15 +15,15 @@ use std::alloc::{AllocError, Global};
 pub(crate) enum Program {
     /// No file.
     Absent,
-    /// A file that isn't a script, or as many processes as there may be.
+    /// A file that isn't a script; or any file, where as many processes were made as may be.
     Refused,
-    /// A script that a process runs, by the index of its resolved form.
+    /// The script that the last process made from this path runs, by the index of its resolved form.
     Known(usize),
-    /// Another script.
+    /// Another script, which was read and resolved anew.
     New(Code),
 }
 
-/// What there is to run at a path.
+/// Looks up what there is to run at a path.
 pub(crate) fn program_at(machine: &Machine, path: &Utf8) -> Result<Program, AllocError>
     ensures { IfOk result (IsProgram machine.now path.now) }
 {
@@ -64,6 +64,7 @@ fn known_at(machine: &Machine, path: &Utf8, bytes: &[u8]) -> Option<usize>
     }
 }
 
+// The index of the resolved script that the process of a number runs, where these are its bytes.
 fn known_by(codes: &Codes, processes: &[SlotProcess], number: usize, bytes: &[u8]) -> Option<usize>
     ensures { IfSome result (Runs codes.now processes.now bytes.now) }
 {

@@ -33,7 +33,7 @@ fn set_flag(number: usize, flag: bool, ready: &mut ReadySet)
     }
 }
 
-// Sets the flag of a process.
+// Sets the flag of a process to whether it may run.
 fn mark(codes: &Codes, processes: &[SlotProcess], number: usize, ready: &mut ReadySet)
     ensures { ready.new.flags ≡ marked codes.now processes.now number ready.old.flags }
 {
@@ -53,6 +53,7 @@ fn mark_parent(codes: &Codes, processes: &[SlotProcess], parent: Option<&u32>, r
     }
 }
 
+// Sets the flag of a process, and where it has ended that of its parent, which may have waited for it.
 fn refresh_flags(
     codes: &Codes,
     processes: &[SlotProcess],
@@ -69,7 +70,7 @@ fn refresh_flags(
     }
 }
 
-/// Whether no process may run any more.
+/// Whether no process may run. A run isn't stuck, so all have ended then.
 pub(crate) fn has_ended(machine: &Machine) -> bool
     ensures { result ≡ has_ended machine.now }
 {

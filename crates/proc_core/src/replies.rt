@@ -67,7 +67,7 @@ fn next_row(process: &SlotProcess, cursor: SlotCursor) -> Result<Option<Values>,
     }
 }
 
-// The variables get the values, in order.
+// Gives the variables the values, in order.
 #[tactic(auto, using(crate::proofs::FetchedValues::value_steps))]
 fn set_values(to: &[usize], row: Values, process: &mut SlotProcess)
     ensures { process.new ≡ slot_with_values to.now row process.old }
@@ -86,6 +86,7 @@ fn set_values(to: &[usize], row: Values, process: &mut SlotProcess)
     }
 }
 
+// Counts one more fetched row.
 fn one_more(slot: usize, cursor: SlotCursor, process: &mut SlotProcess)
     requires { cursor.fetched + 1 < 2 ^ 64 }
     ensures { process.new ≡ slot_one_more slot cursor process.old }
@@ -100,6 +101,7 @@ fn one_more(slot: usize, cursor: SlotCursor, process: &mut SlotProcess)
     );
 }
 
+// Gives the variables the values of a row and goes on, or ends by misuse where these aren't as many.
 fn take_row(row: Values, cursor: SlotCursor, slot: usize, to: &Slots, process: &mut SlotProcess)
     requires room { process.old.place + 1 < 2 ^ 64 }
     requires more { cursor.fetched + 1 < 2 ^ 64 }
@@ -114,6 +116,7 @@ fn take_row(row: Values, cursor: SlotCursor, slot: usize, to: &Slots, process: &
     }
 }
 
+// Fetches the next row, or goes on at the label where none is left.
 fn fetch_from(
     cursor: SlotCursor,
     slot: usize,

@@ -30,7 +30,7 @@ use ldv_value::Words;
 use run_model::{Database, Outcome, Tracer};
 use std::alloc::AllocError;
 
-// One step of the process that the seed chooses.
+// Makes one step of the process that the seed chooses, and brings up to date who may run.
 fn make_step<D: Database, T: Tracer>(
     machine: &mut Machine,
     db: &mut D,
@@ -138,7 +138,7 @@ impl<D: Database, T: Tracer> Run<D, T> {
         self.steps
     }
 
-    /// One step of the process that the seed chooses.
+    /// Makes one step of the process that the seed chooses.
     pub fn advance(self) -> Result<Run<D, T>, Stopped>
         requires going { has_ended self.machine ≡ false }
         requires room { self.steps < 10000000 }
@@ -173,7 +173,7 @@ impl<D: Database, T: Tracer> Run<D, T> {
         }
     }
 
-    /// Steps until all processes have ended, at most so many.
+    /// Makes steps until all processes have ended, at most `budget`. `NotEnded`: after these they haven't.
     pub fn to_end(self, budget: u32) -> Result<Run<D, T>, RunStop>
         requires fresh { self.steps ≡ 0 }
         requires few { budget ≤ 10000000 }
@@ -243,7 +243,7 @@ impl<D: Database, T: Tracer> Run<D, T> {
     }
 
     /// The outcome of a run that has ended, as `outcome` gives it. What the processes printed and the replies
-    /// to them go over into it; files are copied.
+    /// to their statements are moved into it; files are copied.
     #[tactic(auto, using(crate::proofs::Outcomes::outcome_is))]
     pub fn into_outcome(self) -> Result<Outcome, AllocError>
         requires { has_ended self.machine ≡ true }

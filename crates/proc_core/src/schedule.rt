@@ -36,6 +36,7 @@ pub(crate) fn child_of(process: &SlotProcess, slot: usize) -> Option<u32>
     }
 }
 
+// Whether a `wait` for this child goes on waiting: it is there and hasn't ended.
 fn waits_for(processes: &[SlotProcess], child: Option<u32>) -> bool
     ensures { result ≡ slot_waits_for child processes.now }
 {
@@ -134,7 +135,7 @@ fn pick_one(ready: &ReadySet, seed: u64, last: u32, x: u64) -> u32
     }
 }
 
-// The same, and 0 where no process may run.
+// The number that the scheduler picks, and 0 where no process may run.
 fn pick(ready: &ReadySet, seed: u64, last: u32, x: u64) -> u32
     ensures { result ≡ pick_of seed last x (numbers ready.now.flags) }
 {

@@ -1,4 +1,4 @@
-//! `spawn`: a child runs the script at a path.
+//! How a `spawn` makes a child: the new process, and what its parent keeps of it.
 
 ghost use Rattle.std.specs.Prelude.{◌≡◌, ◌+◌, ◌++◌, ◌∷◌, [], ◌<◌, ◌≤◌, ◌^◌, Some, true, length, slice_get};
 ghost use Rattle.std.specs.Prelude.{slice_set};
@@ -21,7 +21,7 @@ use ready_set::ReadySet;
 use script_code::Code;
 use std::alloc::{AllocError, Global};
 
-// A slot means a child.
+// Sets the child that a slot means.
 fn set_child(slot: usize, number: u32, process: &mut SlotProcess)
     ensures { process.new ≡ slot_with_child slot number process.old }
 {
@@ -30,7 +30,7 @@ fn set_child(slot: usize, number: u32, process: &mut SlotProcess)
     }
 }
 
-// A process is the parent of a child that has a creation number.
+// Makes a process the parent of the child of a creation number; it goes on at the next instruction.
 fn become_parent(number: u32, slot: usize, process: &mut SlotProcess)
     requires room { process.old.place + 1 < 2 ^ 64 }
     requires spawns { process.old.spawned + 1 < 2 ^ 32 }
@@ -41,6 +41,7 @@ fn become_parent(number: u32, slot: usize, process: &mut SlotProcess)
     process.go_on();
 }
 
+// The same of the process of a number.
 fn parent_at(child: u32, slot: usize, number: usize, processes: &mut Vec<SlotProcess>)
     requires within { number < length processes.old.items }
     requires room { HasRoom (slice_get processes.old.items number) }
@@ -72,7 +73,7 @@ fn add_child(
     Ok(())
 }
 
-// A new process may run.
+// Adds a new process to those that may run.
 fn add_ready(ready: &mut ReadySet) -> Result<(), AllocError>
     requires { length ready.old.flags < max_processes }
     ensures { OnOk result (ready.new.flags ≡ ready.old.flags ++ true ∷ []) }
@@ -82,7 +83,7 @@ fn add_ready(ready: &mut ReadySet) -> Result<(), AllocError>
     Ok(())
 }
 
-// The next child of a process, which runs the script of an index.
+// The next child of a process, which runs the resolved script at an index.
 fn new_child(
     alloc: Global,
     codes: &Codes,
@@ -120,7 +121,7 @@ fn child_at(
     Ok(new_child(machine.alloc, &machine.codes, parent, index, arguments)?)
 }
 
-/// Makes a child of a process, which runs the script of an index.
+/// Makes a child of a process, which runs the resolved script at an index.
 pub(crate) fn make_child(
     machine: &mut Machine,
     number: usize,

@@ -46,7 +46,7 @@ fn code_at(alloc: Global, tree: &Tree, path: &Utf8) -> Result<Code, AllocError>
     }
 }
 
-// The set in which the first process may run.
+// The set of processes that may run, with the first one alone.
 fn first_ready_set(alloc: Global) -> Result<ReadySet, AllocError>
     ensures { IfOk result (λ ready. ready.flags ≡ true ∷ []) }
 {

@@ -28,7 +28,7 @@ use run_model::{Asker, Database, ProcName, Stop, Tracer};
 use sql_model::Reply;
 use std::alloc::AllocError;
 
-// The step of a process that asks nothing and makes no process, with the end of the process.
+// Makes the step of a process that asks nothing and makes no process, and reports its end where it ends.
 fn step_local<T: Tracer>(machine: &mut Machine, who: Who, tracer: &mut T) -> Result<(), AllocError>
     requires kept { IsKept (next_slot_instr machine.old.codes
         (slice_get machine.old.processes.items who.number)) }
@@ -47,7 +47,7 @@ fn step_local<T: Tracer>(machine: &mut Machine, who: Who, tracer: &mut T) -> Res
     Ok(())
 }
 
-// The step of a process that makes one, with its own end.
+// Makes the step of a process that spawns, and reports its end where it ends.
 fn spawn_on<T: Tracer>(
     machine: &mut Machine,
     who: Who,
@@ -72,7 +72,7 @@ fn spawn_on<T: Tracer>(
     Ok(())
 }
 
-// The step of a process that asks nothing, with the end of the process.
+// Makes the step of a process that asks nothing, and reports its end where it ends.
 fn quiet_on<T: Tracer>(machine: &mut Machine, who: Who, tracer: &mut T) -> Result<(), AllocError>
     requires { CountsBelow who.step machine.old }
     ensures core { OnOk result ((c : Core) → IsCore machine.old c
@@ -118,7 +118,7 @@ fn asker_by(machine: &Machine, process: &SlotProcess, who: Who) -> Result<Asker,
     })
 }
 
-// Where the database has no reply.
+// The stop of a run in which the database has no reply to the process of a number.
 fn stop_without_reply(machine: &Machine, number: usize) -> Stopped
     requires within { number < length machine.now.processes.items }
     requires few { (r : SlotProcess) → slice_get machine.now.processes.items number ≡ Some r
@@ -157,7 +157,7 @@ fn stop_by(process: &SlotProcess) -> Result<Stopped, AllocError>
     })
 }
 
-// The process of a number has its reply.
+// Gives the process of a number the reply to its statement, and counts the statement.
 fn take(machine: &mut Machine, number: usize, cursor: usize, reply: Reply) -> Result<(), AllocError>
     requires within { number < length machine.old.processes.items }
     requires counted { machine.old.asked + 1 < 2 ^ 32 }
@@ -174,7 +174,7 @@ fn take(machine: &mut Machine, number: usize, cursor: usize, reply: Reply) -> Re
     Ok(())
 }
 
-// The process of a number takes its reply, with its end.
+// Gives a process the reply to its statement, with what is reported after every step.
 fn take_on<T: Tracer>(
     machine: &mut Machine,
     who: Who,
@@ -199,7 +199,7 @@ fn take_on<T: Tracer>(
     Ok(())
 }
 
-// The step of a process that asks, by who it is.
+// Makes the step of a process that asks: the database is told who asks, and its reply goes to the process.
 fn answer_statement<D: Database, T: Tracer>(
     machine: &mut Machine,
     who: Who,
@@ -237,7 +237,7 @@ fn answer_statement<D: Database, T: Tracer>(
     }
 }
 
-// The step of a process that asks.
+// Makes the step of a process that asks.
 #[tactic(auto, using(crate::proofs::Stepping::asked_within))]
 fn step_statement<D: Database, T: Tracer>(
     machine: &mut Machine,
@@ -267,7 +267,7 @@ fn step_statement<D: Database, T: Tracer>(
     }
 }
 
-// A step by what the process asks.
+// Makes the step of a process that asks this statement, or nothing.
 fn move_by<D: Database, T: Tracer>(
     machine: &mut Machine,
     who: Who,
@@ -299,7 +299,7 @@ fn move_by<D: Database, T: Tracer>(
     }
 }
 
-/// A step of the process of a number.
+/// Makes a step of a process. Most steps ask nothing and make no process, and are found first.
 pub(crate) fn move_on<D: Database, T: Tracer>(
     machine: &mut Machine,
     who: Who,

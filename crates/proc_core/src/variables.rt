@@ -20,10 +20,10 @@ use script_code::{SlotOperand, SlotOperands};
 use script_parse::CalcOp;
 use std::alloc::{AllocError, Global};
 
-// The bytes that a line has room for at first.
+// The bytes for which a line has room at first.
 const LINE_ROOM: usize = 128;
 
-/// The value of a variable; of one that wasn't set it is a NULL of the caller's.
+/// The value in the slot of a variable; where there is no such slot, the caller's NULL.
 #[inline(always)]
 pub(crate) fn variable_at<'a>(process: &'a SlotProcess, slot: usize, null: &'a Value) -> &'a Value
     requires { null.now ≡ Value.Null }
@@ -35,7 +35,7 @@ pub(crate) fn variable_at<'a>(process: &'a SlotProcess, slot: usize, null: &'a V
     }
 }
 
-/// The value that an operand has, with a NULL of the caller's for a variable that wasn't set.
+/// The value that an operand has. The NULL is lent to `variable_at`.
 #[inline(always)]
 pub(crate) fn value_at<'a>(
     process: &'a SlotProcess,
@@ -63,7 +63,7 @@ pub(crate) fn value_of(
     value_at(process, operand, &null).copy_item(alloc)
 }
 
-/// A variable gets the value.
+/// Gives a variable a computed value and goes on, or ends by misuse.
 #[inline(always)]
 pub(crate) fn assign(to: usize, value: Computed, process: &mut SlotProcess)
     requires { process.old.place + 1 < 2 ^ 64 }
@@ -242,7 +242,7 @@ fn append_operands(
     Ok(())
 }
 
-/// The shown values and LF.
+/// The line that shows the values of operands, with its LF.
 pub(crate) fn line_of(
     alloc: Global,
     process: &SlotProcess,
@@ -256,13 +256,14 @@ pub(crate) fn line_of(
     Ok(line)
 }
 
-// Whether so many bytes and so many more are too many for a process to print.
+// Whether printing `more` bytes would take a process past the limit.
 fn passes_limit(printed: usize, more: usize) -> bool
     ensures { result ≡ nat_lt printed_limit (printed + more) }
 {
     printed > PRINTED_LIMIT || more > PRINTED_LIMIT - printed
 }
 
+// Prints a line and goes on, or ends by misuse where that is too much.
 fn print_line(line: &Bytes, process: &mut SlotProcess) -> Result<(), AllocError>
     requires { process.old.place + 1 < 2 ^ 64 }
     ensures { OnOk result (process.new ≡ slot_print_line line.now process.old) }

@@ -14,7 +14,7 @@ use lineage::{Answers, LineageSet};
 use sql_model::Checked;
 use std::alloc::{AllocError, Global};
 
-/// The answers of a query, and the rows that those come from which LIMIT cuts.
+/// The answers of a query, and the rows of tables that the answers come from which LIMIT cuts.
 #[derive(Drop)]
 pub struct Finished {
     pub answers: Answers,
@@ -72,6 +72,7 @@ fn limit_answers(alloc: Global, limit: Option<u64>, answers: Answers) -> Result<
     }
 }
 
+// Cuts the answers after a number of them, where there are more.
 fn cut_at(alloc: Global, count: u64, answers: Answers) -> Result<Finished, AllocError>
     ensures { IfOk result (IsLimited (Some count) answers) }
 {

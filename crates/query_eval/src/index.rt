@@ -110,7 +110,8 @@ fn value_of<'a>(prefix: &Refs<'a, SourceRow>, place: usize) -> Option<&'a Value>
     }
 }
 
-/// The rows of which the column equals a value of a joined row, by its place there.
+/// The rows of which the column equals the value at the place `from` of a joined row. `rows` and `place` are
+/// those by which the index was made.
 #[tactic(auto, using(crate::proofs::Indexes::null_rows))]
 pub(crate) fn rows_for<'b, 'a>(
     index: &'b Index<'a>,

@@ -66,7 +66,7 @@ fn add_values(alloc: Global, values: &mut Values, more: &Values) -> Result<(), A
     Ok(())
 }
 
-// How many values rows have, for room.
+// The number of values of rows, for which room is made.
 fn count_values(rows: &[&SourceRow]) -> usize {
     let mut count: usize = 0;
     for row in rows {
@@ -245,7 +245,7 @@ fn without(conds: List<BoundExpr>, index: usize) -> List<BoundExpr>
     List::of_vec(items)
 }
 
-// The next level by an equality, which is then tested for no row.
+// The next level by an equality, which holds for each row that is looked up and isn't tested again.
 fn tied_level<'a>(
     alloc: Global,
     prefixes: &Combinations<'a>,
@@ -303,6 +303,7 @@ fn is_ready(cond: &BoundExpr, width: u128) -> bool
         .all(|place| (*place as u128) < width)
 }
 
+// Parts conditions by whether all their columns are there.
 fn part(alloc: Global, conds: List<BoundExpr>, width: u128) -> Result<Parted, AllocError>
     ensures ready { IfOk result (λ parted. parted.ready ≡ ready_conditions width conds) }
     ensures later { IfOk result (λ parted. parted.later ≡ later_conditions width conds) }
@@ -327,7 +328,7 @@ struct Walk<'a> {
     left: List<BoundExpr>,
 }
 
-// One source more.
+// Extends the prefixes by one source, and tests the conditions whose columns are all there then.
 fn step<'a>(alloc: Global, walk: Walk<'a>, source: &'a Source) -> Result<Walk<'a>, AllocError>
     requires { walk.width + 2 ^ 64 ≤ 2 ^ 128 }
     ensures width { IfOk result (λ new. new.width < walk.entry.width + 2 ^ 64) }
@@ -353,7 +354,7 @@ fn step<'a>(alloc: Global, walk: Walk<'a>, source: &'a Source) -> Result<Walk<'a
     })
 }
 
-// Before the first source.
+// The walk before the first source: one prefix, of no row.
 fn start<'a>(alloc: Global, conds: List<BoundExpr>) -> Result<Walk<'a>, AllocError>
     ensures prefixes { IfOk result (λ walk. walk.prefixes ≡ [] ∷ []) }
     ensures width { IfOk result (λ walk. walk.width ≡ 0) }

@@ -1,4 +1,5 @@
-//! Queries, from FROM to LIMIT: the parts of an answer of which no core groups, each row with its lineage.
+//! Queries, from FROM to LIMIT: picked combinations, answer rows of cores that don't group, merging, ORDER BY
+//! and LIMIT, each row with its lineage.
 //!
 //! What it promises stands in `docs/GUARANTEES.md`, how it works in `docs/ARCHITECTURE.md`.
 #![tactic(auto)]

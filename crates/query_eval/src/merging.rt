@@ -67,7 +67,7 @@ fn place_in<'a>(places: &Places<'a>, values: &'a Values) -> Option<usize>
     places.get(&ByOrder::of(values)).copied()
 }
 
-// Adds other rows.
+// Adds the rows of one lineage to another.
 fn unite(rows: &mut LineageRows, other: &LineageRows) -> Result<(), AllocError>
     ensures { OnOk result (rows.new ≡ union_of rows.old other.now) }
 {
@@ -93,7 +93,7 @@ fn add_again(made: &mut Vec<Answer>, place: usize, answer: &Answer) -> Result<()
     take_lineage(&mut made[place], answer)
 }
 
-// A copy of some rows.
+// A copy of a lineage.
 fn copy_of(alloc: Global, rows: &LineageRows) -> Result<LineageRows, AllocError>
     ensures { IfOk result (λ copy. copy ≡ rows.now) }
 {

@@ -53,7 +53,7 @@ fn is_equal_sign(operator: Operator) -> bool
     }
 }
 
-// One place among the first, and one among those that follow.
+// The probe of two places of the joined row, where one is among the first `width` values and the other isn't.
 fn probe_between(a: usize, b: usize, width: u128) -> Option<Probe>
     ensures { IfSome result (IsBetween a b width) }
 {
@@ -78,7 +78,7 @@ fn is_below(place: usize, width: u128) -> bool
     (place as u128) < width
 }
 
-// The place among those that follow.
+// A place of the joined row as a place of the next source, which comes after `width` values.
 fn place_after(place: usize, width: u128) -> Option<usize>
     ensures { IfSome result (λ after. width + after ≡ place) }
 {
@@ -90,7 +90,7 @@ fn place_after(place: usize, width: u128) -> Option<usize>
     }
 }
 
-// The probe of a condition, after so many values.
+// The probe that a condition is, if it is one. The earlier sources have `width` values.
 fn probe_of(cond: &BoundExpr, width: u128) -> Option<Probe>
     ensures { IfSome result (IsProbeOf cond.now width) }
 {
@@ -106,7 +106,8 @@ fn probe_of(cond: &BoundExpr, width: u128) -> Option<Probe>
     probe_between(*a, *b, width)
 }
 
-/// The place of the first condition that is such an equality, after so many values.
+/// The first condition by which rows of the next source can be looked up: an equality of a column of it and
+/// one of an earlier source. These have `width` values.
 pub(crate) fn probe_at(conds: &[BoundExpr], width: u128) -> Option<Found>
     ensures { IfSome result (λ found. HasProbe conds.now width found.index found.probe) }
 {

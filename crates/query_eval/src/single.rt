@@ -53,6 +53,7 @@ fn pick_row(
     Ok(())
 }
 
+// The pick of a row alone.
 fn row_pick(alloc: Global, table: u32, row: SourceRow, keep: bool) -> Result<Pick, AllocError>
     ensures { IfOk result (λ pick. pick ≡ row_pick keep table row) }
 {

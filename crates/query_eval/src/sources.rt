@@ -79,7 +79,7 @@ fn chosen_rows(
     }
 }
 
-// A source, from its table.
+// A source, from its table, which is there.
 fn taken_of(
     alloc: Global,
     held: &TableStore,

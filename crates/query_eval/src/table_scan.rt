@@ -17,6 +17,7 @@ use ldv_value::List;
 use std::alloc::{AllocError, Global};
 use table_store::{CellTest, ColumnTest, TableStore};
 
+// A mask's test of a value, as a table makes it.
 fn cell_test(test: MaskTest) -> CellTest
     ensures { result ≡ cell_test test }
 {
@@ -36,7 +37,7 @@ fn column_test(mask: Mask) -> ColumnTest
     }
 }
 
-// Masks as a table makes them.
+// Masks as tests that a table makes.
 fn column_tests(alloc: Global, masks: &[Mask]) -> Result<Vec<ColumnTest>, AllocError>
     ensures { IfOk result (λ tests. tests.items ≡ column_tests masks.now) }
 {
@@ -145,7 +146,7 @@ fn all_rows(alloc: Global, table: &TableStore) -> Result<SourceRows, AllocError>
     Ok(rows)
 }
 
-// Those for which each mask passes, too.
+// The rows of a table that stand and for which each mask passes, in the order of their numbers.
 #[tactic(auto, using(crate::proofs::LeavingLaws::left_chosen))]
 fn rows_passing(alloc: Global, table: &TableStore, masks: &[Mask]) -> Result<SourceRows, AllocError>
     requires { AllFit table.now.schema.columns masks.now }

@@ -3,7 +3,7 @@
 use ldv_value::{List, Names, Utf8};
 use sql_model::{Members, Needs};
 
-/// What happened in a step. A `path` is the path that an instruction named.
+/// What happened in a step. A `path` is that which an instruction named.
 #[derive(Drop)]
 pub enum Act {
     /// The first process was started on a path.
@@ -19,16 +19,20 @@ pub enum Act {
         path: Utf8,
         found: bool,
     },
+    /// A file was opened for reading.
     OpenedRead {
         path: Utf8,
     },
+    /// A file was opened for writing, and emptied or made.
     OpenedWrite {
         path: Utf8,
     },
+    /// A file was opened for appending; `found` says whether it was there.
     OpenedAppend {
         path: Utf8,
         found: bool,
     },
+    /// A file was made, and opened for writing.
     OpenedNew {
         path: Utf8,
     },
@@ -37,15 +41,19 @@ pub enum Act {
         path: Utf8,
         found: bool,
     },
+    /// A file was read, by `readline` or `copy`, whatever that gave.
     Read {
         path: Utf8,
     },
+    /// Bytes were appended to a file.
     Wrote {
         path: Utf8,
     },
+    /// A file was removed.
     Removed {
         path: Utf8,
     },
+    /// It was found out whether a file is there, by `exists` or by a `remove` that was refused.
     Tested {
         path: Utf8,
         found: bool,
@@ -58,8 +66,9 @@ pub enum Act {
     Ended {
         status: u8,
     },
-    /// A statement was asked: the tables that it names, the rows that it needed and the versions that it
-    /// made.
+    /// A statement was asked, by its number in the run. `tables` are those that it asks: those that it names,
+    /// those of the rows that it needs, and all their parents. `reads` are the rows that it needs, `made` the
+    /// versions that it made.
     Asked {
         statement: u32,
         tables: Names,

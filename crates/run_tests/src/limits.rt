@@ -32,7 +32,7 @@ fn expect(
     Ok(())
 }
 
-// So many blanks.
+// `length` blanks.
 fn blank(alloc: Global, length: usize) -> Result<Bytes, AllocError> {
     Ok(Bytes::of_vec(vec![in alloc; 32u8; length]?))
 }

@@ -9,7 +9,7 @@ use sql_model::{Members, Needs};
 use std::alloc::{AllocError, Global};
 use std::process::Abort;
 
-// A row of one text of so many letters.
+// Appends a row of one text of these letters.
 fn push_row(text: &mut String, letters: &str) -> Result<(), AllocError> {
     text.push_str("[\"")?;
     text.push_str(letters)?;
@@ -23,7 +23,7 @@ fn letters(alloc: Global, count: usize) -> Result<String, AllocError> {
     "a".repeat(alloc, count)
 }
 
-// So many rows of the same letters, each before another.
+// Appends `count` rows of the same letters, each with a comma after it.
 fn push_rows(text: &mut String, letters: &str, count: u32) -> Result<(), AllocError> {
     for _ in 0..count {
         push_row(text, letters)?;
@@ -32,7 +32,7 @@ fn push_rows(text: &mut String, letters: &str, count: u32) -> Result<(), AllocEr
     Ok(())
 }
 
-// A document of which all rows are needed: so many rows of the first letters, and one of the last.
+// A document of which all rows are needed: `count` rows of the first letters, and one of the last.
 fn document(alloc: Global, count: u32, first: &str, last: &str) -> Result<String, AllocError> {
     let mut text = String::from_str(alloc, FRONT)?;
     push_rows(&mut text, first, count)?;
@@ -49,7 +49,7 @@ fn long_document(alloc: Global, last: usize) -> Result<String, AllocError> {
     document(alloc, 1_023, first.as_str(), last.as_str())
 }
 
-/// That document as bytes, with so many letters in its last row.
+/// That document as bytes, with `last` letters in its last row.
 pub(crate) fn world_of_long_rows(alloc: Global, last: usize) -> Result<Bytes, AllocError> {
     Ok(Bytes::of_vec(long_document(alloc, last)?.into_bytes()))
 }
@@ -114,7 +114,7 @@ pub(crate) fn longer_than_it_reads(rt: &impl Abort, alloc: Global) -> Result<Byt
 
 // ---- a table of a long name
 
-// A document whose table has this name and so many rows of one NULL and one more, all of which are needed.
+// A document whose table has this name and `count` rows of one NULL and one more, all of which are needed.
 fn document_of_nulls(alloc: Global, name: &str, count: u32) -> Result<String, AllocError> {
     let front = r#"{"start":["main"],"files":{"main":"sql q \"SELECT * FROM "#;
     let mut text = String::from_str(alloc, front)?;

@@ -13,7 +13,7 @@ use std::fmt::Write;
 use std::process::Abort;
 use std::test::Fail;
 
-// A run of a world, with no more than so many steps.
+// A run of a world, of at most `budget` steps.
 fn run(alloc: Global, world: &World, budget: u32) -> Result<Outcome, EndStop>
     requires can_run { CanRun world.now }
 {

@@ -20,7 +20,7 @@ pub type SlotOperands = List<SlotOperand>;
 /// Slots of variables, in the order of the line.
 pub type Slots = List<usize>;
 
-/// An instruction that changes its own process only.
+/// An instruction that changes its own process only, and reads nothing else.
 #[derive(Drop)]
 pub enum OwnInstr {
     /// `let x = v`
@@ -93,7 +93,7 @@ pub enum OwnInstr {
     },
 }
 
-/// An instruction that changes its own process and files.
+/// An instruction that reads or changes files, and changes its own process.
 #[derive(Drop)]
 pub enum FileInstr {
     /// `open f M v else L`
@@ -135,9 +135,9 @@ pub enum FileInstr {
 /// among the names of its kind, and `place` is the place of a label, as there.
 #[derive(Drop)]
 pub enum SlotInstr {
-    /// Changes its own process only.
+    /// One that changes its own process only.
     Own(OwnInstr),
-    /// Changes its own process and files.
+    /// One that reads or changes files.
     OnFiles(FileInstr),
     /// `spawn p v v* else L`
     Spawn {
@@ -172,7 +172,7 @@ pub struct Scope {
 }
 
 impl Scope {
-    /// A scope of no name.
+    /// A scope without names.
     #[tactic(auto, using(crate::proofs::KnownNames::distinct_none))]
     pub(crate) fn new(alloc: Global) -> Scope
         ensures { IsScope result }

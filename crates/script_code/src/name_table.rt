@@ -34,7 +34,7 @@ impl Model for NameTable {
 }
 
 impl NameTable {
-    /// A table of no name.
+    /// A table without names.
     pub(crate) fn new(alloc: Global) -> NameTable
         ensures { result ≡ [] }
     {
@@ -116,7 +116,7 @@ fn put_slot(slots: &mut NameSlots, name: &Utf8, slot: usize) -> Result<(), Alloc
     Ok(())
 }
 
-// Takes the slot of a name back.
+// Removes a name.
 fn take_slot(slots: &mut NameSlots, name: &Utf8)
     ensures { (q : Items ℕ)
         → get_by_text slots.new q ≡ cond (bytes_eq name.now q) None (get_by_text slots.old q) }

@@ -26,6 +26,7 @@ pub(crate) fn resolve(alloc: Global, source: Bytes, script: &Instrs) -> Result<C
     })
 }
 
+// The instructions of a script with slots in place of names. The scope gets the names.
 fn instructions(alloc: Global, scope: &mut Scope, script: &Instrs) -> Result<SlotInstrs, AllocError>
     ensures slotted { IfOk result (ResolvesAll scope.new script.now) }
     ensures keeps { OnOk result (KeepsAll scope.old scope.new) }

@@ -17,7 +17,7 @@ use crate::token::Token;
 use ldv_value::Utf8;
 use std::alloc::Global;
 
-/// What a line says.
+/// Reads what a line says; `Malformed` where the line is bad whatever the other lines say.
 pub(crate) fn read_line(alloc: Global, line: &[u8]) -> Result<Line, LineError>
     ensures { GivesLine result (line_of line.now) }
 {
@@ -53,6 +53,7 @@ fn first_nonblank(line: &[u8]) -> Option<u8>
     line.iter().copied().find(|b| !blank(*b))
 }
 
+// What the tokens of a line say.
 fn form(alloc: Global, tokens: &[Token]) -> Result<Line, LineError>
     ensures { GivesLine result (form_of tokens.now) }
 {
@@ -66,6 +67,7 @@ fn form(alloc: Global, tokens: &[Token]) -> Result<Line, LineError>
     }
 }
 
+// What a line says whose first token is a word: alone it is a label, else a keyword.
 fn line_of_word(alloc: Global, word: &str, rest: &[Token]) -> Result<Line, LineError>
     ensures { GivesLine result (line_of_word word.now rest.now) }
 {

@@ -17,7 +17,7 @@ use crate::token::Token;
 use ldv_value::{Cmp, OpenMode, Utf8};
 use std::alloc::Global;
 
-/// What a line says whose first word is this keyword.
+/// What a line says whose first word is this keyword, by the tokens after it.
 pub(crate) fn instruction(
     alloc: Global,
     keyword: Keyword,

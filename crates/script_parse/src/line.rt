@@ -16,12 +16,12 @@ pub(crate) enum Line {
     Jumping(Instr, Utf8),
 }
 
-/// A line that isn't quiet.
+/// A line that is neither empty nor a comment.
 #[derive(Drop)]
 pub(crate) struct Entry {
     /// Its number, from 1.
     pub number: u64,
-    /// What it says; `None` where it is bad in itself.
+    /// What it says; `None` where it is bad whatever the other lines say.
     pub line: Option<Line>,
 }
 

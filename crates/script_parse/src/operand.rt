@@ -12,7 +12,7 @@ use crate::token::Token;
 use ldv_value::{Names, Utf8, Value, is_word};
 use std::alloc::Global;
 
-/// The most operands of a list beside its first.
+/// The most operands of a list, beside its first where it has to have one.
 const LIST_LIMIT: usize = 255;
 
 /// Whether a token is this word.

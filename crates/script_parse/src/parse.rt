@@ -24,7 +24,7 @@ pub enum ScriptStop {
     /// has no form, that defines a label which an earlier line defines, or that uses a label which no
     /// line defines.
     Line(u32),
-    /// Out of memory. It stands too where the number of the first bad line, or of the instructions before a
+    /// Out of memory. It also comes where the number of the first bad line, or of the instructions before a
     /// label that is used, isn't a `u32`, which takes more than 4 GiB of bytes.
     NoMemory,
 }
@@ -95,7 +95,7 @@ fn instructions(alloc: Global, labels: &Labels, entries: Entries) -> Result<Inst
     Ok(instructions)
 }
 
-// What is reported of a bad line of this number.
+// The stop that reports the bad line of a number.
 fn bad_line(number: u64) -> ScriptStop
     ensures { IfLine result (λ n. n ≡ number) }
 {
@@ -105,6 +105,7 @@ fn bad_line(number: u64) -> ScriptStop
     }
 }
 
+// What a line comes to: its instruction with the place of its label, or none where it defines a label.
 fn resolve(labels: &Labels, entry: Entry) -> Result<Option<Instr>, LineError>
     ensures { GivesLine result (resolve (get_by_text labels.now) entry) }
 {
@@ -138,6 +139,7 @@ fn with_label_place(instr: Instr, place: u64) -> Result<Option<Instr>, LineError
     }
 }
 
+// Whether a line is the first that defines a label.
 fn is_first(labels: &Labels, number: u64, name: &Utf8) -> bool
     ensures { result ≡ is_first number (get_by_text labels.now name.now) }
 {

@@ -41,6 +41,7 @@ pub(crate) fn tokens(alloc: Global, line: &[u8]) -> Result<Tokens, LineError>
     Ok(tokens)
 }
 
+// The state after a byte, and the token that the byte ends, if it ends one.
 fn step(alloc: Global, place: LexState, b: u8) -> Result<(LexState, Option<Token>), LineError>
     ensures { GivesLine result (step place b) }
 {
@@ -112,6 +113,7 @@ fn close_token(token: Token, b: u8) -> Result<(LexState, Option<Token>), LineErr
     }
 }
 
+// The token that the end of the line ends, if it ends one.
 fn finish(place: LexState) -> Result<Option<Token>, LineError>
     ensures { GivesLine result (finish place) }
 {

@@ -11,7 +11,7 @@ use crate::line::{Entries, Entry, Line};
 use crate::line_error::LineError;
 use std::alloc::{AllocError, Global};
 
-/// The lines of a script that aren't quiet, with their numbers from 1.
+/// The lines of a script that are neither empty nor comments, with their numbers from 1.
 pub(crate) fn entries(alloc: Global, bytes: &[u8]) -> Result<Entries, AllocError>
     ensures { IfOk result (λ entries. entries ≡ entries_of bytes.now) }
 {
@@ -27,6 +27,7 @@ pub(crate) fn entries(alloc: Global, bytes: &[u8]) -> Result<Entries, AllocError
     Ok(entries)
 }
 
+// Adds what a line says, unless the line is empty or a comment.
 fn add(alloc: Global, entries: &mut Entries, number: u64, line: &[u8]) -> Result<(), AllocError>
     ensures { OnOk result (entries.new ≡ entries.old ++ entry_of number (line_of line.now)) }
 {

@@ -76,7 +76,7 @@ fn pack_table(alloc: Global, reasons: &Reasons, table: &Table) -> Result<PackedT
     })
 }
 
-// Appends a table, if it is among the named.
+// Appends a table with its needed rows, if its name is among the names.
 fn push_named(
     alloc: Global,
     to: &mut PackedTables,
@@ -111,7 +111,7 @@ pub fn pack_tables(
     Ok(packed)
 }
 
-/// The tables that statements name, with the initial rows of the graph. Each row has the first statement that
+/// The tables that statements ask, with the initial rows of the graph. Each row has the first statement that
 /// needs it, and a row that none needs is left out. `AllocError` means out of memory only.
 pub(crate) fn needed_tables(
     alloc: Global,

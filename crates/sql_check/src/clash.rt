@@ -19,7 +19,7 @@ use ldv_value::Value;
 use sql_model::{Catalog, Column, Core, Expr, Item, Kind, Query, Set, Statement, Update};
 use std::alloc::{AllocError, Global};
 
-/// Whether kinds or counts don't fit.
+/// Whether kinds or counts don't fit, in an expression, a condition, a UNION, LIMIT or a change.
 pub(crate) fn has_type_clash(
     alloc: Global,
     statement: &Statement,
@@ -116,6 +116,7 @@ fn having_fits(scope: &[Entry], having: &Option<Expr>) -> bool
     }
 }
 
+// Whether the rows of several sources are counted: by COUNT, or by a SUM that names no column.
 fn counts_joined(core: &Core) -> bool
     ensures { result ≡ counts_joined core.now }
 {

@@ -22,7 +22,7 @@ use sql_model::{
 use std::alloc::{AllocError, Global};
 
 /// Whether a column isn't there or is ambiguous, or isn't in GROUP BY where it must be, or a key of
-/// ORDER BY is no output column.
+/// ORDER BY is no answer column.
 pub(crate) fn has_unknown_column(
     alloc: Global,
     statement: &Statement,
@@ -57,7 +57,7 @@ fn query_lacks_column(alloc: Global, query: &Query, catalog: &Catalog) -> Result
     lack_order_key(alloc, query.cores.items(), catalog, query.order.items())
 }
 
-// Whether a key of ORDER BY is no output column.
+// Whether a key of ORDER BY is no answer column.
 fn lack_order_key(
     alloc: Global,
     cores: &[Core],
@@ -87,6 +87,7 @@ fn cores_lack_column(alloc: Global, cores: &[Core], catalog: &Catalog) -> Result
     Ok(false)
 }
 
+// Whether a name in a core isn't one column of its scope, or a column isn't grouped by where it must be.
 fn core_lacks_column(alloc: Global, core: &Core, catalog: &Catalog) -> Result<bool, AllocError>
     ensures { IfOk result (λ lacks. lacks ≡ core_lacks_column catalog.now core.now) }
 {

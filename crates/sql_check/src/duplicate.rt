@@ -53,7 +53,7 @@ pub(crate) fn has_duplicate<N: Named>(alloc: Global, items: &[N]) -> Result<bool
     }
 }
 
-// The same, where names are looked for.
+// The same of two items and more, whose names are sorted for it.
 fn repeat_names<N: Named>(alloc: Global, items: &[N]) -> Result<bool, AllocError>
     ensures { IfOk result (λ twice. twice ≡ repeats same_text (map N.name items.now)) }
 {

@@ -1,4 +1,4 @@
-//! The names of output columns.
+//! The names of answer columns.
 
 ghost use Rattle.std.specs.Prelude.{◌≡◌, IfOk, Some, map, filter, length, position};
 ghost use Rattle.std.specs.List.{position_or_len};
@@ -13,7 +13,7 @@ use sql_model::{Catalog, Core, Expr, Item, Items, OrderKey};
 use std::alloc::{AllocError, Global};
 use std::marker::Model;
 
-/// An output column: its name, where it has one.
+/// An answer column: its name, where it has one.
 #[derive(Drop)]
 pub(crate) struct OutputColumn<'a> {
     text: Option<&'a Utf8>,
@@ -29,7 +29,7 @@ impl<'a> Model for OutputColumn<'a> {
 }
 
 impl<'a> OutputColumn<'a> {
-    // Whether it is a name.
+    // Whether this is its name.
     fn is_titled(&self, name: &Utf8) -> bool
         ensures { result ≡ is_titled name.now self.now }
     {
@@ -68,7 +68,7 @@ fn title_of<'a>(item: &'a Item) -> OutputColumn<'a>
     }
 }
 
-/// The names of the output columns, which are those of the first core.
+/// The names of the answer columns, which are those of the first core.
 pub(crate) fn answer_titles<'a>(
     alloc: Global,
     catalog: &'a Catalog,
@@ -120,7 +120,7 @@ fn titles_of<'a>(alloc: Global, items: &'a [Item]) -> Result<Vec<OutputColumn<'a
     Ok(titles)
 }
 
-/// Whether a key is the name of exactly one output column, or the number of one.
+/// Whether a key is the name of exactly one answer column, or the number of one.
 pub(crate) fn is_order_key(titles: &[OutputColumn], key: &OrderKey) -> bool
     ensures { result ≡ is_order_key titles.now key.now }
 {
@@ -130,7 +130,7 @@ pub(crate) fn is_order_key(titles: &[OutputColumn], key: &OrderKey) -> bool
     }
 }
 
-/// The place of the output column that a key means, from 0.
+/// The place of the answer column that a key means, from 0.
 pub(crate) fn key_place(titles: &[OutputColumn], key: &OrderKey) -> usize
     ensures { result ≡ key_place titles.now key.now }
 {

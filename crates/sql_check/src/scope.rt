@@ -27,13 +27,14 @@ impl<'a> Model for Entry<'a> {
 }
 
 impl<'a> Entry<'a> {
+    /// The column itself.
     pub(crate) fn column(&self) -> &'a Column
         ensures { result.now ≡ self.now.column }
     {
         self.column
     }
 
-    // Whether a column's name means this one.
+    /// Whether a column's name means this one.
     pub(crate) fn is_meant(&self, name: &ColumnName) -> bool
         ensures { result ≡ is_meant name.now self.now }
     {

@@ -13,10 +13,10 @@ use ldv_value::List;
 use sql_model::{Catalog, Core, Item, Items, Kind};
 use std::alloc::{AllocError, Global};
 
-/// Kinds of output columns.
+/// Kinds of answer columns.
 pub(crate) type Kinds = List<Kind>;
 
-/// The kinds of a query's columns, its cores taken from the left; `None` where it clashes.
+/// The kinds of a query's answer columns, its cores taken from the left; `None` where kinds or counts clash.
 pub(crate) fn query_kinds(
     alloc: Global,
     catalog: &Catalog,
@@ -125,7 +125,7 @@ fn kinds_of_items(
     Ok(Some(List::of_vec(kinds)))
 }
 
-// The kind of an output column.
+// The kind of an answer column, which is no truth.
 fn kind_of_item(kind: Option<Kind>) -> Option<Kind>
     ensures { result ≡ kind_of_item kind }
 {

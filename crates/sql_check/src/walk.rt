@@ -29,8 +29,7 @@ pub(crate) fn all_resolve(scope: &[Entry], expr: &Expr) -> bool
     }
 }
 
-/// Whether each column name of an expression outside its aggregates means a column at one of
-/// some places.
+/// Whether each column name of an expression outside its aggregates means a column at one of some places.
 #[tactic(auto, using(crate::proofs::Walks::among_forms))]
 pub(crate) fn all_among(scope: &[Entry], places: &[usize], expr: &Expr) -> bool
     ensures { result ≡ all_among scope.now places.now (outer_names expr.now) }

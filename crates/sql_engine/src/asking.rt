@@ -1,4 +1,4 @@
-//! A text that is asked over a store.
+//! A text that is asked over a store: parsed, checked, executed, with the lists that are recorded of it.
 
 ghost use Rattle.std.specs.Prelude.{◌≡◌, ◌<◌, ◌≤◌, length, Some, Ok, IfOk, OnOk, OnErr, IsTrue};
 ghost use Rattle.core_parts.specs.Checking.{IsQuery};
@@ -57,7 +57,7 @@ fn tables_of(
     }
 }
 
-// A query that was checked.
+// Answers a query that was checked.
 fn execute_query(
     alloc: Global,
     checked: &Checked,
@@ -94,7 +94,7 @@ fn done_of(change: Change, tables: Names) -> Done
     }
 }
 
-// A statement that was checked.
+// Executes a statement that was checked.
 #[tactic(auto, using(crate::proofs::AskLaws::change_outcome))]
 fn execute_checked(
     alloc: Global,
@@ -117,7 +117,7 @@ fn execute_checked(
     }
 }
 
-// What a statement gives, refused by its check or not, and the statement.
+// Checks a statement, and executes it where it isn't refused. The statement is given back.
 fn asked_or_refused(
     alloc: Global,
     statement: Statement,
@@ -144,7 +144,7 @@ fn asked_or_refused(
     }
 }
 
-// A statement. Once it has run, nothing can fail.
+// Executes a statement, and lists the tables that it asks. Once it has run, nothing can fail.
 fn execute_statement(
     alloc: Global,
     statement: Statement,

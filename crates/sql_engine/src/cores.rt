@@ -76,7 +76,7 @@ fn core_rows(
     once(core_of(checked, place).distinct, rows)
 }
 
-// Answers, and more after them.
+// Appends answers to others.
 fn append_answers(answers: Answers, more: Answers) -> Result<Answers, AllocError>
     ensures { IfOk result (λ made. made ≡ answers ++ more) }
 {

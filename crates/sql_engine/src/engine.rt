@@ -53,7 +53,7 @@ impl Engine {
     }
 }
 
-// The event of a statement that was asked.
+// The reply to a statement that was asked, and its event.
 fn asked_event(who: &Asker, done: Done) -> (Reply, Event)
     ensures { result ≡ (done.reply, asked_event who.now (lists_in done)) }
 {

@@ -49,7 +49,7 @@ fn names_table(statement: &Statement, name: &Utf8) -> bool
 
 // ---- marks
 
-/// How far a table is taken: not at all; itself; or with its parents.
+/// How far a table is taken: not at all, itself alone, or itself and its parents.
 #[derive(Clone, Copy)]
 pub(crate) enum Mark {
     Left,
@@ -89,14 +89,14 @@ fn taken_mark(mark: Mark) -> Mark
     }
 }
 
-/// The names of all tables, and their marks.
+/// The names of all tables, and their marks: all memory that listing the asked ones needs.
 #[derive(Drop)]
 pub(crate) struct Taking {
     names: Names,
     marks: Vec<Mark>,
 }
 
-/// Takes all memory that the tables of a statement need. The tables that it names are taken.
+/// Makes the names and marks of all tables, before a statement runs. The tables that it names are taken.
 pub(crate) fn prepare(
     alloc: Global,
     names: &Names,
@@ -209,7 +209,7 @@ fn waiting_table(marks: &[Mark]) -> Option<usize>
     marks.iter().position(|mark| is_waiting(*mark))
 }
 
-// Takes the parents of the table at a place.
+// Takes the parents of the table at a place, which is done then.
 fn finish(catalog: &Catalog, marks: &mut Vec<Mark>, place: usize)
     requires { place < length marks.old.items }
     ensures { marks.new.items ≡ marks_with_parents catalog.now place marks.old.items }
@@ -268,7 +268,7 @@ fn taken_names(names: Names, marks: &[Mark]) -> Names
     List::of_vec(items)
 }
 
-/// The tables that a statement asks which needs some rows, sorted. It takes no memory.
+/// The tables that a statement asks, sorted, by the rows that it needs. It takes no memory.
 pub(crate) fn tables_asked(
     taking: Taking,
     statement: &Statement,

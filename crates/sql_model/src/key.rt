@@ -82,7 +82,7 @@ pub fn compare_values(a: &[Value], b: &[Value]) -> Ordering
     }
 }
 
-// No values against some.
+// How no values compare to some.
 fn compare_empty(values: &[Value]) -> Ordering
     ensures { result ≡ slice_cmp order [] values.now }
 {

@@ -13,11 +13,11 @@ pub enum SqlRefusal {
     Syntax,
     /// A named table isn't there, or two sources of one SELECT have the same name.
     NoTable,
-    /// A column isn't there or means two; one isn't grouped in a core that groups; a key of ORDER BY
-    /// isn't exactly one answer column.
+    /// A column isn't there or means two; one isn't grouped by in a core that groups; a key of ORDER BY isn't
+    /// exactly one answer column.
     NoColumn,
-    /// Kinds or counts of columns don't fit; an aggregate is where none may be; a column is set or named
-    /// twice; a parameter of LIMIT isn't a number of at least 0.
+    /// Kinds or counts of columns don't fit; an aggregate is where none may be, or counts the rows of several
+    /// sources; a column is set or named twice; a parameter of LIMIT isn't a number of at least 0.
     TypeClash,
     /// A row that is inserted or matched would have NULL in a NOT NULL column.
     NotNull,

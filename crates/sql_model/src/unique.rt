@@ -139,7 +139,7 @@ fn compare_keys(row: &Values, places: &[usize], other: &Values, others: &[usize]
     }
 }
 
-// No places against some.
+// How no places compare to some.
 fn compare_length(places: &[usize]) -> Ordering
     ensures { (row : List Value) → result ≡ slice_cmp order [] (map (value_at row) places.now) }
 {

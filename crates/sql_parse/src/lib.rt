@@ -1,5 +1,4 @@
-//! SQL's parser: a text with its parameters as the statement as which it reads by the grammar of
-//! `sql_model`.
+//! SQL's parser: from a text with its parameters to the statement that it is by the grammar of `sql_model`.
 //!
 //! What it promises stands in `docs/GUARANTEES.md`, how it works in `docs/ARCHITECTURE.md`.
 #![tactic(auto)]

@@ -25,6 +25,7 @@ pub(crate) fn read_opening(
     opens(alloc, reader, least, token)
 }
 
+// The beginning that a token is, of an operand of at least a level.
 fn opens(alloc: Global, reader: &mut Reader, least: u8, token: Lexeme) -> Result<Opening, ParseStop>
     ensures { ReadsPart result reader.new (opens least token.entry reader.old) }
 {

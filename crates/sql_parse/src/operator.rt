@@ -123,6 +123,7 @@ pub(crate) fn operator_level(operator: Operator) -> u8
     }
 }
 
+// The least level of the operand before a joint.
 fn left_of(joint: Infix) -> u8
     ensures { result ≡ left_of joint }
 {

@@ -1,4 +1,4 @@
-//! Lists of parts.
+//! Lists of parts, with commas between.
 
 ghost use Rattle.std.specs.Prelude.{List as Items, Option};
 ghost use Rattle.sql_model.specs.declared.token.Token.{Token};

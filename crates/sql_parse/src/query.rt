@@ -31,6 +31,7 @@ pub(crate) fn query(alloc: Global, reader: &mut Reader) -> Result<Query, ParseSt
     })
 }
 
+// The cores, with UNION or UNION ALL between.
 fn cores(alloc: Global, reader: &mut Reader) -> Result<Cores, ParseStop>
     ensures { ReadsPart result reader.new (reads_cores reader.old) }
 {

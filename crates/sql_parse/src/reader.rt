@@ -47,7 +47,7 @@ impl<'a> Reader<'a> {
         }
     }
 
-    /// The next token.
+    /// The next token, which stays.
     pub fn peek(&self) -> Option<&Lexeme<'a>>
         ensures { MatchOption result (self.now ≡ []) (λ t. self.now ≡ t.now ∷ tail self.now) }
     {
@@ -97,7 +97,7 @@ impl<'a> Reader<'a> {
         }
     }
 
-    /// The next token.
+    /// Takes the next token; `Syntax` where none is left.
     pub fn token(&mut self) -> Result<Lexeme<'a>, ParseStop>
         ensures { ReadsPart result self.new (reads_token self.old) }
     {
@@ -111,7 +111,7 @@ impl<'a> Reader<'a> {
         }
     }
 
-    /// The name that the next token is.
+    /// Takes the next token, which must be a name.
     pub fn name(&mut self, alloc: Global) -> Result<Utf8, ParseStop>
         ensures { ReadsPart result self.new (reads_name self.old) }
     {

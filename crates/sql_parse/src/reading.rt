@@ -68,6 +68,7 @@ fn whole_statement(alloc: Global, tokens: Reader) -> Result<Statement, ParseStop
     }
 }
 
+// Whether no token is left but a `;`.
 fn is_end(reader: &mut Reader) -> bool
     ensures { result ≡ is_end reader.old }
 {
@@ -75,6 +76,7 @@ fn is_end(reader: &mut Reader) -> bool
     reader.len() == 0
 }
 
+// A statement, told apart by its first word.
 fn statement(alloc: Global, reader: &mut Reader) -> Result<Statement, ParseStop>
     ensures { ReadsPart result reader.new (reads_statement reader.old) }
 {

@@ -1,4 +1,4 @@
-//! Cores.
+//! Cores: each SELECT of a query, up to its HAVING.
 
 ghost use Rattle.std.specs.Prelude.{◌≡◌, ◌++◌, OnOk, option_to_list};
 ghost use Rattle.sql_parse.specs.inner.Gives.{ReadsPart};
@@ -14,7 +14,7 @@ use ldv_value::{MAX_SOURCES, Utf8};
 use sql_model::{ColumnName, ColumnNames, Core, Expr, Exprs, Item, Items, Sources};
 use std::alloc::{AllocError, Global};
 
-/// Parses a core; `joined_all`: it follows UNION ALL.
+/// A core, which follows UNION ALL where `joined_all` is true.
 pub(crate) fn core(alloc: Global, reader: &mut Reader, joined_all: bool) -> Result<Core, ParseStop>
     ensures { ReadsPart result reader.new (reads_core joined_all reader.old) }
 {
@@ -23,6 +23,7 @@ pub(crate) fn core(alloc: Global, reader: &mut Reader, joined_all: bool) -> Resu
     core_rest(alloc, reader, joined_all, distinct)
 }
 
+// What follows SELECT [DISTINCT].
 fn core_rest(
     alloc: Global,
     reader: &mut Reader,
@@ -37,6 +38,7 @@ fn core_rest(
     core_end(alloc, reader, joined_all, distinct, items, sources)
 }
 
+// What follows the sources.
 fn core_end(
     alloc: Global,
     reader: &mut Reader,

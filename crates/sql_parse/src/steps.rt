@@ -1,4 +1,4 @@
-//! Reading step by step.
+//! Parts of the grammar that repeat: lists, sources and UNION.
 
 ghost use Rattle.std.specs.Prelude.{Bool, List, Option};
 ghost use Rattle.sql_model.specs.declared.token.Token.{Token};
@@ -9,7 +9,7 @@ use crate::reader::Reader;
 use crate::error::ParseStop;
 use std::alloc::Global;
 
-/// What is read step by step.
+/// What is read in steps, each of which adds a part to what is made so far.
 pub(crate) trait Steps: Drop {
     /// What a step at the front of tokens makes of what is made so far, and whether another step follows.
     ghost reads: { Self → List Token → Option ((Self × Bool) × List Token) };
@@ -19,7 +19,7 @@ pub(crate) trait Steps: Drop {
         ensures { ReadsPart result reader.new (reads self reader.old) };
 }
 
-/// What is made by all steps that follow, at most so many.
+/// Reads steps while another one follows, at most `most`; `Syntax` where more follow.
 #[tactic(auto, using(crate::proofs::Repeat::repeat_rules))]
 pub(crate) fn all_steps<S: Steps>(
     alloc: Global,

@@ -28,7 +28,7 @@ pub(crate) enum Lent<'a> {
     Given(&'a Value),
 }
 
-/// A token; contracts see it as the token by itself.
+/// A token, which may be lent. Contracts see the `Token` of `sql_model`.
 #[derive(Drop)]
 pub(crate) struct Lexeme<'a> {
     lent: Lent<'a>,
@@ -61,7 +61,7 @@ impl<'a> Lexeme<'a> {
         &self.lent
     }
 
-    /// What the token is.
+    /// What the token is, itself.
     pub fn into_lent(self) -> Lent<'a>
         ensures { token_of result ≡ self.entry }
     {

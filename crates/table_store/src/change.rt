@@ -21,7 +21,7 @@ pub(crate) struct RowChange {
     pub(crate) copies: Option<Copies>,
 }
 
-/// The rows of these numbers are dropped.
+/// Changes by which the rows of these numbers are dropped.
 pub(crate) fn removals(alloc: Global, numbers: &[u32]) -> Result<Vec<RowChange>, AllocError>
     ensures { IfOk result (λ made. made.items ≡ map removal numbers.now) }
 {
@@ -35,7 +35,7 @@ pub(crate) fn removals(alloc: Global, numbers: &[u32]) -> Result<Vec<RowChange>,
     Ok(made)
 }
 
-/// The rows of these numbers get other values.
+/// Changes by which the rows of these numbers get other values. Each is copied once, for its chain.
 pub(crate) fn rewrites(alloc: Global, rows: TableRows) -> Result<Vec<RowChange>, AllocError>
     ensures { IfOk result (λ made. made.items ≡ map rewrite rows) }
 {

@@ -124,6 +124,7 @@ fn add_row(
     Ok(())
 }
 
+// Adds a row under the key to which it refers by one foreign key, if it refers to one.
 fn add_by(
     alloc: Global,
     index: &mut ChildIndex,

@@ -50,7 +50,7 @@ impl Model for Grid {
 }
 
 impl Grid {
-    /// No rows, and columns of texts where that is said.
+    /// No rows, with a column for each item of `texts`: of texts where it is true, and else of numbers.
     #[tactic(auto, using(crate::proofs::GridLaws::grid_empty))]
     pub(crate) fn new(alloc: Global, texts: &[bool]) -> Result<Grid, AllocError>
         ensures { IfOk result (λ grid. grid ≡ record { slots = []; kinds = texts.now; next = 0 }) }
@@ -215,7 +215,7 @@ impl Grid {
         set_cells(&mut self.columns, slot, values);
     }
 
-    /// Drops the row in a slot.
+    /// Drops the row in a slot; its values stay there.
     pub(crate) fn clear(&mut self, slot: usize)
         requires { slot < length self.old.slots }
         ensures { self.new ≡ record self.old {
@@ -236,7 +236,8 @@ impl Grid {
         place_in(&self.numbers, number)
     }
 
-    /// The numbers are strictly increasing and below the next one.
+    /// The numbers are strictly increasing and below the next one. The call does nothing; it lends this to
+    /// the caller.
     #[tactic(auto, using(crate::proofs::GridLaws::grid_rules))]
     pub(crate) fn tell_order(&self)
         ensures rising { (i j : ℕ) → i < j → j < length self.now.slots

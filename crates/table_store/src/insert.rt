@@ -17,7 +17,7 @@ pub(crate) fn any_lacks_value(columns: &[Column], rows: &[Values]) -> bool
         .any(|values| lacks_value(columns, values.items()))
 }
 
-/// The same of rows that have numbers.
+/// Whether a row that has a number has NULL in a column that is NOT NULL.
 pub(crate) fn any_row_lacks_value(columns: &[Column], rows: &[TableRow]) -> bool
     ensures { result ≡ list_any (has_null columns.now) rows.now }
 {

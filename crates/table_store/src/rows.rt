@@ -50,7 +50,7 @@ impl Model for Rows {
 }
 
 impl Rows {
-    /// No rows, and columns of texts where that is said.
+    /// No rows, with a column for each item of `texts`: of texts where it is true, and else of numbers.
     #[tactic(auto, using(crate::proofs::RowLaws::none_chained))]
     pub(crate) fn new(alloc: Global, texts: &[bool]) -> Result<Rows, AllocError>
         ensures { IfOk result (λ rows. rows ≡ record { slots = []; kinds = texts.now; next = 0 }) }
@@ -158,7 +158,8 @@ impl Rows {
         self.grid.find(number)
     }
 
-    /// The numbers are strictly increasing and below the next one.
+    /// The numbers are strictly increasing and below the next one. The call does nothing; it lends this to
+    /// the caller.
     pub(crate) fn tell_order(&self)
         ensures order { AreInOrder self.now.slots self.now.next }
         ensures small { self.now.next < 2 ^ 32 }

@@ -373,7 +373,7 @@ impl Store {
         }
     }
 
-    // What references refuse new rows for.
+    // What references refuse new rows for, which comes after what the rows' own table refuses them for.
     fn later_of_insert(&self, table: &str, rows: &RowList) -> Result<Option<StoreStop>, AllocError>
         requires { IsSome (table_at table.now (tables_now self.now)) }
         ensures { IfOk result (λ later. option_map
@@ -390,7 +390,7 @@ impl Store {
         }
     }
 
-    // What they refuse new values of rows for.
+    // What references refuse new values of rows for.
     fn later_of_replace(
         &self,
         table: &str,
@@ -415,7 +415,7 @@ impl Store {
         }
     }
 
-    // What they refuse to drop rows for.
+    // What references refuse to drop rows for.
     fn later_of_delete(&self, table: &str, numbers: &[u32]) -> Result<Option<StoreStop>, AllocError>
         requires there { IsSome (table_at table.now (tables_now self.now)) }
         requires sorted { are_sorted_numbers numbers.now ≡ true }
@@ -553,6 +553,7 @@ fn delete_in(
     held.delete_all(numbers, later, time)
 }
 
+// The tables, as a store has them at time 0.
 fn stores_of(alloc: Global, tables: Tables) -> Result<Vec<TableStore>, AllocError>
     requires { list_all is_valid_table tables ≡ true }
     ensures { IfOk result (λ stores. stores.items ≡ map history_at_start tables) }

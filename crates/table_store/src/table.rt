@@ -45,7 +45,7 @@ use sql_model::{Columns, RowKey, Schema, Table, TableRows};
 use std::alloc::{AllocError, Global};
 use std::marker::Model;
 
-/// A table through time: contracts see the history of each of its rows.
+/// A table through time. Contracts see the history of each of its rows.
 #[derive(Drop)]
 pub struct TableStore {
     name: Utf8,
@@ -301,7 +301,8 @@ impl TableStore {
         }
     }
 
-    /// The same by a key as the index has it. It takes no memory.
+    /// The number of the row that stands with a key, given as the index has it; `None` where no row has it.
+    /// It takes no memory.
     #[tactic(auto, using(crate::proofs::TableLaws::held_keyed))]
     pub fn by_row_key(&self, key: &RowKey) -> Option<u32>
         requires { 0 < length self.now.schema.key }
@@ -511,7 +512,7 @@ fn add_rows(
     Ok(())
 }
 
-// Changes rows, and notes the time.
+// Changes rows, and notes the time; the number of the next row stays.
 fn change_rows(
     alloc: Global,
     rows: &mut Rows,
