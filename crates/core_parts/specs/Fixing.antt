@@ -27,9 +27,9 @@ AllFix conds at value = (scope : List InScope) (row : List Value) → AreAllPlac
     → meets scope conds row ≡ true
     → value_at row at ≡ value
 
--- ---- the columns of a source, which come after so many values of the joined row
+-- ---- the `width` columns of a source, which come after `before` values of the joined row
 
--- a column, of so many, has a value
+-- one of these columns has a value
 pub record FixesColumn (conds : List BoundExpr) (before width column : ℕ) (value : Value) : Type 0 where
   pub within : column < width
   pub fixed : AllFix conds (before + column) value

@@ -10,6 +10,6 @@ pub record Stands {Db : Type 0} (m : Machine) (db : Db) (s : State Db) : Type 0 
   pub state : IsState m db s
   pub ready : IsReady m s.core
 
--- no process may run any more
+-- no process may run
 abbrev pub has_ended : Machine → Bool
 has_ended m = length (numbers m.ready.flags) == 0

@@ -33,7 +33,7 @@ pub record IsCore (m : Machine) (c : Core) : Type 0 where
   pub asked : m.asked ≡ c.asked
   pub going : c.diverged ≡ None
 
--- with the database in this state
+-- the machine is in the core of a state, and the database is that of the state
 abbrev pub IsState : {Db : Type 0} → Machine → Db → State Db → Type 0
 IsState m db s = IsCore m s.core × (db ≡ s.db)
 

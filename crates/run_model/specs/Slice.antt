@@ -152,6 +152,7 @@ rows_needed events table rows = filter_map (packed_row events table) rows
 
 -- ---- tables
 
+-- an act asks the table of a name
 abbrev pub names_table : List ℕ → Act → Bool
 names_table table (Started path) = false
 names_table table (Spawned path) = false
@@ -169,6 +170,7 @@ names_table table (Waited child) = false
 names_table table (Ended status) = false
 names_table table (Asked statement tables reads made) = list_any (λ name. same_text name table) tables
 
+-- some statement asked it
 abbrev pub is_table_needed : List Event → List ℕ → Bool
 is_table_needed events table = list_any (λ e. names_table table e.act) events
 
@@ -180,7 +182,7 @@ packed_table events table = record {
   rows = rows_needed events table.name table.rows;
 }
 
--- the initial tables that the run needed, with their needed rows
+-- the initial tables that the run asked, with their needed rows
 abbrev pub tables_needed : List Event → List Table → List PackedTable
 tables_needed events tables =
     map (packed_table events) (filter (λ table. is_table_needed events table.name) tables)

@@ -52,8 +52,8 @@ pub(crate) fn claim(
     claim_all(alloc, index, stored, places, values, next)
 }
 
-// Puts them into the index, where there is a key. Numbers that are too high for a row are held apart, as some row is refused
-// then, and it may be for its key.
+// Puts them into the index, where there is a key. Numbers that are too high for a row are held apart, as some
+// row is refused then, and it may be for its key.
 fn claim_all(
     alloc: Global,
     index: &mut Index,

@@ -1,4 +1,4 @@
--- The step of an instruction that changes its own process only, over slots.
+-- The step of an instruction that changes its own process only, over slots: each of them, told apart.
 use Rattle.script_code.specs.declared.code.OwnInstr.{OwnInstr}
 use Rattle.script_code.specs.declared.code.OwnInstr.TheVariants as own
 use Rattle.proc_core.specs.declared.process.SlotProcess.{SlotProcess}

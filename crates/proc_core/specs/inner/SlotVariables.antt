@@ -1,4 +1,5 @@
--- The steps of `let`, `cut`, `goto`, `if`, `print` and `exit` over slots.
+-- The steps of `let`, `cut`, `goto`, `if`, `print` and `exit` over slots. What they mean by names is in
+-- `StepVariables` of `run_model`.
 use Rattle.std.specs.Prelude.{ℕ, ◌+◌, List, [], ◌∷◌, ◌++◌, length, nat_lt, if◌then◌else◌, Bool, true, false}
 use Rattle.std.specs.Prelude.{Option, Some, None}
 use Rattle.ldv_value.specs.Limits.{printed_limit}
