@@ -20,7 +20,7 @@ pub trait Ordered {
     /// The order of two items.
     ghost order: { Self → Self → Order };
 
-    /// It is total.
+    /// That order is total.
     ghost is_total: { IsTotalOrder order };
 
     /// Compares two items.
@@ -64,7 +64,7 @@ impl<'a, X: Ordered> Model for ByOrder<'a, X> {
 }
 
 impl<'a, X: Ordered> ByOrder<'a, X> {
-    /// That item.
+    /// A reference to an item.
     pub fn of(item: &'a X) -> ByOrder<'a, X>
         ensures { result ≡ item.now }
     {

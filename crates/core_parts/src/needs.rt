@@ -10,7 +10,7 @@ use sql_model::{Member, Members, Need, Needs, Rule};
 use std::alloc::{AllocError, Global};
 use std::cmp::Ordering;
 
-// By table, then by number.
+// Orders rows by table, then by number.
 fn member_order(a: &Member, b: &Member) -> Ordering
     ensures { result ≡ member_order a.now b.now }
 {
@@ -87,7 +87,7 @@ struct Next<'a> {
     others: &'a [Need],
 }
 
-// Where both lists go on.
+// Of two lists that both go on: the lower first need, or that of the first list where both are of one row.
 fn next_of_both<'a>(
     need: &'a Need,
     more: &'a [Need],
@@ -119,7 +119,7 @@ fn next_of_both<'a>(
     }
 }
 
-// Where the first list is at its end.
+// Of two lists of which the first is at its end.
 fn next_of_others<'a>(needs: &'a [Need], others: &'a [Need]) -> Option<Next<'a>>
     requires { needs.now ≡ [] }
     ensures { MatchOption result (IsLast needs.now others.now) (IsNext needs.now others.now) }
@@ -134,7 +134,7 @@ fn next_of_others<'a>(needs: &'a [Need], others: &'a [Need]) -> Option<Next<'a>>
     }
 }
 
-// Where the first list goes on.
+// Of two lists of which the first goes on.
 fn next_of_needs<'a>(
     need: &'a Need,
     more: &'a [Need],

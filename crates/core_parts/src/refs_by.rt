@@ -27,7 +27,7 @@ impl<'a, K: Ord + Drop, X> RefsBy<'a, K, X> {
         }
     }
 
-    /// Those under a key, where there are some.
+    /// The references under a key, in the order in which they came; `None` where there are none.
     pub fn get(&self, key: &K) -> Option<&Refs<'a, X>>
         ensures { unwrap_or (option_map (λ r. r.now) result) [] ≡ listed K.cmp self.now key.now }
     {

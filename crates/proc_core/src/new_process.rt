@@ -51,7 +51,7 @@ fn go_to_at(place: u32, number: usize, processes: &mut Vec<SlotProcess>)
     process.go_to(place);
 }
 
-// The same in a machine, all else of which stays.
+// The same in a machine, of which all else stays.
 fn jump_at(machine: &mut Machine, place: u32, number: usize)
     requires { number < length machine.old.processes.items }
     ensures left { (r : SlotProcess) → slice_get machine.old.processes.items number ≡ Some r

@@ -41,7 +41,7 @@ fn become_parent(number: u32, slot: usize, process: &mut SlotProcess)
     process.go_on();
 }
 
-// The same of the process of a number.
+// Makes the process of a number the parent of a child.
 fn parent_at(child: u32, slot: usize, number: usize, processes: &mut Vec<SlotProcess>)
     requires within { number < length processes.old.items }
     requires room { HasRoom (slice_get processes.old.items number) }

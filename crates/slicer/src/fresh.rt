@@ -17,6 +17,7 @@ const BLOCK_WORDS: usize = 64;
 
 // ---- the reads of one block of a table
 
+// Whether two reads are of rows of one block of one table.
 fn is_of_block(head: &Need, need: &Need) -> bool
     ensures { result ≡ is_of_block head.now need.now }
 {
@@ -60,6 +61,7 @@ pub(crate) fn split_block(needs: &[Need]) -> (&[Need], &[Need])
 
 // ---- their rows as words
 
+// The places of the rows in their block, as words.
 fn words_of(alloc: Global, needs: &[Need]) -> Result<List<u64>, AllocError>
     ensures { IfOk result (λ words. (n : ℕ)
         → member words n ≡ list_any (λ need. n == need.member.row % 4096) needs.now) }
@@ -71,7 +73,7 @@ fn words_of(alloc: Global, needs: &[Need]) -> Result<List<u64>, AllocError>
     Ok(words)
 }
 
-// The same of reads that are of the block of one of them.
+// The rows that reads of one block, that of `head`, need and no read before did, as words.
 fn fresh_in_block(
     alloc: Global,
     needed: &mut RowSet,

@@ -18,7 +18,7 @@ pub enum LexState {
     InNumber(u64),
     /// In a text between quotes, of which this is the content.
     InText(Bytes),
-    /// The same after a quote, which ends the text or is the first of two.
+    /// In such a text after a quote, which ends the text or is the first of two.
     AfterQuote(Bytes),
     /// After a byte that begins a symbol of two bytes.
     InSymbol(u8),

@@ -163,7 +163,7 @@ pub(crate) fn settle_all(
     }
 }
 
-// The same of the row of one number.
+// Takes the row of one number out from under the keys to which it refers no longer.
 fn settle_row(
     alloc: Global,
     index: &mut ChildIndex,
@@ -180,7 +180,8 @@ fn settle_row(
     }
 }
 
-// The same of the row in a slot, which has the number.
+// Takes the row in a slot, which has the number, out from under them. They are found by the values that it
+// had after the time, and nothing is done where memory is out.
 fn settle_slot(
     alloc: Global,
     index: &mut ChildIndex,
@@ -201,7 +202,7 @@ fn settle_slot(
     }
 }
 
-// The same of a row that had these values.
+// Takes a row that had these values out from under the keys that they refer to, foreign key by foreign key.
 fn settle_values(
     alloc: Global,
     index: &mut ChildIndex,
@@ -230,7 +231,7 @@ fn settle_values(
     }
 }
 
-// By one foreign key.
+// Takes it out from under the key of one foreign key.
 fn settle_by(
     alloc: Global,
     index: &mut ChildIndex,
@@ -252,7 +253,7 @@ fn settle_by(
     }
 }
 
-// From under one key, unless the row stands and has it still.
+// Takes it out from under one key, unless the row stands and still refers to it.
 fn settle_key(
     index: &mut ChildIndex,
     place: usize,

@@ -44,7 +44,7 @@ pub(crate) fn first_child_in(
     Ok(first)
 }
 
-// The lower of two numbers, where there are two.
+// The lower of two numbers, either of which may be missing.
 fn lower_of(first: Option<u32>, other: Option<u32>) -> Option<u32>
     ensures { result ≡ lower_of first other }
 {
@@ -57,13 +57,14 @@ fn lower_of(first: Option<u32>, other: Option<u32>) -> Option<u32>
     }
 }
 
+// The lower of two numbers.
 fn least_of(number: u32, other: u32) -> u32
     ensures { result ≡ min number other }
 {
     if other < number { other } else { number }
 }
 
-// By one foreign key.
+// The number of the first such row by one foreign key, if its parent is the target.
 fn first_by(
     alloc: Global,
     table: &TableStore,
@@ -87,7 +88,7 @@ fn first_by(
     Ok(first)
 }
 
-// By one foreign key whose parent is the target.
+// The number of the first such row by a foreign key whose parent is the target, under any of the keys.
 fn first_of(
     alloc: Global,
     table: &TableStore,
@@ -113,7 +114,7 @@ fn first_of(
     Ok(first)
 }
 
-// By one foreign key and one key.
+// The number of the first such row by a foreign key under one key.
 fn first_under(
     alloc: Global,
     table: &TableStore,
@@ -145,7 +146,7 @@ fn first_under(
 enum Search {
     // The first row is known, or there is none.
     Ends(Option<u32>),
-    // It has this number or a higher one.
+    // The first row, if there is one, has this number or a higher one.
     GoesOn(u32),
 }
 
@@ -199,6 +200,7 @@ fn search_at(
     Ok(after(number))
 }
 
+// The search after a row that is passed over.
 fn after(number: u32) -> Search
     ensures { result ≡ after number }
 {

@@ -41,6 +41,7 @@ pub(crate) fn refers_to(table: &TableStore, target: &str) -> bool
     has_parent(table.schema().foreign.items(), target)
 }
 
+// Whether one of some foreign keys has the table of a name for its parent.
 fn has_parent(foreigns: &[Foreign], target: &str) -> bool
     ensures { result ≡ list_any (λ foreign. same_text foreign.parent target.now) foreigns.now }
 {
@@ -144,7 +145,8 @@ fn key_standing(alloc: Global, held: &TableStore, slot: u64) -> Result<RowKey, A
     Ok(key)
 }
 
-/// The first row, by table and number, that isn't given and refers to one of some keys of a table.
+/// What refuses the change for the first row, by table and number, that isn't given and refers to one of the
+/// lost keys of the target.
 pub(crate) fn first_child(
     alloc: Global,
     tables: &[TableStore],
@@ -165,6 +167,7 @@ pub(crate) fn first_child(
     Ok(None)
 }
 
+// The same for the first such row of one table.
 fn child_in(
     alloc: Global,
     table: &TableStore,
@@ -195,7 +198,7 @@ fn given_in<'a>(table: &TableStore, target: &str, numbers: &'a [u32]) -> &'a [u3
     if table.name() == target { numbers } else { &[] }
 }
 
-// The row of a number, if it stands, isn't given and refers to one of the keys.
+// What refuses the change for the row of a number, if it stands, isn't given and refers to a lost key.
 fn child_of_number(
     alloc: Global,
     table: &TableStore,
@@ -218,7 +221,7 @@ fn child_of_number(
     }
 }
 
-// The row in a slot, if it stands, isn't given and refers to one of the keys.
+// The same for the row in a slot.
 fn child_at(
     alloc: Global,
     table: &TableStore,
@@ -241,7 +244,7 @@ fn child_at(
     }
 }
 
-// The row of a number in a slot, which stands, if it isn't given and refers to one of the keys.
+// The same for the row of a number in a slot, which stands.
 fn child_standing(
     alloc: Global,
     table: &TableStore,
@@ -275,6 +278,7 @@ fn is_passed(table: &TableStore, target: &str, numbers: &[u32], number: u32) -> 
     table.name() == target && is_given(numbers, number)
 }
 
+// What refuses the change for a row of these values, by its first foreign key that refers to a lost key.
 fn child_by_each(
     alloc: Global,
     table: &TableStore,
@@ -296,6 +300,7 @@ fn child_by_each(
     Ok(None)
 }
 
+// The same by one foreign key.
 fn child_by(
     alloc: Global,
     table: &TableStore,

@@ -170,6 +170,7 @@ fn number_under(index: &Index, high: &HighKeys, key: &RowKey) -> Option<u128>
     }
 }
 
+// The number under a key in the index.
 fn low_number(index: &Index, key: &RowKey) -> Option<u128>
     ensures { result ≡ held_in index.now key.now }
 {

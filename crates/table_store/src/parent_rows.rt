@@ -112,6 +112,7 @@ fn add_parents(
     Ok(())
 }
 
+// Adds the rows to which values refer, by their foreign keys in order.
 fn add_by_each(
     alloc: Global,
     store: &Store,
@@ -160,6 +161,7 @@ fn parent_by(
     Ok(member)
 }
 
+// The row of a foreign key's parent that has a key once rows are given.
 fn parent_of_key(
     store: &Store,
     own: &str,
@@ -260,6 +262,7 @@ fn member_of(table: &TableStore, number: Option<u32>) -> Result<Option<Member>, 
     }
 }
 
+// The row of a number at its version now, where it stands.
 fn member_at(table: &TableStore, row: u32) -> Result<Option<Member>, AllocError>
     ensures { IfOk result (λ member. member ≡ member_at table.now row) }
 {

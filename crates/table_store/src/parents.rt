@@ -48,6 +48,7 @@ pub(crate) fn missing_parent<R: HasValues>(
     Ok(None)
 }
 
+// The first such key of one row.
 fn missing_in_row(
     alloc: Global,
     store: &Store,
@@ -74,6 +75,7 @@ fn missing_in_row(
     Ok(stop)
 }
 
+// The first such key of values, by their foreign keys in order.
 fn missing_by_each(
     alloc: Global,
     store: &Store,
@@ -98,6 +100,7 @@ fn missing_by_each(
     Ok(None)
 }
 
+// The key to which values refer by one foreign key, if no row of the parent has it.
 fn missing_by(
     alloc: Global,
     store: &Store,
@@ -149,6 +152,7 @@ fn has_parent(
     }
 }
 
+// Whether a row of a parent, which may be the own table, has a key once rows are given.
 fn has_put(
     parent: &TableStore,
     own: &str,
@@ -175,7 +179,7 @@ pub(crate) fn is_own(parent: &TableStore, own: &str) -> bool
     parent.name() == own
 }
 
-// Whether a given row has a key, or one that isn't given.
+// Whether a row of the own table has a key once rows are given: a given one, or one whose place none takes.
 fn is_put(parent: &TableStore, keys: &BTreeSet<RowKey>, numbers: &[u32], key: &RowKey) -> bool
     requires sorted { are_sorted_numbers numbers.now ≡ true }
     requires keyed { 0 < length parent.now.schema.key }
@@ -186,6 +190,7 @@ fn is_put(parent: &TableStore, keys: &BTreeSet<RowKey>, numbers: &[u32], key: &R
     keys.contains(key) || is_kept(parent, numbers, key)
 }
 
+// Whether a row that stands has a key.
 fn has_row(parent: &TableStore, key: &RowKey) -> bool
     requires { 0 < length parent.now.schema.key }
     ensures { result ≡ list_any (has_key parent.now.schema.key key.now.values) (table_now parent.now).rows }

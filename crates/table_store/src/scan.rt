@@ -94,7 +94,7 @@ fn keep_nulls(column: &Column, is_null: bool, mask: &mut [u64])
     }
 }
 
-// The same of numbers.
+// The same in a column of numbers.
 fn keep_null_numbers(ints: &IntColumn, is_null: bool, mask: &mut [u64])
     requires long { length mask.old ≡ (length ints.now.items + 63) / 64 }
     requires clear { (n : ℕ) → length ints.now.items ≤ n → member mask.old n ≡ false }
@@ -108,7 +108,7 @@ fn keep_null_numbers(ints: &IntColumn, is_null: bool, mask: &mut [u64])
     }
 }
 
-// The same of texts.
+// The same in a column of texts.
 fn keep_null_texts(column: &Column, is_null: bool, mask: &mut [u64])
     requires kind { column.now.text ≡ true }
     requires long { length mask.old ≡ (length column.now.items + 63) / 64 }
