@@ -29,6 +29,7 @@ impl Model for Contents {
 }
 
 impl Contents {
+    /// No files. It takes no memory.
     pub(crate) fn new(alloc: Global) -> Self
         ensures { result ≡ [] }
     {
@@ -64,7 +65,7 @@ impl Contents {
         self.insert(key, bytes)
     }
 
-    /// Puts bytes at a path, in place of those that are there.
+    /// Puts bytes at a path, which is given itself, in place of those that are there.
     pub(crate) fn insert(&mut self, path: String, bytes: Bytes) -> Result<(), AllocError>
         ensures ok { OnOk result (self.new ≡ put_file (string_bytes path) bytes self.old) }
         ensures err { OnErr result (self.new ≡ self.old) }

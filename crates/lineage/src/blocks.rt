@@ -77,7 +77,7 @@ fn set_bit(words: &mut [u64], number: usize)
     words[number / 64] |= 1 << (number % 64);
 }
 
-/// Makes room for the version of a row.
+/// Makes room for the version of a row. Version 0 takes none.
 #[tactic(auto, using(crate::proofs::BlockLaws::room_here))]
 pub(crate) fn make_room(
     alloc: Global,
@@ -114,7 +114,7 @@ pub(crate) fn make_room_like(
     make_places(alloc, &mut block.versions, from, from + count)
 }
 
-// Notes the version of a row that has 0.
+// Notes the version of a row for which none is noted, which stands for 0.
 fn note(versions: &mut Versions, n: usize, version: u32)
     requires room { HasRoomIn versions.old n version }
     requires clear { version_of versions.old n ≡ 0 }

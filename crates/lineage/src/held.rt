@@ -94,6 +94,7 @@ fn append(held: &mut Held, rows: &[(Row, u32)]) -> Result<(), AllocError>
     }
 }
 
+// Adds the rows of a list, and makes a set of a list that would get too long.
 fn unite_list(alloc: Global, held: &mut Held, rows: &[(Row, u32)]) -> Result<(), AllocError>
     ensures ok { OnOk result (IsUnion (rows_held held.old) (finmap.from_entries rows.now)
         (rows_held held.new)) }
@@ -117,6 +118,7 @@ fn unite_many(held: &mut Held, other: &LineageSet) -> Result<(), AllocError>
     }
 }
 
+// Adds the rows of a set, as which they lie from then on.
 fn unite_set(alloc: Global, held: &mut Held, other: &LineageSet) -> Result<(), AllocError>
     ensures ok { OnOk result (IsUnion (rows_held held.old) other.now (rows_held held.new)) }
     ensures err { OnErr result (rows_held held.new ≡ rows_held held.old) }

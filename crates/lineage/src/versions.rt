@@ -55,7 +55,7 @@ fn after_zeros(alloc: Global, count: usize, numbers: &List<u32>) -> Result<List<
     Ok(List::of_vec(made))
 }
 
-// Makes room from 0 on.
+// Makes room for the versions of all rows below the first that is noted.
 #[tactic(auto, using(crate::proofs::VersionLaws::lowered))]
 fn make_room_below(alloc: Global, versions: &mut Versions) -> Result<(), AllocError>
     ensures same { (m : ℕ) → version_of versions.new m ≡ version_of versions.old m }

@@ -6,6 +6,7 @@ ghost use Rattle.sql_model.specs.Meaning.{truth_not, truth_and, truth_or, is_nul
 
 use ldv_value::{Cmp, Truth, Value, holds};
 
+// NOT.
 pub(crate) fn not_truth(truth: Truth) -> Truth
     ensures { result ≡ truth_not truth }
 {
@@ -16,6 +17,7 @@ pub(crate) fn not_truth(truth: Truth) -> Truth
     }
 }
 
+// AND.
 pub(crate) fn and_truth(left: Truth, right: Truth) -> Truth
     ensures { result ≡ truth_and left right }
 {
@@ -30,6 +32,7 @@ pub(crate) fn and_truth(left: Truth, right: Truth) -> Truth
     }
 }
 
+// OR.
 pub(crate) fn or_truth(left: Truth, right: Truth) -> Truth
     ensures { result ≡ truth_or left right }
 {
@@ -44,7 +47,7 @@ pub(crate) fn or_truth(left: Truth, right: Truth) -> Truth
     }
 }
 
-// Unknown where a side is NULL.
+// The truth of a comparison: Unknown where a side is NULL.
 pub(crate) fn comparison_truth(test: Cmp, left: &Value, right: &Value) -> Truth
     ensures { result ≡ test_of test left.now right.now }
 {
@@ -63,7 +66,7 @@ pub(crate) fn comparison_truth(test: Cmp, left: &Value, right: &Value) -> Truth
     }
 }
 
-// IS NULL, or IS NOT NULL where the flag is set.
+// The truth of IS NULL, or of IS NOT NULL where the flag is set.
 pub(crate) fn null_truth(negative: bool, value: &Value) -> Truth
     ensures { result ≡ null_test negative value.now }
 {

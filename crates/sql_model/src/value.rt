@@ -84,7 +84,7 @@ fn value_in(
     }
 }
 
-// The truth, in the same way.
+// The truth by the places from `at` on; afterwards `at` is after those of the expression.
 fn truth_in(
     alloc: Global,
     expr: &Expr,
@@ -130,7 +130,7 @@ fn truth_in(
     }
 }
 
-// What has a value and no truth; its places are passed.
+// Unknown, the truth of an expression that has a value. Its places are passed.
 fn no_truth(
     alloc: Global,
     expr: &Expr,
@@ -146,6 +146,7 @@ fn no_truth(
     Ok(Truth::Unknown)
 }
 
+// The truth of a comparison of two expressions.
 fn comparison(
     alloc: Global,
     test: Cmp,
@@ -188,6 +189,7 @@ fn next_value(
     }
 }
 
+// Minus a value: NULL where it isn't a number, or the result isn't one of 64 bits.
 fn minus(value: &Value) -> Value
     ensures { result ≡ negation_of value.now }
 {
@@ -198,6 +200,7 @@ fn minus(value: &Value) -> Value
     }
 }
 
+// The value of an operator: NULL for those that have a truth.
 fn calculate(operator: Operator, left: &Value, right: &Value) -> Value
     ensures { result ≡ value_both operator left.now right.now }
 {

@@ -61,7 +61,7 @@ impl Index {
         }
     }
 
-    /// Gives each key of other numbers one of them, unless it has one.
+    /// Puts under each key of another index the number that it has there, unless it has one here.
     pub(crate) fn open_all(&mut self, other: &Index) -> Result<(), AllocError>
         ensures kept { (q : RowKey) (n : ℕ) → held_in self.old q ≡ Some n → held_in self.new q ≡ Some n }
         ensures ok { OnOk result ((q : RowKey) → IsSome (held_in other.now q)
@@ -72,7 +72,8 @@ impl Index {
         Ok(())
     }
 
-    /// Takes other numbers over, whose keys all have one. It takes no memory.
+    /// Gives each key of another index, all of which have a number here, the number that it has there. It
+    /// takes no memory.
     pub(crate) fn set_all(&mut self, other: Index)
         requires { (q : RowKey) → IsSome (held_in other q) → IsSome (held_in self.old q) }
         ensures { (q : RowKey) → held_in self.new q
@@ -84,7 +85,7 @@ impl Index {
     }
 }
 
-/// The number that is a whole key.
+/// The number that a key of one number is; `None` for any other key.
 pub(crate) fn int_key(key: &[Value]) -> Option<i64>
     ensures { result ≡ int_key key.now }
 {
@@ -120,7 +121,7 @@ fn int_of(value: &Value) -> Option<i64>
     }
 }
 
-/// The index of rows.
+/// The index of rows. Without key columns it has no key.
 #[tactic(auto, using(crate::proofs::IndexLaws::indexed_by))]
 pub(crate) fn index_of(
     alloc: Global,

@@ -103,7 +103,7 @@ impl<K: Ord + CopyKey> KeyMap<K> {
         Ok(())
     }
 
-    /// Gives each key of other numbers one of them, unless it has one.
+    /// Puts under each key of another map the number that it has there, unless it has one here.
     pub(crate) fn open_all(&mut self, other: &KeyMap<K>) -> Result<(), AllocError>
         ensures kept { (q : K) (n : ℕ) → get K.cmp self.old.held q ≡ Some n
             → get K.cmp self.new.held q ≡ Some n }
@@ -119,7 +119,7 @@ impl<K: Ord + CopyKey> KeyMap<K> {
         Ok(())
     }
 
-    /// Takes other numbers over, where their keys have one. It takes no memory.
+    /// Gives each key of another map that has a number here the number that it has there. It takes no memory.
     pub(crate) fn set_all(&mut self, other: KeyMap<K>)
         ensures { (q : K) → get K.cmp self.new.held q
             ≡ in_place (get K.cmp other.held q) (get K.cmp self.old.held q) }

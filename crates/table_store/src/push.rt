@@ -1,4 +1,4 @@
-//! Rows that are added, by the parts.
+//! How rows are added to the parts of a grid: their numbers, their times, bits and columns.
 
 ghost use Rattle.std.specs.Prelude.{◌≡◌, ℕ, ◌+◌, ◌^◌, ◌<◌, ◌≤◌, Bool, true, List, [], ◌∷◌, ◌++◌, length, map};
 ghost use Rattle.std.specs.Prelude.{slice_index_or, vec_len, vec_capacity, IsOk, IfOk};

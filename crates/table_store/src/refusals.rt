@@ -86,8 +86,8 @@ pub(crate) fn delete_refusal(
     Ok(lost)
 }
 
-// The first row that isn't given and loses its parent, where the rows of some numbers are gone or have other
-// keys.
+// What refuses a change for the first row that isn't given and loses its parent, where the rows of some
+// numbers are gone or have other keys.
 fn lost_child(
     store: &Store,
     own: &TableStore,

@@ -73,6 +73,7 @@ fn keep_keys(
     Ok(true)
 }
 
+// Whether a given row has the key of the row of its number.
 fn keeps_key(
     alloc: Global,
     stored: &Rows,
