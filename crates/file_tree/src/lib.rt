@@ -5,11 +5,11 @@
 #![tactic(auto)]
 
 mod contents;
+mod error;
 mod line;
 mod marks;
-mod error;
 mod tree;
 
-pub use ldv_value::LineRead;
 pub use error::{AppendStop, TreeStop};
+pub use ldv_value::LineRead;
 pub use tree::Tree;

@@ -4,13 +4,13 @@
 #![tactic(auto)]
 
 mod acts;
+mod error;
 mod law;
 mod other_seed;
 mod private;
 mod seen;
-mod error;
 
+pub use error::OrderStop;
 pub use law::order_law;
 pub use other_seed::replay_other_seed;
 pub use private::is_private;
-pub use error::OrderStop;

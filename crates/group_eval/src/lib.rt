@@ -3,12 +3,12 @@
 //! What it promises stands in `docs/GUARANTEES.md`, how it works in `docs/ARCHITECTURE.md`.
 #![tactic(auto)]
 
+mod bind_aggregates;
 mod columns;
 mod folds;
 mod grouping;
 mod groups;
 mod lineages;
 mod plan;
-mod bind_aggregates;
 
 pub use grouping::{Grouped, group};

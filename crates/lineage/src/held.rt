@@ -62,7 +62,7 @@ fn make_many(alloc: Global, held: &mut Held) -> Result<(), AllocError>
     Ok(())
 }
 
-// Whether a list would have too many rows with so many more.
+// Whether a list would have too many rows with `count` more.
 fn is_full(held: &Held, count: usize) -> bool {
     match held {
         Held::Few(rows) => rows.len() >= MOST || count > MOST - rows.len(),
@@ -70,7 +70,7 @@ fn is_full(held: &Held, count: usize) -> bool {
     }
 }
 
-// Makes a set of a list that would have too many rows with so many more.
+// Makes a set of a list that would have too many rows with `count` more.
 fn make_fit(alloc: Global, held: &mut Held, count: usize) -> Result<(), AllocError>
     ensures { rows_held held.new ≡ rows_held held.old }
 {

@@ -1,4 +1,4 @@
-//! Steps that ask the database.
+//! The statement that the next step of a process asks, and what its reply changes in the process.
 
 ghost use Rattle.std.specs.Prelude.{◌≡◌, ◌+◌, ◌<◌, ◌^◌, Some, length, slice_get, slice_set};
 ghost use Rattle.std.specs.Prelude.{IfOk, OnOk, OnSome};
@@ -16,7 +16,7 @@ use script_code::{SlotInstr, SlotOperands};
 use sql_model::Reply;
 use std::alloc::{AllocError, Global};
 
-/// What a process asks: a text with parameters. A slot of a cursor gets the reply.
+/// What a process asks: a text with parameters. `cursor` is the slot of the cursor that gets the reply.
 #[derive(Drop)]
 pub(crate) struct Statement {
     pub cursor: usize,
@@ -132,7 +132,7 @@ fn take_reply(cursor: usize, reply: Reply, process: &mut SlotProcess) -> Result<
     Ok(())
 }
 
-/// A slot means a cursor.
+/// Puts a cursor into a slot.
 pub(crate) fn set_cursor(slot: usize, cursor: SlotCursor, process: &mut SlotProcess)
     ensures { process.new ≡ slot_with_cursor slot cursor process.old }
 {

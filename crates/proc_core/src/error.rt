@@ -1,9 +1,9 @@
-//! Why a run has no end.
+//! Why a run stopped before its end.
 
 use run_model::ProcName;
 use std::alloc::AllocError;
 
-/// Why a step has no end.
+/// Why a step wasn't made.
 #[derive(Drop)]
 pub enum Stopped {
     /// The database had no reply: the process, and the number of its replies so far.
@@ -23,7 +23,7 @@ impl From<AllocError> for Stopped {
     }
 }
 
-/// Why a run has no end.
+/// Why a run stopped before its end.
 #[derive(Drop)]
 pub enum RunStop {
     /// Not all processes have ended after the steps of the budget.

@@ -1,4 +1,4 @@
-//! One step of an instruction that changes its own process only.
+//! Steps of instructions that change nothing but their own process.
 
 ghost use Rattle.std.specs.Prelude.{◌≡◌, ◌+◌, ◌<◌, ◌^◌, OnOk};
 ghost use Rattle.proc_core.specs.inner.SlotOwn.{slot_own};

@@ -88,7 +88,7 @@ impl Model for FileSlots {
 }
 
 impl FileSlots {
-    /// So many slots, in which no file is open.
+    /// `count` slots, in which no file is open.
     pub(crate) fn closed_slots(alloc: Global, count: usize) -> Result<FileSlots, AllocError>
         ensures { IfOk result (λ slots. slots ≡ replicate count None) }
     {

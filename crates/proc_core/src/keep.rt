@@ -1,4 +1,4 @@
-//! Steps that ask nothing.
+//! Steps that neither ask the database nor make a process, and the status of a process.
 
 ghost use Rattle.std.specs.Prelude.{◌≡◌, ◌+◌, ◌<◌, ◌^◌, length, Some, map, slice_get, slice_set};
 ghost use Rattle.std.specs.Prelude.{ℕ, OnOk, OnSome};

@@ -5,19 +5,20 @@
 #![tactic(auto)]
 
 mod ask;
-mod process_start;
 mod computed;
 mod copy;
 mod cut;
+mod error;
 mod execute;
 mod file_slots;
 mod files;
 mod keep;
-mod new_process;
 mod law;
 mod machine;
+mod new_process;
 mod outcome;
 mod process;
+mod process_start;
 mod program;
 mod ready;
 mod replies;
@@ -27,10 +28,9 @@ mod spawn;
 mod spawn_request;
 mod start;
 mod step;
-mod error;
 mod tell;
 mod variables;
 
+pub use error::{RunStop, Stopped};
 pub use law::flags_law;
 pub use run::Run;
-pub use error::{RunStop, Stopped};

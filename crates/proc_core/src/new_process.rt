@@ -1,4 +1,4 @@
-//! A step of a `spawn`.
+//! The step of a `spawn`: a child runs the script at a path, or the `spawn` is refused.
 
 ghost use Rattle.std.specs.Prelude.{◌≡◌, ◌+◌, ◌++◌, ◌∷◌, [], ◌<◌, Some, length, map, slice_get, slice_set};
 ghost use Rattle.std.specs.Prelude.{OnOk};
@@ -30,7 +30,7 @@ use run_model::Tracer;
 use script_code::Code;
 use std::alloc::AllocError;
 
-// Ends a process, whose value is no path.
+// Ends a process by misuse: its value isn't a path.
 fn end_misused(machine: &mut Machine, number: usize)
     requires { number < length machine.old.processes.items }
     ensures left { (r : SlotProcess) → slice_get machine.old.processes.items number ≡ Some r

@@ -1,4 +1,4 @@
-//! Processes as they begin.
+//! A process before its first step: its slots, with the arguments in the variables that are named for them.
 
 ghost use Rattle.std.specs.Prelude.{◌≡◌, ◌+◌, ◌<◌, ◌∷◌, None, IfOk, OnOk, List as Items, drop, length, map};
 ghost use Rattle.std.specs.Prelude.{replicate};
@@ -16,7 +16,7 @@ use script_code::{Code, NameTable};
 use sql_model::Replies;
 use std::alloc::{AllocError, Global};
 
-// So many slots of variables that weren't set.
+// The slots of `count` variables that aren't set.
 fn unset_variables(alloc: Global, count: usize) -> Result<Values, AllocError>
     ensures { IfOk result (λ slots. slots ≡ replicate count Null) }
 {

@@ -15,7 +15,7 @@ use std::alloc::{AllocError, Global};
 pub(crate) enum Program {
     /// No file.
     Absent,
-    /// A file that isn't a script, or as many processes as there may be.
+    /// A file that isn't a script; or any file, where there are as many processes as there may be.
     Refused,
     /// A script that a process runs, by the index of its resolved form.
     Known(usize),

@@ -173,7 +173,8 @@ impl<D: Database, T: Tracer> Run<D, T> {
         }
     }
 
-    /// Steps until all processes have ended, at most so many.
+    /// Makes steps until all processes have ended, at most `budget` of them. `NotEnded` comes where they
+    /// haven't after these, `Diverged` where the database had no reply.
     pub fn to_end(self, budget: u32) -> Result<Run<D, T>, RunStop>
         requires fresh { self.steps ≡ 0 }
         requires few { budget ≤ 10000000 }

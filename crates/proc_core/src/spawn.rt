@@ -1,4 +1,5 @@
-//! `spawn`: a child runs the script at a path.
+//! Makes a child of a process, with its place in the ready set (`make_child`). The step of a `spawn`, which
+//! calls it, is in `new_process.rt`.
 
 ghost use Rattle.std.specs.Prelude.{◌≡◌, ◌+◌, ◌++◌, ◌∷◌, [], ◌<◌, ◌≤◌, ◌^◌, Some, true, length, slice_get};
 ghost use Rattle.std.specs.Prelude.{slice_set};
@@ -21,7 +22,7 @@ use ready_set::ReadySet;
 use script_code::Code;
 use std::alloc::{AllocError, Global};
 
-// A slot means a child.
+// Puts a child into a slot.
 fn set_child(slot: usize, number: u32, process: &mut SlotProcess)
     ensures { process.new ≡ slot_with_child slot number process.old }
 {

@@ -256,7 +256,7 @@ pub(crate) fn line_of(
     Ok(line)
 }
 
-// Whether so many bytes and so many more are too many for a process to print.
+// Whether printing `more` bytes after those `printed` exceeds the limit.
 fn passes_limit(printed: usize, more: usize) -> bool
     ensures { result ≡ nat_lt printed_limit (printed + more) }
 {

@@ -8,7 +8,6 @@ mod finishing;
 mod index;
 mod joining;
 mod key_lookup;
-mod table_scan;
 mod lineages;
 mod merging;
 mod picking;
@@ -18,6 +17,7 @@ mod single;
 mod sort;
 mod source;
 mod sources;
+mod table_scan;
 
 pub use finishing::{Finished, finish};
 pub use lineages::united_set;

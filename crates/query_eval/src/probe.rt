@@ -90,7 +90,7 @@ fn place_after(place: usize, width: u128) -> Option<usize>
     }
 }
 
-// The probe of a condition, after so many values.
+// The probe of a condition, where `width` values of the joined row come before the next source.
 fn probe_of(cond: &BoundExpr, width: u128) -> Option<Probe>
     ensures { IfSome result (IsProbeOf cond.now width) }
 {
@@ -106,7 +106,8 @@ fn probe_of(cond: &BoundExpr, width: u128) -> Option<Probe>
     probe_between(*a, *b, width)
 }
 
-/// The place of the first condition that is such an equality, after so many values.
+/// The first condition that is such an equality, with its index, where `width` values of the joined row come
+/// before the next source.
 pub(crate) fn probe_at(conds: &[BoundExpr], width: u128) -> Option<Found>
     ensures { IfSome result (λ found. HasProbe conds.now width found.index found.probe) }
 {

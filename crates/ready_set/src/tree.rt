@@ -57,7 +57,7 @@ fn count_left_of(counts: &[u32], node: usize) -> u32
     if node % 2 == 1 { counts[node - 1] } else { 0 }
 }
 
-/// The counted leaf that so many others come before.
+/// The counted leaf before which `k` others come.
 pub(crate) fn leaf_at(counts: &[u32], height: u32, k: u32) -> usize
     requires tree { IsTree (2 ^ height) counts.now }
     requires low { height ≤ 30 }

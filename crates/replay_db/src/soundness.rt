@@ -1,4 +1,4 @@
-//! Whether a package is that of its own world's run.
+//! The audit of a package: whether it is that of its own world's run.
 
 ghost use Rattle.std.specs.Prelude.{◌≡◌, ◌≤◌, ◌+◌, Some, length, drop, nat_eq, IfOk, IsSome};
 ghost use Rattle.std.specs.List.{common_prefix_len};

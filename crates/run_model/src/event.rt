@@ -19,33 +19,41 @@ pub enum Act {
         path: Utf8,
         found: bool,
     },
+    /// A file was opened for reading.
     OpenedRead {
         path: Utf8,
     },
+    /// A file was opened for writing: it was emptied or made.
     OpenedWrite {
         path: Utf8,
     },
+    /// A file was opened for appending: it was kept or made; `found` says whether it was there.
     OpenedAppend {
         path: Utf8,
         found: bool,
     },
+    /// A file was made and opened for writing, at a path where there was none.
     OpenedNew {
         path: Utf8,
     },
-    /// An open was refused: found for a new file, not found for reading.
+    /// An open was refused: of a new file where one was found, for reading where none was.
     Unopened {
         path: Utf8,
         found: bool,
     },
+    /// An open file was read.
     Read {
         path: Utf8,
     },
+    /// An open file was written to.
     Wrote {
         path: Utf8,
     },
+    /// A file was removed.
     Removed {
         path: Utf8,
     },
+    /// It was tested whether a file is there; `found` says so.
     Tested {
         path: Utf8,
         found: bool,
@@ -58,8 +66,8 @@ pub enum Act {
     Ended {
         status: u8,
     },
-    /// A statement was asked: the tables that it names, the rows that it needed and the versions that it
-    /// made.
+    /// A statement was asked: the tables that it asks (those that it names, those of the rows that it
+    /// needed, and all their parents), the rows that it needed and the versions that it made.
     Asked {
         statement: u32,
         tables: Names,

@@ -45,7 +45,7 @@ pub fn add_all(alloc: Global, names: &mut NameSet, more: &[Utf8]) -> Result<(), 
     Ok(())
 }
 
-// Adds the tables of a statement.
+// Adds the tables that a statement asks.
 fn add_tables(alloc: Global, names: &mut NameSet, act: &Act) -> Result<(), AllocError>
     ensures { OnOk result ((q : List ℕ) → has_name names.new q
         ≡ (has_name names.old q || names_table q act.now)) }
@@ -61,7 +61,7 @@ fn add_tables(alloc: Global, names: &mut NameSet, act: &Act) -> Result<(), Alloc
     }
 }
 
-/// The tables that statements name.
+/// The tables that statements ask, as their events list them.
 pub(crate) fn tables_named(alloc: Global, events: &[Event]) -> Result<NameSet, AllocError>
     ensures { IfOk result (λ names. (q : List ℕ) → has_name names q ≡ is_table_needed events.now q) }
 {

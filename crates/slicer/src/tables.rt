@@ -111,7 +111,7 @@ pub fn pack_tables(
     Ok(packed)
 }
 
-/// The tables that statements name, with the initial rows of the graph. Each row has the first statement that
+/// The tables that statements ask, with the initial rows of the graph. Each row has the first statement that
 /// needs it, and a row that none needs is left out. `AllocError` means out of memory only.
 pub(crate) fn needed_tables(
     alloc: Global,

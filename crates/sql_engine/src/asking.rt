@@ -1,4 +1,4 @@
-//! A text that is asked over a store.
+//! A text executed over a store: parsed, checked, and answered or carried out.
 
 ghost use Rattle.std.specs.Prelude.{◌≡◌, ◌<◌, ◌≤◌, length, Some, Ok, IfOk, OnOk, OnErr, IsTrue};
 ghost use Rattle.core_parts.specs.Checking.{IsQuery};

@@ -10,7 +10,6 @@ mod expr;
 mod foreign;
 mod key;
 mod kind;
-mod sql_names;
 mod need;
 mod reading;
 mod references;
@@ -18,6 +17,7 @@ mod repeats;
 mod reply;
 mod rows;
 mod schema;
+mod sql_names;
 mod statement;
 mod table;
 mod token;
@@ -30,7 +30,6 @@ pub use expr::{ColumnName, ColumnNames, Expr, ExprRows, Exprs, Fold, Operator};
 pub use foreign::{MAX_FOREIGN, NamedSchema, have_parents};
 pub use key::{RowKey, compare_values, value_at};
 pub use kind::Kind;
-pub use sql_names::is_sql_name;
 pub use need::{Member, Members, Need, Needs, Rule};
 pub use reading::{Infix, LexState, Opening, ParsedExpr, Prefix, Sources};
 pub use references::{references_hold, refers_to_none};
@@ -41,6 +40,7 @@ pub use schema::{
     is_key_not_null, meets_column_count, meets_column_names, meets_foreign, meets_key_places,
     meets_schema,
 };
+pub use sql_names::is_sql_name;
 pub use statement::{
     Core, Cores, Delete, FromItem, FromItems, Insert, Item, Items, Order, OrderKey, Orders, Query,
     Set, Sets, Statement, Update,

@@ -6,6 +6,7 @@
 
 mod change;
 mod column;
+mod error;
 mod expression;
 mod given;
 mod law;
@@ -19,9 +20,8 @@ mod scan;
 mod select;
 mod source;
 mod steps;
-mod error;
 mod token;
 
+pub use error::ParseStop;
 pub use law::{expression_law, reading_law, token_law};
 pub use reading::parse;
-pub use error::ParseStop;

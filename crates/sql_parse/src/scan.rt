@@ -21,7 +21,7 @@ use crate::token::{Lexeme, Tokens, number_token, symbol_token, text_token, word_
 use ldv_value::{Bytes, Values};
 use std::alloc::{AllocError, Global};
 
-/// For so many tokens there is room before the first.
+/// The number of tokens for which there is room at first.
 const ROOM: usize = 24;
 
 /// A text with its letters in lower case.

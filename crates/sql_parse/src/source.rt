@@ -14,7 +14,7 @@ use ldv_value::Utf8;
 use sql_model::{Exprs, FromItem, FromItems, Sources, is_sql_name};
 use std::alloc::Global;
 
-/// The sources of a core, at most so many.
+/// The sources of a core, at most `most` of them.
 pub(crate) fn all_sources(
     alloc: Global,
     reader: &mut Reader,

@@ -19,7 +19,7 @@ pub(crate) trait Steps: Drop {
         ensures { ReadsPart result reader.new (reads self reader.old) };
 }
 
-/// What is made by all steps that follow, at most so many.
+/// What is made by all steps that follow, at most `most` of them.
 #[tactic(auto, using(crate::proofs::Repeat::repeat_rules))]
 pub(crate) fn all_steps<S: Steps>(
     alloc: Global,
