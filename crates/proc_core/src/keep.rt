@@ -79,7 +79,7 @@ fn files_at<T: Tracer>(
     execute_on_files(alloc, instr, process, tree, who, tracer)
 }
 
-// The step of a `wait`, by the child that its name means and by the status of that.
+// The step of a `wait`, by the child in its slot and the status of that.
 fn wait_with<T: Tracer>(
     to: usize,
     child: Option<u32>,
@@ -166,7 +166,8 @@ fn wait_at<T: Tracer>(
     wait_with(to, child, status, process, who, tracer)
 }
 
-// The step of an instruction; none is after the last one.
+// The step of an instruction; `None` is the end after the last one. An `sql` comes here only where its text is
+// of the wrong kind.
 fn execute_local_instr<T: Tracer>(
     alloc: Global,
     instr: Option<&SlotInstr>,

@@ -28,7 +28,7 @@ use run_model::{Asker, Database, ProcName, Stop, Tracer};
 use sql_model::Reply;
 use std::alloc::AllocError;
 
-// The step of a process that asks nothing and makes no process, with the end of the process.
+// The step of a process that asks nothing and makes no process. Its end is told, where it has ended.
 fn step_local<T: Tracer>(machine: &mut Machine, who: Who, tracer: &mut T) -> Result<(), AllocError>
     requires kept { IsKept (next_slot_instr machine.old.codes
         (slice_get machine.old.processes.items who.number)) }
@@ -47,7 +47,7 @@ fn step_local<T: Tracer>(machine: &mut Machine, who: Who, tracer: &mut T) -> Res
     Ok(())
 }
 
-// The step of a process that makes one, with its own end.
+// The step of a `spawn`. The end of the process is told, where it has ended by misuse.
 fn spawn_on<T: Tracer>(
     machine: &mut Machine,
     who: Who,
@@ -72,7 +72,7 @@ fn spawn_on<T: Tracer>(
     Ok(())
 }
 
-// The step of a process that asks nothing, with the end of the process.
+// The step of a process that asks nothing: a `spawn`, or one that makes no process.
 fn quiet_on<T: Tracer>(machine: &mut Machine, who: Who, tracer: &mut T) -> Result<(), AllocError>
     requires { CountsBelow who.step machine.old }
     ensures core { OnOk result ((c : Core) → IsCore machine.old c
@@ -157,7 +157,7 @@ fn stop_by(process: &SlotProcess) -> Result<Stopped, AllocError>
     })
 }
 
-// The process of a number has its reply.
+// The process of a number gets its reply, and one statement more was asked.
 fn take(machine: &mut Machine, number: usize, cursor: usize, reply: Reply) -> Result<(), AllocError>
     requires within { number < length machine.old.processes.items }
     requires counted { machine.old.asked + 1 < 2 ^ 32 }
@@ -174,7 +174,7 @@ fn take(machine: &mut Machine, number: usize, cursor: usize, reply: Reply) -> Re
     Ok(())
 }
 
-// The process of a number takes its reply, with its end.
+// The same, and the end of the process is told, where it has ended.
 fn take_on<T: Tracer>(
     machine: &mut Machine,
     who: Who,
@@ -199,7 +199,7 @@ fn take_on<T: Tracer>(
     Ok(())
 }
 
-// The step of a process that asks, by who it is.
+// Asks the statement of a process, and gives the process its reply.
 fn answer_statement<D: Database, T: Tracer>(
     machine: &mut Machine,
     who: Who,
@@ -267,7 +267,8 @@ fn step_statement<D: Database, T: Tracer>(
     }
 }
 
-// A step by what the process asks.
+// A step that asks a statement; where there is none, that of a `spawn`, or of an `sql` whose text is of the
+// wrong kind.
 fn move_by<D: Database, T: Tracer>(
     machine: &mut Machine,
     who: Who,
@@ -299,7 +300,8 @@ fn move_by<D: Database, T: Tracer>(
     }
 }
 
-/// A step of the process of a number.
+/// Makes the next step of a process, by what its instruction is: one that changes the process and files
+/// alone, one that asks a statement, or one that makes a child. The end of the process is told with it.
 pub(crate) fn move_on<D: Database, T: Tracer>(
     machine: &mut Machine,
     who: Who,

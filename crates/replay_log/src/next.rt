@@ -19,7 +19,7 @@ fn is_recorded(entry: &Entry, text: &Utf8, params: &Values) -> bool
     text.is_same(&entry.text) && compare_values(params.items(), entry.params.items()).is_eq()
 }
 
-// Takes the reply of the entry at a place. The entry is of no use any more, and nor are those before it.
+// Takes the reply of the entry at a place. Neither that entry nor those before it are used again.
 fn take_reply(entries: Entries, place: usize) -> (Entries, Reply)
     requires { place < length entries }
     ensures rest { drop (place + 1) result.0 ≡ drop (place + 1) entries }

@@ -16,7 +16,7 @@ pub(crate) enum Line {
     Jumping(Instr, Utf8),
 }
 
-/// A line that isn't quiet.
+/// A line that is neither empty nor a comment.
 #[derive(Drop)]
 pub(crate) struct Entry {
     /// Its number, from 1.

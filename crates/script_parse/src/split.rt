@@ -11,7 +11,7 @@ use crate::line::{Entries, Entry, Line};
 use crate::line_error::LineError;
 use std::alloc::{AllocError, Global};
 
-/// The lines of a script that aren't quiet, with their numbers from 1.
+/// The lines of a script that are neither empty nor a comment, with their numbers from 1.
 pub(crate) fn entries(alloc: Global, bytes: &[u8]) -> Result<Entries, AllocError>
     ensures { IfOk result (λ entries. entries ≡ entries_of bytes.now) }
 {

@@ -22,7 +22,7 @@ use sql_model::{
 use std::alloc::{AllocError, Global};
 
 /// Whether a column isn't there or is ambiguous, or isn't in GROUP BY where it must be, or a key of
-/// ORDER BY is no output column.
+/// ORDER BY isn't exactly one answer column.
 pub(crate) fn has_unknown_column(
     alloc: Global,
     statement: &Statement,
@@ -57,7 +57,7 @@ fn query_lacks_column(alloc: Global, query: &Query, catalog: &Catalog) -> Result
     lack_order_key(alloc, query.cores.items(), catalog, query.order.items())
 }
 
-// Whether a key of ORDER BY is no output column.
+// Whether a key of ORDER BY isn't exactly one answer column.
 fn lack_order_key(
     alloc: Global,
     cores: &[Core],

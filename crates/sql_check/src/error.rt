@@ -9,7 +9,7 @@ pub enum CheckStop {
     /// A named table isn't there, or two sources of one SELECT have the same name.
     NoTable,
     /// A column isn't there or means two; one stands ungrouped in a core that groups; a key of ORDER BY
-    /// isn't exactly one output column.
+    /// isn't exactly one answer column.
     NoColumn,
     /// Kinds or counts of columns don't fit; an aggregate is where none may be; a column is set or named
     /// twice; a parameter of LIMIT isn't a number of at least 0.

@@ -1,4 +1,4 @@
-//! The names of output columns.
+//! The names of answer columns, here called output columns, and what a key of ORDER BY means among them.
 
 ghost use Rattle.std.specs.Prelude.{◌≡◌, IfOk, Some, map, filter, length, position};
 ghost use Rattle.std.specs.List.{position_or_len};
