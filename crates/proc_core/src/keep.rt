@@ -166,8 +166,8 @@ fn wait_at<T: Tracer>(
     wait_with(to, child, status, process, who, tracer)
 }
 
-// The step of an instruction; `None` is the end after the last one. An `sql` comes here only where its text is
-// of the wrong kind.
+// The step of an instruction; `None` is the end after the last one. An `sql` comes here only where its text
+// is of the wrong kind.
 fn execute_local_instr<T: Tracer>(
     alloc: Global,
     instr: Option<&SlotInstr>,
