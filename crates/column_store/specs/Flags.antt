@@ -21,7 +21,7 @@ flags_of words count = map (flag_in words) (range_with_len 0 count)
 abbrev pub seen_flags : Inside → Flags
 seen_flags a = record { items = flags_of a.words.items a.len; spare = vec_capacity a.words * 64 - a.len }
 
--- the words are those of so many slots, and no further bit is set
+-- the words are those of a number of slots, and no further bit is set
 pub record AreFlags (words : List ℕ) (count : ℕ) : Type 0 where
   pub long : length words ≡ (count + 63) / 64
   pub clear : (n : ℕ) → count ≤ n → flag_in words n ≡ false

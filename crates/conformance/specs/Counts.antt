@@ -2,6 +2,6 @@
 use Rattle.std.specs.Prelude.{◌≡◌, ◌<◌, ℕ, ◌+◌, ◌^◌}
 use Rattle.conformance.specs.declared.tally.Tally.{Tally}
 
--- so many cases more, as far as counts go
+-- a number of cases more, as far as counts go
 abbrev pub CountsCases : Tally → Tally → ℕ → Type 0
 CountsCases old new more = old.cases + more < 2 ^ 64 → new.cases ≡ old.cases + more

@@ -27,7 +27,7 @@ AllFix conds at value = (scope : List InScope) (row : List Value) → AreAllPlac
     → meets scope conds row ≡ true
     → value_at row at ≡ value
 
--- ---- the columns of a source, which come after so many values of the joined row
+-- ---- the columns of a source, which come after a number of values of the joined row
 
 -- a column, of so many, has a value
 pub record FixesColumn (conds : List BoundExpr) (before width column : ℕ) (value : Value) : Type 0 where

@@ -37,7 +37,7 @@ fits columns mask = option_map_or (suits mask.test) (slice_get columns mask.colu
 abbrev pub passes_all : List Mask → List Value → Bool
 passes_all masks values = list_all (λ mask. passes mask.test (value_at values mask.column)) masks
 
--- ---- the masks of a source, whose columns come after so many values of the joined row
+-- ---- the masks of a source, whose columns come after a number of values of the joined row
 
 -- where all conditions are True, the value of the column passes
 abbrev pub IsMask : List BoundExpr → ℕ → Mask → Type 0

@@ -139,7 +139,7 @@ after_remove s path = touch (record s { files = remove_file path s.files }) path
 
 -- ---- appending and copying
 
--- whether the file at a path has room for so many bytes more
+-- whether the file at a path has room for a number of bytes more
 abbrev pub has_room : FileState → List ℕ → ℕ → Bool
 has_room s path count = nat_le (length (bytes_at s path) + count) file_limit
 

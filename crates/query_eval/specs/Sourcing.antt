@@ -19,7 +19,7 @@ source_rows source = source.rows
 abbrev pub joined_row_values : List SourceRow → List Value
 joined_row_values rows = flat_map (λ row. row.values) rows
 
--- each row has so many values
+-- each row has this number of values
 abbrev pub AreWide : ℕ → List SourceRow → Type 0
 AreWide width rows = AllByRecursion (λ row. length row.values ≡ width) rows
 
@@ -27,13 +27,13 @@ AreWide width rows = AllByRecursion (λ row. length row.values ≡ width) rows
 abbrev pub SourcesAreWide : List Source → Type 0
 SourcesAreWide sources = AllByRecursion (λ source. AreWide source.width source.rows) sources
 
--- each row of a combination has so many values
+-- each row of a combination has this number of values
 abbrev pub HaveWidths : List ℕ → Combination → Type 0
 HaveWidths [] rows = Unit {0}
 HaveWidths (width ∷ widths) [] = Unit {0}
 HaveWidths (width ∷ widths) (row ∷ rows) = (length row.values ≡ width) × HaveWidths widths rows
 
--- the rows of the tables have so many values
+-- the rows of the tables have this number of values
 abbrev pub TablesAreWide : List FromItem → List Table → List ℕ → Type 0
 TablesAreWide [] db [] = Unit {0}
 TablesAreWide [] db (width ∷ widths) = ⊥

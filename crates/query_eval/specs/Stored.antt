@@ -60,7 +60,7 @@ abbrev pub chosen_rows : List Mask → Option (List Value) → TableHistory → 
 chosen_rows masks (Some key) table = keyed_rows key table
 chosen_rows masks None table = left_rows masks table.slots
 
--- those of a source whose columns come after so many values of the joined row: by the key that conditions
+-- those of a source whose columns come after a number of values of the joined row: by the key that conditions
 -- fix, if they fix one, and else by the masks that they give
 pub record AreChosen (conds : List BoundExpr) (before : ℕ) (table : TableHistory) (rows : List SourceRow)
     : Type 0 where
@@ -88,7 +88,7 @@ pub record IsStored (store : StoreHistory) (conds : List BoundExpr) (item : From
   pub taken : IsTaken conds before (history_at item.table store) source
   pub table : IsPlace (table_names store) item.table source.table
 
--- one by one, the columns of the first after so many values of the joined row
+-- one by one, the columns of the first after a number of values of the joined row
 abbrev pub AreStored : StoreHistory → List BoundExpr → List FromItem → ℕ → List Source → Type 0
 AreStored store conds [] before [] = Unit {0}
 AreStored store conds [] before (source ∷ sources) = ⊥

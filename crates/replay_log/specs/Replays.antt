@@ -30,7 +30,7 @@ without_trace p = record p { tables = []; events = [] }
 abbrev pub with_seed : ℕ → Package → Package
 with_seed seed p = record p { seed = seed }
 
--- what it comes to within so many steps: its outcome where it has ended, and where it has diverged
+-- what it comes to within a budget of steps: its outcome where it has ended, and where it has diverged
 abbrev pub IsDueOfLogs : ℕ → Package → Option Outcome → Option Divergence → Type 0
 IsDueOfLogs budget p outcome divergence =
     (log_outcome budget [] p ≡ outcome) × (log_divergence budget [] p ≡ divergence)

@@ -11,7 +11,7 @@ use Rattle.run_model.specs.Package.{package_by, package_of, own_world}
 use Rattle.run_model.specs.Start.{start_script}
 use Rattle.run_model.specs.WorldRun.{ends_by, outcome_by, events_by}
 
--- a run of at most so many steps, the first by given picks and the others by the seed, has the same script,
+-- a run within a budget of steps, the first by given picks and the others by the seed, has the same script,
 -- outcome (or none yet), events and packages
 pub record SameRun (n : ℕ) (picks : List ℕ) (v w : World) (script : List Instr) : Type 0 where
   pub script_same : start_script v ≡ Some script

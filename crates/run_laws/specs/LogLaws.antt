@@ -9,8 +9,8 @@ use Rattle.run_model.specs.Package.{package_by, package_of}
 use Rattle.run_model.specs.Start.{start_script}
 use Rattle.run_model.specs.WorldRun.{ends_by, outcome_by, ends_within, outcome_within}
 
--- of a run that ends within so many steps: that of its package, by the seed and within any budget from there
--- on, diverges nowhere and has its outcome
+-- of a run that ends within a number of steps: that of its package, by the seed and within any budget of at
+-- least these, diverges nowhere and has its outcome
 abbrev pub LogLaw : Type 0
 LogLaw = (n budget : ℕ) (w : World) (script : List Instr) → start_script w ≡ Some script
     → tables_test w.tables ≡ true

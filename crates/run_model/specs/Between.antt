@@ -148,7 +148,7 @@ pub record KeepsNeeded (cut : Cut) (initial : List Table) (events : List Event) 
 abbrev pub CutOf : List Event → World → World → Type 0
 CutOf events v w = (cut : Cut) × KeepsNeeded cut w.tables events × HasParents v × (v ≡ cut_world cut w)
 
--- a world lies between the slice of a run of at most so many steps and the run's world
+-- a world lies between the slice of a run within a budget of steps and the run's world
 abbrev pub Between : ℕ → World → World → Type 0
 Between n v w = CutOf (events_within n w) v w
 
@@ -167,6 +167,6 @@ slice_cut events = record {
   row = is_row_needed events;
 }
 
--- the world of what a run of at most so many steps needs
+-- the world of what a run within a budget of steps needs
 abbrev pub slice_of : ℕ → World → World
 slice_of n w = cut_world (slice_cut (events_within n w)) w

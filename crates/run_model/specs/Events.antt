@@ -20,7 +20,7 @@ abbrev pub events_after : {Db : Type 0} → (ℕ → List ℕ → State Db → L
 events_after more number picks stepped =
     events_of_step number stepped ++ more (number + 1) picks stepped.state
 
--- of at most so many steps, from the step of a number on
+-- within a budget of steps, from the step of a number on
 unfoldable pub events : {Db : Type 0} → Base Db → ℕ → ℕ → List ℕ → State Db → List Event
 events base zero number picks s = []
 events base (suc n) number picks s =

@@ -22,7 +22,7 @@ abbrev pub log_outcome_in : ℕ → List ℕ → Package → Option (List Instr)
 log_outcome_in n picks p None = None
 log_outcome_in n picks p (Some script) = outcome_at (log_core n picks p script)
 
--- of at most so many steps, by given picks and then by the seed; none where it hasn't ended
+-- within a budget of steps, by given picks and then by the seed; none where it hasn't ended
 abbrev pub log_outcome : ℕ → List ℕ → Package → Option Outcome
 log_outcome n picks p = log_outcome_in n picks p (start_script (own_world p))
 

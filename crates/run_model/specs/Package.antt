@@ -30,7 +30,7 @@ package_by mode n picks w = record {
   events = events_by n picks w;
 }
 
--- of a world whose run ends within so many steps
+-- of a world whose run ends within a budget of steps
 abbrev pub package_of : Mode → ℕ → World → Package
 package_of mode n w = package_by mode n [] w
 

@@ -27,13 +27,13 @@ move_of base number s = step base number (chosen number s)
 abbrev pub move : {Db : Type 0} → Base Db → Option ℕ → State Db → StepResult Db
 move base pick s = move_of base (choose pick s.core) s
 
--- the state after so many steps, or at the end where that comes before
+-- the state after a number of steps, or at the end where that comes before
 unfoldable pub run : {Db : Type 0} → Base Db → ℕ → List ℕ → State Db → State Db
 run base zero picks s = s
 run base (suc n) picks s =
     if is_over s.core then s else run base n (later_picks picks) (move base (first_pick picks) s).state
 
--- how many steps are made, of at most so many
+-- how many steps are made, within a budget of them
 unfoldable pub steps : {Db : Type 0} → Base Db → ℕ → List ℕ → State Db → ℕ
 steps base zero picks s = 0
 steps base (suc n) picks s =

@@ -1,5 +1,5 @@
 -- The run of a world, over its tables: its outcome, its number of steps, its events, and what each process
--- asked. It has at most so many steps, of which the first go by given picks, and the others by the seed.
+-- asked. It has a budget of steps, of which the first go by given picks, and the others by the seed.
 use Rattle.std.specs.Prelude.{ℕ, List, [], ◌∷◌, ◌++◌, map, filter, length, Bool, false, not, ◌==◌, Option}
 use Rattle.std.specs.Prelude.{Some, None, slice_get}
 use Rattle.run_model.specs.Types.{Instr, Event, Log, Outcome, World}

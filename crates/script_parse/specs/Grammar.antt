@@ -249,7 +249,7 @@ abbrev pub AllDiffer : List (List ℕ) → Type 0
 AllDiffer [] = Unit {0}
 AllDiffer (l ∷ ls) = AllByRecursion (λ other. l ≢ other) ls × AllDiffer ls
 
--- The label is at the place: so many instructions are before the line that defines it.
+-- The label is at the place: this is the number of instructions before the line that defines it.
 abbrev pub IsAt : List Kind → List ℕ → ℕ → Type 0
 IsAt kinds l place = (front : List Kind) × (back : List Kind) × (kinds ≡ front ++ Names l ∷ back)
     × (place ≡ length (steps front))

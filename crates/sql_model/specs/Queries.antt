@@ -79,7 +79,7 @@ another_source made ts =
     >>= λ rest. joined_source made rest)
     else Some ((made, false), ts)
 
--- at most so many sources
+-- at most a number of sources
 abbrev pub reads_sources : ℕ → List Token → Option (Sources × List Token)
 reads_sources most ts =
     reads_source ts >>= λ s. repeat another_source most (record { from = s.0 ∷ []; picks = [] }) s.1

@@ -48,7 +48,7 @@ name_of (Given v) = None
 abbrev pub reads_name : List Token → Option (List ℕ × List Token)
 reads_name ts = reads_token ts >>= λ t. name_of t.0 >>= λ n. Some (n, t.1)
 
--- Step by step, at most so many times: each step says whether another one follows it.
+-- Step by step, at most a number of times: each step says whether another one follows it.
 unfoldable pub repeat : {A : Type 0} → (A → List Token → Option ((A × Bool) × List Token)) → ℕ → A
     → List Token → Option (A × List Token)
 repeat step zero made ts = None

@@ -59,7 +59,7 @@ abbrev pub extensions_of_all : List InScope → List BoundExpr → List (List So
     → List (List SourceRow)
 extensions_of_all scope conds ps rows = flat_map (λ p. extensions_of scope conds p rows) ps
 
--- each has so many values
+-- each has this number of values
 abbrev pub EachHas : ℕ → List (List SourceRow) → Type 0
 EachHas n ps = AllByRecursion (λ p. length (joined_row_values p) ≡ n) ps
 
