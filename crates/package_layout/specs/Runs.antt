@@ -111,7 +111,7 @@ runs_of (e ∷ es) = runs_from (run_of_one e) es
 
 -- ---- from runs to events
 
--- a number of steps, the first and those after it
+-- a number of steps from the first on, each a stride after the one before
 abbrev pub steps_from : ℕ → ℕ → ℕ → List ℕ
 steps_from step stride zero = []
 steps_from step stride (suc n) = step ∷ steps_from (step + stride) stride n
