@@ -20,7 +20,7 @@ mod truths;
 pub use by_order::{ByOrder, Ordered};
 pub use conditions::{conjuncts, conjuncts_of};
 pub use constants::constant_of;
-pub use cores::{core_of, column_indexes, query_of};
+pub use cores::{column_indexes, core_of, query_of};
 pub use equality::{is_column, is_equal_test};
 pub use fixing::fixed_key;
 pub use mask::{Mask, MaskTest, exact_masks, masks_of};

@@ -14,11 +14,14 @@ use ldv_value::{Cmp, Value};
 use sql_model::{Column, Columns, Expr, Operator};
 use std::alloc::{AllocError, Global};
 
-/// A test of a value: its comparison with a number is True, or it is NULL, or it isn't NULL.
+/// A test of a value.
 #[derive(Clone, Copy)]
 pub enum MaskTest {
+    /// Its comparison with the number is True.
     Compares(Cmp, i64),
+    /// It is NULL.
     IsNull,
+    /// It isn't NULL.
     IsNotNull,
 }
 

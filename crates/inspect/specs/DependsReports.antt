@@ -31,6 +31,6 @@ place_of graph path = position (same_node (Path path)) graph.nodes
 abbrev pub depends_at : List Event → ℕ → ℕ → List ℕ
 depends_at events time place = nodes_report events (depends_of (graph_of events) place time)
 
--- of a path, for a run of so many steps; none where the path is no node
+-- of a path, for a run of this number of steps; none where the path is no node
 abbrev pub depends_report : List Event → ℕ → List ℕ → Option (List ℕ)
 depends_report events steps path = option_map (depends_at events steps) (place_of (graph_of events) path)

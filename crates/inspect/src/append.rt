@@ -1,4 +1,4 @@
-//! Parts of a line.
+//! Parts of the lines of reports.
 
 ghost use Rattle.std.specs.Prelude.{◌≡◌, ◌++◌, OnOk};
 ghost use Rattle.std.specs.Fmt.{decimal};

@@ -5,18 +5,18 @@
 
 mod append;
 mod depends;
+mod error;
 mod files;
 mod law;
 mod process_names;
 mod rows;
-mod error;
 mod trace;
 mod why;
 
 pub use depends::depends_text;
+pub use error::InspectStop;
 pub use files::files_text;
 pub use law::depends_law;
 pub use rows::rows_text;
-pub use error::InspectStop;
 pub use trace::trace_text;
 pub use why::why_text;

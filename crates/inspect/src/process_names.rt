@@ -178,7 +178,7 @@ fn next_child(place: usize, parent: &mut Made) -> Made
     child
 }
 
-/// The name of the process of a number, where there is one.
+/// Appends the name of the process of a creation number, where there is one.
 pub(crate) fn append_process(
     to: &mut Bytes,
     processes: &Processes,

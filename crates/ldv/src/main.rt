@@ -11,9 +11,9 @@ use std::env;
 use std::io::ErrorKind;
 use std::process::ExitCode;
 
-/// Where the words of the command line weren't given.
+/// The status where the system didn't give the words of the command line.
 const NO_WORDS: u8 = 17;
-/// Where memory ran out before the words were read.
+/// The status where memory ran out before the words were read, as that of `Exit::NoMemory`.
 const NO_MEMORY: u8 = 11;
 
 fn main(rt: HostRuntime) -> ExitCode {

@@ -79,7 +79,7 @@ impl Source for MemorySource {
         ensures bound { ReadsAtMost result buf.new }
         ensures bytes { ReadConsumes (Some self.old.left) (Some self.new.left) result buf.new }
         ensures cause { HasCause self.old.faults self.new.faults result }
-        // Beyond every source: when it fails, how much it returns, and what it is afterwards.
+        // More than every source promises: when it fails, how much it returns, and what it is afterwards.
         ensures fails { IsErr result ↔ IsListed self.old.failing self.old.calls }
         ensures count { IfOk result (λ n.
             n ≡ min self.old.piece (min (length buf.new) (length self.old.left))) }
@@ -222,7 +222,7 @@ impl Sink for MemorySink {
         ensures bytes { WriteAppends (Some self.old.taken) (Some self.new.taken) result bytes.now }
         ensures progress { IfOk result (λ n. 0 < length bytes.now → 0 < n) }
         ensures cause { HasCause self.old.faults self.new.faults result }
-        // Beyond every sink: when it fails, how much it takes, and what it is afterwards.
+        // More than every sink promises: when it fails, how much it takes, and what it is afterwards.
         ensures fails { IsErr result ↔ IsRefused self.old bytes.now }
         ensures count { IfOk result (λ n. n ≡ min self.old.piece (min self.old.room (length bytes.now))) }
         ensures after { MatchResult result (λ n. self.new ≡ write_took (take n bytes.now) self.old)

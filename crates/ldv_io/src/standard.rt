@@ -38,7 +38,7 @@ impl<R: Read + Drop> Source for StdSource<R> {
         ensures bound { ReadsAtMost result buf.new }
         ensures bytes { ReadConsumes None None result buf.new }
         ensures cause { HasCause self.old.faults self.new.faults result }
-        // Beyond every source: what the reader returned, and the exact count.
+        // More than every source promises: what the reader returned, and the exact count.
         ensures reader { ReadConsumes (R.remaining self.old.reader) (R.remaining self.new.reader)
             result buf.new }
         ensures counted { MatchResult result (λ _. self.new.faults ≡ self.old.faults)
@@ -85,7 +85,7 @@ impl<W: Write + Drop> Sink for StdSink<W> {
         ensures bytes { WriteAppends None None result bytes.now }
         ensures progress { IfOk result (λ n. 0 < length bytes.now → 0 < n) }
         ensures cause { HasCause self.old.faults self.new.faults result }
-        // Beyond every sink: what the writer took, and the exact count.
+        // More than every sink promises: what the writer took, and the exact count.
         ensures writer { IfOk result (λ n.
             Appends (W.contents self.old.writer) (W.contents self.new.writer) (take n bytes.now)) }
         ensures counted { MatchResult result (λ _. self.new.faults ≡ self.old.faults)

@@ -56,7 +56,7 @@ impl Source for SteadySource {
         ensures bound { ReadsAtMost result buf.new }
         ensures bytes { ReadConsumes (Some self.old.left) (Some self.new.left) result buf.new }
         ensures cause { HasCause 0 0 result }
-        // Beyond every source: it never fails, and how much it returns.
+        // More than every source promises: it never fails, and how much it returns.
         ensures steady { IsOk result }
         ensures count { IfOk result (λ n.
             n ≡ min self.old.piece (min (length buf.new) (length self.old.left))) }
@@ -91,7 +91,7 @@ impl Sink for DropSink {
         ensures bytes { WriteAppends None None result bytes.now }
         ensures progress { IfOk result (λ n. 0 < length bytes.now → 0 < n) }
         ensures cause { HasCause 0 0 result }
-        // Beyond every sink: it takes all bytes.
+        // More than every sink promises: it takes all bytes.
         ensures steady { result ≡ Ok (length bytes.now) }
     {
         Ok(bytes.len())

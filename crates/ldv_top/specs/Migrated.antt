@@ -13,7 +13,7 @@ use Rattle.ldv_top.specs.DueOfReports.{due_inspect}
 use Rattle.ldv_top.specs.DueOfTables.{due_table}
 use Rattle.ldv_top.specs.DueParts.{due_bytes}
 
--- the audit within so many steps finds the package sound
+-- the audit within a budget of steps finds the package sound
 abbrev pub FindsSound : ℕ → List ℕ → Type 0
 FindsSound budget input = due_audit budget input ≡ due_bytes (codes "sound\n")
 

@@ -64,7 +64,8 @@ pub enum Command {
     Table { name: Utf8, step: u32, budget: u32 },
     /// `inspect`: the input is a package, the output a report on it.
     Inspect { report: Report },
-    /// `gen`: nothing is read, and the output sums up the record and the replay of a world of so many orders.
+    /// `gen`: nothing is read, and the output sums up the record and the replay of a world of this number of
+    /// orders.
     Generate { orders: u32 },
     /// `migrate`: the input is a package of either version, the output the same package in the version that
     /// is written.

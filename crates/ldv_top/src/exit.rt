@@ -23,13 +23,15 @@ pub enum Exit {
     TooLong,
     /// The input is no world document.
     NotWorld(WorldFault),
-    /// The run hadn't ended after so many steps.
+    /// The run hadn't ended after the steps of its budget.
     NotEnded { steps: u32 },
-    /// The input is no package.
+    /// The input isn't a package, or not what `join` or `replay --run` reads.
     Damaged(DamageKind),
-    /// A statement of a process isn't the recorded one.
+    /// A process asks, as its statement of this number from 0, what isn't the recorded one, or when none is
+    /// left.
     Diverged { process: ProcName, index: u32 },
-    /// There is no such item.
+    /// There is no such table, row, step or path, or the package is of the wrong kind: an excluded one where
+    /// an included one is wanted.
     NoSuch,
     /// Two packages that have to be joined differ.
     Clash(Clash),

@@ -149,7 +149,7 @@ fn files_response(alloc: Global, input: Bytes) -> Result<Response, AllocError>
     }
 }
 
-// A report on the package with its events.
+// A report for which the list of events is made.
 #[tactic(auto, using(crate::proofs::Traces::valid_trace))]
 fn whole_response(alloc: Global, report: &Report, input: Bytes) -> Result<Response, AllocError>
     requires short { length input ≤ input_limit }

@@ -30,7 +30,7 @@ fn within_u32(limit: u32, number: Option<u64>) -> Option<u32>
     }
 }
 
-/// The same of 64 bits.
+/// A number of 64 bits from 0 to the limit, decimal without sign and leading zeros.
 pub(crate) fn long_within(limit: u64, bytes: &[u8]) -> Option<u64>
     ensures number { result ≡ number_within limit bytes.now }
     ensures bounded { IfSome result (λ number. number ≤ limit) }

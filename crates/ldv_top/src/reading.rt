@@ -1,4 +1,4 @@
-//! From the input to a world, a package or a graph.
+//! From the input to a world, a package or a graph. Each call drops the input as it returns.
 
 ghost use Rattle.std.specs.Prelude.{◌≡◌, Ok, IfOk, IfErr};
 ghost use Rattle.ldv_value.specs.Gives.{Gives};

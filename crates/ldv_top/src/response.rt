@@ -1,4 +1,4 @@
-//! From the input to what is written.
+//! What a command gives before anything is written, and that of the run of a world.
 
 ghost use Rattle.std.specs.Prelude.{◌≡◌, ◌≤◌, IfOk};
 ghost use Rattle.ldv_value.specs.Gives.{Gives};
@@ -28,11 +28,12 @@ pub enum Response {
     /// The replay of a package of recorded replies: this process asks, as its statement of this number from
     /// 0, what isn't the recorded one, or when none is left.
     Diverged(ProcName, u32),
-    /// The input is no package.
+    /// The input isn't a package, or not what `join` or `replay --run` reads.
     Damaged(DamageKind),
     /// Two packages that have to be joined differ.
     Clash(Clash),
-    /// The package has no such item.
+    /// The package or the document has no such item, or the package is an excluded one where an included
+    /// one is wanted.
     NoSuch,
     /// The package would have more than 67,108,864 bytes.
     PackageTooLong,

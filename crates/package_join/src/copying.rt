@@ -19,6 +19,7 @@ fn copy_content(content: &Option<Bytes>) -> Result<Option<Bytes>, AllocError>
     }
 }
 
+/// A copy of a file.
 pub(crate) fn copy_file(file: &PackedFile) -> Result<PackedFile, AllocError>
     ensures { IfOk result (λ copy. copy ≡ file.now) }
 {
@@ -28,6 +29,7 @@ pub(crate) fn copy_file(file: &PackedFile) -> Result<PackedFile, AllocError>
     })
 }
 
+/// Copies of files.
 pub(crate) fn copy_files(alloc: Global, files: &[PackedFile]) -> Result<PackedFiles, AllocError>
     ensures { IfOk result (λ copy. copy ≡ files.now) }
 {
@@ -124,6 +126,7 @@ fn copy_act(act: &Act) -> Result<Act, AllocError>
     })
 }
 
+/// Copies of events.
 pub(crate) fn copy_events(alloc: Global, events: &[Event]) -> Result<Events, AllocError>
     ensures { IfOk result (λ copy. copy ≡ events.now) }
 {

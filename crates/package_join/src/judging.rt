@@ -1,4 +1,4 @@
-//! Whether what was read is what the packages of its runs are joined to. No list of events is made.
+//! Whether what was read is what the packages of its two runs are joined to. No list of events is made.
 
 ghost use Rattle.std.specs.Prelude.{◌≡◌, IfOk};
 ghost use Rattle.std.specs.List.{AllByRecursion};

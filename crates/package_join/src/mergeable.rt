@@ -1,4 +1,4 @@
-//! The files, tables and rows of two packages, merged by path, by name and by number.
+//! Files, tables and rows as items to be merged: compared by path, by name and by number.
 
 ghost use Rattle.std.specs.Prelude.{◌≡◌};
 ghost use Rattle.std.specs.Option.{option_or};

@@ -1,4 +1,4 @@
-//! Whether schemas, or the contents of a file, are the same.
+//! Whether two contents of a file, two tables or two rows differ.
 
 ghost use Rattle.std.specs.Prelude.{◌≡◌, not};
 ghost use Rattle.std.specs.Cmp.Lexicographic.{pointwise};

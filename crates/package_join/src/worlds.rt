@@ -38,7 +38,8 @@ fn world_of(alloc: Global, run: &JoinedRun, joined: &Joined) -> Result<World, Al
     })
 }
 
-/// The same of one whose traces are kept as runs, in its own memory: no file and no row is copied.
+/// The world of a run of a joined package whose traces are kept as runs of events, in its own memory: no file
+/// and no row is copied. A file that only the other run needs present isn't in it.
 pub fn world_owned(alloc: Global, joined: RunJoined, which: Which) -> Result<World, AllocError>
     ensures { IfOk result (λ world. world ≡ joined_world which (whole_join joined)) }
 {

@@ -16,7 +16,7 @@ use Rattle.package_layout.specs.Typed.{IsU32, TypedEvent}
 use Rattle.package_layout.specs.Events.{event_spelling, event_room, event_at, flag_number}
 use Rattle.package_layout.specs.Counts.{CountedEvent}
 
--- a package has at most so many events
+-- the most events of a package
 abbrev pub max_events : ℕ
 max_events = 20000001
 
@@ -111,7 +111,7 @@ runs_of (e ∷ es) = runs_from (run_of_one e) es
 
 -- ---- from runs to events
 
--- so many steps, the first and those after it
+-- a number of steps from the first on, each a stride after the one before
 abbrev pub steps_from : ℕ → ℕ → ℕ → List ℕ
 steps_from step stride zero = []
 steps_from step stride (suc n) = step ∷ steps_from (step + stride) stride n
@@ -196,7 +196,7 @@ runs_spelling es = list_spelling w32 run_spelling (runs_of es)
 abbrev pub runs_at : List ℕ → DecodeResult (List Event)
 runs_at = made_at events_of_runs (list_at w32 run_at)
 
--- the format has room for so many events
+-- the format has room for a number of events
 abbrev pub trace_room : List Event → Bool
 trace_room es = nat_le (length es) max_events && list_all event_room es
 

@@ -8,9 +8,10 @@ use ldv_value::Bytes;
 use sha2::{Digest, Sha256};
 use std::alloc::AllocError;
 
+/// The bytes of a digest.
 pub(crate) const DIGEST_LENGTH: usize = 32;
 
-/// The bytes, and behind them their digest.
+/// The bytes, followed by their digest.
 pub(crate) fn with_digest(body: Bytes) -> Result<Bytes, AllocError>
     ensures { IfOk result (λ bytes. bytes ≡ body ++ sha256 body) }
 {

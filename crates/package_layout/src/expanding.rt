@@ -1,4 +1,4 @@
-//! From runs to events.
+//! From runs of events to the events.
 
 ghost use Rattle.std.specs.Prelude.{◌≡◌, ◌++◌, ◌∷◌, [], true, false, IfOk, OnOk};
 ghost use Rattle.std.specs.List.{list_all};

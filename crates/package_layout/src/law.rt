@@ -27,8 +27,8 @@ pub fn round_trip_law()
     ensures apart { (p q : Package) → ¬ (spelling_as One p ≡ spelling_as Two q) }
 {}
 
-/// The law of runs: every list of events has exactly one cut into the longest runs, and these stand for the
-/// list.
+/// The law of runs of events: every list of events has exactly one cut into the longest runs, and these stand
+/// for the list.
 pub fn runs_law()
     ensures cut { (events : Items Event) → IsCutOf events (runs_of events) }
     ensures only { (events : Items Event) (runs : Items Run) → IsCutOf events runs → runs ≡ runs_of events }

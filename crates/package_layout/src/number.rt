@@ -1,4 +1,4 @@
-//! Numbers.
+//! Numbers, the highest byte first, and counts.
 
 ghost use Rattle.std.specs.Prelude.{◌≡◌, ◌++◌, IfOk, OnOk};
 ghost use Rattle.std.specs.Int.{w8, w16, w32, w64, to_be_bytes, cast_unsigned};
@@ -58,6 +58,7 @@ pub(crate) fn decode_i64(cursor: &mut Cursor) -> Result<i64, DecodeError>
     Ok(decode_u64(cursor)?.cast_signed())
 }
 
+/// Appends a number of one byte.
 pub(crate) fn encode_u8(number: u8, to: &mut Bytes) -> Result<(), AllocError>
     ensures { OnOk result (to.new ≡ to.old ++ to_be_bytes w8 number) }
 {
@@ -78,6 +79,7 @@ pub fn encode_u64(number: u64, to: &mut Bytes) -> Result<(), AllocError>
     to.extend(&number.to_be_bytes())
 }
 
+/// Appends a signed number in two's complement.
 pub(crate) fn encode_i64(number: i64, to: &mut Bytes) -> Result<(), AllocError>
     ensures { OnOk result (to.new ≡ to.old ++ to_be_bytes w64 (cast_unsigned w64 number)) }
 {

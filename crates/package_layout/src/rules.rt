@@ -18,6 +18,7 @@ use sql_model::{
 };
 use std::alloc::{AllocError, Global};
 
+/// Whether start words meet the rules.
 pub(crate) fn is_valid_start(words: &Words) -> bool
     ensures { result ≡ start_rule words.now }
 {
@@ -41,6 +42,7 @@ fn is_short_text(text: &Utf8) -> bool
     text.len() <= TEXT_LIMIT
 }
 
+/// Whether files meet the rules and are sorted by path.
 pub(crate) fn is_valid_files(files: &PackedFiles) -> bool
     ensures { result ≡ files_rule files.now }
 {
@@ -74,6 +76,7 @@ fn is_valid_content(content: &Option<Bytes>) -> bool
     }
 }
 
+/// Whether tables meet the rules and are sorted by name. `AllocError` means out of memory only.
 pub(crate) fn is_valid_tables(alloc: Global, tables: &PackedTables) -> Result<bool, AllocError>
     ensures { IfOk result (λ holds. holds ≡ tables_rule tables.now) }
 {
@@ -144,6 +147,7 @@ fn each_row_short(rows: &PackedRows) -> bool
     rows.items().iter().all(|row| are_short(&row.values))
 }
 
+/// Whether logs meet the rules and are sorted by process.
 pub(crate) fn is_valid_logs(logs: &Logs) -> bool
     ensures { result ≡ logs_rule logs.now }
 {

@@ -1,4 +1,4 @@
-//! Runs of a trace.
+//! Runs of events, in which a trace is written: a run-length encoding of neighbouring events.
 
 ghost use Rattle.std.specs.Prelude.{◌≡◌};
 ghost use Rattle.package_layout.specs.Runs.{joins};

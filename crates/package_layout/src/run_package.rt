@@ -1,9 +1,9 @@
-//! Packages whose traces are kept as runs.
+//! Packages whose traces are kept as runs of events.
 
 use crate::run::Runs;
 use run_model::Package;
 
-/// A package whose trace is kept as runs. A run of a few bytes can stand for millions of events.
+/// A package whose trace is kept as runs of events. A run of a few bytes can stand for millions of events.
 #[derive(Drop)]
 pub struct RunPackage {
     /// The package without its events.

@@ -1,4 +1,4 @@
-//! Whether runs are those of a trace.
+//! Whether runs of events are those of a trace: the longest ones, each written in the one way.
 
 ghost use Rattle.std.specs.Prelude.{◌≡◌, ◌&&◌, ◌≤◌, nat_le, Some, None, not, if◌then◌else◌};
 ghost use Rattle.std.specs.List.{list_all};

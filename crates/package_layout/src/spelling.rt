@@ -75,7 +75,7 @@ fn body_of_runs(alloc: Global, package: &RunPackage) -> Result<Bytes, AllocError
     Ok(bytes)
 }
 
-/// What is before a digest, with the digest. `TooLong` exactly where both have more than 67,108,864 bytes.
+/// The bytes before a digest, followed by it. `TooLong` exactly where both have more than 67,108,864 bytes.
 pub fn append_digest(body: Bytes) -> Result<Bytes, SpellStop>
     ensures bytes { IfOk result (λ bytes. bytes ≡ body ++ sha256 body) }
     ensures within { IfOk result (λ bytes. length bytes ≤ input_limit) }

@@ -95,6 +95,7 @@ pub(crate) fn number_of_rule(rule: Rule) -> u8
     }
 }
 
+/// Reads a rule by its number.
 pub(crate) fn decode_rule(cursor: &mut Cursor) -> Result<Rule, DecodeError>
     ensures { Decodes result cursor.new (rule_at cursor.old) }
 {

@@ -43,6 +43,7 @@ fn utf8_of(alloc: Global, front: &[u8]) -> Result<Utf8, DecodeError>
     }
 }
 
+/// Appends bytes with their length before them.
 pub(crate) fn encode_sized(bytes: &[u8], to: &mut Bytes) -> Result<(), AllocError>
     ensures { OnOk result (to.new ≡ to.old ++ text_spelling bytes.now) }
 {

@@ -1,4 +1,4 @@
-//! Steps that ask the database.
+//! The statement that the next step of a process asks, and what its reply changes in the process.
 
 ghost use Rattle.std.specs.Prelude.{◌≡◌, ◌+◌, ◌<◌, ◌^◌, Some, length, slice_get, slice_set};
 ghost use Rattle.std.specs.Prelude.{IfOk, OnOk, OnSome};

@@ -25,7 +25,7 @@ pub(crate) struct Machine {
     pub seed: u64,
     /// The process that ran last.
     pub last: u32,
-    /// The state of the generator.
+    /// The state of the generator of pseudorandom numbers.
     pub x: u64,
     /// How many statements were asked.
     pub asked: u32,
@@ -33,7 +33,7 @@ pub(crate) struct Machine {
     pub ready: ReadySet,
     /// Of each process the creation number of its parent; of the first, its own.
     pub parents: Numbers,
-    /// By path the process that was made last from the script there.
+    /// By path the creation number of the process that was made last from the script there.
     pub runners: BTreeMap<String, usize>,
 }
 

@@ -97,7 +97,7 @@ fn outcome_from_process(process: SlotProcess) -> ProcOutcome
     }
 }
 
-// The outcomes of processes, from the last to the first, each of which is let go.
+// The outcomes of processes, from the last to the first. Each process is dropped on the way.
 fn outcomes_from(alloc: Global, processes: Vec<SlotProcess>) -> Result<Vec<ProcOutcome>, AllocError>
     ensures { IfOk result (λ outcomes. outcomes.items ≡ slot_outcomes processes.items) }
 {

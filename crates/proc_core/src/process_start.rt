@@ -1,4 +1,4 @@
-//! Processes as they begin.
+//! A process before its first step: its slots, with the arguments in the variables that are named for them.
 
 ghost use Rattle.std.specs.Prelude.{◌≡◌, ◌+◌, ◌<◌, ◌∷◌, None, IfOk, OnOk, List as Items, drop, length, map};
 ghost use Rattle.std.specs.Prelude.{replicate};

@@ -26,7 +26,7 @@ fn still_runs(processes: &[SlotProcess], number: u32) -> bool
     }
 }
 
-/// The child that a slot means, by its creation number.
+/// The child in a slot, by its creation number.
 pub(crate) fn child_of(process: &SlotProcess, slot: usize) -> Option<u32>
     ensures { result ≡ child_at slot process.now }
 {

@@ -99,7 +99,7 @@ fn edge_by_name(objects: &ObjectRefs<'_>, name: &str) -> Option<Edge>
     }
 }
 
-// What needs no memory.
+// The edge, or that the bytes are no document.
 fn known_edge(edge: Option<Edge>) -> Result<Edge, ProvStop>
     ensures { Gives Stops result edge }
 {

@@ -185,7 +185,7 @@ fn numbered_in(text: &[u8]) -> Option<Node>
     }
 }
 
-// What needs no memory.
+// The node, or that the bytes are no document.
 fn known_node(node: Option<Node>) -> Result<Node, ProvStop>
     ensures { Gives Stops result node }
 {

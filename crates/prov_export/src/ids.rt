@@ -23,7 +23,7 @@ pub(crate) fn is_entity(node: &Node) -> bool
     }
 }
 
-/// Whether a node is an entity, or is none.
+/// Whether a node is an entity, where `entity` is true; else whether it is an activity.
 pub(crate) fn is_kind(entity: bool, node: &Node) -> bool
     ensures { result ≡ is_kind entity node.now }
 {

@@ -5,6 +5,7 @@
 
 mod depending;
 mod edge_reading;
+mod error;
 mod id_reading;
 mod ids;
 mod law;
@@ -14,11 +15,10 @@ mod node_reading;
 mod objects;
 mod reading;
 mod relation;
-mod error;
 mod writing;
 
 pub use depending::depends_text;
+pub use error::ProvStop;
 pub use law::prov_law;
 pub use reading::read_prov;
-pub use error::ProvStop;
 pub use writing::write_prov;

@@ -73,7 +73,7 @@ fn draft_in(alloc: Global, document: &Value) -> Result<Draft, ProvStop>
     }
 }
 
-// The JSON value is let go with the call.
+// The JSON value is dropped with the call.
 fn draft_of(alloc: Global, bytes: &[u8]) -> Result<Draft, ProvStop>
     ensures { Gives Stops result (taken_from bytes.now) }
 {

@@ -61,7 +61,7 @@ fn put_node(
     }
 }
 
-// The nodes that are entities, or those that are none.
+// The nodes that are entities, where `entity` is true; else the activities.
 fn node_members(alloc: Global, entity: bool, nodes: &[Node]) -> Result<Members, AllocError>
     ensures { IfOk result (λ members. members_view members.entries
         ≡ with_nodes entity 0 nodes.now no_members) }
@@ -216,7 +216,7 @@ fn relation_members(
 
 // ---- the document
 
-// Puts the nodes that are entities, or those that are none, under a name.
+// Puts the entities, or where `entity` is false the activities, under a name.
 fn put_nodes(
     alloc: Global,
     name: &str,

@@ -1,4 +1,4 @@
-//! The edges to each place.
+//! The edges that come to each node, by the places of the nodes.
 
 ghost use Rattle.std.specs.Prelude.{◌≡◌, length, IsTrue, IfOk, replicate};
 ghost use Rattle.trace_graph.specs.Graph.{are_between};
@@ -7,7 +7,7 @@ ghost use Rattle.reach.specs.inner.Incoming.{no_edges, incoming_of};
 use std::alloc::{AllocError, Global};
 use trace_graph::{Edge, Edges};
 
-// How many edges come to each of that many places: their lists have no more room than that.
+// How many edges come to each of `count` places: the lists get just this room.
 fn counts_of(alloc: Global, count: usize, edges: &[Edge]) -> Result<Vec<usize>, AllocError>
     requires { IsTrue (are_between count edges.now) }
     ensures { IfOk result (λ counts. length counts.items ≡ count) }
@@ -20,7 +20,7 @@ fn counts_of(alloc: Global, count: usize, edges: &[Edge]) -> Result<Vec<usize>, 
     Ok(counts)
 }
 
-// A list for each place, with no edge yet and room for so many.
+// A list for each place, with no edge yet and room for its count.
 fn empty_lists(alloc: Global, counts: &[usize]) -> Result<Vec<Edges>, AllocError>
     ensures { IfOk result (λ lists. lists.items ≡ replicate (length counts.now) no_edges) }
 {
@@ -31,7 +31,7 @@ fn empty_lists(alloc: Global, counts: &[usize]) -> Result<Vec<Edges>, AllocError
     Ok(lists)
 }
 
-/// The edges to each of that many places, in their order.
+/// The edges to each of `count` places, in their order.
 pub(crate) fn incoming_edges(
     alloc: Global,
     count: usize,

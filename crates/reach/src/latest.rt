@@ -1,4 +1,4 @@
-//! The latest times at which nodes may be left.
+//! For each node the latest time from which a node is still reached in time.
 
 ghost use Rattle.std.specs.Prelude.{◌≡◌, ◌<◌, length, IfOk, IsTrue};
 ghost use Rattle.trace_graph.specs.Graph.{are_between};
@@ -29,7 +29,8 @@ pub(crate) fn reaches(time: u32, latest: Option<u32>) -> bool
     }
 }
 
-/// The latest times of that many places at which they may be left to get to one of them by a time.
+/// For each of `count` places, the latest time from which `node` is still reached by `time`; none where it
+/// isn't reached from there.
 pub(crate) fn latest_times(
     alloc: Global,
     count: usize,

@@ -1,4 +1,5 @@
-//! Marks at the places of nodes that open edges come from.
+//! Marks at the places of nodes that open edges come from: an edge is open where what it brings to its target
+//! still gets to the searched node in time.
 
 ghost use Rattle.std.specs.Prelude.{◌≡◌, ◌<◌, length, IfOk, IsTrue};
 ghost use Rattle.trace_graph.specs.Graph.{are_between};
@@ -28,7 +29,7 @@ fn mark(marks: &mut Vec<bool>, latest: &[Option<u32>], edge: &Edge)
     }
 }
 
-/// For each of that many places, whether an open edge comes from it.
+/// For each of `count` places, whether an open edge comes from it.
 #[tactic(auto, using(crate::proofs::MarkLaws::mark_length))]
 pub(crate) fn open_marks(
     alloc: Global,

@@ -26,7 +26,7 @@ use Rattle.replay_db.specs.declared.soundness.AuditStop.TheVariants.{NotEnded, T
 abbrev pub verdict_on : List ℕ → List ℕ → Verdict
 verdict_on bytes due = if bytes_eq bytes due then Sound else Unsound (common_prefix_len nat_eq bytes due)
 
--- what is due in a version: the package of the own world's run, within so many steps
+-- what is due in a version: the package of the own world's run, within a budget of steps
 abbrev pub own_spelling : ℕ → Version → Package → List ℕ
 own_spelling budget version p = spelling_as version (package_of Included budget (own_world p))
 
@@ -52,7 +52,7 @@ Audits budget version p bytes (Err stop) = AuditStops budget version p stop
 abbrev pub SoundLaw : Type 0
 SoundLaw = (bytes due : List ℕ) → (verdict_on bytes due ≡ Sound) ↔ (bytes ≡ due)
 
--- The run of a package's own world ends within so many steps, and the package is that of this run. So its
+-- The run of a package's own world ends within a budget of steps, and the package is that of this run. So its
 -- spelling is the one that is due, in each version.
 pub record IsOwn (budget : ℕ) (p : Package) : Type 0 where
   pub ends : ends_within budget (own_world p) ≡ true

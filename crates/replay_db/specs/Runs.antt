@@ -29,7 +29,7 @@ OwnWorldLaw = (p : Package) → IsTyped p → IsValidPackage p → ValidWorld (o
 
 -- ---- what comes of a run
 
--- none where the run doesn't end within so many steps
+-- none where the run doesn't end within a budget of steps
 abbrev pub package_within : Mode → ℕ → World → Option Package
 package_within mode n w = if ends_within n w then Some (package_of mode n w) else None
 

@@ -20,8 +20,8 @@ abbrev pub TypedFor : Mode → World → Type 0
 TypedFor Included w = Unit {0}
 TypedFor Excluded w = TypedWorld w
 
--- the package of a world that meets the rules and has valid tables, and whose run ends within so many steps,
--- is valid, whether it has the needed rows or the recorded replies
+-- the package of a world that meets the rules and has valid tables, and whose run ends within a budget of
+-- steps, is valid, whether it has the needed rows or the recorded replies
 abbrev pub ValidPackageLaw : Type 0
 ValidPackageLaw = (mode : Mode) (n : ℕ) (w : World) → IsTrue (world_rules w) → tables_test w.tables ≡ true
     → TypedFor mode w

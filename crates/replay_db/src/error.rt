@@ -1,8 +1,8 @@
-//! Why the run of a world has no end.
+//! Why the run of a world has no outcome.
 
 use std::alloc::AllocError;
 
-/// Why the run of a world has no end.
+/// Why the run of a world has no outcome.
 #[derive(Clone, Copy, Debug, PartialEq, Eq)]
 pub enum EndStop {
     /// Not all processes have ended after the steps of the budget.

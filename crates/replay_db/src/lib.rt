@@ -4,6 +4,7 @@
 #![tactic(auto)]
 
 mod copy;
+mod error;
 mod law;
 mod logged;
 mod own;
@@ -13,10 +14,10 @@ mod replay;
 mod run;
 mod setting;
 mod soundness;
-mod error;
 mod table;
 mod trace;
 
+pub use error::EndStop;
 pub use law::{audit_law, initial_rows_law, members_law, package_law};
 pub use own::own_world;
 pub use record::record_world;
@@ -24,5 +25,4 @@ pub use recorder::Recorder;
 pub use replay::replay_included;
 pub use run::{run_owned, run_world};
 pub use soundness::{AuditStop, Verdict, audit};
-pub use error::EndStop;
 pub use table::{TableStop, table_at};

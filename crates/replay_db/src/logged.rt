@@ -1,4 +1,4 @@
-//! Runs of which the replies are recorded too.
+//! The run of a world with its events and the replies to its statements recorded.
 
 ghost use Rattle.std.specs.Prelude.{◌≡◌, ◌≤◌, List as Items, Some, [], true, slice_get, IfOk, IfErr};
 ghost use Rattle.ldv_value.specs.Limits.{max_steps};

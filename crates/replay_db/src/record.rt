@@ -1,4 +1,4 @@
-//! Packages of runs.
+//! The package of a world's run, of either mode.
 
 ghost use Rattle.std.specs.Prelude.{◌≡◌, ◌≤◌, IfOk};
 ghost use Rattle.ldv_value.specs.Gives.{Gives};
@@ -109,7 +109,7 @@ fn package_of_mode(
 /// the first statement that needed it and its rule. An excluded one has what each process asked, with the
 /// replies. The run changes a copy of the world.
 ///
-/// `NotEnded` comes exactly where not all processes have ended after so many steps.
+/// `NotEnded` comes exactly where not all processes have ended after the steps of the budget.
 pub fn record_world(
     alloc: Global,
     world: &World,

@@ -17,7 +17,7 @@ use std::alloc::Global;
 /// The recorded trace and the recorded number of steps aren't looked at. The own world of every valid package
 /// can be run, as `package_law` says.
 ///
-/// `NotEnded` comes exactly where not all processes have ended after so many steps.
+/// `NotEnded` comes exactly where not all processes have ended after the steps of the budget.
 pub fn replay_included(alloc: Global, package: &Package, budget: u32) -> Result<Outcome, EndStop>
     requires can_run { CanRun (own_world «package».now) }
     requires bounded { budget ≤ max_steps }

@@ -92,7 +92,7 @@ fn outcome_of_run(alloc: Global, world: World, budget: u32) -> Result<Outcome, E
 /// The outcome of the run of a world by its seed, within a budget of at most 10,000,000 steps. The run takes
 /// over the world's files and tables, and copies none of them.
 ///
-/// `NotEnded` comes exactly where not all processes have ended after so many steps.
+/// `NotEnded` comes exactly where not all processes have ended after the steps of the budget.
 pub fn run_owned(alloc: Global, world: World, budget: u32) -> Result<Outcome, EndStop>
     requires can_run { CanRun world }
     requires bounded { budget ≤ max_steps }

@@ -1,4 +1,4 @@
-//! What the run of a world starts on.
+//! The files and the engine with which the run of a world starts.
 
 ghost use Rattle.std.specs.Prelude.{◌≡◌, true, IfOk};
 ghost use Rattle.ldv_value.specs.FileState.{files_test, initial_files};

@@ -1,4 +1,4 @@
-//! Whether a package is that of its own world's run.
+//! The audit of a package: whether it is that of its own world's run.
 
 ghost use Rattle.std.specs.Prelude.{◌≡◌, ◌≤◌, ◌+◌, Some, length, drop, nat_eq, IfOk, IsSome};
 ghost use Rattle.std.specs.List.{common_prefix_len};
@@ -64,7 +64,7 @@ fn verdict_on(bytes: &[u8], due: &[u8]) -> Verdict
 /// budget of at most 10,000,000 steps. The bytes have a version, and that package is spelled in it. Nothing
 /// of the recorded trace is looked at.
 ///
-/// `NotEnded` comes exactly where that run hasn't ended after so many steps, and `TooLong` exactly where it
+/// `NotEnded` comes exactly where that run hasn't ended after these steps, and `TooLong` exactly where it
 /// has and its package has more than 67,108,864 bytes in that version.
 pub fn audit(
     alloc: Global,

@@ -75,7 +75,7 @@ fn step_on(begun: Run<Engine, NullTracer>) -> Result<Run<Engine, NullTracer>, Al
     }
 }
 
-// Steps until all processes have ended, at most so many.
+// Makes steps until all processes have ended, at most `count` of them.
 fn go_on(begun: Run<Engine, NullTracer>, count: u32) -> Result<Run<Engine, NullTracer>, AllocError>
     requires stands { (s : State SqlDatabase) × Stands begun.machine (database begun.db) s }
     requires room { begun.steps + count ≤ max_steps }
@@ -114,7 +114,7 @@ fn table_now(alloc: Global, engine: &Engine, name: &str, time: u32) -> Result<Ta
     }
 }
 
-// What is due of a run that was gone on with, of which a table was taken after the step.
+// The table that was taken after the step, or why there is none, once the run has gone on to its end.
 fn table_verdict(gone: &Run<Engine, NullTracer>, step: u32, table: Table) -> Result<Table, TableStop>
     ensures { result ≡ table_verdict (has_ended gone.now.machine) gone.now.steps step (Ok table) }
 {

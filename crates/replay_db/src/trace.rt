@@ -1,4 +1,4 @@
-//! Runs of which all is recorded.
+//! The run of a world with its events recorded.
 
 ghost use Rattle.std.specs.Prelude.{◌≤◌, IfOk, IfErr};
 ghost use Rattle.ldv_value.specs.Limits.{max_steps};

@@ -45,7 +45,7 @@ fn begin(alloc: Global, package: Package) -> Result<Run<ReplyLog, NullTracer>, A
 /// Runs the files of a package over its recorded replies, at most `budget` steps, and gives the outcome of
 /// the run. `NotEnded` comes exactly where it has neither ended nor diverged after these steps, and
 /// `Diverged` exactly where a process asked what wasn't recorded next for it: the process, and the number of
-/// its questions before that one. Replies that are left over at the end are no matter.
+/// its questions before that one. Replies that are left over at the end don't matter.
 pub fn replay_owned(alloc: Global, package: Package, budget: u32) -> Result<Outcome, RunStop>
     requires can_replay { CanReplay «package» }
     requires bounded { budget ≤ max_steps }

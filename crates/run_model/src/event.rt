@@ -36,7 +36,7 @@ pub enum Act {
     OpenedNew {
         path: Utf8,
     },
-    /// An open was refused: found for a new file, not found for reading.
+    /// An open was refused: of a new file where one was found, for reading where none was.
     Unopened {
         path: Utf8,
         found: bool,

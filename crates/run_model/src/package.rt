@@ -8,7 +8,9 @@ use sql_model::{HasValues, NamedSchema, Reply, Rule, Schema};
 /// Whether a package has the rows that its run needed, or the recorded replies.
 #[derive(Clone, Copy, Debug, PartialEq, Eq)]
 pub enum Mode {
+    /// It has the needed tables with the needed rows.
     Included,
+    /// It has what each process asked, with the replies.
     Excluded,
 }
 

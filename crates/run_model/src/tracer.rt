@@ -83,7 +83,7 @@ impl Tracer for ListTracer {
 
     fn note(&mut self, event: Event) -> Result<(), AllocError>
         ensures ok { OnOk result (self.new ≡ self.old ++ event ∷ []) }
-        // Beyond every tracer: an event that is lost changes nothing.
+        // More than every tracer promises: where the event is lost, the list is as it was.
         ensures err { OnErr result (self.new ≡ self.old) }
     {
         self.held.push(event)

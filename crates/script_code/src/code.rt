@@ -10,7 +10,9 @@ use std::alloc::Global;
 /// What an instruction takes: a constant, or the value in the slot of a variable.
 #[derive(Drop)]
 pub enum SlotOperand {
+    /// A constant.
     Constant(Value),
+    /// The slot of a variable, from 0.
     Slot(usize),
 }
 

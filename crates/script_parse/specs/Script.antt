@@ -13,7 +13,7 @@ use Rattle.ldv_value.specs.Options.{only_if, ◌>>=◌}
 use Rattle.script_parse.specs.Lines.{lines_of, line_of}
 use Rattle.script_parse.specs.Names.{is_text}
 
--- a line with its number; none where it is quiet
+-- a line with its number; none where it is empty or a comment
 abbrev pub entry_of : ℕ → Option Said → List Entry
 entry_of n None = record { number = n; line = None } ∷ []
 entry_of n (Some Quiet) = []
@@ -21,7 +21,7 @@ entry_of n (Some (Label l)) = record { number = n; line = Some (Label l) } ∷ [
 entry_of n (Some (Plain i)) = record { number = n; line = Some (Plain i) } ∷ []
 entry_of n (Some (Jumping i l)) = record { number = n; line = Some (Jumping i l) } ∷ []
 
--- the lines from the number n on that aren't quiet
+-- the lines from the number n on that are neither empty nor a comment
 abbrev pub entries_from : ℕ → List (List ℕ) → List Entry
 entries_from n [] = []
 entries_from n (line ∷ lines) = entry_of n (line_of line) ++ entries_from (n + 1) lines

@@ -6,7 +6,9 @@ use std::alloc::{AllocError, Global};
 /// What an instruction takes: a constant, or a variable's value at that step.
 #[derive(Drop)]
 pub enum Operand {
+    /// A constant.
     Constant(Value),
+    /// The name of a variable.
     Variable(Utf8),
 }
 
@@ -16,8 +18,11 @@ pub type Operands = List<Operand>;
 /// An operation of `let` on two numbers.
 #[derive(Clone, Copy, Debug, PartialEq, Eq)]
 pub enum CalcOp {
+    /// `+`
     Add,
+    /// `-`
     Subtract,
+    /// `*`
     Multiply,
 }
 

@@ -96,7 +96,7 @@ fn merged_unless(all: bool, answers: Answers) -> Result<Answers, AllocError>
     if all { Ok(answers) } else { merge(answers) }
 }
 
-// UNION ALL appends; UNION merges then.
+// UNION ALL appends the rows; UNION without ALL then merges rows of the same values.
 fn unite_rows(all: bool, rows: CoreRows, more: CoreRows) -> Result<CoreRows, AllocError>
     ensures { IfOk result (λ made. (store : StoreHistory) (keep : Bool) (now after : Items AnswerRow)
         (hidden others : Items Origin) → AreRows store keep now hidden rows

@@ -1,4 +1,4 @@
-//! What asking a statement gives.
+//! What executing a statement gives.
 
 ghost use Rattle.std.specs.Prelude.{◌≡◌, IfOk};
 ghost use Rattle.sql_engine.specs.Asking.{refusal_change};

@@ -16,31 +16,45 @@ pub struct ColumnName {
 /// An operator between two expressions.
 #[derive(Clone, Copy, Debug, PartialEq, Eq)]
 pub enum Operator {
+    /// `+`
     Add,
+    /// `-`
     Subtract,
+    /// `*`
     Multiply,
+    /// `=`, `<>`, `<`, `<=`, `>` or `>=`
     Compare(Cmp),
+    /// AND
     And,
+    /// OR
     Or,
 }
 
 /// An aggregate.
 #[derive(Clone, Copy, Debug, PartialEq, Eq)]
 pub enum Fold {
+    /// COUNT: of rows, or of those with a value that isn't NULL.
     Count,
+    /// SUM
     Sum,
+    /// MIN
     Min,
+    /// MAX
     Max,
 }
 
 /// An expression. A parameter is a constant by the time that one is made.
 #[derive(Drop)]
 pub enum Expr {
+    /// A constant.
     Constant(Value),
+    /// The value of a column.
     Column(ColumnName),
     /// Unary minus.
     Negate(Boxed<Expr>),
+    /// NOT of a condition.
     Not(Boxed<Expr>),
+    /// Two expressions with an operator between them.
     Both(Operator, Boxed<Expr>, Boxed<Expr>),
     /// IS NULL, or IS NOT NULL where the flag is set.
     IsNull(Boxed<Expr>, bool),

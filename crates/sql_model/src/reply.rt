@@ -41,7 +41,7 @@ pub enum Reply {
     Rows(RowList),
     /// How many rows were inserted or matched.
     Changed(u64),
-    /// Nothing was changed.
+    /// The statement was refused, and nothing was changed.
     Refused(SqlRefusal),
 }
 

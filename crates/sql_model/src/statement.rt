@@ -9,9 +9,13 @@ use std::alloc::{AllocError, Global};
 /// A statement.
 #[derive(Drop)]
 pub enum Statement {
+    /// SELECT, or a UNION of several.
     Query(Query),
+    /// INSERT
     Insert(Insert),
+    /// UPDATE
     Update(Update),
+    /// DELETE
     Delete(Delete),
 }
 

@@ -129,7 +129,7 @@ fn joins_more(
     }
 }
 
-// What a joint makes of its left operand and of what follows.
+// What an infix operator, or IS, makes of its left operand and of what follows.
 #[cycle(expression)]
 #[tactic(auto, using(crate::proofs::Repeat::repeat_rules, crate::proofs::Within::within_rules))]
 fn joined_within(

@@ -99,7 +99,7 @@ fn may_join(least: u8, level: u8, joint: Infix) -> bool
     least <= level_of(joint) && left_of(joint) <= level
 }
 
-/// The level of what a joint makes.
+/// The level of what an infix operator, or IS, makes.
 pub(crate) fn level_of(joint: Infix) -> u8
     ensures { result ≡ level_of joint }
 {

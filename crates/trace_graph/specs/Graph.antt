@@ -74,7 +74,7 @@ graph_by links = record { nodes = nodes_of links; edges = edges_of (nodes_of lin
 abbrev pub graph_of : List Event → Parts
 graph_of events = graph_by (links_of events)
 
--- an edge is between places of that many nodes
+-- an edge is between places of a number of nodes
 abbrev pub is_between : ℕ → Edge → Bool
 is_between count edge = nat_lt edge.source count && nat_lt edge.target count
 

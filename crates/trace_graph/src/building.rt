@@ -19,7 +19,7 @@ pub(crate) struct Building<'a> {
 }
 
 impl<'a> Building<'a> {
-    // No node and no edge, with room for so many.
+    // No node and no edge, with room for those that are expected.
     fn with_room(alloc: Global, room: Room) -> Result<Building<'a>, AllocError>
         ensures { IfOk result (λ building. parts_of building ≡ no_parts) }
     {
@@ -55,8 +55,8 @@ struct Room {
 }
 
 impl Room {
-    // With that for an act that takes more than a few. Rows that are read may have been read before, so they
-    // take no room for nodes.
+    // With the room for an act: only statements are counted, since other acts add few nodes and edges. Rows
+    // that are read may have been read before, so they take no room for nodes.
     fn with_act(self, act: &Act) -> Room {
         match act {
             Act::Asked {
@@ -92,7 +92,7 @@ fn room_of(events: &[Event]) -> Room {
     room
 }
 
-// The number of processes that were made, after an act.
+// The number of processes that were made, the first one counted, after an act.
 fn made_with(made: u32, act: &Act) -> u32
     requires { made_after made act.now ≤ max_processes }
     ensures { result ≡ made_after made act.now }

@@ -16,8 +16,8 @@ pub fn graph_law()
     ensures made { MadeLaw }
 {}
 
-/// The graph of a valid trace is well formed, where the run may have that many steps, and its edges end by
-/// the last of them.
+/// The graph of a valid trace of at most 10,000,000 steps is well formed, and its edges end by the last of
+/// these. The function has no body: its contract is the theorem.
 pub fn well_formed_law()
     ensures formed { WellFormedLaw }
     ensures end { EndLaw }

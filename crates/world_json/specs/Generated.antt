@@ -84,7 +84,7 @@ orders n = keyed_table (codes "orders") order_columns (map order_row (range_with
 
 -- ---- the world
 
--- with so many orders
+-- with a number of orders
 abbrev pub generated_world : ℕ → World
 generated_world n = record {
   start = codes "main" ∷ [];

@@ -9,7 +9,8 @@ pub enum WorldFault {
     NotJson,
     /// A member too many or too few, or of another JSON type.
     Shape,
-    /// A path, a table name or a column name outside its rule.
+    /// A path, a table name or a column name outside its rule; a name twice; a key or a foreign key that
+    /// names no column, or a parent that is no table.
     Name,
     /// A limit is passed.
     Limit,

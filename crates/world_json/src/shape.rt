@@ -1,5 +1,5 @@
-//! Arrays and objects of a document, read item by item and member by member. Each call takes its value
-//! and lets it go as it reads.
+//! Arrays and objects of a document, read item by item and member by member. Each call takes its value and
+//! frees it as it reads.
 
 ghost use Rattle.std.specs.List.{AllByRecursion};
 ghost use Rattle.std.specs.Prelude.{◌≡◌, Option, Some, None, IfOk, List, ℕ, string_bytes};

@@ -1,4 +1,4 @@
-//! The world of a document.
+//! The world of a document: its faults in their order, then its parts as a world.
 
 ghost use Rattle.std.specs.Prelude.{◌≡◌, IfOk, IfErr, Ok, Some, map, true};
 ghost use Rattle.std.specs.List.{list_all};

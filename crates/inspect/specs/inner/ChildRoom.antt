@@ -12,7 +12,7 @@ abbrev pub all_births : List Event → ℕ
 all_births [] = 0
 all_births (e ∷ es) = births e + all_births es
 
--- a process may get so many children more
+-- a process may get a number of children more
 abbrev pub HasRoom : ℕ → NamedProcess → Type 0
 HasRoom more process = process.children + more < 2 ^ 32
 

@@ -24,7 +24,7 @@ is_spawned (acts.Waited child) = false
 is_spawned (acts.Ended status) = false
 is_spawned (acts.Asked statement tables reads made) = false
 
--- so many times the same act makes no more than max_processes
+-- the same act, a number of times, makes no more than max_processes
 abbrev pub spawns_fit : ℕ → Act → ℕ → Bool
 spawns_fit made act times = if is_spawned act then nat_le (made + times) max_processes else true
 

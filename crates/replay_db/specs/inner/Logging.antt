@@ -19,7 +19,7 @@ keeping_database db kept = record { db = db; kept = kept }
 abbrev pub kept_start : World → List Instr → State (KeepingDatabase SqlDatabase)
 kept_start w script = start_state_of w.start w.seed w.files script (nothing_kept (initial_database w.tables))
 
--- what is recorded of a run that ends within so many steps
+-- what is recorded of a run that ends within a budget of steps
 pub record IsLogged (n : ℕ) (w : World) (l : Logged) : Type 0 where
   pub ended : ends_within n w ≡ true
   pub events : l.events ≡ events_within n w

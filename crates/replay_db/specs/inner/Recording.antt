@@ -7,12 +7,12 @@ use Rattle.replay_db.specs.declared.error.EndStop.{EndStop}
 use Rattle.replay_db.specs.declared.error.EndStop.TheVariants.{NotEnded, NoMemory}
 use Rattle.replay_db.specs.declared.trace.Traced.{Traced}
 
--- `NotEnded` says that the run hasn't ended after so many steps
+-- `NotEnded` says that the run hasn't ended after the steps of the budget
 abbrev pub HasNotEnded : ℕ → World → EndStop → Type 0
 HasNotEnded n w NotEnded = ends_within n w ≡ false
 HasNotEnded n w NoMemory = Unit {0}
 
--- what is recorded of a run that ends within so many steps
+-- what is recorded of a run that ends within a budget of steps
 pub record IsTraced (n : ℕ) (w : World) (t : Traced) : Type 0 where
   pub ended : ends_within n w ≡ true
   pub events : t.events ≡ events_within n w

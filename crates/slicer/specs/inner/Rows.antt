@@ -93,6 +93,6 @@ abbrev pub graph_reason : List Event → Parts → List ℕ → ℕ → Option R
 graph_reason events graph table row =
     only_if (is_initial_node graph (at_first table row)) (first_reason table row events)
 
--- the tables that statements name, with the initial rows of the graph
+-- the tables that statements ask, with the initial rows of the graph
 abbrev pub tables_from : List Event → Parts → List Table → List PackedTable
 tables_from events graph tables = tables_because (graph_reason events graph) (is_table_needed events) tables
