@@ -4,9 +4,8 @@ use Rattle.std.specs.Prelude.{filter, find, is_none, option_map, slice_get, zip,
 use Rattle.std.specs.Cmp.Lexicographic.{slice_cmp, nat_list_cmp_total}
 use Rattle.std.specs.List.{flat_map, list_all, list_any, AllByRecursion}
 use Rattle.std.specs.List.Sorted.{IsStrictlySortedBy}
-use Rattle.std.specs.Ordering.{nat_cmp, is_lt}
-use Rattle.std.specs.declared.cmp.Ordering.{Ordering}
-use Rattle.std.specs.declared.cmp.Ordering.TheVariants.{Less, Equal, Greater}
+use Rattle.std.specs.Ordering.{nat_cmp}
+use Rattle.std.specs.declared.cmp.Ordering.TheVariants.{Less}
 use Rattle.std.proofs.lemmas.Bool.Decides.{Decides-eqb}
 use Rattle.std.proofs.lemmas.Bool.{cases_Bool}
 use Rattle.std.proofs.lemmas.List.{drop_all, length-append}
@@ -18,6 +17,7 @@ use Rattle.ldv_value.proofs.Booleans.{and-first, and-parts, and-second, true≢f
 use Rattle.ldv_value.proofs.Lists.{all-tested, all-weaker, list_all-map}
 use Rattle.ldv_value.proofs.SameBytes.{bytes_eq-true}
 use Rattle.ldv_value.specs.Sorted.{is_strictly_sorted, precedes_first}
+use Rattle.ldv_value.proofs.Orderings.{is_lt-true}
 use Rattle.lineage.specs.Lineage.{name_at}
 use Rattle.lineage.specs.declared.answer.Pick.{Pick}
 use Rattle.core_parts.proofs.FixingLaws.{fixed-key}
@@ -210,14 +210,9 @@ abbrev First : List ℕ → List Table → Type 0
 First name [] = Unit {0}
 First name (table ∷ tables) = slice_cmp nat_cmp name table.name ≡ Less
 
-less-is : (o : Ordering) → is_lt o ≡ true → o ≡ Less
-less-is Less is = refl
-less-is Equal is = cc
-less-is Greater is = cc
-
 first-is : (table : Table) (tables : List Table) → precedes_first table_precedes table tables ≡ true → First table.name tables
 first-is table [] is = tt
-first-is table (other ∷ tables) is = less-is (slice_cmp nat_cmp table.name other.name) is
+first-is table (other ∷ tables) is = is_lt-true (slice_cmp nat_cmp table.name other.name) is
 
 first-next : (name : List ℕ) (table : Table) (tables : List Table) → slice_cmp nat_cmp name table.name ≡ Less → First table.name tables → First name tables
 first-next name table [] before first = tt
