@@ -10,9 +10,10 @@ use Rattle.std.proofs.lemmas.Bool.{cases_Bool}
 use Rattle.std.proofs.lemmas.Cmp.{tied_itself}
 use Rattle.std.proofs.lemmas.Simd.{map-map}
 use Rattle.ldv_value.proofs.Booleans.{true≢false}
+use Rattle.ldv_value.proofs.Orderings.{is_eq-true}
 use Rattle.lineage.specs.declared.answer.Pick.{Pick}
 use Rattle.core_parts.proofs.Lists.{both_filters, kept_twice, all_kept}
-use Rattle.core_parts.proofs.SameValues.{tied, all_exact}
+use Rattle.core_parts.proofs.SameValues.{all_exact}
 use Rattle.sql_model.specs.KeyOrder.{values_order, values_total}
 use Rattle.sql_model.specs.Keys.{same_values}
 use Rattle.sql_model.specs.QueryAnswer.{distinct_values}
@@ -23,7 +24,7 @@ use Rattle.group_eval.specs.declared.groups.KeyedGroup.{KeyedGroup}
 -- ---- the same values
 
 same_is : (a b : List Value) → same_values a b ≡ true → a ≡ b
-same_is a b is = all_exact a b (tied (values_order a b) is)
+same_is a b is = all_exact a b (is_eq-true (values_order a b) is)
 
 is_same : (a b : List Value) → a ≡ b → same_values a b ≡ true
 is_same a b is = ap (λ (v : List Value). same_values a v) (sym is) ∙ ap is_eq (tied_itself values_total a)

@@ -10,6 +10,7 @@ use Rattle.std.specs.declared.cmp.Ordering.TheVariants.{Less, Equal, Greater}
 use Rattle.std.proofs.lemmas.Bool.{and_parts}
 use Rattle.std.proofs.lemmas.Cmp.{tied_back}
 use Rattle.ldv_value.proofs.SameBytes.{bytes_eq-true, nat_eq-true}
+use Rattle.ldv_value.proofs.Orderings.{is_eq-true}
 use Rattle.sql_model.specs.declared.table.Column.{Column}
 use Rattle.sql_model.specs.declared.table.Foreign.{Foreign}
 use Rattle.sql_model.specs.declared.table.Schema.{Schema}
@@ -23,7 +24,7 @@ use Rattle.package_join.specs.Joined.{clash_if, tables_differ}
 use Rattle.package_join.specs.Same.{same_flag, same_column, same_foreign, same_keys, same_schema, contents_differ}
 use Rattle.package_join.proofs.Cuts.{Rising}
 use Rattle.package_join.proofs.Lists.{pointwise_equal}
-use Rattle.core_parts.proofs.SameValues.{all_exact, tied}
+use Rattle.core_parts.proofs.SameValues.{all_exact}
 
 pub none_of : {A : Type 0} (a b : Option A) → option_or a b ≡ None → (a ≡ None) × (b ≡ None)
 none_of None b is = (refl, is)
@@ -124,4 +125,4 @@ same_tables a b is =
 
 pub same_rows : (a b : TableRow) → not (same_values a.values b.values) ≡ false → a.values ≡ b.values
 same_rows a b is =
-    all_exact a.values b.values (tied (values_order a.values b.values) (not_false (same_values a.values b.values) is))
+    all_exact a.values b.values (is_eq-true (values_order a.values b.values) (not_false (same_values a.values b.values) is))

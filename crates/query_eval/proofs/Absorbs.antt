@@ -9,11 +9,12 @@ use Rattle.std.specs.Ordering.{is_eq}
 use Rattle.std.proofs.lemmas.Bool.{cases_Bool}
 use Rattle.std.proofs.lemmas.Cmp.{tied_itself}
 use Rattle.ldv_value.proofs.Booleans.{true≢false}
+use Rattle.ldv_value.proofs.Orderings.{is_eq-true}
 use Rattle.lineage.specs.Lineage.{Lineage, union_of}
 use Rattle.lineage.specs.declared.answer.Answer.{Answer}
 use Rattle.lineage.proofs.Unions.{union_assoc, none_union}
 use Rattle.core_parts.proofs.Lists.{both_filters, kept_twice, all_kept}
-use Rattle.core_parts.proofs.SameValues.{tied, all_exact}
+use Rattle.core_parts.proofs.SameValues.{all_exact}
 use Rattle.sql_model.specs.KeyOrder.{values_order, values_total}
 use Rattle.sql_model.specs.Keys.{same_values}
 use Rattle.sql_model.specs.QueryAnswer.{distinct_values}
@@ -23,7 +24,7 @@ use Rattle.query_eval.specs.Types.{Value}
 -- ---- the same values
 
 same_is : (a b : List Value) → same_values a b ≡ true → a ≡ b
-same_is a b is = all_exact a b (tied (values_order a b) is)
+same_is a b is = all_exact a b (is_eq-true (values_order a b) is)
 
 is_same : (a b : List Value) → a ≡ b → same_values a b ≡ true
 is_same a b is = ap (λ (v : List Value). same_values a v) (sym is) ∙ ap is_eq (tied_itself values_total a)
