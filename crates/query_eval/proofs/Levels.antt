@@ -3,6 +3,7 @@ use Rattle.std.proofs.Common.{◌≡◌, ◌∙◌, sym, ap, subst, refl, ℕ, z
 use Rattle.std.proofs.lemmas.Bool.{cases_Bool}
 use Rattle.std.specs.Prelude.{filter, nat_lt}
 use Rattle.std.specs.List.{list_all, remove, AllByRecursion}
+use Rattle.ldv_value.proofs.Booleans.{and-assoc}
 use Rattle.query_eval.proofs.Agree.{first_rows_tell}
 use Rattle.query_eval.proofs.Product.{extensions, filter_joined, flat_map_joined, products-more, pushed, EachSplits, all_of, all_there}
 use Rattle.core_parts.specs.Conditions.{meets}
@@ -31,10 +32,6 @@ pub both-of : (a b : Bool) → (a && b) ≡ true → (a ≡ true) × (b ≡ true
 both-of true true is = (refl, refl)
 both-of true false is = cc
 both-of false b is = cc
-
-and-assoc : (a b c : Bool) → ((a && b) && c) ≡ (a && (b && c))
-and-assoc true b c = refl
-and-assoc false b c = refl
 
 swapped : (a b c : Bool) → (a && (b && c)) ≡ (b && (a && c))
 swapped true b c = refl
