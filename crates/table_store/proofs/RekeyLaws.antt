@@ -14,6 +14,7 @@ use Rattle.sql_model.specs.Changes.{KeyClash, key_clash, clash_after, clash_by, 
 use Rattle.sql_model.specs.KeyOrder.{key_order, key_order_total}
 use Rattle.sql_model.specs.Keys.{same_values, values_at, key_at}
 use Rattle.ldv_value.specs.Sorted.{precedes_first}
+use Rattle.ldv_value.proofs.Options.{option_or-none}
 use Rattle.table_store.specs.Types.{Value, RowKey, Table, TableRow}
 use Rattle.table_store.specs.inner.Claims.{IsIndexOf, both_stop}
 use Rattle.table_store.specs.Histories.{TableHistory, rows_now, table_now}
@@ -38,10 +39,6 @@ find_alike : (places : List ℕ) (k q : List Value) → same_values k q ≡ true
 find_alike places k q same [] = refl
 find_alike places k q same (row ∷ rows) = λ j. cond (alike_right k q same (values_at places row.values) j) (Some row) (find_alike places k q same rows j)
 
-or_none : {X : Type 0} (o : Option X) → option_or o None ≡ o
-or_none None = refl
-or_none (Some x) = refl
-
 -- ---- an index of just these rows
 
 pub index_none : (places : List ℕ) (held : HeldKeys) → ((q : RowKey) → held q ≡ None) → IsIndexOf places held []
@@ -60,7 +57,7 @@ index_more places old new row rows index none put = record {
     | inr apart ↦
         put q ∙ ap (λ b. cond b (Some row.number) (old q)) apart ∙ index.only q
         ∙ sym (ap (option_map (λ (one : TableRow). one.number))
-        (find-append (has_key places q.values) rows (row ∷ []) ∙ ap (λ b. option_or (find (has_key places q.values) rows) (cond b (Some row) None)) apart ∙ or_none (find (has_key places q.values) rows)))
+        (find-append (has_key places q.values) rows (row ∷ []) ∙ ap (λ b. option_or (find (has_key places q.values) rows) (cond b (Some row) None)) apart ∙ option_or-none (find (has_key places q.values) rows)))
   ];
 }
 
