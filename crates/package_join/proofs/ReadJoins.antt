@@ -6,6 +6,7 @@ use Rattle.std.proofs.lemmas.List.{length-append}
 use Rattle.std.proofs.lemmas.Slice.Eq.{bytes_eq-Decides}
 use Rattle.ldv_value.proofs.Booleans.{and-parts}
 use Rattle.ldv_value.proofs.Options.{bind-some, same-some}
+use Rattle.ldv_value.proofs.SameBytes.{bytes_eq-itself}
 use Rattle.sha2.specs.Sha256.{sha256}
 use Rattle.package_layout.specs.declared.damage.DamageKind.{DamageKind}
 use Rattle.package_layout.specs.declared.damage.DamageKind.TheVariants.{Magic, Digest, Form}
@@ -77,9 +78,6 @@ digest_tests false d o e = absurd cc
 eight : 8 ≡ length joined_magic
 eight = refl
 
-same_bytes : (bytes : List ℕ) → bytes_eq bytes bytes ≡ true
-same_bytes bytes = (bytes_eq-Decides bytes bytes).1 refl
-
 anew_again : (j : Joined) → IsValidJoined j → joined_anew j ≡ Some j
 anew_again j v =
     let one : valid_test (run_package First j) ≡ true = v.first in
@@ -93,13 +91,13 @@ in_again j t v n =
     let anew : joined_anew j ≡ Some j = anew_again j v in
     ap (λ (o : Option Joined). o >>= λ k. joined_anew k >>= if_spelling_is bytes) read
     ∙ ap (λ (o : Option Joined). o >>= if_spelling_is bytes) anew
-    ∙ ap (λ (b : Bool). cond b (Some j) None) (same_bytes bytes)
+    ∙ ap (λ (b : Bool). cond b (Some j) None) (bytes_eq-itself bytes)
 
 pub read_again : (j : Joined) → IsTypedJoined j → IsValidJoined j → IsCountedJoined j → joined_reading (joined_spelling j) ≡ Ok j
 read_again j t v n =
     let bytes : List ℕ = joined_spelling j in
     let m : has_joined_magic bytes ≡ true =
-    ap (λ (l : List ℕ). bytes_eq l joined_magic) (spelled_magic joined_magic (joined_sections j) eight) ∙ same_bytes joined_magic in
+    ap (λ (l : List ℕ). bytes_eq l joined_magic) (spelled_magic joined_magic (joined_sections j) eight) ∙ bytes_eq-itself joined_magic in
     let d : has_digest bytes ≡ true = digest_test bytes (spelled_digest joined_magic (joined_sections j) eight) in
     let o : joined_in (middle bytes) ≡ Some j = ap joined_in (spelled_middle joined_magic (joined_sections j) eight) ∙ in_again j t v n in
     λ i. by_magic (m i) (d i) (o i)
