@@ -11,6 +11,7 @@ use Rattle.std.proofs.lemmas.Bool.{and_parts}
 use Rattle.std.proofs.lemmas.Cmp.{tied_back}
 use Rattle.ldv_value.proofs.SameBytes.{bytes_eq-true, nat_eq-true}
 use Rattle.ldv_value.proofs.Orderings.{is_eq-true}
+use Rattle.ldv_value.proofs.Booleans.{not-false}
 use Rattle.sql_model.specs.declared.table.Column.{Column}
 use Rattle.sql_model.specs.declared.table.Foreign.{Foreign}
 use Rattle.sql_model.specs.declared.table.Schema.{Schema}
@@ -81,15 +82,11 @@ pub no_clash_if : (b : Bool) (clash : Clash) → clash_if b clash ≡ None → b
 no_clash_if true clash none = cc
 no_clash_if false clash none = refl
 
-not_false : (b : Bool) → not b ≡ false → b ≡ true
-not_false true is = refl
-not_false false is = cc
-
 -- of two contents that don't differ, the first is the second where that is whole
 pub whole_of : (a b : Option (List ℕ)) → contents_differ a b ≡ false → (bytes : List ℕ) → b ≡ Some bytes → option_or a b ≡ Some bytes
 whole_of None b agree bytes is = is
 whole_of (Some x) None agree bytes is = cc
-whole_of (Some x) (Some y) agree bytes is = ap Some (bytes_eq-true x y (not_false (bytes_eq x y) agree)) ∙ is
+whole_of (Some x) (Some y) agree bytes is = ap Some (bytes_eq-true x y (not-false (bytes_eq x y) agree)) ∙ is
 
 flags : (a b : Bool) → same_flag a b ≡ true → a ≡ b
 flags true true is = refl
@@ -120,9 +117,9 @@ schemas a b is =
 
 pub same_tables : (a b : Table) → tables_differ a b ≡ false → (a.schema ≡ b.schema) × (a.next ≡ b.next)
 same_tables a b is =
-    let parts = and_parts (same_schema a.schema b.schema) (a.next == b.next) (not_false (same_schema a.schema b.schema && a.next == b.next) is) in
+    let parts = and_parts (same_schema a.schema b.schema) (a.next == b.next) (not-false (same_schema a.schema b.schema && a.next == b.next) is) in
     (schemas a.schema b.schema parts.0, nat_eq-true a.next b.next parts.1)
 
 pub same_rows : (a b : TableRow) → not (same_values a.values b.values) ≡ false → a.values ≡ b.values
 same_rows a b is =
-    all_exact a.values b.values (is_eq-true (values_order a.values b.values) (not_false (same_values a.values b.values) is))
+    all_exact a.values b.values (is_eq-true (values_order a.values b.values) (not-false (same_values a.values b.values) is))

@@ -263,10 +263,6 @@ good_next left r rs all is run stops same =
     let step : (list_all is_run rs && are_longest rs) ≡ (list_all is_run (r ∷ rs) && are_longest (r ∷ rs)) = rw run (rw stops refl) in
     step ∙ ap (λ (l : List Run). list_all is_run l && are_longest l) (sym is) ∙ same
 
-pub not_false : (x : Bool) → not x ≡ false → x ≡ true
-not_false true no-more = refl
-not_false false no-more = sym no-more
-
 -- ---- a run's events, one after another
 
 abbrev pub SmallFrom : ℕ → ℕ → ℕ → Type 0

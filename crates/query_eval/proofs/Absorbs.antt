@@ -8,7 +8,7 @@ use Rattle.std.specs.BTreeMap.{BTreeMap}
 use Rattle.std.specs.Ordering.{is_eq}
 use Rattle.std.proofs.lemmas.Bool.{cases_Bool}
 use Rattle.std.proofs.lemmas.Cmp.{tied_itself}
-use Rattle.ldv_value.proofs.Booleans.{true≢false}
+use Rattle.ldv_value.proofs.Booleans.{true≢false, not-true}
 use Rattle.ldv_value.proofs.Orderings.{is_eq-true}
 use Rattle.lineage.specs.Lineage.{Lineage, union_of}
 use Rattle.lineage.specs.declared.answer.Answer.{Answer}
@@ -199,10 +199,6 @@ apart_from p a v none some = elim (cases_Bool (same_values a.values v)) [
   | inr miss ↦ miss
 ]
 
-not_is : (b : Bool) → not b ≡ true → b ≡ false
-not_is true is = cc
-not_is false is = refl
-
 and_first : (a b : Bool) → cond a b false ≡ true → a ≡ true
 and_first true b is = refl
 and_first false b is = cc
@@ -232,7 +228,7 @@ merges_kept (a ∷ rest) p =
           ∷ merged_onto [] (both_filters (differs a.values) (λ b. p b.values) (λ b. both b.values) (λ b. swapped (other b.values) (p b.values)) rest j))
           ∙ ap (λ l. answer_of a.values (union_of a.lineage (lineage_of_answers (filter (with_values a.values) rest))) ∷ l)
           (merges_kept rest both
-          ∙ map_kept both (merged_answer rest) (merged_answer (a ∷ rest)) (λ v is. merged_past a rest v (turned a.values v ∙ not_is (same_values v a.values) (and_first (other v) (p v) is))) values
+          ∙ map_kept both (merged_answer rest) (merged_answer (a ∷ rest)) (λ v is. merged_past a rest v (turned a.values v ∙ not-true (same_values v a.values) (and_first (other v) (p v) is))) values
           ∙ ap (map (merged_answer (a ∷ rest))) (sym (both_filters p other both (λ v. refl) values)))
           ∙ ap (λ b. answer_of a.values (lineage_of_answers (cond b (a ∷ filter (with_values a.values) rest) (filter (with_values a.values) rest))) ∷ map (merged_answer (a ∷ rest)) (filter p (filter other values)))
           (sym (is_same a.values a.values refl))
