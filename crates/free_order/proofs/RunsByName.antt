@@ -1,8 +1,9 @@
 -- A run over recorded replies, whatever chooses its steps, is a run of its processes taken by name.
-use Rattle.std.proofs.Common.{◌≡◌, ℕ, zero, suc, ◌+◌, List, [], ◌∷◌, ◌++◌, length, refl, sym, ap, ◌∙◌, subst, Bool, true, false, arith, inl, inr}
-use Rattle.std.specs.Prelude.{Option, Some, None, is_some, map, ◌||◌, slice_get, slice_set}
+use Rattle.std.proofs.Common.{◌≡◌, ℕ, zero, suc, ◌+◌, List, [], ◌∷◌, ◌++◌, length, refl, sym, ap, ◌∙◌, subst, true, false, arith, inl, inr}
+use Rattle.std.specs.Prelude.{Option, Some, None, is_some, map, slice_get, slice_set}
 use Rattle.std.specs.List.{AllByRecursion}
 use Rattle.std.proofs.lemmas.Bool.{cases_Bool}
+use Rattle.ldv_value.proofs.Booleans.{or-parts}
 use Rattle.free_order.specs.Types.{Act, Event, Reply, Entry}
 use Rattle.run_model.specs.Core.{Process, Core, have_all_ended, is_over}
 use Rattle.run_model.specs.Database.{Answer, Gives, Diverges}
@@ -83,11 +84,6 @@ run_grows (suc n) picks s = elim (cases_Bool (is_over s.core)) [
 
 -- ---- one step
 
-neither : (a b : Bool) → (a || b) ≡ false → (a ≡ false) × (b ≡ false)
-neither false false none = (refl, refl)
-neither false true none = absurd cc
-neither true b none = absurd cc
-
 pub record Stride (s : State LogDatabase) (m : StepResult LogDatabase) : Type 0 where
   pub process : Process
   pub there : slice_get s.core.processes m.process ≡ Some process
@@ -105,7 +101,7 @@ asking_process k s (Some a) = told_process k a s (log_base s.db a.question)
 
 pub stride : (pick : Option ℕ) (s : State LogDatabase) → Real s.core → is_over s.core ≡ false → Stride s (move log_base pick s)
 stride pick s real going =
-    let parts = neither (is_some s.core.diverged) (have_all_ended s.core) going in
+    let parts = or-parts (is_some s.core.diverged) (have_all_ended s.core) going in
     let k : ℕ = choose pick s.core in
     let runs : MayRun k s.core = chosen_runs pick s.core real.ordered parts.1 in
     let t : State LogDatabase = chosen k s in
