@@ -1,5 +1,5 @@
 -- Steps of a machine, over slots and as they are defined.
-use Rattle.std.proofs.Common.{◌≡◌, ℕ, zero, suc, List, [], ◌∷◌, ◌++◌, length, map, refl, sym, ap, ◌∙◌, subst, Bool, ◌<◌, ◌≤◌, arith, append_assoc}
+use Rattle.std.proofs.Common.{◌≡◌, ℕ, zero, suc, List, [], ◌∷◌, ◌++◌, length, map, refl, sym, ap, ◌∙◌, subst, Bool, ◌<◌, arith, append_assoc}
 use Rattle.std.specs.Prelude.{Option, Some, None, pos, slice_get, slice_set, option_and_then}
 use Rattle.std.proofs.lemmas.List.{map-append}
 use Rattle.ldv_value.proofs.Lists.{append-nil}
@@ -295,11 +295,6 @@ none_told m number step c keeps old none core =
 
 pub none_core : (m : Machine) (number : ℕ) (c : Core) → slice_get m.processes.items number ≡ None → IsCore m c → IsCore m (local_step number c).core
 none_core m number c none core = subst (λ (e : Effect). IsCore m e.core) (sym (kept_none m number c core none)) core
-
-pub get_none : {X : Type 0} (xs : List X) (n : ℕ) → length xs ≤ n → slice_get xs n ≡ None
-get_none [] n past = refl
-get_none (x ∷ xs) zero past = absurd (omega (arith, past))
-get_none (x ∷ xs) (suc n) past = get_none xs n (omega (arith, past))
 
 -- ---- the end of a process
 
