@@ -6,6 +6,7 @@ use Rattle.std.specs.List.{flat_map}
 use Rattle.std.proofs.lemmas.Bool.{cases_Bool}
 use Rattle.std.proofs.lemmas.Bool.Decides.{nat_tests}
 use Rattle.std.proofs.lemmas.Simd.{map-map}
+use Rattle.ldv_value.proofs.Options.{same-some}
 use Rattle.lineage.specs.Lineage.{Lineage}
 use Rattle.lineage.specs.Rows.{kept_origins, IsRow, AnswersStandFor, PicksStandFor, joined_row}
 use Rattle.lineage.specs.StandsFor.{StandsFor}
@@ -221,9 +222,6 @@ module _ (names : List (List ℕ)) (versions : Versions) (keep : Bool) (scope : 
   placed-plan : IsPlacedPlan scope plan
   placed-plan = record { items = placed-items core.items plan.items is.items; having = placed-having core.having plan.having is.having }
 
-some-same : (a b : Core) → Some a ≡ Some b → a ≡ b
-some-same a b is = cc
-
 pub grouped_is : (checked : Checked) (place : ℕ) (of : Core) (picks : List Pick) (plan : Plan) (grouped : Grouped)
     → core_at checked place ≡ Some of
     → ((scope : List InScope) → places_at checked place ≡ places_in scope (core_names of) → IsPlan scope of plan)
@@ -231,7 +229,7 @@ pub grouped_is : (checked : Checked) (place : ℕ) (of : Core) (picks : List Pic
     → IsGrouped checked place picks grouped
 grouped_is checked place of picks plan grouped at planned made query catalog core names versions keep all is got grouping stand =
     let scope : List InScope = scope_of core.from catalog in
-    let same : of ≡ core = some-same of core (sym at ∙ got) in
+    let same : of ≡ core = same-some of core (sym at ∙ got) in
     let here : IsPlan scope core plan =
     subst (λ (c : Core). IsPlan scope c plan) same
     (planned scope (places-are checked query catalog is place core got ∙ ap (λ (c : Core). places_in scope (core_names c)) (sym same))) in

@@ -3,6 +3,7 @@ use Rattle.std.proofs.Common.{◌≡◌, ◌∙◌, sym, ap, subst, refl, ℕ, z
 use Rattle.std.specs.Prelude.{filter, slice_get, unwrap_or, if◌then◌else◌, option_to_list}
 use Rattle.std.specs.List.{flat_map}
 use Rattle.std.proofs.lemmas.List.{map-append}
+use Rattle.ldv_value.proofs.Options.{same-some}
 use Rattle.lineage.specs.Rows.{kept_origins, IsRow, AnswersStandFor, PicksStandFor, joined_row}
 use Rattle.lineage.specs.StandsFor.{StandsFor}
 use Rattle.lineage.specs.declared.answer.Answer.{Answer}
@@ -91,14 +92,11 @@ module _ (names : List (List ℕ)) (versions : Versions) (keep : Bool) (scope : 
   ungrouped alone all =
       sym (ap (λ (b : Bool). if b then map (group_row scope core) (filter (is_kept scope core.having) (groups_of scope core.group all)) else map (λ rows. group_row scope core (one_combination rows)) all) alone)
 
-pub some-same : (a b : Core) → Some a ≡ Some b → a ≡ b
-some-same a b is = cc
-
 -- ---- the answers of a core
 
 pub answer_of_all_columns-projected : (checked : Checked) (place : ℕ) (of : Core) (picks : List Pick) → core_at checked place ≡ Some of → of.items ≡ None → IsProjected checked place picks (map answer_of_all_columns picks)
 answer_of_all_columns-projected checked place of picks at none query catalog core names versions keep all is got alone stand =
-    let same : of ≡ core = some-same of core (sym at ∙ got) in
+    let same : of ≡ core = same-some of core (sym at ∙ got) in
     subst (AnswersStandFor names versions keep (map answer_of_all_columns picks)) (ungrouped names versions keep (scope_of core.from catalog) core alone all)
     (answer_of_all_columns-stands names versions keep (scope_of core.from catalog) core (ap (λ (c : Core). c.items) (sym same) ∙ none) picks all stand)
 
@@ -109,7 +107,7 @@ pub items-projected : (checked : Checked) (place : ℕ) (of : Core) (items : Lis
     → ((scope : List InScope) → AreAllPlaced scope placed → answers ≡ map (projected_answer scope placed) picks)
     → IsProjected checked place picks answers
 items-projected checked place of items picks placed answers at some exprs placing made query catalog core names versions keep all is got alone stand =
-    let same : of ≡ core = some-same of core (sym at ∙ got) in
+    let same : of ≡ core = same-some of core (sym at ∙ got) in
     let scope : List InScope = scope_of core.from catalog in
     let written : core.items ≡ Some items = ap (λ (c : Core). c.items) (sym same) ∙ some in
     let rest = flat_map names_in core.picks ++ (core.group ++ flat_map names_in (option_to_list core.having)) in

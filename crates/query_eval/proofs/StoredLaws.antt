@@ -18,6 +18,7 @@ use Rattle.ldv_value.proofs.Lists.{all-tested, all-weaker, list_all-map}
 use Rattle.ldv_value.proofs.SameBytes.{bytes_eq-true}
 use Rattle.ldv_value.specs.Sorted.{is_strictly_sorted, precedes_first}
 use Rattle.ldv_value.proofs.Orderings.{is_lt-true}
+use Rattle.ldv_value.proofs.Options.{same-some}
 use Rattle.lineage.specs.Lineage.{name_at}
 use Rattle.lineage.specs.declared.answer.Pick.{Pick}
 use Rattle.core_parts.proofs.FixingLaws.{fixed-key}
@@ -30,7 +31,6 @@ use Rattle.query_eval.proofs.LeavingLaws.{rows-left}
 use Rattle.query_eval.proofs.Widths.{all-wide}
 use Rattle.query_eval.proofs.Picks.{all-stand}
 use Rattle.query_eval.proofs.Probes.{value-next}
-use Rattle.query_eval.proofs.Projections.{some-same}
 use Rattle.core_parts.specs.Conditions.{AreConditions}
 use Rattle.query_eval.specs.inner.Conditions.{AreOfCore}
 use Rattle.core_parts.specs.Fixing.{FixesKey}
@@ -355,7 +355,7 @@ pub stored-picked : (checked : Checked) (place : ℕ) (store : StoreHistory) (ke
     → ArePicked checked place store keep picks
 stored-picked checked place store keep conds sources picks of formed at conditions stored made query core versions given got tell =
     let database : is_database (tables_now store) ≡ true = formed.database in
-    let same : of ≡ core = some-same of core (sym at ∙ got) in
+    let same : of ≡ core = same-some of core (sym at ∙ got) in
     let own : AreStored store conds core.from 0 sources = subst (λ (c : Core). AreStored store conds c.from 0 sources) same stored in
     let catalog : Catalog = catalog_of (tables_now store) in
     let scope : List InScope = scope_of core.from catalog in
