@@ -24,7 +24,7 @@ use Rattle.table_store.proofs.KeptKeyLaws.{rises_replaced, all_more}
 use Rattle.table_store.proofs.RekeyLaws.{index_none, index_more}
 use Rattle.table_store.proofs.TableLaws.{number_found}
 
-some_is : {X : Type 0} {a b : X} → Some a ≡ Some b → a ≡ b
+pub some_is : {X : Type 0} {a b : X} → Some a ≡ Some b → a ≡ b
 some_is same = cc
 
 -- ---- rows that are found
