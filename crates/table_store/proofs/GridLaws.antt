@@ -265,7 +265,7 @@ column_there (c ∷ columns) (suc column) text is =
 pub column_within : (columns : List Cells) (kinds : List Bool) → kinds_of columns ≡ kinds → (column : ℕ) → slice_get kinds column ≡ Some false → (column < length columns) × ((get_or columns column no_cells).text ≡ false)
 column_within columns kinds seen column is = column_there columns column false (ap (λ (l : List Bool). slice_get l column) seen ∙ is)
 
-and_turned : (a b : Bool) → (a && b) ≡ (b && a)
+pub and_turned : (a b : Bool) → (a && b) ≡ (b && a)
 and_turned true true = refl
 and_turned true false = refl
 and_turned false true = refl

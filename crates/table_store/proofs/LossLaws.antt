@@ -20,6 +20,7 @@ use Rattle.table_store.specs.Stops.{is_among, with_removed, with_replaced, had_r
 use Rattle.table_store.specs.Types.{Foreign, Table, TableRow, Value}
 use Rattle.table_store.proofs.FirstLaws.{first_flat, first_filter_map, first_agree, first_filter, first_filtered, first_none, first_none_of}
 use Rattle.table_store.proofs.PutLaws.{TakesPlace, any_same, or_swap, replaced_has}
+use Rattle.table_store.proofs.GridLaws.{and_turned}
 
 -- ---- the first child, table by table and slot by slot
 
@@ -133,12 +134,6 @@ module _ (t : Table) (keyed : (length t.schema.key == 0) ≡ false) (unique : ar
 
   pub removed_lost : is_lost t.schema.key t.rows (with_removed numbers t).rows key ≡ loses (λ k. false) numbers t key
   removed_lost = lost_by false (with_removed numbers t).rows (sym (or-false out))
-
-and_turned : (a b : Bool) → (a && b) ≡ (b && a)
-and_turned true true = refl
-and_turned true false = refl
-and_turned false true = refl
-and_turned false false = refl
 
 pub replaced_lost : (t : Table) → (length t.schema.key == 0) ≡ false → are_keys_unique t.schema.key (values_in t.rows) ≡ true
     → (given : List TableRow) → TakesPlace given given → had_rows given t ≡ true → (key : List Value)
