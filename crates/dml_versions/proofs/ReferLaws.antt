@@ -26,9 +26,10 @@ use Rattle.sql_model.specs.Tables.{table_precedes}
 use Rattle.table_store.specs.Histories.{tables_now, table_now, history_at, history_of_row, version_now, last_next_number}
 use Rattle.table_store.specs.RowOrder.{AreInOrder}
 use Rattle.table_store.specs.Referring.{CanBePut, parent_stop, child_stop, with_put, are_apart, parents_in_db, version_at, origin_now, parents_now, IsAtVersion}
-use Rattle.table_store.specs.Stops.{replaced_by, with_changed, with_replaced, had_rows, has_number, values_of}
+use Rattle.table_store.specs.Stops.{replaced_by, with_changed, with_replaced, had_rows, has_number}
 use Rattle.table_store.specs.declared.error.StoreStop.{StoreStop}
 use Rattle.table_store.specs.declared.error.StoreStop.TheVariants as stop
+use Rattle.table_store.proofs.FormedLaws.{values_numbered}
 use Rattle.dml_versions.proofs.StandingLaws.{updates-are, number-stands, version-is}
 use Rattle.dml_versions.proofs.TableLaws.{table-found, table-now}
 use Rattle.dml_versions.specs.Finding.{version_of}
@@ -343,10 +344,6 @@ pub put-inserted : (t : Table) → list_all (λ (row : TableRow). nat_lt row.num
 put-inserted t below values =
     λ j. with_rows t (none_replaced t.next values t.rows below j ++ all_new t below t.next (omega arith) values j) t.next
 
-pub values-back : (next : ℕ) (values : List (List Value)) → values_of (numbered_rows next values) ≡ values
-values-back next [] = refl
-values-back next (v ∷ vs) = ap (λ (l : List (List Value)). v ∷ l) (values-back (next + 1) vs)
-
 -- ---- parents by what tables become
 
 -- the rows and the schema of the table that is changed are all that parents hang on
@@ -421,7 +418,7 @@ pub next-put : (next : ℕ) (values : List (List Value)) (o : Option Table) → 
 next-put next values None is = tt
 next-put next values (Some t) is =
     let same : t.next ≡ next = same-some t.next next is in
-    inr (λ j. numbered_rows (sym same j) (sym (values-back next values) j))
+    inr (λ j. numbered_rows (sym same j) (sym (values_numbered next values) j))
 
 -- ---- the version of a row that is there
 

@@ -51,7 +51,7 @@ given_rows columns (row ∷ rows) shape null =
     (row_from columns row.values ((Decides-eqb (length row.values) (length columns)).0 one.0) one.1 parts.0)
     (given_rows columns rows both.1 parts.1)
 
-values_numbered : (n : ℕ) (rows : List (List Value)) → values_of (numbered_rows n rows) ≡ rows
+pub values_numbered : (n : ℕ) (rows : List (List Value)) → values_of (numbered_rows n rows) ≡ rows
 values_numbered n [] = refl
 values_numbered n (values ∷ rows) = ap (λ (l : List (List Value)). values ∷ l) (values_numbered (n + 1) rows)
 
