@@ -51,15 +51,9 @@ use Rattle.sql_model.specs.Tables.{AreWellFormed, is_database, is_row, is_valid_
 use Rattle.query_eval.specs.Types.{Catalog, Checked, Core, FromItem, Schema, Statement, Table, TableRow, Value}
 use Rattle.table_store.specs.Histories.{TableHistory, StoreHistory, history_at, is_history, rows_now, table_now, tables_now}
 use Rattle.table_store.specs.KeyIndex.{has_key}
+use Rattle.table_store.proofs.NowLaws.{found_now}
 
 -- ---- the tables of a store, as they are now
-
-pub table-now : (name : List ℕ) (tables : List TableHistory) → table_at name (map table_now tables) ≡ option_map table_now (find (is_history name) tables)
-table-now name [] = refl
-table-now name (table ∷ tables) = elim (cases_Bool (same_text table.name name)) [
-  | inl hit ↦ rw hit refl
-  | inr miss ↦ rw miss (table-now name tables)
-]
 
 abbrev IsValid : TableHistory → Type 0
 IsValid table = is_valid_table (table_now table) ≡ true
@@ -174,7 +168,7 @@ module _ (store : StoreHistory) (database : is_database (tables_now store) ≡ t
 
   table-wide : (item : FromItem) → AllByRecursion (λ row. length row.values ≡ width_at store item) (rows_of (table_at item.table (tables_now store)))
   table-wide item =
-      subst (λ (o : Option Table). AllByRecursion (λ row. length row.values ≡ width_at store item) (rows_of o)) (sym (table-now item.table store.tables))
+      subst (λ (o : Option Table). AllByRecursion (λ row. length row.values ≡ width_at store item) (rows_of o)) (sym (found_now item.table store.tables))
       (wide-of (history_at item.table store) (valid-at item.table))
 
   pub tables-wide : (from : List FromItem) → TablesAreWide from (tables_now store) (map (width_at store) from)
@@ -187,7 +181,7 @@ module _ (store : StoreHistory) (database : is_database (tables_now store) ≡ t
         → map table_row source.rows ≡ filter (keep_of conds before (history_at item.table store) source.rows stored.taken.rows) (rows_of (table_at item.table (tables_now store)))
     stored-rows item before source stored =
         chosen-are conds before (history_at item.table store) source.rows stored.taken.rows (valid-at item.table)
-        ∙ ap (λ (o : Option Table). filter (keep_of conds before (history_at item.table store) source.rows stored.taken.rows) (rows_of o)) (sym (table-now item.table store.tables))
+        ∙ ap (λ (o : Option Table). filter (keep_of conds before (history_at item.table store) source.rows stored.taken.rows) (rows_of o)) (sym (found_now item.table store.tables))
 
     source-wide : (item : FromItem) (before : ℕ) (source : Source) → IsStored store conds item before source → AreWide source.width source.rows
     source-wide item before source stored =
