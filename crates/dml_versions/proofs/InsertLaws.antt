@@ -31,12 +31,13 @@ use Rattle.dml_versions.proofs.CheckLaws.{found-distinct, found-valid, names-the
 use Rattle.dml_versions.proofs.KeptLaws.{SameAll}
 use Rattle.dml_versions.proofs.MatchLaws.{same-changed}
 use Rattle.dml_versions.proofs.NumberLaws.{precedes}
-use Rattle.dml_versions.proofs.ReferLaws.{or-nothing, refs_stop, added-childless, put-inserted, parents-same}
+use Rattle.dml_versions.proofs.ReferLaws.{refs_stop, added-childless, put-inserted, parents-same}
 use Rattle.dml_versions.proofs.RefuseLaws.{stop_by, due_by, not-refused, not-full, no-clash-by, child-there, same-all-by, all-needs, refused-change, refused-after}
 use Rattle.dml_versions.proofs.TableLaws.{table-now, history-name, schema-now}
 use Rattle.dml_versions.proofs.VersionLaws.{updates-history_of_new_row, versions-changed}
 use Rattle.dml_versions.specs.Changing.{IsWhole, IsStoreAfter, IsChildThere, inserted_change, refused_change}
 use Rattle.sql_model.specs.Tables.{AreWellFormed}
+use Rattle.sql_model.proofs.UniqueKeys.{or_none}
 use Rattle.dml_versions.specs.Needing.{inserted_member, parent_needs, HaveParents}
 use Rattle.dml_versions.specs.Types.{Need, Statement, TheInsert, Insert, Changed, Column, Expr, Value, Table, TableRow, StoreHistory, TableHistory}
 use Rattle.dml_versions.specs.Versions.{versions_now}
@@ -173,7 +174,7 @@ module _ (store : StoreHistory) (insert : Insert) (table : TableHistory) (there 
       refused_not = not-refused store s insert.table table there order target_is check none_due
 
       pub insert-fine : stop_by t (lacks_value s (catalog_of db) t) (key_clash (table_after s (catalog_of db) t)) (is_full s t) ≡ None
-      insert-fine = (or-nothing (stop_by t (lacks_value s (catalog_of db) t) (key_clash (table_after s (catalog_of db) t)) (is_full s t)) (refs_stop missing orphan) none_due).0
+      insert-fine = (or_none (stop_by t (lacks_value s (catalog_of db) t) (key_clash (table_after s (catalog_of db) t)) (is_full s t)) (refs_stop missing orphan) none_due).0
 
       made_is : made_unless None (versions_now store) (Some s) db ≡ map (new_member t) (rows_of_insert insert t)
       made_is = ap (members_made (versions_now store) s (catalog_of db)) target_is

@@ -44,10 +44,6 @@ pub or-case : {X : Type 0} (a b : Option X) (x : X) → option_or a b ≡ Some x
 or-case None b x is = inr (refl, is)
 or-case (Some y) b x is = inl is
 
-pub or-nothing : {X : Type 0} (a b : Option X) → option_or a b ≡ None → (a ≡ None) × (b ≡ None)
-or-nothing None b is = (refl, is)
-or-nothing (Some y) b is = cc
-
 -- ---- a parent that is missing, or a child that loses its own
 
 abbrev pub refs_stop : Option MissingParent → Option Orphan → Option StoreStop

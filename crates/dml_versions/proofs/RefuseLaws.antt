@@ -15,6 +15,7 @@ use Rattle.sql_model.specs.Refusals.{check_refusal}
 use Rattle.sql_model.specs.Scope.{catalog_of}
 use Rattle.sql_model.specs.Statements.{target, refusal_of}
 use Rattle.sql_model.specs.Tables.{table_precedes}
+use Rattle.sql_model.proofs.UniqueKeys.{or_none}
 use Rattle.table_store.specs.Histories.{tables_now, table_now, history_at, last_next_number}
 use Rattle.table_store.specs.RowOrder.{AreInOrder}
 use Rattle.table_store.specs.Stops.{stop_if, key_stop, stood_number, StopsAs}
@@ -25,7 +26,7 @@ use Rattle.dml_versions.proofs.KeptLaws.{SameOwn, SameAll}
 use Rattle.dml_versions.proofs.MatchLaws.{AllStand, versions-are, needs-is}
 use Rattle.dml_versions.proofs.NeedLaws.{added, needs-matched, needs-refused}
 use Rattle.dml_versions.proofs.NumberLaws.{AreSorted}
-use Rattle.dml_versions.proofs.ReferLaws.{or-case, or-nothing, refs_stop, refs_refusal, refs-none, refs-null, refs-key, refs-full, refs-parent, refs-child, IsChild, orphan-there, row-there}
+use Rattle.dml_versions.proofs.ReferLaws.{or-case, refs_stop, refs_refusal, refs-none, refs-null, refs-key, refs-full, refs-parent, refs-child, IsChild, orphan-there, row-there}
 use Rattle.dml_versions.proofs.StandingLaws.{IsStanding, number-stands}
 use Rattle.dml_versions.proofs.TableLaws.{history-name}
 use Rattle.dml_versions.specs.Changing.{IsWhole, IsStoreAfter, IsChildThere, refused_change, refused_by}
@@ -158,7 +159,7 @@ module _ (store : StoreHistory) (s : Statement) (name : List ℕ) (table : Table
 
   pub not-refused : due_by t lacks clash full missing orphan ≡ None → refusal_of (Some s) db ≡ None
   not-refused is =
-      let both = or-nothing own refs is in
+      let both = or_none own refs is in
       refs_refuse both.0 None (refs-none missing orphan both.1)
 
   -- ---- which cause it is

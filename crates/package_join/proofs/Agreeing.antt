@@ -17,6 +17,7 @@ use Rattle.sql_model.specs.declared.table.Foreign.{Foreign}
 use Rattle.sql_model.specs.declared.table.Schema.{Schema}
 use Rattle.sql_model.specs.Keys.{same_values}
 use Rattle.sql_model.specs.KeyOrder.{values_order}
+use Rattle.sql_model.proofs.UniqueKeys.{or_none}
 use Rattle.run_model.specs.Between.{IsIn}
 use Rattle.package_join.specs.Types.{Table, TableRow}
 use Rattle.package_join.specs.declared.joined.Clash.{Clash}
@@ -26,10 +27,6 @@ use Rattle.package_join.specs.Same.{same_flag, same_column, same_foreign, same_k
 use Rattle.package_join.proofs.Cuts.{Rising}
 use Rattle.package_join.proofs.Lists.{pointwise_equal}
 use Rattle.core_parts.proofs.SameValues.{all_exact}
-
-pub none_of : {A : Type 0} (a b : Option A) → option_or a b ≡ None → (a ≡ None) × (b ≡ None)
-none_of None b is = (refl, is)
-none_of (Some x) b is = cc
 
 module _ {X K C : Type 0} (key : X → K) (key_cmp : K → K → Ordering) (total : IsTotalOrder key_cmp) (differ : X → X → Option C) where
   abbrev by_key : X → X → Ordering
@@ -60,14 +57,14 @@ module _ {X K C : Type 0} (key : X → K) (key_cmp : K → K → Ordering) (tota
               absurd (apart (total.trans (key x) (key z) (key v) is (rz.0 v v_more)) (ap (λ (w : X). by_key w v) (sym u_is) ∙ equal))
           by Less is none more u v (inr u_more) v_in equal = later (z ∷ zs) none rz u v u_more v_in equal
           by Equal is none more u v (inl u_is) (inl v_is) equal =
-              (λ j. differ (u_is j) (v_is j)) ∙ (none_of (differ x z) (first_clash by_key differ xs zs) none).0
+              (λ j. differ (u_is j) (v_is j)) ∙ (or_none (differ x z) (first_clash by_key differ xs zs) none).0
           by Equal is none more u v (inl u_is) (inr v_more) equal =
               absurd (apart (total.congr (key x) (key z) (key v) is ∙ rz.0 v v_more) (ap (λ (w : X). by_key w v) (sym u_is) ∙ equal))
           by Equal is none more u v (inr u_more) (inl v_is) equal =
               let less : by_key z u ≡ Less = sym (total.congr (key x) (key z) (key u) is) ∙ rx.0 u u_more in
               absurd (apart less (tied_back total (key u) (key z) (ap (by_key u) (sym v_is) ∙ equal)))
           by Equal is none more u v (inr u_more) (inr v_more) equal =
-              later zs (none_of (differ x z) (first_clash by_key differ xs zs) none).1 rz.1 u v u_more v_more equal
+              later zs (or_none (differ x z) (first_clash by_key differ xs zs) none).1 rz.1 u v u_more v_more equal
           by Greater is none more u v (inl u_is) (inl v_is) equal =
               let never : Greater ≡ Equal = sym is ∙ (λ j. by_key (sym u_is j) (sym v_is j)) ∙ equal in cc
           by Greater is none more u v (inr u_more) (inl v_is) equal =

@@ -21,7 +21,7 @@ use Rattle.std.specs.Ordering.{is_lt}
 use Rattle.script_parse.specs.Script.{script_of}
 use Rattle.script_parse.specs.declared.script.Instr.{Instr}
 use Rattle.sql_model.proofs.Databases.{database-from}
-use Rattle.sql_model.proofs.UniqueKeys.{unique-clash}
+use Rattle.sql_model.proofs.UniqueKeys.{unique-clash, or_none}
 use Rattle.sql_model.proofs.ValidTables.{table-from}
 use Rattle.sql_model.specs.Changes.{KeyClash, key_clash}
 use Rattle.sql_model.specs.ForeignKeys.{have_parents}
@@ -46,7 +46,6 @@ use Rattle.package_join.specs.Laws.{IsIncluded, RunsLaw}
 use Rattle.package_join.specs.Merging.{first_clash, first_of}
 use Rattle.package_join.specs.Rooms.{TypedCommonTable}
 use Rattle.package_join.specs.Worlds.{empty_if, joined_world, seen_file, world_file, world_of}
-use Rattle.package_join.proofs.Agreeing.{none_of}
 use Rattle.package_join.proofs.Cuts.{Rising}
 use Rattle.package_join.proofs.ListedTables.{listed, own_parents}
 use Rattle.package_join.proofs.Lists.{all_in, each_of, filter_map_in}
@@ -290,8 +289,8 @@ lower_number a b e = is_lower (nat_lt a b) (a == b) e
 
 first_none : (ts : List Table) → first_of keys_clash ts ≡ None → (t : Table) → IsIn t ts → keys_clash t ≡ None
 first_none [] none t is = absurd is
-first_none (u ∷ us) none t (inl same) = ap keys_clash same ∙ (none_of (keys_clash u) (first_of keys_clash us) none).0
-first_none (u ∷ us) none t (inr more) = first_none us (none_of (keys_clash u) (first_of keys_clash us) none).1 t more
+first_none (u ∷ us) none t (inl same) = ap keys_clash same ∙ (or_none (keys_clash u) (first_of keys_clash us) none).0
+first_none (u ∷ us) none t (inr more) = first_none us (or_none (keys_clash u) (first_of keys_clash us) none).1 t more
 
 no_key_clash : (t : Table) → keys_clash t ≡ None → key_clash t ≡ None
 no_key_clash t none = by (key_clash t) none
@@ -311,9 +310,9 @@ module _ (a b : Package) (ia : IsIncluded a) (ib : IsIncluded b) (none : clash_o
 
   no_keys : first_of keys_clash both_lists ≡ None
   no_keys =
-      let rest = (none_of (first_clash file_cmp file_clash a.files b.files) (clash_in (own_tables a) (own_tables b) both_lists) none).1 in
-      let two = none_of (first_clash table_cmp table_clash (own_tables a) (own_tables b)) (option_or (first_clash table_cmp rows_clash (own_tables a) (own_tables b)) (first_of keys_clash both_lists)) rest in
-      (none_of (first_clash table_cmp rows_clash (own_tables a) (own_tables b)) (first_of keys_clash both_lists) two.1).1
+      let rest = (or_none (first_clash file_cmp file_clash a.files b.files) (clash_in (own_tables a) (own_tables b) both_lists) none).1 in
+      let two = or_none (first_clash table_cmp table_clash (own_tables a) (own_tables b)) (option_or (first_clash table_cmp rows_clash (own_tables a) (own_tables b)) (first_of keys_clash both_lists)) rest in
+      (or_none (first_clash table_cmp rows_clash (own_tables a) (own_tables b)) (first_of keys_clash both_lists) two.1).1
 
   of_either : (p : TableRow → Bool) (xs ys : List TableRow) → list_all p xs ≡ true → list_all p ys ≡ true → list_all p (merged_rows xs ys) ≡ true
   of_either p xs ys hx hy = all_in p (merged_rows xs ys) (λ z is. by z (in_merged number_of nat_cmp nat_cmp_total both_rows (λ x y e. refl) z xs ys is))
