@@ -5,7 +5,7 @@ use Rattle.std.specs.List.{list_all, flat_map, AllByRecursion}
 use Rattle.std.specs.Option.{option_map}
 use Rattle.ldv_value.proofs.Booleans.{and-parts, or-parts, not-false}
 use Rattle.ldv_value.proofs.Lists.{found-all}
-use Rattle.sql_laws.proofs.ChangedTables.{check-parts}
+use Rattle.sql_laws.proofs.ChangedTables.{check-parts, second_of}
 use Rattle.sql_model.proofs.Databases.{valid_of_database}
 use Rattle.sql_model.proofs.Equations.{table_schema, schema_found}
 use Rattle.sql_model.specs.Kinds.{names_in}
@@ -104,11 +104,6 @@ all_plain (exprs ∷ rows) is = let both = parts (flat_map names_in exprs) (flat
 first_of : (a b : Bool) → (not a || b) ≡ false → (a ≡ true) × (b ≡ false)
 first_of true b is = (refl, is)
 first_of false b is = cc
-
-second_of : (a b : Bool) → (a || not b) ≡ false → b ≡ true
-second_of true b is = cc
-second_of false true is = refl
-second_of false false is = cc
 
 -- an accepted INSERT
 module _ (insert : Insert) (catalog : Catalog) (check : check_refusal (TheInsert insert) catalog ≡ None) where
