@@ -18,12 +18,9 @@ use Rattle.run_model.specs.StepReplies.{row_count, status_value}
 use Rattle.run_model.specs.StepVariables.{calculation, to_number, printed_line}
 use Rattle.run_model.proofs.StepKeeps.{Keeps, keeps_assign, keeps_glue, keeps_cut, keeps_jump, keeps_line, keeps_fetch, keeps_close, keeps_open, keeps_read, keeps_write, keeps_copy, keeps_remove, keeps_test, calculated_byte, to_number_byte, counted_byte, status_value_byte}
 use Rattle.run_model.proofs.StepActs.{none_is}
+use Rattle.run_model.proofs.NeverStuck.{Any}
 use Rattle.proc_core.proofs.Machines.{set_itself}
 use Rattle.proc_core.proofs.Readiness.{Moved}
-
--- of no file anything is to be known
-abbrev Any : List ℕ → Type 0
-Any path = Unit {0}
 
 module _ (number : ℕ) (p : Process) (c : Core) where
   abbrev pub MovedTo : Core → Type 0
