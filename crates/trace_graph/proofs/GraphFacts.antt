@@ -100,11 +100,11 @@ edges_law links test n =
 -- ---- intervals
 
 -- what is folded in last is within
-below_least : (a : ℕ) (ts : List ℕ) → fold min a ts ≤ a
+pub below_least : (a : ℕ) (ts : List ℕ) → fold min a ts ≤ a
 below_least a [] = omega arith
 below_least a (t ∷ ts) = let rest : fold min (min a t) ts ≤ min a t = below_least (min a t) ts in omega (arith, rest)
 
-above_greatest : (a : ℕ) (ts : List ℕ) → a ≤ fold max a ts
+pub above_greatest : (a : ℕ) (ts : List ℕ) → a ≤ fold max a ts
 above_greatest a [] = omega arith
 above_greatest a (t ∷ ts) = let rest : max a t ≤ fold max (max a t) ts = above_greatest (max a t) ts in omega (arith, rest)
 
