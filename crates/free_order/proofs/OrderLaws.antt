@@ -26,12 +26,12 @@ use Rattle.run_model.specs.State.{State}
 use Rattle.run_model.specs.WorldRun.{core_after, ends_in, ends_within, steps_in, steps_by, events_in, events_by, events_within, outcome_within}
 use Rattle.run_laws.proofs.LogLaws.{slice, packed, same, script_is, core_is, steps_are, log_law}
 use Rattle.run_laws.proofs.RunSteps.{steps_most}
-use Rattle.run_laws.proofs.ProcessNames.{names, Grows, grows_itself, Named}
+use Rattle.run_laws.proofs.ProcessNames.{names, Grows, grows_itself, Named, last_parts}
 use Rattle.free_order.specs.Private.{spawned_in, writes_own, private_test}
 use Rattle.free_order.specs.Orders.{with_seed, from_step, OrderLaw}
 use Rattle.free_order.proofs.Boards.{Solo, Board, May, Owner, IsOpenTo, Goes, Runs}
 use Rattle.free_order.proofs.ByName.{at_number, solo_of, solos, board_of, named_found}
-use Rattle.free_order.proofs.SoundBoards.{no_end, last_parts, Sound}
+use Rattle.free_order.proofs.SoundBoards.{no_end, Sound}
 use Rattle.free_order.proofs.Descent.{IsEnd, Leads, leads, at_end}
 use Rattle.free_order.proofs.RunsByName.{Real, Stride, stride, Went, went, EventsFit, ran, births_append, made_counts, all_steps}
 use Rattle.free_order.proofs.EndsByName.{same_outcome, solo_found}
