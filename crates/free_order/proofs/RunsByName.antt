@@ -13,11 +13,12 @@ use Rattle.run_model.specs.Run.{first_pick, later_picks, chosen, move_of, move, 
 use Rattle.run_model.specs.RunLaw.{MayRun}
 use Rattle.run_model.specs.Schedule.{choose}
 use Rattle.run_model.specs.State.{State, StepResult}
-use Rattle.run_model.specs.Step.{Ask, entry_of, process_with_reply, local_step, next_ask, took_of, told, asking}
+use Rattle.run_model.specs.Step.{Ask, process_with_reply, local_step, next_ask, took_of, told, asking}
 use Rattle.run_model.proofs.Equations.{run-zero, run-over, run-suc, steps-zero, steps-over, steps-suc, events-zero, events-over, events-suc}
 use Rattle.run_model.proofs.NeverStuck.{Ordered, move_ordered, chosen_runs}
-use Rattle.run_laws.proofs.ProcessNames.{Later, Grows, grows_itself, grows_trans, found_later, set_grows, names, names_set, Distinct, Named, named_later}
+use Rattle.run_laws.proofs.ProcessNames.{Grows, grows_itself, grows_trans, found_later, set_grows, names, names_set, Distinct, Named, named_later}
 use Rattle.run_laws.proofs.QuietSteps.{Quiets, quiet_quiets}
+use Rattle.run_laws.proofs.LogRuns.{replied_later}
 use Rattle.free_order.specs.Private.{spawned_by, spawned_in}
 use Rattle.free_order.proofs.Boards.{Solo, Board, Use, Deed, deed, born_count, applied, May, Owner, Fits, Fit, Goes, Runs}
 use Rattle.free_order.proofs.ByName.{at_number, solo_of, board_of, name_at}
@@ -35,14 +36,6 @@ pub record Real (c : Core) : Type 0 where
 record Grown (c d : Core) : Type 0 where
   grows : Grows c.processes d.processes
   named : Named c.processes → Named d.processes
-
-replied_later : (a : Ask) (reply : Reply) (p : Process) → Later p (process_with_reply a reply p)
-replied_later a reply p = record {
-  name = refl;
-  spawned = omega arith;
-  rest = entry_of a.question reply ∷ [];
-  entries = refl;
-}
 
 took_grown : (o : Option Process) (k : ℕ) (a : Ask) (reply : Reply) (c : Core) → slice_get c.processes k ≡ o
     → Grown c (took_of o k a reply c)
