@@ -8,7 +8,7 @@ use Rattle.std.proofs.lemmas.Bool.{cases_Bool, ltb-true, lt-ltb, false≢true}
 use Rattle.std.proofs.lemmas.Bool.Decides.{nat_tests}
 use Rattle.ldv_value.specs.Sorted.{is_strictly_sorted}
 use Rattle.ldv_value.specs.declared.value.Value.{Value}
-use Rattle.ldv_value.proofs.Booleans.{and-parts, and-assoc, and-true, and-false, or-parts, or-from, or-left, or-right, or-false, not-true}
+use Rattle.ldv_value.proofs.Booleans.{and-parts, and-assoc, and-true, and-false, or-parts, or-from, or-false, not-true}
 use Rattle.ldv_value.proofs.Lists.{list_any-map, list_any-append, list_any-false, found-passes, found-all}
 use Rattle.ldv_value.proofs.SameBytes.{bytes_eq-true, nat_eq-true}
 use Rattle.sql_model.specs.declared.catalog.Catalog.{Catalog}
@@ -24,6 +24,7 @@ use Rattle.sql_model.specs.Scope.{InScope, same_text, is_table, table_at, rows_o
 use Rattle.sql_model.specs.Statements.{target, refusal_of, after_unless, after}
 use Rattle.sql_model.specs.Tables.{is_valid_table, table_precedes, is_database}
 use Rattle.sql_model.proofs.Databases.{tables_of_database}
+use Rattle.sql_model.proofs.ReferenceLists.{any_fewer}
 use Rattle.sql_laws.proofs.NeedsSound.{needs_good}
 use Rattle.sql_laws.proofs.AskedTables.{asked_needs_law}
 use Rattle.sql_laws.proofs.StatementParts.{after_is}
@@ -81,21 +82,6 @@ fewer true whole more = rw (more refl) refl
 fewer false whole more = refl
 
 -- ---- lists
-
--- one among those that are left is one of all
-any_left : {X : Type 0} (p keep : X → Bool) (xs : List X) → list_any p (filter keep xs) ≡ true → list_any p xs ≡ true
-any_left p keep [] some = some
-any_left p keep (x ∷ xs) some = elim (cases_Bool (keep x)) [
-  | inl stays ↦
-      let parts : (p x || list_any p (filter keep xs)) ≡ true = rw stays at some in
-      elim (cases_Bool (p x)) [
-        | inl here ↦ or-left (p x) (list_any p xs) here
-        | inr other ↦
-            or-right (p x) (list_any p xs)
-            (any_left p keep xs (sym (ap (λ (b : Bool). b || list_any p (filter keep xs)) other) ∙ parts))
-      ]
-  | inr goes ↦ or-right (p x) (list_any p xs) (any_left p keep xs (rw goes at some))
-]
 
 module _ {X : Type 0} (p : X → Bool) where
   none_of : (xs : List X) → AllByRecursion (λ x. p x ≡ false) xs → list_any p xs ≡ false
@@ -272,7 +258,7 @@ module _ (table : List ℕ) (row : ℕ) where
       ≡ (list_any (is_first versions) ns || makes (map (next_of versions) (lineage ns)))
   lineage_seen versions ns =
       (λ j. list_any (is_first versions) ns || (next_makes versions (lineage ns) j || next_changes versions (lineage ns) j))
-      ∙ fewer (list_any (is_first versions) (lineage ns)) (list_any (is_first versions) ns) (any_left (is_first versions) is_lineage ns)
+      ∙ fewer (list_any (is_first versions) (lineage ns)) (list_any (is_first versions) ns) (any_fewer (is_first versions) is_lineage ns)
       ∙ sym (λ j. list_any (is_first versions) ns || next_makes versions (lineage ns) j)
 
   seen_by : (versions : Versions) (refusal : Option SqlRefusal) (s : Statement) (o : Option Table) (ns : List NeededRow)
