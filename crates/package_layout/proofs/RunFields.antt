@@ -22,7 +22,7 @@ use Rattle.package_layout.proofs.Numbers.{long_law}
 use Rattle.package_layout.proofs.Tables.{u32_law}
 use Rattle.package_layout.specs.Runs.{Run, TypedRun, CountedRun, run_room, run_spelling, run_at, runs_spelling, runs_at, trace_room, events_of_runs}
 use Rattle.package_layout.specs.Runs.{Begun, run_of_one, joins, run_with_event, runs_from, runs_of, steps_from, at_step, run_events, events_in, total, last_step, is_run, stops_before, are_longest, are_runs, max_events}
-use Rattle.package_layout.proofs.Runs.{grown_begun, grown_events, unasked, last_from, last-is, last_step-is, joined, IsBegun, single_begun, events_again, formed_run, run_shape, run_some, heads_by, runs_again, HasShape, IsSmall, run_is, all_formed, runs_good, events-length}
+use Rattle.package_layout.proofs.Runs.{grown_begun, grown_events, unasked, last_from, last-is, last_step-is, joined, IsBegun, single_begun, events_again, formed_run, run_shape, heads_by, runs_again, HasShape, IsSmall, run_is, all_formed, runs_good, events-length}
 
 -- ---- numbers of their types, and room
 
@@ -276,9 +276,6 @@ small_first r h = by r.count refl
     by (suc n) is =
         let less : last_from r.first.step r.stride n < 2 ^ 32 = subst (λ (k : ℕ). k < 2 ^ 32) (last_step-is r n is) (run_shape r h).2 in
         small_steps r.first.step r.stride n (2 ^ 32) less
-
-pub some_first : (r : Run) → is_run r ≡ true → 1 ≤ r.count
-some_first = run_some
 
 -- an act that is there twice is no question
 pub unasked_run : (r : Run) → is_run r ≡ true → 1 < r.count → is_asked r.first.act ≡ false
