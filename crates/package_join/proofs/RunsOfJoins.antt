@@ -29,6 +29,7 @@ use Rattle.sql_model.specs.Scope.{catalog_of}
 use Rattle.sql_model.specs.SqlNames.{sql_name_test}
 use Rattle.sql_model.specs.Tables.{are_tables, is_database, is_described, is_row, is_short, is_valid_table, numbers_test, are_keys_unique, schema_test, table_precedes, tables_test}
 use Rattle.sql_model.specs.declared.table.Schema.{Schema}
+use Rattle.sql_model.proofs.NewNumbers.{row_precedes}
 use Rattle.run_model.proofs.StartScripts.{first_script}
 use Rattle.run_model.specs.Between.{IsIn}
 use Rattle.run_model.specs.Package.{own_row, own_table}
@@ -276,9 +277,6 @@ own_met p ip t is =
     let from = of_map own_table p.tables t is in
     subst Met (sym from.1.1) (packed_met from.0 (each_of table_rule p.tables (listed p.tables ip.tables).each from.0 from.1.0))
 
-abbrev number_lower : TableRow → TableRow → Bool
-number_lower a b = nat_lt a.number b.number
-
 is_lower : (lower same : Bool) → cond lower Less (cond same Equal Greater) ≡ Less → lower ≡ true
 is_lower true same e = refl
 is_lower false true e = let never : Equal ≡ Less = e in absurd cc
@@ -360,11 +358,11 @@ module _ (a b : Package) (ia : IsIncluded a) (ib : IsIncluded b) (none : clash_o
   table_valid typed z is =
       let met : Met z = merged_met z is in
       let small = (typed_in TypedCommonTable both_lists typed z is).1.1.0 in
-      let sorted : is_strictly_sorted number_lower z.rows ≡ true =
-      sorted_from number_of nat_cmp number_lower (λ r s e. lower_number r.number s.number e) z.rows (rows_rising z is) in
+      let sorted : is_strictly_sorted row_precedes z.rows ≡ true =
+      sorted_from number_of nat_cmp row_precedes (λ r s e. lower_number r.number s.number e) z.rows (rows_rising z is) in
       table-from z (record {
         next = le-leb z.next max_next (omega (arith, small));
-        numbers = and-from (is_strictly_sorted number_lower z.rows) (list_all (λ (row : TableRow). nat_lt row.number z.next) z.rows) sorted met.below;
+        numbers = and-from (is_strictly_sorted row_precedes z.rows) (list_all (λ (row : TableRow). nat_lt row.number z.next) z.rows) sorted met.below;
         rows = met.rows;
         keys = unique-clash z.schema.key z.rows (no_key_clash z (first_none both_lists no_keys z is));
       })
