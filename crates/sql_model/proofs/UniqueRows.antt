@@ -15,6 +15,7 @@ use Rattle.sql_model.specs.References.{has_key}
 use Rattle.sql_model.specs.Tables.{are_keys_unique}
 use Rattle.sql_model.specs.Types.{Value, TableRow}
 use Rattle.sql_model.proofs.ReferenceLists.{any_fewer}
+use Rattle.sql_model.proofs.UniqueKeys.{values_in}
 
 -- ---- two rows of one key
 
@@ -58,9 +59,6 @@ unique_one same f p q alike (x ∷ xs) apart hit = elim (cases_Bool (p x)) [
 ]
 
 -- ---- rows of a table
-
-abbrev pub values_in : List TableRow → List (List Value)
-values_in rows = map (λ row. row.values) rows
 
 pub keys_apart : (key : List ℕ) (rows : List TableRow) (b : Bool) → (length key == 0) ≡ b → b ≡ false → are_keys_unique key (values_in rows) ≡ true
     → repeats same_values (map (values_at key) (values_in rows)) ≡ false

@@ -9,11 +9,12 @@ use Rattle.std.proofs.lemmas.Grind.{flat_map-append as flat_append}
 use Rattle.ldv_value.proofs.Booleans.{or-false}
 use Rattle.sql_model.proofs.Elsewhere.{no_orphans, elsewhere}
 use Rattle.sql_model.proofs.ReferenceLists.{any_split, lost_same}
-use Rattle.sql_model.proofs.UniqueRows.{values_in, apart_from}
+use Rattle.sql_model.proofs.UniqueRows.{apart_from}
 use Rattle.sql_model.specs.ForeignKeys.{have_parents}
 use Rattle.sql_model.specs.References.{Child, Orphan, first_in, reference, has_key, is_lost, orphan_by, orphans_of, other_rows, child_of, children, orphans}
 use Rattle.sql_model.specs.Scope.{is_table, same_text, table_at, catalog_of}
 use Rattle.sql_model.specs.Tables.{are_keys_unique}
+use Rattle.sql_model.proofs.UniqueKeys.{values_in}
 use Rattle.table_store.specs.inner.Afterwards.{first_some, loses, is_other, refers_to, orphan_in_row, orphan_in_other, orphan_in_slot, orphan_in_table, orphan_in_tables}
 use Rattle.table_store.specs.Histories.{TableHistory, row_now, rows_now, table_now}
 use Rattle.table_store.specs.Stops.{is_among, with_removed, with_replaced, had_rows}

@@ -14,8 +14,8 @@ use Rattle.ldv_value.proofs.Lists.{found-passes, sorted-under}
 use Rattle.ldv_value.proofs.Options.{is_none-true, none-some, same-some}
 use Rattle.ldv_value.proofs.SameBytes.{bytes_eq-true}
 use Rattle.row_version.specs.History.{current_values, version}
-use Rattle.sql_model.proofs.UniqueKeys.{unique-clash, or_none}
-use Rattle.sql_model.proofs.UniqueRows.{found_same, keys_apart, repeats_map, same_both, values_in}
+use Rattle.sql_model.proofs.UniqueKeys.{unique-clash, or_none, values_in}
+use Rattle.sql_model.proofs.UniqueRows.{found_same, keys_apart, repeats_map, same_both}
 use Rattle.sql_model.specs.Changes.{key_clash, numbered_rows, had_row}
 use Rattle.sql_model.specs.KeyOrder.{key_order}
 use Rattle.sql_model.specs.Keys.{key_at, repeats, same_values, values_at}
