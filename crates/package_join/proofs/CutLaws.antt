@@ -30,7 +30,7 @@ use Rattle.package_join.specs.Layout.{bare_run_at, bare_run_spelling, run_at, co
 use Rattle.package_join.specs.RunJoins.{whole_run, whole_join, cut_run_at, cut_joined_of, cut_sections, picked_runs, with_runs, if_rejoined, join_of_packages, cut_anew, cut_spelled_so, cuts_in}
 use Rattle.package_join.specs.Rooms.{joined_room}
 use Rattle.package_join.specs.Valid.{if_joined, joined_anew, if_spelling_is, joined_in}
-use Rattle.package_join.proofs.LayoutLaws.{all_took}
+use Rattle.package_join.proofs.LayoutLaws.{all_took, ended}
 use Rattle.package_join.proofs.RoomLaws.{picked_room}
 
 -- ---- a run
@@ -87,9 +87,6 @@ put q = behind (record { files = q.0.0; tables = q.0.1.0; first = q.0.1.1.0; sec
 
 abbrev cut_put : CutParts × List ℕ → DecodeResult RunJoined
 cut_put q = behind (record { files = q.0.0; tables = q.0.1.0; first = q.0.1.1.0; second = q.0.1.1.1 }) q.1
-
-abbrev ended : Joined × List ℕ → Option Joined
-ended x = cond (length x.1 == 0) (Some x.0) None
 
 abbrev cut_ended : RunJoined × List ℕ → Option RunJoined
 cut_ended x = cond (length x.1 == 0) (Some x.0) None

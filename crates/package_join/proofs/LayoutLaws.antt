@@ -434,7 +434,7 @@ all_again j t h n =
     let two : joined_at (joined_sections j) ≡ Some (j, []) = ap joined_at (sym (append-nil (joined_sections j))) ∙ one in
     rw two refl
 
-abbrev ended : Joined × List ℕ → Option Joined
+abbrev pub ended : Joined × List ℕ → Option Joined
 ended x = cond (length x.1 == 0) (Some x.0) None
 
 ended_is : (x : Joined × List ℕ) (j : Joined) (b : Bool) → (length x.1 == 0) ≡ b → cond b (Some x.0) None ≡ Some j → (x.0 ≡ j) × (x.1 ≡ [])

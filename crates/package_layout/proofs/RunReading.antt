@@ -24,7 +24,7 @@ use Rattle.package_layout.specs.Whole.{bare_at, trace_at, with_events}
 use Rattle.package_layout.proofs.Laws.{IsBytes, IsBytes-take, IsBytes-drop}
 use Rattle.package_layout.proofs.Runs.{events_again, runs_good, events-length}
 use Rattle.package_layout.proofs.RunFields.{small_events}
-use Rattle.package_layout.proofs.Whole.{bare_took, events_took}
+use Rattle.package_layout.proofs.Whole.{bare_took, events_took, ended}
 
 -- ---- the trace
 
@@ -70,9 +70,6 @@ trace_cut Two bytes h = two_cut (list_at w32 run_at bytes)
 
 abbrev of_parts : Package → List Run → RunPackage
 of_parts p rs = record { bare = p; runs = rs }
-
-abbrev ended : Package × List ℕ → Option Package
-ended x = cond (length x.1 == 0) (Some x.0) None
 
 -- the package is valid, and the version has what is in it
 abbrev passes : Version → Package → Bool

@@ -351,7 +351,7 @@ all_again v p t h k n =
     let two : sections_at v (sections v p) ≡ Some (p, []) = ap (sections_at v) (sym (append-nil (sections v p))) ∙ one in
     rw two refl
 
-abbrev ended : Package × List ℕ → Option Package
+abbrev pub ended : Package × List ℕ → Option Package
 ended x = cond (length x.1 == 0) (Some x.0) None
 
 ended_is : (x : Package × List ℕ) (p : Package) (b : Bool) → (length x.1 == 0) ≡ b → cond b (Some x.0) None ≡ Some p → (x.0 ≡ p) × (x.1 ≡ [])
