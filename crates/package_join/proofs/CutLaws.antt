@@ -18,6 +18,7 @@ use Rattle.package_layout.specs.Valid.{valid_test}
 use Rattle.package_layout.specs.Whole.{has_room}
 use Rattle.package_layout.proofs.Laws.{IsBytes}
 use Rattle.package_layout.proofs.Runs.{is_cut}
+use Rattle.package_layout.proofs.RunReading.{behind}
 use Rattle.package_join.specs.Types.{Package, PackedFile, Table}
 use Rattle.package_join.specs.declared.joined.Clash.{Clash}
 use Rattle.package_join.specs.declared.joined.Joined.{Joined}
@@ -37,10 +38,6 @@ use Rattle.package_join.proofs.RoomLaws.{picked_room}
 
 abbrev run_kept : CutRun × List ℕ → DecodeResult JoinedRun
 run_kept x = cond (are_runs x.0.runs) (Some (whole_run x.0, x.1)) None
-
--- what is found, and the bytes behind it
-abbrev behind : {X : Type 0} → X → List ℕ → DecodeResult X
-behind x rest = Some (x, rest)
 
 abbrev paired : {X Y : Type 0} → X → Y × List ℕ → DecodeResult (X × Y)
 paired x y = Some ((x, y.0), y.1)

@@ -32,7 +32,7 @@ abbrev kept_events : List Run × List ℕ → DecodeResult (List Event)
 kept_events x = cond (are_runs x.0) (Some (events_in x.0, x.1)) None
 
 -- what is found, and the bytes behind it
-abbrev behind : {X : Type 0} → X → List ℕ → DecodeResult X
+abbrev pub behind : {X : Type 0} → X → List ℕ → DecodeResult X
 behind x rest = Some (x, rest)
 
 kept_by : (b : Bool) (es : List Event) (rest : List ℕ) → (cond b (Some es) None >>= λ x. behind x rest) ≡ cond b (behind es rest) None
