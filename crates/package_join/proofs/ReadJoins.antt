@@ -18,7 +18,7 @@ use Rattle.package_layout.specs.Fields.{◌>>=◌, Makes}
 use Rattle.package_layout.specs.Runs.{are_runs}
 use Rattle.package_layout.specs.Valid.{HasDigest, before_digest, has_digest, middle, valid_test}
 use Rattle.package_layout.proofs.Laws.{IsBytes, IsBytes-take, IsBytes-drop, just}
-use Rattle.package_layout.proofs.Package.{digest_fact, digest_test, true_not_false, not_true}
+use Rattle.package_layout.proofs.Package.{digest_fact, digest_test, true_not_false, not_true, stopped}
 use Rattle.package_join.specs.Types.{Package}
 use Rattle.package_join.specs.declared.joined.Clash.{Clash}
 use Rattle.package_join.specs.declared.joined.Joined.{Joined}
@@ -242,9 +242,6 @@ not_damaged bytes r o once = by (joined_damage_before bytes) once
     by : (d : Option DamageKind) → IfSome d (λ kind. Ok r ≡ damaged {X = RunJoined} kind) → IfSome d (λ kind. o ≡ damaged kind)
     by None h = tt
     by (Some kind) h = absurd cc
-
-abbrev stopped : {X : Type 0} → PackageStop → Result X PackageStop
-stopped stop = Err stop
 
 same_stop : (stop other : PackageStop) → stopped {X = RunJoined} stop ≡ stopped {X = RunJoined} other → stop ≡ other
 same_stop stop other e = cc

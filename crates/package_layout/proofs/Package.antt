@@ -314,7 +314,7 @@ not_damaged bytes r o once = by (damage_before bytes) once
     by None h = tt
     by (Some kind) h = absurd cc
 
-abbrev stopped : {X : Type 0} → PackageStop → Result X PackageStop
+abbrev pub stopped : {X : Type 0} → PackageStop → Result X PackageStop
 stopped stop = Err stop
 
 same_stop : (stop other : PackageStop) → stopped {X = RunPackage} stop ≡ stopped {X = RunPackage} other → stop ≡ other
