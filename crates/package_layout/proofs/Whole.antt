@@ -51,7 +51,7 @@ mode_law : IsField mode_spelling Anything always Uncounted mode_at
 mode_law = made_law (to_be_bytes w8) (λ n. n < 256) always (number_at w8) Anything always mode_of mode_number (number_law w8 256 wide8)
     (λ m t f. mode_again m) (λ n m t f e. (mode_back n m e, tt, refl))
 
-files_law : IsField (list_spelling w32 file_spelling) (AllByRecursion TypedFile) always (CountedList CountedFile) (list_at w32 file_at)
+pub files_law : IsField (list_spelling w32 file_spelling) (AllByRecursion TypedFile) always (CountedList CountedFile) (list_at w32 file_at)
 files_law = restate (list_spelling w32 file_spelling) (AllByRecursion TypedFile) (AllByRecursion TypedFile) (list_all always) always (list_at w32 file_at) (long_law file_spelling TypedFile always file_at file_law file_filled)
     (λ fs t h. (t, list_all-always fs)) (λ fs t h. (t, refl))
 
