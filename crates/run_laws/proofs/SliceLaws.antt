@@ -101,7 +101,7 @@ own_law n w =
 
 -- ---- packed tables have their parents among them
 
-own_catalog : (ts : List PackedTable) → catalog_of (map own_table ts) ≡ packed_catalog ts
+pub own_catalog : (ts : List PackedTable) → catalog_of (map own_table ts) ≡ packed_catalog ts
 own_catalog ts = λ j. record {
   names = map-map (λ (t : Table). t.name) own_table ts j;
   schemas = map-map (λ (t : Table). t.schema) own_table ts j;
