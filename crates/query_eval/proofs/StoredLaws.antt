@@ -48,9 +48,9 @@ use Rattle.sql_model.specs.Refusals.{cores_of, doubles_source, is_missing, table
 use Rattle.sql_model.specs.Scope.{InScope, catalog_of, is_schema, rows_of, same_text, schema_in, scope_of, table_at, value_at}
 use Rattle.sql_model.proofs.Databases.{sorted_of_database, valid_of_database}
 use Rattle.sql_model.specs.Tables.{AreWellFormed, is_database, is_row, is_valid_table, table_precedes}
+use Rattle.sql_model.specs.References.{has_key}
 use Rattle.query_eval.specs.Types.{Catalog, Checked, Core, FromItem, Schema, Statement, Table, TableRow, Value}
 use Rattle.table_store.specs.Histories.{TableHistory, StoreHistory, history_at, is_history, rows_now, table_now, tables_now}
-use Rattle.table_store.specs.KeyIndex.{has_key}
 use Rattle.table_store.proofs.NowLaws.{found_now}
 
 -- ---- the tables of a store, as they are now

@@ -11,10 +11,11 @@ use Rattle.ldv_value.proofs.Booleans.{and-parts, and-false, false≢true, or-rig
 use Rattle.sql_model.specs.Changes.{KeyClash, clash_or, clash_after, shares_key}
 use Rattle.sql_model.specs.KeyOrder.{key_order}
 use Rattle.sql_model.specs.Keys.{same_values, values_at, key_at}
+use Rattle.sql_model.specs.References.{has_key}
 use Rattle.table_store.specs.Types.{Value, RowKey, TableRow}
 use Rattle.table_store.specs.inner.Claims.{IsIndexOf, both_stop}
 use Rattle.table_store.specs.inner.GivenKeys.{with_claims, unless_given, keeper, clash_of, earlier_clash, first_clash, is_below, IsLate, HasKeyAt, IsClash, AreJudged}
-use Rattle.table_store.specs.KeyIndex.{has_key, row_of_key, HeldKeys, AreHeld}
+use Rattle.table_store.specs.KeyIndex.{row_of_key, HeldKeys, AreHeld}
 use Rattle.table_store.specs.Stops.{replaced_by, are_sorted_rows}
 use Rattle.table_store.specs.declared.clash.Clash.{Clash}
 use Rattle.table_store.specs.declared.error.StoreStop.TheVariants.{KeyTaken}

@@ -20,10 +20,11 @@ use Rattle.row_version.specs.History.{current_values}
 use Rattle.sql_model.specs.KeyOrder.{key_order, key_order_total}
 use Rattle.sql_model.specs.Keys.{same_values, values_at, key_at, repeats}
 use Rattle.sql_model.specs.Tables.{are_keys_unique}
+use Rattle.sql_model.specs.References.{has_key}
 use Rattle.table_store.specs.Types.{Value, RowKey, TableRow}
 use Rattle.table_store.specs.Histories.{RowHistory, no_history, row_of, row_now, rows_now}
 use Rattle.table_store.specs.inner.IndexView.{held_in}
-use Rattle.table_store.specs.KeyIndex.{has_key, HeldKeys, AreHeld, AreIndexed}
+use Rattle.table_store.specs.KeyIndex.{HeldKeys, AreHeld, AreIndexed}
 use Rattle.table_store.specs.RowOrder.{AreInOrder}
 use Rattle.table_store.specs.declared.index.Index.{Index}
 

@@ -13,12 +13,13 @@ use Rattle.ldv_value.proofs.Booleans.{and-parts}
 use Rattle.sql_model.specs.Changes.{KeyClash, key_clash, clash_after, clash_by, has_null}
 use Rattle.sql_model.specs.KeyOrder.{key_order, key_order_total}
 use Rattle.sql_model.specs.Keys.{same_values, values_at, key_at}
+use Rattle.sql_model.specs.References.{has_key}
 use Rattle.ldv_value.specs.Sorted.{precedes_first}
 use Rattle.ldv_value.proofs.Options.{option_or-none}
 use Rattle.table_store.specs.Types.{Value, RowKey, Table, TableRow}
 use Rattle.table_store.specs.inner.Claims.{IsIndexOf, both_stop}
 use Rattle.table_store.specs.Histories.{TableHistory, rows_now, table_now}
-use Rattle.table_store.specs.KeyIndex.{has_key, row_of_key, HeldKeys}
+use Rattle.table_store.specs.KeyIndex.{row_of_key, HeldKeys}
 use Rattle.table_store.specs.Stops.{replaced_by, with_replaced, are_sorted_rows, key_stop, stop_if, replace_stop, StopsAs}
 use Rattle.table_store.specs.declared.error.StoreStop.{StoreStop}
 use Rattle.table_store.specs.declared.error.StoreStop.TheVariants.{NotNull, KeyTaken}
