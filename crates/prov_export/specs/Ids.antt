@@ -7,6 +7,7 @@ use Rattle.std.specs.Prelude.{Bool, true, false, ◌&&◌, ◌==◌, nat_le, if�
 use Rattle.std.specs.Prelude.{Option, Some, None, option_map, option_and_then}
 use Rattle.std.specs.Fmt.{decimal}
 use Rattle.std.specs.Str.{is_utf8}
+use Rattle.sql_model.specs.TextBytes.{is_digit}
 use Rattle.prov_export.specs.Types.{Member, Node, Path, Process, Row, Ask, Reply}
 
 -- paths, row versions and replies are entities; processes and statements are activities
@@ -36,9 +37,6 @@ abbrev pub after : List ℕ → List ℕ → Option (List ℕ)
 after [] text = Some text
 after (p ∷ ps) [] = None
 after (p ∷ ps) (t ∷ ts) = if p == t then after ps ts else None
-
-abbrev pub is_digit : ℕ → Bool
-is_digit byte = nat_le 48 byte && nat_le byte 57
 
 abbrev pub with_digit : ℕ → ℕ → Option ℕ
 with_digit n byte =
