@@ -11,4 +11,3 @@ pub mod Names
 pub mod OnceLaws
 pub mod Places
 pub mod RowLists
-pub mod SameValues

@@ -5,38 +5,18 @@ use Rattle.std.specs.List.{AllByRecursion}
 use Rattle.std.specs.Option.{option_map}
 use Rattle.std.specs.BTreeMap as tree
 use Rattle.std.specs.BTreeMap.{BTreeMap}
-use Rattle.std.specs.Ordering.{is_eq}
 use Rattle.std.proofs.lemmas.Bool.{cases_Bool}
-use Rattle.std.proofs.lemmas.Cmp.{tied_itself}
 use Rattle.std.proofs.lemmas.Simd.{map-map}
 use Rattle.ldv_value.proofs.Booleans.{true≢false}
-use Rattle.ldv_value.proofs.Orderings.{is_eq-true}
 use Rattle.lineage.specs.declared.answer.Pick.{Pick}
 use Rattle.core_parts.proofs.Lists.{both_filters, kept_twice, all_kept}
-use Rattle.core_parts.proofs.SameValues.{all_exact}
-use Rattle.sql_model.specs.KeyOrder.{values_order, values_total}
+use Rattle.sql_model.specs.KeyOrder.{values_order}
 use Rattle.sql_model.specs.Keys.{same_values}
 use Rattle.sql_model.specs.QueryAnswer.{distinct_values}
+use Rattle.sql_model.proofs.SameValues.{same_turned, is_same, same_exact}
 use Rattle.group_eval.specs.Grouping.{key_of, is_under, picks_under, keyed_groups, own_picks, group_of, number_of, with_pick, groups_with_pick, grouped_onto, IsIndex}
 use Rattle.group_eval.specs.Types.{Value}
 use Rattle.group_eval.specs.declared.groups.KeyedGroup.{KeyedGroup}
-
--- ---- the same values
-
-same_is : (a b : List Value) → same_values a b ≡ true → a ≡ b
-same_is a b is = all_exact a b (is_eq-true (values_order a b) is)
-
-is_same : (a b : List Value) → a ≡ b → same_values a b ≡ true
-is_same a b is = ap (λ (v : List Value). same_values a v) (sym is) ∙ ap is_eq (tied_itself values_total a)
-
-turned : (a b : List Value) → same_values a b ≡ same_values b a
-turned a b = elim (cases_Bool (same_values a b)) [
-  | inl hit ↦ hit ∙ sym (is_same b a (sym (same_is a b hit)))
-  | inr miss ↦ elim (cases_Bool (same_values b a)) [
-    | inl hit ↦ absurd (true≢false (sym (is_same a b (sym (same_is b a hit))) ∙ miss))
-    | inr also ↦ miss ∙ sym also
-  ]
-]
 
 -- ---- the number of a group
 
@@ -136,7 +116,7 @@ module _ (places : List ℕ) where
       ap (λ (o : Option ℕ). cond (same_values m.key v) (Some zero) (option_map suc o)) (numbers_first ms p (missed_rest m ms (key_of places p) none) v)
       ∙ elim (cases_Bool (same_values (key_of places p) v)) [
         | inl hit ↦
-            let gone : same_values m.key v ≡ false = ap (same_values m.key) (sym (same_is (key_of places p) v hit)) ∙ missed m ms (key_of places p) none in
+            let gone : same_values m.key v ≡ false = ap (same_values m.key) (sym (same_exact (key_of places p) v hit)) ∙ missed m ms (key_of places p) none in
             rw (hit, gone) refl
         | inr miss ↦ rw miss refl
       ]
@@ -162,7 +142,7 @@ module _ (places : List ℕ) where
   first_grows m [] ms = ap (λ l. group_of m.key l ∷ ms) (sym (append-nil m.picks))
   first_grows m (p ∷ rest) ms = elim (cases_Bool (same_values m.key (key_of places p))) [
     | inl hit ↦
-        let back : is_under places m.key p ≡ true = turned (key_of places p) m.key ∙ hit in
+        let back : is_under places m.key p ≡ true = same_turned (key_of places p) m.key ∙ hit in
         ap (λ b. grouped_onto places (cond b (with_pick m p ∷ ms) (m ∷ groups_with_pick places ms p)) rest) hit
         ∙ first_grows (with_pick m p) rest ms
         ∙ ap (λ l. group_of m.key l ∷ grouped_onto places ms (filter (differs m.key) rest))
@@ -170,7 +150,7 @@ module _ (places : List ℕ) where
         ∙ sym (ap (λ b. group_of m.key (m.picks ++ cond b (p ∷ filter (is_under places m.key) rest) (filter (is_under places m.key) rest))
         ∷ grouped_onto places ms (cond (not b) (p ∷ filter (differs m.key) rest) (filter (differs m.key) rest))) back)
     | inr miss ↦
-        let back : is_under places m.key p ≡ false = turned (key_of places p) m.key ∙ miss in
+        let back : is_under places m.key p ≡ false = same_turned (key_of places p) m.key ∙ miss in
         ap (λ b. grouped_onto places (cond b (with_pick m p ∷ ms) (m ∷ groups_with_pick places ms p)) rest) miss
         ∙ first_grows m rest (groups_with_pick places ms p)
         ∙ sym (ap (λ b. group_of m.key (m.picks ++ cond b (p ∷ filter (is_under places m.key) rest) (filter (is_under places m.key) rest))
@@ -201,7 +181,7 @@ module _ (places : List ℕ) where
 
   apart_from : (q : List Value → Bool) (p : Pick) (v : List Value) → q (key_of places p) ≡ false → q v ≡ true → same_values (key_of places p) v ≡ false
   apart_from q p v none some = elim (cases_Bool (same_values (key_of places p) v)) [
-    | inl hit ↦ absurd (true≢false (sym some ∙ ap q (sym (same_is (key_of places p) v hit)) ∙ none))
+    | inl hit ↦ absurd (true≢false (sym some ∙ ap q (sym (same_exact (key_of places p) v hit)) ∙ none))
     | inr miss ↦ miss
   ]
 
@@ -232,11 +212,11 @@ module _ (places : List ℕ) where
             let both : List Value → Bool = λ v. cond (other v) (q v) false in
             ap (λ b. grouped_onto places [] (cond b (p ∷ kept) kept)) hit
             ∙ first_grows (alone p) kept []
-            ∙ (λ j. group_of own (p ∷ twice (is_under places own) (λ b. q (key_of places b)) (λ b same. ap q (same_is (key_of places b) own same) ∙ hit) rest j)
+            ∙ (λ j. group_of own (p ∷ twice (is_under places own) (λ b. q (key_of places b)) (λ b same. ap q (same_exact (key_of places b) own same) ∙ hit) rest j)
             ∷ grouped_onto places [] (both_filters (differs own) (λ b. q (key_of places b)) (λ b. both (key_of places b)) (λ b. swapped (other (key_of places b)) (q (key_of places b))) rest j))
             ∙ ap (λ l. group_of own (p ∷ filter (is_under places own) rest) ∷ l)
             (groups_kept rest both
-            ∙ map_kept both (whole rest) (whole (p ∷ rest)) (λ v is. whole_past p rest v (turned own v ∙ not_is (same_values v own) (and_first (other v) (q v) is))) values
+            ∙ map_kept both (whole rest) (whole (p ∷ rest)) (λ v is. whole_past p rest v (same_turned own v ∙ not_is (same_values v own) (and_first (other v) (q v) is))) values
             ∙ ap (map (whole (p ∷ rest))) (sym (both_filters q other both (λ v. refl) values)))
             ∙ ap (λ b. group_of own (cond b (p ∷ filter (is_under places own) rest) (filter (is_under places own) rest)) ∷ map (whole (p ∷ rest)) (filter q (filter other values)))
             (sym (is_same own own refl))
@@ -245,7 +225,7 @@ module _ (places : List ℕ) where
             ap (λ b. grouped_onto places [] (cond b (p ∷ kept) kept)) miss
             ∙ groups_kept rest q
             ∙ map_kept q (whole rest) (whole (p ∷ rest)) (λ v is. whole_past p rest v (apart_from q p v miss is)) values
-            ∙ ap (map (whole (p ∷ rest))) (sym (twice q other (λ v is. ap not (turned v own ∙ apart_from q p v miss is)) values))
+            ∙ ap (map (whole (p ∷ rest))) (sym (twice q other (λ v is. ap not (same_turned v own ∙ apart_from q p v miss is)) values))
             ∙ ap (λ b. map (whole (p ∷ rest)) (cond b (own ∷ filter q (filter other values)) (filter q (filter other values)))) (sym miss)
       ]
 

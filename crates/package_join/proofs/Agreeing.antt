@@ -18,6 +18,7 @@ use Rattle.sql_model.specs.declared.table.Schema.{Schema}
 use Rattle.sql_model.specs.Keys.{same_values}
 use Rattle.sql_model.specs.KeyOrder.{values_order}
 use Rattle.sql_model.proofs.UniqueKeys.{or_none}
+use Rattle.sql_model.proofs.SameValues.{all_exact}
 use Rattle.run_model.specs.Between.{IsIn}
 use Rattle.package_join.specs.Types.{Table, TableRow}
 use Rattle.package_join.specs.declared.joined.Clash.{Clash}
@@ -26,7 +27,6 @@ use Rattle.package_join.specs.Joined.{clash_if, tables_differ}
 use Rattle.package_join.specs.Same.{same_flag, same_column, same_foreign, same_keys, same_schema, contents_differ}
 use Rattle.package_join.proofs.Cuts.{Rising}
 use Rattle.package_join.proofs.Lists.{pointwise_equal}
-use Rattle.core_parts.proofs.SameValues.{all_exact}
 
 module _ {X K C : Type 0} (key : X → K) (key_cmp : K → K → Ordering) (total : IsTotalOrder key_cmp) (differ : X → X → Option C) where
   abbrev by_key : X → X → Ordering

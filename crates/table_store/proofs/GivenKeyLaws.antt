@@ -12,6 +12,7 @@ use Rattle.sql_model.specs.Changes.{KeyClash, clash_or, clash_after, shares_key}
 use Rattle.sql_model.specs.KeyOrder.{key_order}
 use Rattle.sql_model.specs.Keys.{same_values, values_at, key_at}
 use Rattle.sql_model.specs.References.{has_key}
+use Rattle.sql_model.proofs.SameValues.{same_exact}
 use Rattle.table_store.specs.Types.{Value, RowKey, TableRow}
 use Rattle.table_store.specs.inner.Claims.{IsIndexOf, both_stop}
 use Rattle.table_store.specs.inner.GivenKeys.{with_claims, unless_given, keeper, clash_of, earlier_clash, first_clash, is_below, IsLate, HasKeyAt, IsClash, AreJudged}
@@ -19,7 +20,7 @@ use Rattle.table_store.specs.KeyIndex.{row_of_key, HeldKeys, AreHeld}
 use Rattle.table_store.specs.Stops.{replaced_by, are_sorted_rows}
 use Rattle.table_store.specs.declared.clash.Clash.{Clash}
 use Rattle.table_store.specs.declared.error.StoreStop.TheVariants.{KeyTaken}
-use Rattle.table_store.proofs.IndexLaws.{same_itself, same_exact, any_alike, split_at}
+use Rattle.table_store.proofs.IndexLaws.{same_itself, any_alike, split_at}
 use Rattle.table_store.proofs.InsertLaws.{AllRows, all_append, all_weaker, found_all, RisesFrom, apart_key, clash_front}
 use Rattle.table_store.proofs.KeptKeyLaws.{rises_replaced, all_more}
 use Rattle.table_store.proofs.RekeyLaws.{index_none, index_more}

@@ -14,6 +14,7 @@ use Rattle.sql_model.specs.Changes.{KeyClash, key_clash, clash_after, clash_by, 
 use Rattle.sql_model.specs.KeyOrder.{key_order, key_order_total}
 use Rattle.sql_model.specs.Keys.{same_values, values_at, key_at}
 use Rattle.sql_model.specs.References.{has_key}
+use Rattle.sql_model.proofs.SameValues.{same_turned}
 use Rattle.ldv_value.specs.Sorted.{precedes_first}
 use Rattle.ldv_value.proofs.Options.{option_or-none}
 use Rattle.table_store.specs.Types.{Value, RowKey, Table, TableRow}
@@ -23,7 +24,7 @@ use Rattle.table_store.specs.KeyIndex.{row_of_key, HeldKeys}
 use Rattle.table_store.specs.Stops.{replaced_by, with_replaced, are_sorted_rows, key_stop, stop_if, replace_stop, StopsAs}
 use Rattle.table_store.specs.declared.error.StoreStop.{StoreStop}
 use Rattle.table_store.specs.declared.error.StoreStop.TheVariants.{NotNull, KeyTaken}
-use Rattle.table_store.proofs.IndexLaws.{key, same_turned, held_pushed}
+use Rattle.table_store.proofs.IndexLaws.{key, held_pushed}
 use Rattle.table_store.proofs.ClaimLaws.{keyed_clash, unkeyed_clash, stop_kept}
 use Rattle.table_store.proofs.InsertLaws.{AllRows, clash_all, any_self}
 use Rattle.table_store.proofs.TableLaws.{number_found}
