@@ -10,6 +10,7 @@ use Rattle.std.proofs.lemmas.Simd.{map-map}
 use Rattle.ldv_value.proofs.Booleans.{true≢false}
 use Rattle.lineage.specs.declared.answer.Pick.{Pick}
 use Rattle.core_parts.proofs.Lists.{both_filters, kept_twice, all_kept}
+use Rattle.core_parts.proofs.CountedOn.{not_some, some_more, none_zero, later_some}
 use Rattle.sql_model.specs.KeyOrder.{values_order}
 use Rattle.sql_model.specs.Keys.{same_values}
 use Rattle.sql_model.specs.QueryAnswer.{distinct_values}
@@ -19,18 +20,6 @@ use Rattle.group_eval.specs.Types.{Value}
 use Rattle.group_eval.specs.declared.groups.KeyedGroup.{KeyedGroup}
 
 -- ---- the number of a group
-
-not_some : (o : Option ℕ) → option_map suc o ≡ None → o ≡ None
-not_some None is = refl
-not_some (Some i) is = cc
-
-some_more : (o : Option ℕ) (i : ℕ) → option_map suc o ≡ Some (suc i) → o ≡ Some i
-some_more None i is = cc
-some_more (Some k) i is = let same : suc k ≡ suc i = cc in let it : k ≡ i = omega (arith, same) in ap Some it
-
-none_zero : (o : Option ℕ) → option_map suc o ≡ Some zero → ⊥
-none_zero None is = cc
-none_zero (Some k) is = let same : suc k ≡ zero = cc in omega (arith, same)
 
 missed : (m : KeyedGroup) (ms : List KeyedGroup) (v : List Value) → number_of v (m ∷ ms) ≡ None → same_values m.key v ≡ false
 missed m ms v is = elim (cases_Bool (same_values m.key v)) [
@@ -56,10 +45,6 @@ number_within (m ∷ ms) v (suc i) is = elim (cases_Bool (same_values m.key v)) 
       let more : length (m ∷ ms) ≡ suc (length ms) = refl in
       omega (arith, rest, more)
 ]
-
-later_number : (o : Option ℕ) (P : Type 0) → ((k : ℕ) → o ≡ Some k → P) → (i : ℕ) → option_map suc o ≡ Some i → P
-later_number None P there i is = cc
-later_number (Some k) P there i is = there k refl
 
 module _ (places : List ℕ) where
   -- a group that is there takes the pick
@@ -87,7 +72,7 @@ module _ (places : List ℕ) where
     | inr miss ↦
         ap (λ b. number_of v (cond b (with_pick m p ∷ ms) (m ∷ groups_with_pick places ms p))) miss
         ∙ ap (λ (o : Option ℕ). cond (same_values m.key v) (Some zero) (option_map suc o))
-        (later_number (number_of (key_of places p) ms) (number_of v (groups_with_pick places ms p) ≡ number_of v ms) (λ k at. numbers_again ms p k at v) i
+        (later_some (number_of (key_of places p) ms) (number_of v (groups_with_pick places ms p) ≡ number_of v ms) (λ k at. numbers_again ms p k at v) i
         (sym (ap (λ b. cond b (Some zero) (option_map suc (number_of (key_of places p) ms))) miss) ∙ is))
   ]
 

@@ -11,6 +11,7 @@ use Rattle.lineage.specs.Lineage.{Lineage, union_of}
 use Rattle.lineage.specs.declared.answer.Answer.{Answer}
 use Rattle.lineage.proofs.Unions.{union_assoc, none_union}
 use Rattle.core_parts.proofs.Lists.{both_filters, kept_twice, all_kept}
+use Rattle.core_parts.proofs.CountedOn.{not_some, some_more, none_zero, later_some}
 use Rattle.sql_model.specs.KeyOrder.{values_order}
 use Rattle.sql_model.specs.Keys.{same_values}
 use Rattle.sql_model.specs.QueryAnswer.{distinct_values}
@@ -19,18 +20,6 @@ use Rattle.query_eval.specs.Merging.{lineage_of_answers, own_values, with_values
 use Rattle.query_eval.specs.Types.{Value}
 
 -- ---- the place of an answer
-
-not_some : (o : Option ℕ) → option_map suc o ≡ None → o ≡ None
-not_some None is = refl
-not_some (Some i) is = cc
-
-some_more : (o : Option ℕ) (i : ℕ) → option_map suc o ≡ Some (suc i) → o ≡ Some i
-some_more None i is = cc
-some_more (Some k) i is = let same : suc k ≡ suc i = cc in let it : k ≡ i = omega (arith, same) in ap Some it
-
-none_zero : (o : Option ℕ) → option_map suc o ≡ Some zero → ⊥
-none_zero None is = cc
-none_zero (Some k) is = let same : suc k ≡ zero = cc in omega (arith, same)
 
 missed : (m : Answer) (ms : List Answer) (v : List Value) → place_of v (m ∷ ms) ≡ None → same_values m.values v ≡ false
 missed m ms v is = elim (cases_Bool (same_values m.values v)) [
@@ -74,10 +63,6 @@ absorbed_again (m ∷ ms) a d (suc i) is = elim (cases_Bool (same_values m.value
       ∙ ap (λ l. m ∷ l) (absorbed_again ms a d i (some_more (place_of a.values ms) i (sym (ap (λ b. cond b (Some zero) (option_map suc (place_of a.values ms))) miss) ∙ is)))
 ]
 
-later_place : (o : Option ℕ) (P : Type 0) → ((k : ℕ) → o ≡ Some k → P) → (i : ℕ) → option_map suc o ≡ Some i → P
-later_place None P there i is = cc
-later_place (Some k) P there i is = there k refl
-
 -- and stays where it is
 pub places_again : (ms : List Answer) (a : Answer) (i : ℕ) → place_of a.values ms ≡ Some i → (v : List Value) → place_of v (with_answer ms a) ≡ place_of v ms
 places_again [] a i is v = cc
@@ -86,7 +71,7 @@ places_again (m ∷ ms) a i is v = elim (cases_Bool (same_values m.values a.valu
   | inr miss ↦
       ap (λ b. place_of v (cond b (with_more m a ∷ ms) (m ∷ with_answer ms a))) miss
       ∙ ap (λ (o : Option ℕ). cond (same_values m.values v) (Some zero) (option_map suc o))
-      (later_place (place_of a.values ms) (place_of v (with_answer ms a) ≡ place_of v ms) (λ k at. places_again ms a k at v) i
+      (later_some (place_of a.values ms) (place_of v (with_answer ms a) ≡ place_of v ms) (λ k at. places_again ms a k at v) i
       (sym (ap (λ b. cond b (Some zero) (option_map suc (place_of a.values ms))) miss) ∙ is))
 ]
 
