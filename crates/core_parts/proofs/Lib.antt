@@ -2,6 +2,7 @@ pub mod Agree
 pub mod Checks
 pub mod ConjunctLaws
 pub mod ConstantLaws
+pub mod CorePlaces
 pub mod CountedOn
 pub mod Equalities
 pub mod FixingLaws

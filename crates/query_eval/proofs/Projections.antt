@@ -1,6 +1,6 @@
 -- Answers of picks stand for the rows of a core.
 use Rattle.std.proofs.Common.{◌≡◌, ◌∙◌, sym, ap, subst, refl, ℕ, zero, suc, Bool, false, List, [], ◌∷◌, ◌++◌, map, append-nil, Option, Some, None}
-use Rattle.std.specs.Prelude.{filter, slice_get, unwrap_or, if◌then◌else◌, option_to_list}
+use Rattle.std.specs.Prelude.{filter, unwrap_or, if◌then◌else◌, option_to_list}
 use Rattle.std.specs.List.{flat_map}
 use Rattle.std.proofs.lemmas.List.{map-append}
 use Rattle.ldv_value.proofs.Options.{same-some}
@@ -8,32 +8,19 @@ use Rattle.lineage.specs.Rows.{kept_origins, IsRow, AnswersStandFor, PicksStandF
 use Rattle.lineage.specs.StandsFor.{StandsFor}
 use Rattle.lineage.specs.declared.answer.Answer.{Answer}
 use Rattle.lineage.specs.declared.answer.Pick.{Pick}
-use Rattle.core_parts.specs.Checking.{core_at, places_at, IsChecked}
+use Rattle.core_parts.specs.Checking.{core_at, places_at}
 use Rattle.core_parts.specs.Placing.{AreAllPlaced}
 use Rattle.query_eval.specs.Projecting.{values_over}
 use Rattle.query_eval.specs.Projecting.{projected_answer, answer_of_all_columns, IsProjected}
-use Rattle.query_eval.specs.Types.{Catalog, Checked, Core, Item, Query, Statement, TheQuery, Value}
+use Rattle.query_eval.specs.Types.{Checked, Core, Item, Value}
 use Rattle.core_parts.specs.declared.placed.BoundExpr.{BoundExpr}
 use Rattle.sql_model.specs.Kinds.{names_in}
 use Rattle.sql_model.specs.Meaning.{eval}
 use Rattle.sql_model.specs.Needs.{Versions}
-use Rattle.core_parts.proofs.Lists.{got-mapped}
-use Rattle.sql_model.specs.Places.{core_places, order_places}
+use Rattle.core_parts.proofs.CorePlaces.{core-places}
 use Rattle.sql_model.specs.QueryAnswer.{Origin, Combination, combination_rows, joined_values, item_values, group_row, one_combination, rows_in_scope, is_kept, groups_of}
-use Rattle.sql_model.specs.Refusals.{answer_titles, core_names, cores_of, groups, names_of_items}
+use Rattle.sql_model.specs.Refusals.{groups, names_of_items}
 use Rattle.sql_model.specs.Scope.{InScope, environment, places_in, place_of, scope_of}
-
--- ---- the places of a core
-
-module _ (checked : Checked) (query : Query) (catalog : Catalog) (is : IsChecked checked query catalog) where
-  pub statement-is : checked.statement ≡ TheQuery query
-  statement-is = ap (λ (c : Checked). c.statement) is
-
-  pub core-places : (place : ℕ) (core : Core) → core_at checked place ≡ Some core → places_at checked place ≡ places_in (scope_of core.from catalog) (core_names core)
-  core-places place core at =
-      let got : slice_get query.cores place ≡ Some core = ap (λ (s : Statement). slice_get (cores_of s) place) (sym statement-is) ∙ at in
-      ap (λ (c : Checked). places_at c place) is
-      ∙ ap (λ (o : Option (List ℕ)). unwrap_or o []) (got-mapped (core_places catalog) query.cores (order_places (answer_titles catalog query.cores) query.order) place core got)
 
 -- ---- rows
 

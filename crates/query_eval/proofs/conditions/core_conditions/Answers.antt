@@ -1,10 +1,10 @@
 use Rattle.std.proofs.Common.{◌≡◌, ◌∙◌, ap, sym, subst, List}
 use Rattle.ldv_value.proofs.Options.{same-some}
 use Rattle.core_parts.specs.Conditions.{AreConditions}
+use Rattle.core_parts.proofs.CorePlaces.{core-places}
 use Rattle.query_eval.specs.Types.{Core}
 use Rattle.sql_model.specs.Refusals.{core_names}
 use Rattle.sql_model.specs.Scope.{InScope, places_in, scope_of}
-use Rattle.query_eval.proofs.Projections.{core-places}
 use Rattle.query_eval.proofs.conditions.core_conditions.Goals as goal
 
 pub returns : goal.returns
