@@ -37,6 +37,7 @@ use Rattle.run_model.specs.ValidPackage.{content_rule, file_rule, is_script, is_
 use Rattle.run_model.specs.ValidWorld.{CanRun}
 use Rattle.package_layout.specs.Valid.{IsValidPackage}
 use Rattle.package_layout.specs.Whole.{has_room}
+use Rattle.run_laws.proofs.ListMembers.{filter_map_in}
 use Rattle.package_join.specs.Types.{File, Package, PackedFile, PackedRow, PackedTable, Table, TableRow}
 use Rattle.package_join.specs.declared.joined.Joined.{Joined}
 use Rattle.package_join.specs.declared.joined.JoinedRun.{JoinedRun}
@@ -49,7 +50,7 @@ use Rattle.package_join.specs.Rooms.{TypedCommonTable}
 use Rattle.package_join.specs.Worlds.{empty_if, joined_world, seen_file, world_file, world_of}
 use Rattle.package_join.proofs.Cuts.{Rising}
 use Rattle.package_join.proofs.ListedTables.{listed, own_parents}
-use Rattle.package_join.proofs.Lists.{all_in, each_of, filter_map_in}
+use Rattle.package_join.proofs.Lists.{all_in, each_of}
 use Rattle.package_join.proofs.MergedLists.{in_merged, merged_rises, IsOf}
 use Rattle.package_join.proofs.MergedParents.{merged_parents}
 use Rattle.package_join.proofs.PickedFiles.{path_of}
