@@ -87,7 +87,7 @@ module _ (all : List Event) where
   own_table_same : (t : Table) → own_table (packed_table all t) ≡ cut_table (slice_cut all) t
   own_table_same t = λ j. record { name = t.name; schema = t.schema; rows = own_rows t.name t.rows j; next = t.next }
 
-  own_tables : (tables : List Table) → map own_table (tables_needed all tables) ≡ cut_tables (slice_cut all) tables
+  pub own_tables : (tables : List Table) → map own_table (tables_needed all tables) ≡ cut_tables (slice_cut all) tables
   own_tables [] = refl
   own_tables (t ∷ ts) = elim (cases_Bool (is_table_needed all t.name)) [
     | inl needed ↦ rw needed (λ j. own_table_same t j ∷ own_tables ts j)
