@@ -10,10 +10,11 @@ use Rattle.std.proofs.lemmas.Fmt.{decimal_by_steps}
 use Rattle.std.proofs.lemmas.List.{length-append}
 use Rattle.ldv_value.specs.Names.{is_word_start, is_word_byte, word_test}
 use Rattle.ldv_value.proofs.Booleans.{not-true}
+use Rattle.ldv_value.specs.Texts.{text_of}
 use Rattle.sql_model.specs.SqlNames.{is_reserved, sql_name_test}
 use Rattle.prov_export.specs.Types.{Member, Path, Process, Row, Ask, Reply}
 use Rattle.prov_export.specs.Ids.{member_id, with_digit, with_digits, number_in, is_slash, cut_at, parts_at_slash}
-use Rattle.prov_export.specs.Ids.{text_in, version_from, version_in, row_of, row_from, row_in}
+use Rattle.prov_export.specs.Ids.{version_from, version_in, row_of, row_from, row_in}
 use Rattle.prov_export.proofs.IdTexts.{text_made}
 use Rattle.prov_export.proofs.Written.{IdLaw}
 
@@ -134,7 +135,7 @@ row_back m named row version utf8 =
     let word : word_test m.table ≡ true = (and_parts (word_test m.table) (not (is_reserved m.table)) named).0 in
     let rest : List ℕ = decimal m.row ++ 47 ∷ decimal m.version in
     ap (option_and_then row_from) (parts_back m.table rest (name_plain m.table word))
-    ∙ ap (option_and_then (λ (v : ℕ × ℕ). option_map (λ (t : List ℕ). row_of t v) (text_in m.table))) (version_back m.row m.version row version)
+    ∙ ap (option_and_then (λ (v : ℕ × ℕ). option_map (λ (t : List ℕ). row_of t v) (text_of m.table))) (version_back m.row m.version row version)
     ∙ ap (option_map (λ (t : List ℕ). row_of t (m.row, m.version))) (text_made m.table utf8)
 
 pub id_law : IdLaw
