@@ -14,14 +14,13 @@ use Rattle.ldv_value.proofs.SameBytes.{bytes_eq-true, bytes_eq-itself}
 use Rattle.ldv_value.specs.Sorted.{is_strictly_sorted}
 use Rattle.sql_laws.proofs.Orphans.{first_holds}
 use Rattle.sql_laws.proofs.TableNames.{table-trans, more-differs}
-use Rattle.sql_laws.specs.StatementLaw.{has_row}
 use Rattle.sql_laws.proofs.StatementParts.{refs_of}
 use Rattle.sql_model.proofs.SortedLists.{sorted-all, sorted-tail}
 use Rattle.sql_model.specs.Changes.{numbered_rows, had_row, with_rows}
 use Rattle.sql_model.specs.Needs.{needed_by, read_of}
 use Rattle.sql_model.specs.QueryAnswer.{Origin}
 use Rattle.sql_model.specs.References.{reference, has_key, is_lost, MissingParent, Child, Orphan, orphan_by, orphans_of, other_rows, child_of, children, orphans, first_in, parents_in, parents_by, parents_of}
-use Rattle.sql_model.specs.Scope.{same_text, is_table, table_at}
+use Rattle.sql_model.specs.Scope.{same_text, is_table, table_at, has_row}
 use Rattle.sql_model.specs.Tables.{table_precedes}
 use Rattle.table_store.specs.Histories.{tables_now, table_now, history_at, history_of_row, version_now, last_next_number}
 use Rattle.table_store.specs.RowOrder.{AreInOrder}

@@ -10,7 +10,7 @@ use Rattle.ldv_value.proofs.Lists.{all-weaker, list_any-map}
 use Rattle.script_parse.specs.declared.script.Instr.{Instr}
 use Rattle.sql_model.specs.declared.statement.Statement.{Statement}
 use Rattle.sql_model.specs.Needs.{NeededRow, Versions, read_of, need_of, asked_tables, table_name}
-use Rattle.sql_model.specs.Scope.{same_text, is_table}
+use Rattle.sql_model.specs.Scope.{same_text, is_table, has_row}
 use Rattle.sql_model.specs.Statements.{reply_of, after}
 use Rattle.sql_model.specs.Texts.{statement_of}
 use Rattle.sql_laws.proofs.AskedTables.{asked_needs_law}
@@ -18,7 +18,7 @@ use Rattle.run_laws.proofs.QuietActs.{Unasked, ends_unasked, quiet_unasked}
 use Rattle.run_laws.proofs.StatementNames.{names_after}
 use Rattle.run_laws.proofs.ListMembers.{any_in, in_any}
 use Rattle.run_model.proofs.Equations.{events-zero, events-over, events-suc}
-use Rattle.run_model.specs.Between.{has_row, is_initial, is_row_needed}
+use Rattle.run_model.specs.Between.{is_initial, is_row_needed}
 use Rattle.run_model.specs.Core.{is_over}
 use Rattle.run_model.specs.Events.{event_at, events, start_events}
 use Rattle.run_model.specs.Run.{first_pick, later_picks, chosen, move}
