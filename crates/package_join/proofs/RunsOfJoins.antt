@@ -17,6 +17,7 @@ use Rattle.ldv_value.specs.FileState.{file_test, file_precedes, files_test, file
 use Rattle.ldv_value.specs.Limits.{file_limit, max_next}
 use Rattle.ldv_value.specs.Names.{path_test}
 use Rattle.ldv_value.specs.Sorted.{is_strictly_sorted, precedes_first}
+use Rattle.ldv_value.specs.Options.{first_some}
 use Rattle.std.specs.Ordering.{is_lt}
 use Rattle.script_parse.specs.Script.{script_of}
 use Rattle.script_parse.specs.declared.script.Instr.{Instr}
@@ -45,7 +46,7 @@ use Rattle.package_join.specs.declared.joined.Which.{Which}
 use Rattle.package_join.specs.declared.joined.Which.TheVariants.{First, Second}
 use Rattle.package_join.specs.Joined.{as_present, both_files, both_rows, both_tables, clash_in, clash_of, clash_of_keys, file_clash, file_cmp, is_among, keys_clash, merged_files, merged_rows, merged_tables, own_tables, picked_file, put_together, rows_clash, run_package, table_clash, table_cmp}
 use Rattle.package_join.specs.Laws.{IsIncluded, RunsLaw}
-use Rattle.package_join.specs.Merging.{first_clash, first_of}
+use Rattle.package_join.specs.Merging.{first_clash}
 use Rattle.package_join.specs.Rooms.{TypedCommonTable}
 use Rattle.package_join.specs.Worlds.{empty_if, joined_world, seen_file, world_file, world_of}
 use Rattle.package_join.proofs.Cuts.{Rising}
@@ -286,10 +287,10 @@ is_lower false false e = let never : Greater ≡ Less = e in absurd cc
 lower_number : (a b : ℕ) → nat_cmp a b ≡ Less → nat_lt a b ≡ true
 lower_number a b e = is_lower (nat_lt a b) (a == b) e
 
-first_none : (ts : List Table) → first_of keys_clash ts ≡ None → (t : Table) → IsIn t ts → keys_clash t ≡ None
+first_none : (ts : List Table) → first_some keys_clash ts ≡ None → (t : Table) → IsIn t ts → keys_clash t ≡ None
 first_none [] none t is = absurd is
-first_none (u ∷ us) none t (inl same) = ap keys_clash same ∙ (or_none (keys_clash u) (first_of keys_clash us) none).0
-first_none (u ∷ us) none t (inr more) = first_none us (or_none (keys_clash u) (first_of keys_clash us) none).1 t more
+first_none (u ∷ us) none t (inl same) = ap keys_clash same ∙ (or_none (keys_clash u) (first_some keys_clash us) none).0
+first_none (u ∷ us) none t (inr more) = first_none us (or_none (keys_clash u) (first_some keys_clash us) none).1 t more
 
 no_key_clash : (t : Table) → keys_clash t ≡ None → key_clash t ≡ None
 no_key_clash t none = by (key_clash t) none
@@ -307,11 +308,11 @@ module _ (a b : Package) (ia : IsIncluded a) (ib : IsIncluded b) (none : clash_o
   abbrev both_lists : List Table
   both_lists = merged_tables (own_tables a) (own_tables b)
 
-  no_keys : first_of keys_clash both_lists ≡ None
+  no_keys : first_some keys_clash both_lists ≡ None
   no_keys =
       let rest = (or_none (first_clash file_cmp file_clash a.files b.files) (clash_in (own_tables a) (own_tables b) both_lists) none).1 in
-      let two = or_none (first_clash table_cmp table_clash (own_tables a) (own_tables b)) (option_or (first_clash table_cmp rows_clash (own_tables a) (own_tables b)) (first_of keys_clash both_lists)) rest in
-      (or_none (first_clash table_cmp rows_clash (own_tables a) (own_tables b)) (first_of keys_clash both_lists) two.1).1
+      let two = or_none (first_clash table_cmp table_clash (own_tables a) (own_tables b)) (option_or (first_clash table_cmp rows_clash (own_tables a) (own_tables b)) (first_some keys_clash both_lists)) rest in
+      (or_none (first_clash table_cmp rows_clash (own_tables a) (own_tables b)) (first_some keys_clash both_lists) two.1).1
 
   of_either : (p : TableRow → Bool) (xs ys : List TableRow) → list_all p xs ≡ true → list_all p ys ≡ true → list_all p (merged_rows xs ys) ≡ true
   of_either p xs ys hx hy = all_in p (merged_rows xs ys) (λ z is. by z (in_merged number_of nat_cmp nat_cmp_total both_rows (λ x y e. refl) z xs ys is))

@@ -10,11 +10,12 @@ use Rattle.std.proofs.lemmas.List.{take_more}
 use Rattle.ldv_value.proofs.Booleans.{and-false, or-false, or-parts, true≢false}
 use Rattle.ldv_value.proofs.Lists.{list_any-append, list_any-false}
 use Rattle.ldv_value.proofs.Options.{none-some}
+use Rattle.ldv_value.specs.Options.{first_some}
 use Rattle.row_version.specs.History.{current_values}
 use Rattle.sql_model.specs.Keys.{same_values}
 use Rattle.sql_model.specs.References.{Orphan, child_of, orphan_by, reference}
 use Rattle.sql_model.specs.Scope.{is_table, same_text}
-use Rattle.table_store.specs.inner.Afterwards.{first_some, in_set, is_other, orphan_in_other, orphan_in_row, orphan_in_slot, orphan_in_table}
+use Rattle.table_store.specs.inner.Afterwards.{in_set, is_other, orphan_in_other, orphan_in_row, orphan_in_slot, orphan_in_table}
 use Rattle.table_store.specs.inner.ChildPairs.{IsNextOf, first_number, given_in, is_child, is_child_by, is_child_in, is_child_of, lower_of, refers}
 use Rattle.table_store.specs.inner.ChildSteps.{AreFrom, IsStep, after}
 use Rattle.table_store.specs.Histories.{RowHistory, TableHistory, no_history, row_now, row_of, rows_now, slot_of_row, table_now}

@@ -7,6 +7,7 @@ use Rattle.std.proofs.lemmas.Bool.{cases_Bool}
 use Rattle.std.proofs.lemmas.List.Folds.{flat_map-map}
 use Rattle.std.proofs.lemmas.Grind.{flat_map-append as flat_append}
 use Rattle.ldv_value.proofs.Booleans.{or-false}
+use Rattle.ldv_value.specs.Options.{first_some}
 use Rattle.sql_model.proofs.Elsewhere.{no_orphans, elsewhere}
 use Rattle.sql_model.proofs.ReferenceLists.{any_split, lost_same}
 use Rattle.sql_model.proofs.UniqueRows.{apart_from}
@@ -15,7 +16,7 @@ use Rattle.sql_model.specs.References.{Child, Orphan, first_in, reference, has_k
 use Rattle.sql_model.specs.Scope.{is_table, same_text, table_at, catalog_of}
 use Rattle.sql_model.specs.Tables.{are_keys_unique}
 use Rattle.sql_model.proofs.UniqueKeys.{values_in}
-use Rattle.table_store.specs.inner.Afterwards.{first_some, loses, is_other, refers_to, orphan_in_row, orphan_in_other, orphan_in_slot, orphan_in_table, orphan_in_tables}
+use Rattle.table_store.specs.inner.Afterwards.{loses, is_other, refers_to, orphan_in_row, orphan_in_other, orphan_in_slot, orphan_in_table, orphan_in_tables}
 use Rattle.table_store.specs.Histories.{TableHistory, row_now, rows_now, table_now}
 use Rattle.table_store.specs.Stops.{is_among, with_removed, with_replaced, had_rows}
 use Rattle.table_store.specs.Types.{Foreign, Table, TableRow, Value}
