@@ -19,6 +19,7 @@ use Rattle.ldv_value.specs.Names.{path_test}
 use Rattle.ldv_value.specs.Sorted.{is_strictly_sorted, precedes_first}
 use Rattle.ldv_value.specs.Options.{first_some}
 use Rattle.std.specs.Ordering.{is_lt}
+use Rattle.std.proofs.lemmas.Map.Lookups.{exact_bytes}
 use Rattle.script_parse.specs.Script.{script_of}
 use Rattle.script_parse.specs.declared.script.Instr.{Instr}
 use Rattle.sql_model.proofs.Databases.{database-from}
@@ -55,7 +56,7 @@ use Rattle.package_join.proofs.Lists.{all_in, each_of}
 use Rattle.package_join.proofs.MergedLists.{in_merged, merged_rises, IsOf}
 use Rattle.package_join.proofs.MergedParents.{merged_parents}
 use Rattle.package_join.proofs.PickedFiles.{path_of}
-use Rattle.package_join.proofs.PickedTables.{equal_names, name_of, number_of}
+use Rattle.package_join.proofs.PickedTables.{name_of, number_of}
 use Rattle.package_join.proofs.Picks.{files_rise, its_rows_rise, of_map, own_rise, tables_agree}
 use Rattle.package_join.proofs.ValidJoins.{included}
 use Rattle.package_join.proofs.ValidRooms.{unclashed}
@@ -343,7 +344,7 @@ module _ (a b : Package) (ia : IsIncluded a) (ib : IsIncluded b) (none : clash_o
       by (inr (inl there)) = own_met b ib z there
       by (inr (inr made)) =
           subst Met (sym made.1.1.1.1.1)
-          (both_met made.0 made.1.0 made.1.1.0 made.1.1.1.0 (equal_names made.0.name made.1.0.name made.1.1.1.1.0))
+          (both_met made.0 made.1.0 made.1.1.0 made.1.1.1.0 (exact_bytes made.0.name made.1.0.name made.1.1.1.1.0))
 
   rows_rising : (z : Table) → IsIn z both_lists → Rising number_of nat_cmp z.rows
   rows_rising z is = by (in_merged name_of (slice_cmp nat_cmp) nat_list_cmp_total both_tables (λ x y e. refl) z (own_tables a) (own_tables b) is)
