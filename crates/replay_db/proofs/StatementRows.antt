@@ -10,7 +10,7 @@ use Rattle.ldv_value.specs.Sorted.{is_strictly_sorted}
 use Rattle.ldv_value.specs.declared.value.Value.{Value}
 use Rattle.ldv_value.proofs.Booleans.{and-parts, and-assoc, and-true, and-false, or-parts, or-from, or-false, not-true}
 use Rattle.ldv_value.proofs.Lists.{list_any-map, list_any-append, list_any-false, found-passes, found-all}
-use Rattle.ldv_value.proofs.SameBytes.{bytes_eq-true, nat_eq-true}
+use Rattle.ldv_value.proofs.SameBytes.{bytes_eq-true, nat_eq-true, bytes_eq-sym}
 use Rattle.sql_model.specs.declared.catalog.Catalog.{Catalog}
 use Rattle.sql_model.specs.declared.reply.SqlRefusal.{SqlRefusal}
 use Rattle.sql_model.specs.declared.statement.Insert.{Insert}
@@ -39,15 +39,6 @@ use Rattle.run_laws.proofs.SortedNeeds.{is_lineage, lineage}
 use Rattle.run_laws.proofs.StatementVersions.{next_of, origin_of, made_if, updated_if, made_parts, updated_parts, made_none, updated_none, target_rises}
 
 -- ---- tests
-
-swapped : (a b : List ℕ) → bytes_eq a b ≡ bytes_eq b a
-swapped a b = elim (cases_Bool (bytes_eq a b)) [
-  | inl same ↦ let e : a ≡ b = bytes_eq-true a b same in λ j. bytes_eq (e j) (sym e j)
-  | inr other ↦ elim (cases_Bool (bytes_eq b a)) [
-    | inl same ↦ let e : b ≡ a = bytes_eq-true b a same in λ j. bytes_eq (sym e j) (e j)
-    | inr back ↦ other ∙ sym back
-  ]
-]
 
 swapped_numbers : (m n : ℕ) → (m == n) ≡ (n == m)
 swapped_numbers m n = elim (cases_Bool (m == n)) [
@@ -161,7 +152,7 @@ module _ (table : List ℕ) (row : ℕ) where
   same_first : (other : List ℕ) (number version : ℕ)
       → same_member first (record { table = other; row = number; version = version }) ≡ (is_it other number && 0 == version)
   same_first other number version =
-      (λ j. swapped table other j && (swapped_numbers row number j && 0 == version))
+      (λ j. bytes_eq-sym table other j && (swapped_numbers row number j && 0 == version))
       ∙ sym (and-assoc (bytes_eq other table) (number == row) (0 == version))
 
   -- ---- what is read
@@ -456,7 +447,7 @@ module _ (table : List ℕ) (row : ℕ) where
   ]
 
   names_turned : (names : List (List ℕ)) → list_any (same_text table) names ≡ list_any (λ name. same_text name table) names
-  names_turned names = λ j. list_any (λ name. swapped table name j) names
+  names_turned names = λ j. list_any (λ name. bytes_eq-sym table name j) names
 
   pub needed_named : (statement : Option Statement) (db : List Table) → is_database db ≡ true
       → is_needed (need_of statement db) ≡ true
