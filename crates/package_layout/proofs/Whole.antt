@@ -26,6 +26,7 @@ use Rattle.package_layout.specs.Runs.{max_events, few_events, trace_room}
 use Rattle.package_layout.proofs.RunFields.{runs_law}
 use Rattle.std.specs.Prelude.{nat_le}
 use Rattle.ldv_value.proofs.Booleans.{and-parts, and-from}
+use Rattle.ldv_value.proofs.Lists.{list_all-both}
 use Rattle.package_layout.specs.Reading.{file_at, table_at, log_at}
 use Rattle.package_layout.specs.Events.{names_spelling, names_at, event_spelling, TypedEvent, event_room, event_at}
 use Rattle.package_layout.specs.Version.{Version, One, Two}
@@ -287,14 +288,6 @@ sections_law v = recount (IsCounted v) (made_law (λ (q : Sections). bytes_befor
 
 -- ---- room, and tables that the version has
 
--- all have the one, and all the other
-both_all : {X : Type 0} (p q : X → Bool) (xs : List X) → list_all p xs ≡ true → list_all q xs ≡ true → list_all (λ x. p x && q x) xs ≡ true
-both_all p q [] h k = refl
-both_all p q (x ∷ xs) h k =
-    let a = and-parts (p x) (list_all p xs) h in
-    let b = and-parts (q x) (list_all q xs) k in
-    and-from (p x && q x) (list_all (λ x. p x && q x) xs) (and-from (p x) (q x) a.0 b.0) (both_all p q xs a.1 b.1)
-
 all_both : {X : Type 0} (p q : X → Bool) (xs : List X) → list_all (λ x. p x && q x) xs ≡ true → (list_all p xs ≡ true) × (list_all q xs ≡ true)
 all_both p q [] h = (refl, refl)
 all_both p q (x ∷ xs) h =
@@ -318,7 +311,7 @@ place_from v p h k =
     let two = and-parts (tables_room p) rest one.1 in
     let three = and-parts (fits_u16_count p.tables) (list_all table_room p.tables) two.0 in
     let each : list_all (table_fits v) p.tables ≡ true =
-    both_all table_room (λ (t : PackedTable). has_of v t.schema.foreign) p.tables three.1 (foreign_of v p k) in
+    list_all-both table_room (λ (t : PackedTable). has_of v t.schema.foreign) p.tables three.1 (foreign_of v p k) in
     and-from (fits_u16_count p.start) (tables_fit v p.tables && rest) one.0
     (and-from (tables_fit v p.tables) rest (and-from (fits_u16_count p.tables) (list_all (table_fits v) p.tables) three.0 each) two.1)
 
