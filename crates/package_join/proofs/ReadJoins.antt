@@ -16,9 +16,10 @@ use Rattle.package_layout.specs.declared.layout.PackageStop.{PackageStop}
 use Rattle.package_layout.specs.declared.layout.PackageStop.TheVariants.{Damaged, NoMemory}
 use Rattle.package_layout.specs.Fields.{◌>>=◌, Makes}
 use Rattle.package_layout.specs.Runs.{are_runs}
-use Rattle.package_layout.specs.Valid.{HasDigest, before_digest, has_digest, middle, valid_test}
-use Rattle.package_layout.proofs.Laws.{IsBytes, IsBytes-take, IsBytes-drop, just}
+use Rattle.package_layout.specs.Valid.{HasDigest, has_digest, middle, valid_test}
+use Rattle.package_layout.proofs.Laws.{IsBytes, just}
 use Rattle.package_layout.proofs.Package.{digest_fact, digest_test, true_not_false, not_true, stopped}
+use Rattle.package_layout.proofs.RunReading.{clean}
 use Rattle.package_join.specs.Types.{Package}
 use Rattle.package_join.specs.declared.joined.Clash.{Clash}
 use Rattle.package_join.specs.declared.joined.Joined.{Joined}
@@ -202,9 +203,6 @@ cuts_found bytes (Ok r) due = ok_read bytes (whole_join r) due
 cuts_found bytes (Err stop) due = tt
 
 -- ---- the answers
-
-clean : (bytes : List ℕ) → IsBytes bytes → IsBytes (middle bytes)
-clean bytes h = IsBytes-drop 8 (before_digest bytes) (IsBytes-take (length bytes - 32) bytes h)
 
 pub middle_ok : (bytes m : List ℕ) (r : RunJoined) → IsBytes bytes → has_digest bytes ≡ true → m ≡ middle bytes → cuts_in m ≡ Some r
     → digested_reading bytes ≡ Ok (whole_join r)

@@ -173,7 +173,7 @@ runs_read v bytes r h e =
     subst (λ (r : RunPackage). (are_runs r.runs ≡ true) × (r.bare.events ≡ [])) two.1
     ((and-parts (are_runs q.runs) (passes v (expanded_package q)) two.0).0, no_events v bytes q h one.1)
 
-clean : (bytes : List ℕ) → IsBytes bytes → IsBytes (middle bytes)
+pub clean : (bytes : List ℕ) → IsBytes bytes → IsBytes (middle bytes)
 clean bytes h = IsBytes-drop 8 (before_digest bytes) (IsBytes-take (length bytes - 32) bytes h)
 
 pub read_ok : (v : Version) (bytes : List ℕ) (r : RunPackage) → IsBytes bytes → has_digest bytes ≡ true → runs_in v (middle bytes) ≡ Some r → reading_as v bytes ≡ Ok (expanded_package r)
