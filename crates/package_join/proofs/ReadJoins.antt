@@ -18,7 +18,7 @@ use Rattle.package_layout.specs.Fields.{◌>>=◌, Makes}
 use Rattle.package_layout.specs.Runs.{are_runs}
 use Rattle.package_layout.specs.Valid.{HasDigest, has_digest, middle, valid_test}
 use Rattle.package_layout.proofs.Laws.{IsBytes, just}
-use Rattle.package_layout.proofs.Package.{digest_fact, digest_test, true_not_false, not_true, stopped}
+use Rattle.package_layout.proofs.Package.{digest_fact, digest_test, true_not_false, not_true, stopped, damaged}
 use Rattle.package_layout.proofs.RunReading.{clean}
 use Rattle.package_join.specs.Types.{Package}
 use Rattle.package_join.specs.declared.joined.Clash.{Clash}
@@ -161,9 +161,6 @@ form_read bytes e = (
 )
 
 -- ---- what an answer says, which tells what reading gives
-
-abbrev damaged : {X : Type 0} → DamageKind → Result X PackageStop
-damaged kind = Err (Damaged kind)
 
 abbrev seen : Bool → Bool → Option DamageKind
 seen m d = cond m (cond d None (Some Digest)) (Some Magic)
