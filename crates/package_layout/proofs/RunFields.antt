@@ -32,11 +32,11 @@ small_steps step stride (suc n) limit less =
     let reach : last_from (step + stride) stride n ≡ step + stride + n * stride = last-is (step + stride) stride n in
     (omega (arith, reach, less), small_steps (step + stride) stride n limit less)
 
-all_mapped : {X Y : Type 0} (P : X → Type 0) (Q : Y → Type 0) (f : X → Y) → ((x : X) → P x → Q (f x)) → (xs : List X) → AllByRecursion P xs → AllByRecursion Q (map f xs)
+pub all_mapped : {X Y : Type 0} (P : X → Type 0) (Q : Y → Type 0) (f : X → Y) → ((x : X) → P x → Q (f x)) → (xs : List X) → AllByRecursion P xs → AllByRecursion Q (map f xs)
 all_mapped P Q f h [] all = tt
 all_mapped P Q f h (x ∷ xs) all = (h x all.0, all_mapped P Q f h xs all.1)
 
-all_appended : {X : Type 0} (P : X → Type 0) (xs ys : List X) → AllByRecursion P xs → AllByRecursion P ys → AllByRecursion P (xs ++ ys)
+pub all_appended : {X : Type 0} (P : X → Type 0) (xs ys : List X) → AllByRecursion P xs → AllByRecursion P ys → AllByRecursion P (xs ++ ys)
 all_appended P [] ys h k = k
 all_appended P (x ∷ xs) ys h k = (h.0, all_appended P xs ys h.1 k)
 
