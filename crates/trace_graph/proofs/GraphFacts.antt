@@ -77,7 +77,7 @@ any_agree : (p q : Link → Bool) (P : Link → Type 0) → ((l : Link) → P l 
 any_agree p q P agree [] all = refl
 any_agree p q P agree (l ∷ ls) all = λ j. agree l all.0 j || any_agree p q P agree ls all.1 j
 
-once_there : (links : List Link) → AllByRecursion (AreThere (nodes_of links)) (distinct_items same_ends links)
+pub once_there : (links : List Link) → AllByRecursion (AreThere (nodes_of links)) (distinct_items same_ends links)
 once_there links = all_distinct (AreThere (nodes_of links)) same_ends links (all_there links)
 
 -- links between the same nodes lead alike
