@@ -31,7 +31,7 @@ use Rattle.free_order.specs.Private.{spawned_in, writes_own, private_test}
 use Rattle.free_order.specs.Orders.{with_seed, from_step, OrderLaw}
 use Rattle.free_order.proofs.Boards.{Solo, Board, May, Owner, IsOpenTo, Goes, Runs}
 use Rattle.free_order.proofs.ByName.{at_number, solo_of, solos, board_of, named_found}
-use Rattle.free_order.proofs.SoundBoards.{no_end, Sound}
+use Rattle.free_order.proofs.SoundBoards.{Sound}
 use Rattle.free_order.proofs.Descent.{IsEnd, Leads, leads, at_end}
 use Rattle.free_order.proofs.RunsByName.{Real, Stride, stride, Went, went, EventsFit, ran, births_append, made_counts, all_steps}
 use Rattle.free_order.proofs.EndsByName.{same_outcome, solo_found}

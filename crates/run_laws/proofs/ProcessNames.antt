@@ -180,7 +180,7 @@ named_later ps qs grows same named = record {
 
 -- ---- one more child
 
-none_is_one : (xs : List ℕ) (x : ℕ) → [] ≢ (xs ++ x ∷ [])
+pub none_is_one : (xs : List ℕ) (x : ℕ) → [] ≢ (xs ++ x ∷ [])
 none_is_one [] x same = absurd cc
 none_is_one (y ∷ xs) x same = absurd cc
 
