@@ -28,7 +28,7 @@ equals-turned (Text s) (Text t) = ap (λ b. is_true (truth_of_bool b)) ((eq_by_c
 
 -- ---- what each side means
 
-truth_of_bool-true : (b : Bool) → is_true (truth_of_bool b) ≡ b
+pub truth_of_bool-true : (b : Bool) → is_true (truth_of_bool b) ≡ b
 truth_of_bool-true true = refl
 truth_of_bool-true false = refl
 

@@ -5,7 +5,6 @@ use Rattle.std.specs.Ordering.{is_eq}
 use Rattle.std.specs.declared.cmp.Ordering.{Ordering}
 use Rattle.std.specs.declared.cmp.Ordering.TheVariants.{Less, Equal, Greater}
 use Rattle.core_parts.proofs.Equalities.{column-first, constant-first, equals-turned, first-place}
-use Rattle.core_parts.proofs.SameValues.{exact}
 use Rattle.core_parts.specs.Conditions.{meets}
 use Rattle.core_parts.specs.Constants.{IsConstant}
 use Rattle.core_parts.specs.Equality.{IsColumn, equals}
@@ -21,6 +20,7 @@ use Rattle.sql_model.specs.Keys.{same_values, values_at}
 use Rattle.sql_model.specs.Meaning.{is_true, truth}
 use Rattle.sql_model.specs.Scope.{InScope, environment, value_at}
 use Rattle.sql_model.specs.declared.expr.Expr.TheVariants.{Both}
+use Rattle.sql_model.proofs.SameValues.{exact}
 
 -- ---- where `=` is True, values are equal
 

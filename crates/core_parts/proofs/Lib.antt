@@ -2,6 +2,8 @@ pub mod Agree
 pub mod Checks
 pub mod ConjunctLaws
 pub mod ConstantLaws
+pub mod CorePlaces
+pub mod CountedOn
 pub mod Equalities
 pub mod FixingLaws
 pub mod Listings
@@ -11,4 +13,3 @@ pub mod Names
 pub mod OnceLaws
 pub mod Places
 pub mod RowLists
-pub mod SameValues

@@ -8,9 +8,9 @@ use Rattle.std.specs.Cmp.{IsTotalOrder}
 use Rattle.std.specs.Ordering.{is_eq}
 use Rattle.std.specs.declared.cmp.Ordering.{Ordering}
 use Rattle.std.specs.declared.cmp.Ordering.TheVariants.{Equal}
+use Rattle.ldv_value.proofs.Orderings.{is_eq-true}
 use Rattle.core_parts.specs.Listing.{listed, item_added}
 use Rattle.core_parts.specs.declared.refs_by.RefsBy.{RefsBy}
-use Rattle.core_parts.proofs.SameValues.{tied}
 
 -- an item that passes a test goes from those that are left to those that are there
 pub moved : {X : Type 0} (b : Bool) (items more : List X) (item : X) → cond b (items ++ item ∷ []) items ++ more ≡ items ++ cond b (item ∷ more) more
@@ -33,7 +33,7 @@ module _ {K X : Type 0} (cmp : K → K → Ordering) where
     | inl hit ↦
         ap (λ (o : Option (List X)). unwrap_or o []) (put v ∙ ap (λ b. cond b (Some more) (tree.get cmp m v)) hit)
         ∙ made
-        ∙ ap (λ l. l ++ item ∷ []) (is ∙ same_at total m key v (tied (cmp key v) hit))
+        ∙ ap (λ l. l ++ item ∷ []) (is ∙ same_at total m key v (is_eq-true (cmp key v) hit))
         ∙ ap (λ b. cond b (items_at m v ++ item ∷ []) (items_at m v)) (sym hit)
     | inr miss ↦
         ap (λ (o : Option (List X)). unwrap_or o []) (put v ∙ ap (λ b. cond b (Some more) (tree.get cmp m v)) miss)
@@ -47,7 +47,7 @@ module _ {K X : Type 0} (cmp : K → K → Ordering) where
   put_same total m n key items more is same put v = elim (cases_Bool (is_eq (cmp key v))) [
     | inl hit ↦
         ap (λ (o : Option (List X)). unwrap_or o []) (put v ∙ ap (λ b. cond b (Some more) (tree.get cmp m v)) hit)
-        ∙ same ∙ is ∙ same_at total m key v (tied (cmp key v) hit)
+        ∙ same ∙ is ∙ same_at total m key v (is_eq-true (cmp key v) hit)
     | inr miss ↦ ap (λ (o : Option (List X)). unwrap_or o []) (put v ∙ ap (λ b. cond b (Some more) (tree.get cmp m v)) miss)
   ]
 

@@ -6,10 +6,6 @@ use Rattle.std.proofs.lemmas.Bool.{cases_Bool}
 use Rattle.std.proofs.lemmas.Bool.Decides.{Decides-eqb}
 use Rattle.ldv_value.proofs.Booleans.{true≢false}
 
--- the item at an index, and those after it
-pub drop-step : {X : Type 0} (xs : List X) (i : ℕ) (x : X) → i < length xs → x ≡ get_or xs i x → drop i xs ≡ x ∷ drop (i + 1) xs
-drop-step xs i x below is = drop-cons xs i x below ∙ (λ j. sym is j ∷ drop (sym (add-one i) j) xs)
-
 -- an item moved from those that are left to those that are made
 pub moved-one : {X : Type 0} (made rest : List X) (x y : X) → x ≡ y → (made ++ x ∷ []) ++ rest ≡ made ++ y ∷ rest
 moved-one made rest x y same = append_assoc made (x ∷ []) rest ∙ ap (λ z. made ++ z ∷ rest) same

@@ -22,7 +22,7 @@ use Rattle.ldv_value.specs.Order.{order, meets as meets_order, truth_of_bool, te
 use Rattle.ldv_value.specs.declared.value.Cmp.{Cmp}
 use Rattle.ldv_value.specs.declared.value.Cmp.TheVariants.{Eq, Ne, Lt, Le, Gt, Ge}
 use Rattle.sql_model.specs.KeyOrder.{order_total}
-use Rattle.ldv_value.proofs.Booleans.{and-true}
+use Rattle.ldv_value.proofs.Booleans.{and-true, and-assoc}
 use Rattle.sql_model.specs.Meaning.{is_true, truth}
 use Rattle.sql_model.specs.Scope.{InScope, environment, value_at}
 use Rattle.sql_model.specs.declared.expr.Expr.TheVariants.{Both, IsNull}
@@ -138,10 +138,6 @@ all-last p (y ∷ ys) x = by (p y) (all-last p ys x)
     by true rest = rest
     by false rest = refl
 
-both-then : (a b c : Bool) → ((a && b) && c) ≡ (a && (b && c))
-both-then true b c = refl
-both-then false b c = refl
-
 module _ (scope : List InScope) (before : ℕ) (row : List Value) where
   abbrev one-passes : Mask → Bool
   one-passes mask = passes mask.test (value_at row (before + mask.column))
@@ -153,7 +149,7 @@ module _ (scope : List InScope) (before : ℕ) (row : List Value) where
       → (passes_at before (masks ++ mask ∷ []) row && meets scope rest row) ≡ all
   exact-more masks mask cond rest all same is =
       ap (λ b. b && meets scope rest row) (all-last one-passes masks mask)
-      ∙ both-then (passes_at before masks row) (one-passes mask) (meets scope rest row)
+      ∙ and-assoc (passes_at before masks row) (one-passes mask) (meets scope rest row)
       ∙ ap (λ b. passes_at before masks row && (b && meets scope rest row)) same
       ∙ is
 

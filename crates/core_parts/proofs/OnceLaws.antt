@@ -9,11 +9,12 @@ use Rattle.std.specs.declared.cmp.Ordering.TheVariants.{Less, Equal, Greater}
 use Rattle.std.proofs.lemmas.Bool.{cases_Bool}
 use Rattle.std.proofs.lemmas.Cmp.{on_total, then_total, nat_cmp_total, nat_list_cmp_total}
 use Rattle.std.proofs.lemmas.List.{length-append}
-use Rattle.core_parts.specs.Needing.{member_order, need_order, union_of_needs, into, united_by, needs_in_order, is_last_row, others_onto, once_each}
+use Rattle.core_parts.specs.Needing.{need_order, union_of_needs, into, united_by, needs_in_order, is_last_row, others_onto, once_each}
 use Rattle.core_parts.specs.Types.{Member, Need}
 use Rattle.sql_model.specs.Sorting.{put_sorted, sorted_by}
+use Rattle.sql_model.specs.MemberOrder.{member_cmp}
 
-pub member_total : IsTotalOrder member_order
+pub member_total : IsTotalOrder member_cmp
 member_total = then_total (on_total (λ (m : Member). m.table) nat_list_cmp_total) (on_total (λ (m : Member). m.row) nat_cmp_total)
 
 pub need_total : IsTotalOrder need_order

@@ -4,20 +4,16 @@ use Rattle.std.specs.Prelude.{if◌then◌else◌}
 use Rattle.std.specs.Option.{option_map_or}
 use Rattle.std.specs.declared.cmp.Ordering.{Ordering}
 use Rattle.std.specs.declared.cmp.Ordering.TheVariants.{Less, Equal, Greater}
-use Rattle.std.specs.Ordering.{nat_cmp, ordering_then, is_eq}
-use Rattle.std.specs.Cmp.Lexicographic.{slice_cmp}
+use Rattle.std.specs.Ordering.{is_eq}
+use Rattle.sql_model.specs.MemberOrder.{member_cmp}
 use Rattle.core_parts.specs.Types.{Member, Need, Rule}
 use Rattle.core_parts.specs.declared.needs.Next.{Next}
 
 abbrev pub need_by : Rule → Member → Need
 need_by rule member = record { member = member; rule = rule }
 
--- by table, then by number
-abbrev pub member_order : Member → Member → Ordering
-member_order a b = ordering_then (slice_cmp nat_cmp a.table b.table) (nat_cmp a.row b.row)
-
 abbrev pub need_order : Need → Need → Ordering
-need_order a b = member_order a.member b.member
+need_order a b = member_cmp a.member b.member
 
 -- a need before, in place of, or after the first of others, which are sorted; `more` unites what follows it
 abbrev pub united_by : Ordering → Need → (List Need → List Need) → Need → List Need → List Need → List Need
@@ -28,7 +24,7 @@ united_by Greater need more other others into = other ∷ into
 abbrev pub into : Need → (List Need → List Need) → List Need → List Need
 into need more [] = need ∷ more []
 into need more (other ∷ others) =
-    united_by (member_order need.member other.member) need more other others (into need more others)
+    united_by (member_cmp need.member other.member) need more other others (into need more others)
 
 -- two sorted lists as one; of a row that is in both, the first need
 abbrev pub union_of_needs : List Need → List Need → List Need

@@ -1,9 +1,10 @@
 //! Lists of needed rows, sorted by table and number.
 
 ghost use Rattle.std.specs.Prelude.{◌≡◌, [], ◌∷◌, map, IfOk, MatchOption, OnOk};
-ghost use Rattle.core_parts.specs.Needing.{need_by, need_order, member_order, needs_in_order, union_of_needs};
+ghost use Rattle.core_parts.specs.Needing.{need_by, need_order, needs_in_order, union_of_needs};
 ghost use Rattle.core_parts.specs.Needing.{is_last_row, once_each, with_other, IsLast, IsNext};
 ghost use Rattle.sql_model.specs.Sorting.{sorted_by};
+ghost use Rattle.sql_model.specs.MemberOrder.{member_cmp as member_order};
 
 use ldv_value::{CopyItem, List};
 use sql_model::{Member, Members, Need, Needs, Rule};

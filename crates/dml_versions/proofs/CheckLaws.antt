@@ -3,9 +3,9 @@ use Rattle.std.proofs.Common.{◌≡◌, ℕ, List, [], ◌∷◌, ◌++◌, ref
 use Rattle.std.specs.Prelude.{Ok, IsSome, unwrap_or, is_none}
 use Rattle.std.specs.List.{list_all, flat_map, AllByRecursion}
 use Rattle.std.specs.Option.{option_map}
-use Rattle.ldv_value.proofs.Booleans.{and-parts, or-parts}
+use Rattle.ldv_value.proofs.Booleans.{and-parts, or-parts, not-false}
 use Rattle.ldv_value.proofs.Lists.{found-all}
-use Rattle.sql_laws.proofs.ChangedTables.{check-parts}
+use Rattle.sql_laws.proofs.ChangedTables.{check-parts, second_of}
 use Rattle.sql_model.proofs.Databases.{valid_of_database}
 use Rattle.sql_model.proofs.Equations.{table_schema, schema_found}
 use Rattle.sql_model.specs.Kinds.{names_in}
@@ -85,10 +85,6 @@ none_resolved : (names : List ColumnName) → list_all (resolves []) names ≡ t
 none_resolved [] is = refl
 none_resolved (c ∷ cs) is = cc
 
-not_not : (b : Bool) → not b ≡ false → b ≡ true
-not_not true is = refl
-not_not false is = cc
-
 plain_by : (exprs : List Expr) → flat_map names_in exprs ≡ [] → ArePlain exprs
 plain_by [] is = tt
 plain_by (e ∷ es) is = let both = parts (names_in e) (flat_map names_in es) is in (both.0, plain_by es both.1)
@@ -109,18 +105,13 @@ first_of : (a b : Bool) → (not a || b) ≡ false → (a ≡ true) × (b ≡ fa
 first_of true b is = (refl, is)
 first_of false b is = cc
 
-second_of : (a b : Bool) → (a || not b) ≡ false → b ≡ true
-second_of true b is = cc
-second_of false true is = refl
-second_of false false is = cc
-
 -- an accepted INSERT
 module _ (insert : Insert) (catalog : Catalog) (check : check_refusal (TheInsert insert) catalog ≡ None) where
   pub values-plain : AllByRecursion ArePlain insert.rows
   values-plain =
       let lacks : insert_lacks_column insert (columns_of (schema_at insert.table catalog)) ≡ false = (check-parts (TheInsert insert) catalog check).1 in
       let parts = first_of (list_all (has_column (columns_of (schema_at insert.table catalog))) (unwrap_or insert.columns [])) (has_unresolved_name [] (insert_names insert)) lacks in
-      all_plain insert.rows (none_resolved (insert_names insert) (not_not (list_all (resolves []) (insert_names insert)) parts.1))
+      all_plain insert.rows (none_resolved (insert_names insert) (not-false (list_all (resolves []) (insert_names insert)) parts.1))
 
   module _ (schema : Schema) (found : schema_at insert.table catalog ≡ Some schema) where
     pub names-there : list_all (has_column schema.columns) (unwrap_or insert.columns []) ≡ true

@@ -21,7 +21,6 @@ use Rattle.table_store.specs.Stops.{is_among, with_removed, with_changed, are_so
 use Rattle.table_store.specs.declared.error.StoreStop.{StoreStop}
 use Rattle.dml_versions.proofs.AfterLaws.{all_needed, after-by}
 use Rattle.dml_versions.proofs.CheckLaws.{found-valid}
-use Rattle.dml_versions.proofs.ClashLaws.{no-clash-fewer}
 use Rattle.dml_versions.proofs.KeptLaws.{SameOwn, SameAll}
 use Rattle.dml_versions.proofs.MatchLaws.{rows-sorted, same-changed, matched-stand}
 use Rattle.dml_versions.proofs.MatchedChange.{matched-change}
@@ -32,6 +31,7 @@ use Rattle.dml_versions.proofs.TableLaws.{table-now, scope-is, history-name}
 use Rattle.dml_versions.proofs.VersionLaws.{updates-dropped, versions-changed}
 use Rattle.dml_versions.specs.Changing.{IsWhole, IsStoreAfter, IsChildThere, matched_change, refused_change}
 use Rattle.sql_model.specs.Tables.{AreWellFormed}
+use Rattle.sql_laws.proofs.KeyClashes.{no_clash_fewer}
 use Rattle.dml_versions.specs.Finding.{scope_in, test_in, found_row}
 use Rattle.dml_versions.specs.Needing.{need_found, number_found}
 use Rattle.dml_versions.specs.Types.{Need, Statement, TheDelete, Delete, Table, TableRow, StoreHistory, TableHistory}
@@ -102,7 +102,7 @@ module _ (store : StoreHistory) (delete : Delete) (table : TableHistory) (there 
     clash = key_clash (after_delete scope delete t)
 
     no_key : clash ≡ None
-    no_key = no-clash-fewer t.schema.key (λ row. not (is_matched scope delete.pick row)) t.rows (table-parts t valid).keys
+    no_key = no_clash_fewer t.schema.key (λ row. not (is_matched scope delete.pick row)) t.rows (table-parts t valid).keys
 
     abbrev own : Option StoreStop
     own = stop_by t false clash false

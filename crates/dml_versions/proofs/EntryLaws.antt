@@ -1,13 +1,14 @@
 -- What a checked statement has of the store that it was checked against: its table and its places.
-use Rattle.std.proofs.Common.{◌≡◌, ℕ, ◌+◌, ◌<◌, ◌≤◌, ◌^◌, List, [], ◌∷◌, map, length, ap, sym, ◌∙◌, arith, Some, None, is_some, cond, Bool, true, false, suc, ◌==◌}
+use Rattle.std.proofs.Common.{◌≡◌, ℕ, ◌+◌, ◌<◌, ◌≤◌, ◌^◌, List, [], ◌∷◌, map, ap, sym, ◌∙◌, arith, Some, None, is_some, cond, Bool, true, false, suc, ◌==◌}
 use Rattle.std.specs.Prelude.{unwrap_or, slice_get, find, IsSome}
 use Rattle.std.specs.List.{AllByRecursion}
-use Rattle.row_version.specs.History.{Change, current_values, version, last_time, IsSorted, IsSortedFrom}
+use Rattle.row_version.specs.History.{current_values, version}
 use Rattle.sql_model.specs.Places.{places_of}
 use Rattle.sql_model.specs.Refusals.{check_refusal, update_names}
 use Rattle.sql_model.specs.Scope.{InScope, catalog_of, places_in, table_at}
 use Rattle.table_store.specs.Histories.{RowHistory, tables_now, history_at, version_now, is_of_number}
 use Rattle.table_store.specs.TableView.{IsTimed, AreTimed}
+use Rattle.table_store.proofs.ChangeLaws.{version_by as changes_by}
 use Rattle.dml_versions.proofs.CheckLaws.{accepted, checked-places, target-there, target_name, Changes}
 use Rattle.dml_versions.proofs.TableLaws.{scope-is}
 use Rattle.dml_versions.specs.Changing.{IsCheckedOver}
@@ -45,19 +46,11 @@ update-placed store checked is update same table there =
 
 -- ---- versions are not above the time
 
-counted_from : (first : Change) (rest : List Change) → IsSortedFrom first.time rest → first.time + length rest ≤ last_time (first ∷ rest)
-counted_from first [] sorted = omega arith
-counted_from first (next ∷ rest) sorted = omega (arith, sorted.0, counted_from next rest sorted.1)
-
-counted : (changes : List Change) → IsSorted changes → version changes ≤ last_time changes
-counted [] sorted = omega arith
-counted (first ∷ rest) sorted = omega (arith, counted_from first rest sorted)
-
 version_by : (time : ℕ) (row : RowHistory) → IsTimed time row → unwrap_or (version_now (Some row)) 0 ≤ time
 version_by time row timed = by (is_some (current_values row.changes))
   where
     by : (b : Bool) → unwrap_or (cond b (Some (version row.changes)) None) 0 ≤ time
-    by true = omega (arith, counted row.changes timed.sorted, timed.by)
+    by true = omega (arith, changes_by row.changes timed.sorted, timed.by)
     by false = omega arith
 
 version_found : (time number : ℕ) (slots : List RowHistory) → AreTimed time slots → unwrap_or (version_now (find (is_of_number number) slots)) 0 ≤ time

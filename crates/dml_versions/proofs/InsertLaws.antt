@@ -30,13 +30,14 @@ use Rattle.dml_versions.proofs.AfterLaws.{all_needed, change-by, after-by}
 use Rattle.dml_versions.proofs.CheckLaws.{found-distinct, found-valid, names-there, rows-fit}
 use Rattle.dml_versions.proofs.KeptLaws.{SameAll}
 use Rattle.dml_versions.proofs.MatchLaws.{same-changed}
-use Rattle.dml_versions.proofs.NumberLaws.{precedes}
-use Rattle.dml_versions.proofs.ReferLaws.{or-nothing, refs_stop, added-childless, put-inserted, parents-same}
+use Rattle.dml_versions.proofs.ReferLaws.{refs_stop, added-childless, put-inserted, parents-same}
 use Rattle.dml_versions.proofs.RefuseLaws.{stop_by, due_by, not-refused, not-full, no-clash-by, child-there, same-all-by, all-needs, refused-change, refused-after}
 use Rattle.dml_versions.proofs.TableLaws.{table-now, history-name, schema-now}
 use Rattle.dml_versions.proofs.VersionLaws.{updates-history_of_new_row, versions-changed}
 use Rattle.dml_versions.specs.Changing.{IsWhole, IsStoreAfter, IsChildThere, inserted_change, refused_change}
 use Rattle.sql_model.specs.Tables.{AreWellFormed}
+use Rattle.sql_model.proofs.UniqueKeys.{or_none}
+use Rattle.sql_model.proofs.NewNumbers.{row_precedes}
 use Rattle.dml_versions.specs.Needing.{inserted_member, parent_needs, HaveParents}
 use Rattle.dml_versions.specs.Types.{Need, Statement, TheInsert, Insert, Changed, Column, Expr, Value, Table, TableRow, StoreHistory, TableHistory}
 use Rattle.dml_versions.specs.Versions.{versions_now}
@@ -131,7 +132,7 @@ module _ (store : StoreHistory) (insert : Insert) (table : TableHistory) (there 
     valid = found-valid db formed insert.table t target_is
 
     below : list_all (λ (row : TableRow). nat_lt row.number t.next) t.rows ≡ true
-    below = (and-parts (is_strictly_sorted precedes t.rows) (list_all (λ (row : TableRow). nat_lt row.number t.next) t.rows) (table-parts t valid).numbers).1
+    below = (and-parts (is_strictly_sorted row_precedes t.rows) (list_all (λ (row : TableRow). nat_lt row.number t.next) t.rows) (table-parts t valid).numbers).1
 
     apart : key_clash (table_after s (catalog_of db) t) ≡ None → are_apart (numbered_rows t.next new) t ≡ true
     apart none = ap (λ (u : Table). is_none (key_clash u)) (put-inserted t below new) ∙ ap is_none none
@@ -173,7 +174,7 @@ module _ (store : StoreHistory) (insert : Insert) (table : TableHistory) (there 
       refused_not = not-refused store s insert.table table there order target_is check none_due
 
       pub insert-fine : stop_by t (lacks_value s (catalog_of db) t) (key_clash (table_after s (catalog_of db) t)) (is_full s t) ≡ None
-      insert-fine = (or-nothing (stop_by t (lacks_value s (catalog_of db) t) (key_clash (table_after s (catalog_of db) t)) (is_full s t)) (refs_stop missing orphan) none_due).0
+      insert-fine = (or_none (stop_by t (lacks_value s (catalog_of db) t) (key_clash (table_after s (catalog_of db) t)) (is_full s t)) (refs_stop missing orphan) none_due).0
 
       made_is : made_unless None (versions_now store) (Some s) db ≡ map (new_member t) (rows_of_insert insert t)
       made_is = ap (members_made (versions_now store) s (catalog_of db)) target_is

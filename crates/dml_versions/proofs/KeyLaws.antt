@@ -6,9 +6,9 @@ use Rattle.std.specs.Option.{option_map, option_to_list}
 use Rattle.core_parts.proofs.Lists.{kept_twice}
 use Rattle.sql_model.proofs.UniqueKeys.{values_in}
 use Rattle.sql_model.specs.Tables.{are_keys_unique}
+use Rattle.sql_model.specs.References.{has_key}
 use Rattle.table_store.proofs.StandingRows.{slot-there, slot-has, none-twice, only-one}
 use Rattle.table_store.specs.Histories.{RowHistory, rows_now, slot_of_row}
-use Rattle.table_store.specs.KeyIndex.{has_key}
 use Rattle.table_store.specs.RowOrder.{AreInOrder}
 use Rattle.dml_versions.specs.Finding.{found_row, found_at, found_from}
 use Rattle.dml_versions.specs.Types.{TableRow, Value}

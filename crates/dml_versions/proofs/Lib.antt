@@ -1,6 +1,5 @@
 pub mod AfterLaws
 pub mod CheckLaws
-pub mod ClashLaws
 pub mod DeleteLaws
 pub mod EntryLaws
 pub mod FixingLaws

@@ -14,10 +14,11 @@ use Rattle.sql_model.proofs.ValidTables.{table-parts}
 use Rattle.sql_model.specs.Needs.{matched_row, next_member, read_of}
 use Rattle.sql_model.specs.Scope.{same_text, is_table}
 use Rattle.sql_model.specs.Tables.{is_valid_table, table_precedes}
+use Rattle.sql_model.proofs.NewNumbers.{row_precedes}
 use Rattle.table_store.specs.Histories.{history_at, rows_now, last_next_number}
 use Rattle.table_store.specs.RowOrder.{AreInOrder}
 use Rattle.table_store.specs.Stops.{with_changed}
-use Rattle.dml_versions.proofs.NumberLaws.{AreSorted, precedes}
+use Rattle.dml_versions.proofs.NumberLaws.{AreSorted}
 use Rattle.dml_versions.proofs.StandingLaws.{IsStanding, version-is, all-stand, all-filter}
 use Rattle.dml_versions.specs.Finding.{found_row, version_of}
 use Rattle.dml_versions.specs.Needing.{need_found, updated_member}
@@ -31,7 +32,7 @@ map-agree f g (x ∷ xs) all = λ j. all.0 j ∷ map-agree f g xs all.1 j
 -- ---- a valid table's rows
 
 pub rows-sorted : (t : Table) → is_valid_table t ≡ true → AreSorted t.rows
-rows-sorted t valid = (and-parts (is_strictly_sorted precedes t.rows) (list_all (λ (row : TableRow). nat_lt row.number t.next) t.rows) (table-parts t valid).numbers).0
+rows-sorted t valid = (and-parts (is_strictly_sorted row_precedes t.rows) (list_all (λ (row : TableRow). nat_lt row.number t.next) t.rows) (table-parts t valid).numbers).0
 
 -- ---- one table is changed
 

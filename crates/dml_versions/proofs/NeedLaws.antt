@@ -13,9 +13,10 @@ use Rattle.ldv_value.proofs.Lists.{map-map}
 use Rattle.ldv_value.proofs.SameBytes.{bytes_eq-itself}
 use Rattle.ldv_value.specs.Sorted.{is_strictly_sorted}
 use Rattle.sql_model.specs.Needs.{NeededRow, needed_row, put_row, sorted_needs, Versions, matched_row, key_row, had_row, read_of}
+use Rattle.sql_model.proofs.NewNumbers.{row_precedes}
 use Rattle.table_store.specs.Stops.{stood_number}
 use Rattle.dml_versions.specs.Needing.{put_need, put_some}
-use Rattle.dml_versions.proofs.NumberLaws.{AreSorted, precedes}
+use Rattle.dml_versions.proofs.NumberLaws.{AreSorted}
 use Rattle.dml_versions.specs.Types.{Need, Rule, L, K, Table, TableRow}
 
 -- a row by its number, and the rule by which it is needed
@@ -218,7 +219,7 @@ sorted_rows : (rows : List TableRow) → AreSorted rows → sorted (map matched_
 sorted_rows [] is = refl
 sorted_rows (row ∷ []) is = refl
 sorted_rows (row ∷ next ∷ rows) is =
-    let both = and-parts (precedes row next) (is_strictly_sorted precedes (next ∷ rows)) is in
+    let both = and-parts (row_precedes row next) (is_strictly_sorted row_precedes (next ∷ rows)) is in
     let less : row.number < next.number = ltb-true row.number next.number both.0 in
     ap (put (matched_at row)) (sorted_rows (next ∷ rows) both.1)
     ∙ simp (not_before row.number next.number less, is_before row.number next.number less)

@@ -2,40 +2,35 @@
 use Rattle.std.proofs.Common.{◌≡◌, ◌==◌, ◌≢◌, ℕ, inl, inr, Bool, true, false, ◌||◌, not, cond, List, [], ◌∷◌, map, refl, ap, sym, ◌∙◌, subst, arith, Option, Some, None, eq-eqb}
 use Rattle.std.specs.Prelude.{filter, find, nat_lt, unwrap_or, if◌then◌else◌}
 use Rattle.std.specs.List.{list_any, list_all, AllByRecursion}
-use Rattle.std.proofs.lemmas.Bool.{ne_eqb, ltb-true, lt-ltb}
+use Rattle.std.proofs.lemmas.Bool.{ne_eqb, ltb-true}
 use Rattle.ldv_value.proofs.Booleans.{and-parts, or-true}
 use Rattle.ldv_value.proofs.Cases.{cases-bool}
 use Rattle.ldv_value.proofs.Lists.{list_all-filter, list_all-map, list_all-weaker, sorted-map}
 use Rattle.sql_model.proofs.SortedLists.{sorted-all, sorted-tail, sorted-filter}
+use Rattle.sql_model.proofs.NewNumbers.{row-trans, row_precedes}
 use Rattle.table_store.specs.Stops.{replaced_by, is_among, are_sorted_rows, are_sorted_numbers}
 use Rattle.dml_versions.specs.Types.{TableRow}
-
-abbrev pub precedes : TableRow → TableRow → Bool
-precedes a b = nat_lt a.number b.number
-
-precedes_trans : (a b c : TableRow) → precedes a b ≡ true → precedes b c ≡ true → precedes a c ≡ true
-precedes_trans a b c first second = lt-ltb a.number c.number (omega (arith, ltb-true a.number b.number first, ltb-true b.number c.number second))
 
 abbrev pub AreSorted : List TableRow → Type 0
 AreSorted rows = are_sorted_rows rows ≡ true
 
-pub after-first : (row : TableRow) (rows : List TableRow) → AreSorted (row ∷ rows) → list_all (precedes row) rows ≡ true
-after-first row rows sorted = sorted-all precedes precedes_trans row rows sorted
+pub after-first : (row : TableRow) (rows : List TableRow) → AreSorted (row ∷ rows) → list_all (row_precedes row) rows ≡ true
+after-first row rows sorted = sorted-all row_precedes row-trans row rows sorted
 
 pub others-sorted : (row : TableRow) (rows : List TableRow) → AreSorted (row ∷ rows) → AreSorted rows
-others-sorted row rows sorted = sorted-tail precedes precedes_trans row rows sorted
+others-sorted row rows sorted = sorted-tail row_precedes row-trans row rows sorted
 
 pub some-sorted : (test : TableRow → Bool) (rows : List TableRow) → AreSorted rows → AreSorted (filter test rows)
-some-sorted test rows sorted = sorted-filter precedes precedes_trans test rows sorted
+some-sorted test rows sorted = sorted-filter row_precedes row-trans test rows sorted
 
 pub made-sorted : (f : TableRow → TableRow) → ((row : TableRow) → (f row).number ≡ row.number) → (rows : List TableRow) → AreSorted rows → AreSorted (map f rows)
-made-sorted f same rows sorted = sorted-map precedes precedes f (λ a b j. nat_lt (same a j) (same b j)) rows ∙ sorted
+made-sorted f same rows sorted = sorted-map row_precedes row_precedes f (λ a b j. nat_lt (same a j) (same b j)) rows ∙ sorted
 
 pub numbers-sorted : (rows : List TableRow) → AreSorted rows → are_sorted_numbers (map (λ row. row.number) rows) ≡ true
-numbers-sorted rows sorted = sorted-map precedes nat_lt (λ row. row.number) (λ a b. refl) rows ∙ sorted
+numbers-sorted rows sorted = sorted-map row_precedes nat_lt (λ row. row.number) (λ a b. refl) rows ∙ sorted
 
 -- a row before another has another number
-apart : (a b : TableRow) → precedes a b ≡ true → a.number ≢ b.number
+apart : (a b : TableRow) → row_precedes a b ≡ true → a.number ≢ b.number
 apart a b less same = absurd (omega (arith, ltb-true a.number b.number less, same))
 
 -- ---- each row has the number of a row
@@ -68,40 +63,40 @@ numbers-in test rows =
 -- rows after one don't find one of its number
 module _ (row : TableRow) where
   none_by : (f : TableRow → TableRow) → ((one : TableRow) → (f one).number ≡ one.number) → (test : TableRow → Bool) (rows : List TableRow)
-      → list_all (precedes row) rows ≡ true → find (λ new. new.number == row.number) (map f (filter test rows)) ≡ None
+      → list_all (row_precedes row) rows ≡ true → find (λ new. new.number == row.number) (map f (filter test rows)) ≡ None
   none_by f same test [] after = refl
   none_by f same test (next ∷ rows) after =
-      let both = and-parts (precedes row next) (list_all (precedes row) rows) after in
+      let both = and-parts (row_precedes row next) (list_all (row_precedes row) rows) after in
       let other : ((f next).number == row.number) ≡ false = ne_eqb (f next).number row.number (λ is. apart row next both.0 (sym is ∙ same next)) in
       elim (cases-bool (test next)) [
         | inl hit ↦ rw (hit, other) (none_by f same test rows both.1)
         | inr miss ↦ rw miss (none_by f same test rows both.1)
       ]
 
-  skip_all : (new : TableRow) → new.number ≡ row.number → (news rows : List TableRow) → list_all (precedes row) rows ≡ true
+  skip_all : (new : TableRow) → new.number ≡ row.number → (news rows : List TableRow) → list_all (row_precedes row) rows ≡ true
       → map (replaced_by (new ∷ news)) rows ≡ map (replaced_by news) rows
   skip_all new is news [] after = refl
   skip_all new is news (next ∷ rows) after =
-      let both = and-parts (precedes row next) (list_all (precedes row) rows) after in
+      let both = and-parts (row_precedes row next) (list_all (row_precedes row) rows) after in
       let other : (new.number == next.number) ≡ false = ne_eqb new.number next.number (λ same. apart row next both.0 (sym is ∙ same)) in
       rw other (ap (λ (l : List TableRow). replaced_by news next ∷ l) (skip_all new is news rows both.1))
 
-  none_among : (test : TableRow → Bool) (rows : List TableRow) → list_all (precedes row) rows ≡ true
+  none_among : (test : TableRow → Bool) (rows : List TableRow) → list_all (row_precedes row) rows ≡ true
       → is_among (map (λ one. one.number) (filter test rows)) row ≡ false
   none_among test [] after = refl
   none_among test (next ∷ rows) after =
-      let both = and-parts (precedes row next) (list_all (precedes row) rows) after in
+      let both = and-parts (row_precedes row next) (list_all (row_precedes row) rows) after in
       let other : (next.number == row.number) ≡ false = ne_eqb next.number row.number (λ is. apart row next both.0 (sym is)) in
       elim (cases-bool (test next)) [
         | inl hit ↦ rw (hit, other) (none_among test rows both.1)
         | inr miss ↦ rw miss (none_among test rows both.1)
       ]
 
-  skip_among : (numbers : List ℕ) (rows : List TableRow) → list_all (precedes row) rows ≡ true
+  skip_among : (numbers : List ℕ) (rows : List TableRow) → list_all (row_precedes row) rows ≡ true
       → filter (λ one. not (is_among (row.number ∷ numbers) one)) rows ≡ filter (λ one. not (is_among numbers one)) rows
   skip_among numbers [] after = refl
   skip_among numbers (next ∷ rows) after =
-      let both = and-parts (precedes row next) (list_all (precedes row) rows) after in
+      let both = and-parts (row_precedes row next) (list_all (row_precedes row) rows) after in
       let other : (row.number == next.number) ≡ false = ne_eqb row.number next.number (apart row next both.0) in
       rw other (ap (λ (l : List TableRow). cond (not (is_among numbers next)) (next ∷ l) l) (skip_among numbers rows both.1))
 
@@ -171,12 +166,12 @@ module _ (test : TableRow → Bool) where
       ]
 
   -- the rows that pass a test are those whose numbers theirs are
-  skip_one : (row : TableRow) (numbers : List ℕ) (rows : List TableRow) → list_all (precedes row) rows ≡ true
+  skip_one : (row : TableRow) (numbers : List ℕ) (rows : List TableRow) → list_all (row_precedes row) rows ≡ true
       → AllByRecursion (λ one. is_among numbers one ≡ test one) rows
       → AllByRecursion (λ one. is_among (row.number ∷ numbers) one ≡ test one) rows
   skip_one row numbers [] after all = tt
   skip_one row numbers (next ∷ rows) after all =
-      let both = and-parts (precedes row next) (list_all (precedes row) rows) after in
+      let both = and-parts (row_precedes row next) (list_all (row_precedes row) rows) after in
       let other : (row.number == next.number) ≡ false = ne_eqb row.number next.number (apart row next both.0) in
       (ap (λ (b : Bool). b || is_among numbers next) other ∙ all.0, skip_one row numbers rows both.1 all.1)
 

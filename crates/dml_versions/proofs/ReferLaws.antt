@@ -14,26 +14,26 @@ use Rattle.ldv_value.proofs.SameBytes.{bytes_eq-true, bytes_eq-itself}
 use Rattle.ldv_value.specs.Sorted.{is_strictly_sorted}
 use Rattle.sql_laws.proofs.Orphans.{first_holds}
 use Rattle.sql_laws.proofs.TableNames.{table-trans, more-differs}
-use Rattle.sql_laws.specs.StatementLaw.{has_row}
+use Rattle.sql_laws.proofs.StatementParts.{refs_of}
 use Rattle.sql_model.proofs.SortedLists.{sorted-all, sorted-tail}
-use Rattle.sql_model.specs.Changes.{numbered_rows, or_else, had_row, with_rows}
+use Rattle.sql_model.specs.Changes.{numbered_rows, had_row, with_rows}
 use Rattle.sql_model.specs.Needs.{needed_by, read_of}
 use Rattle.sql_model.specs.QueryAnswer.{Origin}
 use Rattle.sql_model.specs.References.{reference, has_key, is_lost, MissingParent, Child, Orphan, orphan_by, orphans_of, other_rows, child_of, children, orphans, first_in, parents_in, parents_by, parents_of}
-use Rattle.sql_model.specs.Scope.{same_text, is_table, table_at}
-use Rattle.sql_model.specs.Statements.{parent_refusal, child_refusal}
+use Rattle.sql_model.specs.Scope.{same_text, is_table, table_at, has_row}
 use Rattle.sql_model.specs.Tables.{table_precedes}
 use Rattle.table_store.specs.Histories.{tables_now, table_now, history_at, history_of_row, version_now, last_next_number}
 use Rattle.table_store.specs.RowOrder.{AreInOrder}
 use Rattle.table_store.specs.Referring.{CanBePut, parent_stop, child_stop, with_put, are_apart, parents_in_db, version_at, origin_now, parents_now, IsAtVersion}
-use Rattle.table_store.specs.Stops.{replaced_by, with_changed, with_replaced, had_rows, has_number, values_of}
+use Rattle.table_store.specs.Stops.{replaced_by, with_changed, with_replaced, had_rows, has_number}
 use Rattle.table_store.specs.declared.error.StoreStop.{StoreStop}
 use Rattle.table_store.specs.declared.error.StoreStop.TheVariants as stop
+use Rattle.table_store.proofs.FormedLaws.{values_numbered}
 use Rattle.dml_versions.proofs.StandingLaws.{updates-are, number-stands, version-is}
 use Rattle.dml_versions.proofs.TableLaws.{table-found, table-now}
 use Rattle.dml_versions.specs.Finding.{version_of}
 use Rattle.dml_versions.specs.Needing.{parent_needs, IsRowThere}
-use Rattle.dml_versions.specs.Types.{Member, Need, P, SqlRefusal, NoParent, HasChild, StoreHistory, Table, TableHistory, TableRow, Value}
+use Rattle.dml_versions.specs.Types.{Member, Need, P, NoParent, HasChild, StoreHistory, Table, TableHistory, TableRow, Value}
 use Rattle.dml_versions.specs.Versions.{updates_in, versions_now}
 use Rattle.sql_model.specs.declared.table.Foreign.{Foreign}
 
@@ -43,19 +43,12 @@ pub or-case : {X : Type 0} (a b : Option X) (x : X) → option_or a b ≡ Some x
 or-case None b x is = inr (refl, is)
 or-case (Some y) b x is = inl is
 
-pub or-nothing : {X : Type 0} (a b : Option X) → option_or a b ≡ None → (a ≡ None) × (b ≡ None)
-or-nothing None b is = (refl, is)
-or-nothing (Some y) b is = cc
-
 -- ---- a parent that is missing, or a child that loses its own
 
 abbrev pub refs_stop : Option MissingParent → Option Orphan → Option StoreStop
 refs_stop missing orphan = option_or (option_map parent_stop missing) (option_map child_stop orphan)
 
-abbrev pub refs_refusal : Option MissingParent → Option Orphan → Option SqlRefusal
-refs_refusal missing orphan = or_else (option_map parent_refusal missing) (option_map child_refusal orphan)
-
-pub refs-none : (m : Option MissingParent) (o : Option Orphan) → refs_stop m o ≡ None → refs_refusal m o ≡ None
+pub refs-none : (m : Option MissingParent) (o : Option Orphan) → refs_stop m o ≡ None → refs_of m o ≡ None
 refs-none None None is = refl
 refs-none None (Some o) is = cc
 refs-none (Some m) o is = cc
@@ -77,7 +70,7 @@ refs-full None (Some o) is = cc
 refs-full (Some m) o is = cc
 
 pub refs-parent : (m : Option MissingParent) (o : Option Orphan) (table : List ℕ) (key : List Value)
-    → refs_stop m o ≡ Some (stop.NoParent table key) → refs_refusal m o ≡ Some (NoParent table key)
+    → refs_stop m o ≡ Some (stop.NoParent table key) → refs_of m o ≡ Some (NoParent table key)
 refs-parent None None table key is = cc
 refs-parent None (Some o) table key is = cc
 refs-parent (Some m) o table key is =
@@ -91,7 +84,7 @@ pub record IsChild (m : Option MissingParent) (o : Option Orphan) (table : List 
   pub is : o ≡ Some orphan
   pub table_is : orphan.table ≡ table
   pub row_is : orphan.row ≡ row
-  pub refusal : refs_refusal m o ≡ Some (HasChild table key)
+  pub refusal : refs_of m o ≡ Some (HasChild table key)
 
 pub refs-child : (m : Option MissingParent) (o : Option Orphan) (table : List ℕ) (row : ℕ) (key : List Value)
     → refs_stop m o ≡ Some (stop.HasChild table row key) → IsChild m o table row key
@@ -343,10 +336,6 @@ pub put-inserted : (t : Table) → list_all (λ (row : TableRow). nat_lt row.num
 put-inserted t below values =
     λ j. with_rows t (none_replaced t.next values t.rows below j ++ all_new t below t.next (omega arith) values j) t.next
 
-pub values-back : (next : ℕ) (values : List (List Value)) → values_of (numbered_rows next values) ≡ values
-values-back next [] = refl
-values-back next (v ∷ vs) = ap (λ (l : List (List Value)). v ∷ l) (values-back (next + 1) vs)
-
 -- ---- parents by what tables become
 
 -- the rows and the schema of the table that is changed are all that parents hang on
@@ -421,7 +410,7 @@ pub next-put : (next : ℕ) (values : List (List Value)) (o : Option Table) → 
 next-put next values None is = tt
 next-put next values (Some t) is =
     let same : t.next ≡ next = same-some t.next next is in
-    inr (λ j. numbered_rows (sym same j) (sym (values-back next values) j))
+    inr (λ j. numbered_rows (sym same j) (sym (values_numbered next values) j))
 
 -- ---- the version of a row that is there
 

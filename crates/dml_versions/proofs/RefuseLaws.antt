@@ -15,6 +15,8 @@ use Rattle.sql_model.specs.Refusals.{check_refusal}
 use Rattle.sql_model.specs.Scope.{catalog_of}
 use Rattle.sql_model.specs.Statements.{target, refusal_of}
 use Rattle.sql_model.specs.Tables.{table_precedes}
+use Rattle.sql_model.proofs.UniqueKeys.{or_none}
+use Rattle.sql_laws.proofs.StatementParts.{refs_of}
 use Rattle.table_store.specs.Histories.{tables_now, table_now, history_at, last_next_number}
 use Rattle.table_store.specs.RowOrder.{AreInOrder}
 use Rattle.table_store.specs.Stops.{stop_if, key_stop, stood_number, StopsAs}
@@ -25,7 +27,7 @@ use Rattle.dml_versions.proofs.KeptLaws.{SameOwn, SameAll}
 use Rattle.dml_versions.proofs.MatchLaws.{AllStand, versions-are, needs-is}
 use Rattle.dml_versions.proofs.NeedLaws.{added, needs-matched, needs-refused}
 use Rattle.dml_versions.proofs.NumberLaws.{AreSorted}
-use Rattle.dml_versions.proofs.ReferLaws.{or-case, or-nothing, refs_stop, refs_refusal, refs-none, refs-null, refs-key, refs-full, refs-parent, refs-child, IsChild, orphan-there, row-there}
+use Rattle.dml_versions.proofs.ReferLaws.{or-case, refs_stop, refs-none, refs-null, refs-key, refs-full, refs-parent, refs-child, IsChild, orphan-there, row-there}
 use Rattle.dml_versions.proofs.StandingLaws.{IsStanding, number-stands}
 use Rattle.dml_versions.proofs.TableLaws.{history-name}
 use Rattle.dml_versions.specs.Changing.{IsWhole, IsStoreAfter, IsChildThere, refused_change, refused_by}
@@ -144,21 +146,21 @@ module _ (store : StoreHistory) (s : Statement) (name : List ℕ) (table : Table
   named : t.name ≡ name
   named = history-name name store table there
 
-  refusal_of_rows : refusal_of (Some s) db ≡ or_else (refusal_by t lacks clash full) (refs_refusal missing orphan)
+  refusal_of_rows : refusal_of (Some s) db ≡ or_else (refusal_by t lacks clash full) (refs_of missing orphan)
   refusal_of_rows = refusal-is s db (Some t) check target_is
 
   own_refuses : (r : SqlRefusal) → refusal_by t lacks clash full ≡ Some r → refusal_of (Some s) db ≡ Some r
-  own_refuses r is = refusal_of_rows ∙ ap (λ (o : Option SqlRefusal). or_else o (refs_refusal missing orphan)) is
+  own_refuses r is = refusal_of_rows ∙ ap (λ (o : Option SqlRefusal). or_else o (refs_of missing orphan)) is
 
-  refs_refuse : own ≡ None → (r : Option SqlRefusal) → refs_refusal missing orphan ≡ r → refusal_of (Some s) db ≡ r
+  refs_refuse : own ≡ None → (r : Option SqlRefusal) → refs_of missing orphan ≡ r → refusal_of (Some s) db ≡ r
   refs_refuse none r is =
       refusal_of_rows
-      ∙ ap (λ (o : Option SqlRefusal). or_else o (refs_refusal missing orphan)) (by_none t lacks clash full none)
+      ∙ ap (λ (o : Option SqlRefusal). or_else o (refs_of missing orphan)) (by_none t lacks clash full none)
       ∙ is
 
   pub not-refused : due_by t lacks clash full missing orphan ≡ None → refusal_of (Some s) db ≡ None
   not-refused is =
-      let both = or-nothing own refs is in
+      let both = or_none own refs is in
       refs_refuse both.0 None (refs-none missing orphan both.1)
 
   -- ---- which cause it is

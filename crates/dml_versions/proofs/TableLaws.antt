@@ -1,5 +1,5 @@
 -- The tables of a store by their names.
-use Rattle.std.proofs.Common.{◌≡◌, ℕ, List, [], ◌∷◌, ◌++◌, map, refl, ap, sym, ◌∙◌, subst, inl, inr, false, Option, Some, None, append-nil}
+use Rattle.std.proofs.Common.{◌≡◌, ℕ, List, [], ◌∷◌, ◌++◌, map, refl, ap, sym, ◌∙◌, subst, inl, inr, false, Option, Some, append-nil}
 use Rattle.std.specs.Prelude.{find, IsSome, if◌then◌else◌}
 use Rattle.std.specs.Option.{option_map}
 use Rattle.ldv_value.proofs.Cases.{cases-bool}
@@ -8,6 +8,7 @@ use Rattle.ldv_value.proofs.SameBytes.{bytes_eq-true, bytes_eq-itself}
 use Rattle.sql_model.proofs.Equations.{table_schema, schema_found}
 use Rattle.sql_model.specs.Scope.{same_text, is_table, table_at, catalog_of, columns_of, schema_at, own_scope}
 use Rattle.table_store.specs.Histories.{TableHistory, StoreHistory, table_now, tables_now, is_history, history_at, in_table, changed_at}
+use Rattle.table_store.proofs.NowLaws.{some_from}
 use Rattle.dml_versions.specs.Finding.{scope_in}
 use Rattle.dml_versions.specs.Types.{Schema, Table}
 
@@ -22,12 +23,8 @@ found_among name (t ∷ ts) = elim (cases-bool (is_history name t)) [
 pub table-found : (name : List ℕ) (store : StoreHistory) → table_at name (tables_now store) ≡ option_map table_now (history_at name store)
 table-found name store = found_among name store.tables
 
-some_by : (o : Option TableHistory) → IsSome (option_map table_now o) → IsSome o
-some_by None is = is
-some_by (Some t) is = is
-
 pub history-some : (name : List ℕ) (store : StoreHistory) → IsSome (table_at name (tables_now store)) → IsSome (history_at name store)
-history-some name store is = some_by (history_at name store) (subst (λ (o : Option Table). IsSome o) (table-found name store) is)
+history-some name store is = some_from (history_at name store) (subst (λ (o : Option Table). IsSome o) (table-found name store) is)
 
 pub table-now : (name : List ℕ) (store : StoreHistory) (table : TableHistory) → history_at name store ≡ Some table → table_at name (tables_now store) ≡ Some (table_now table)
 table-now name store table is = table-found name store ∙ ap (option_map table_now) is

@@ -1,9 +1,9 @@
 -- The tests of single columns that WHERE makes, and the slots that they leave.
-use Rattle.std.proofs.Common.{◌≡◌, ◌∙◌, ap, sym, subst, refl, ℕ, zero, suc, ◌+◌, ◌-◌, ◌*◌, ◌/◌, ◌<◌, ◌≤◌, arith, Bool, true, false, ◌&&◌, List, [], ◌∷◌, ◌++◌, map, length, get_or, drop, append_assoc, append-nil, inl, inr, Option, Some, None}
+use Rattle.std.proofs.Common.{◌≡◌, ◌∙◌, ap, sym, subst, refl, ℕ, zero, suc, ◌+◌, ◌-◌, ◌<◌, ◌≤◌, arith, Bool, true, false, ◌&&◌, List, [], ◌∷◌, ◌++◌, map, length, get_or, drop, append_assoc, append-nil, inl, inr, Option, Some, None}
 use Rattle.std.specs.Prelude.{filter, slice_get, IfSome}
 use Rattle.std.specs.List.{AllByRecursion}
 use Rattle.std.specs.Option.{option_map_or, option_to_list}
-use Rattle.std.proofs.lemmas.Bool.{cases_Bool, cases_lt}
+use Rattle.std.proofs.lemmas.Bool.{cases_Bool}
 use Rattle.std.proofs.Math.ListN.{drop_of_length-le}
 use Rattle.core_parts.proofs.MaskLaws.{masks-fit, masks-pass}
 use Rattle.core_parts.specs.Conditions.{AreConditions}
@@ -12,7 +12,6 @@ use Rattle.core_parts.specs.declared.mask.Mask.{Mask}
 use Rattle.core_parts.specs.declared.mask.MaskTest.{MaskTest}
 use Rattle.core_parts.specs.declared.mask.MaskTest.TheVariants as mask_test
 use Rattle.core_parts.specs.declared.placed.BoundExpr.{BoundExpr}
-use Rattle.lanes.proofs.SetLaws.{no_member}
 use Rattle.lanes.specs.Sets.{member, IsNext}
 use Rattle.ldv_value.proofs.Booleans.{true≢false}
 use Rattle.sql_model.specs.Kinds.{names_in}
@@ -156,10 +155,3 @@ module _ (words : List ℕ) (test : TableRow → Bool) (slots : List RowHistory)
       let end : found_from test slots at ≡ [] =
       found_skip (length slots) at (λ n from below. none n from) ∙ ap (λ (l : List RowHistory). map (found_row slots) (filter test (rows_now l))) past in
       sym (append-nil found) ∙ ap (λ (l : List Found). found ++ l) (sym end) ∙ same
-
--- a slot that is set has its word
-pub slot_within : (words : List ℕ) (slot : ℕ) → member words slot ≡ true → slot < 64 * length words
-slot_within words slot set = elim (cases_lt (slot / 64) (length words)) [
-  | inl below ↦ omega (arith, below)
-  | inr over ↦ absurd (true≢false (sym set ∙ no_member words slot (omega (arith, over))))
-]

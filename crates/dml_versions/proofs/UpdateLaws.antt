@@ -31,13 +31,14 @@ use Rattle.dml_versions.proofs.KeptLaws.{SameAll}
 use Rattle.dml_versions.proofs.MatchLaws.{rows-sorted, same-changed, matched-stand}
 use Rattle.dml_versions.proofs.MatchedChange.{matched-change}
 use Rattle.dml_versions.proofs.NumberLaws.{AreSorted, replaced-some, made-sorted, some-sorted, made-in, among-some}
-use Rattle.dml_versions.proofs.ReferLaws.{or-nothing, refs_stop, children-same, others-agree, put-replaced}
+use Rattle.dml_versions.proofs.ReferLaws.{refs_stop, children-same, others-agree, put-replaced}
 use Rattle.dml_versions.proofs.RefuseLaws.{stop_by, due_by, not-refused, no-clash-by, child-there, same-all-by, all-needs, refused-change, refused-after}
 use Rattle.dml_versions.proofs.StandingLaws.{IsStanding}
 use Rattle.dml_versions.proofs.TableLaws.{table-now, scope-is, history-name, schema-now}
 use Rattle.dml_versions.proofs.VersionLaws.{updates-rows_with_values, versions-changed}
 use Rattle.dml_versions.specs.Changing.{IsWhole, IsStoreAfter, IsChildThere, matched_change, refused_change}
 use Rattle.sql_model.specs.Tables.{AreWellFormed}
+use Rattle.sql_model.proofs.UniqueKeys.{or_none}
 use Rattle.dml_versions.specs.Finding.{scope_in, test_in, found_row, row_of}
 use Rattle.dml_versions.specs.Needing.{need_found, parent_needs, HaveParents}
 use Rattle.dml_versions.specs.Types.{Need, Statement, TheUpdate, Update, Column, Table, TableRow, StoreHistory, TableHistory}
@@ -263,7 +264,7 @@ module _ (store : StoreHistory) (update : Update) (table : TableHistory) (there 
       refused_not = not-refused store s update.table table there order target_is check none_due
 
       pub update-fine : own ≡ None
-      update-fine = (or-nothing own (refs_stop missing orphan) none_due).0
+      update-fine = (or_none own (refs_stop missing orphan) none_due).0
 
       pub update-change : IsWhole s store (matched_change update.table found whole)
       update-change = matched-change store s update.table table there order refl refl refl old old_is old_sorted old_stand refused_not found found_is whole refl

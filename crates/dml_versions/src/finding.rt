@@ -113,7 +113,7 @@ fn found_among(
 }
 
 // The slot after one that is set.
-#[tactic(auto, using(crate::proofs::TestLaws::slot_within))]
+#[tactic(auto, using(lanes::proofs::SetLaws::slot_within))]
 fn after(words: &[u64], slot: u64) -> u64
     requires few { length words.now < 2 ^ 57 }
     requires set { member words.now slot ≡ true }

@@ -18,14 +18,11 @@ use Rattle.run_model.specs.Outcome.{insert_by_name, by_name, outcome_of_process,
 use Rattle.run_model.specs.State.{State}
 use Rattle.sql_laws.proofs.ItemLists.{all_of_map}
 use Rattle.run_laws.proofs.ProcessNames.{name_of, names, Distinct}
-use Rattle.run_laws.proofs.SortedNames.{goes_first, sorted_all, names_sorted}
+use Rattle.run_laws.proofs.SortedNames.{goes_first, sorted_all, names_sorted, Apart}
 use Rattle.free_order.proofs.Boards.{Solo, Board}
 use Rattle.free_order.proofs.ByName.{named, solo_of, solos, board_of}
 
 -- ---- in the order of names the same process stands under a name
-
-abbrev Apart : Process → Process → Type 0
-Apart p q = p.name ≢ q.name
 
 insert_named : (p : Process) (qs : List Process) (name : List ℕ) → AllByRecursion (Apart p) qs
     → named name (insert_by_name p qs) ≡ (if bytes_eq name p.name then Some p else named name qs)

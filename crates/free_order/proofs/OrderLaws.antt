@@ -24,14 +24,14 @@ use Rattle.run_model.specs.SqlDatabase.{sql_base}
 use Rattle.run_model.specs.Start.{start_script, start_state}
 use Rattle.run_model.specs.State.{State}
 use Rattle.run_model.specs.WorldRun.{core_after, ends_in, ends_within, steps_in, steps_by, events_in, events_by, events_within, outcome_within}
+use Rattle.run_model.proofs.StepActs.{few_steps}
 use Rattle.run_laws.proofs.LogLaws.{slice, packed, same, script_is, core_is, steps_are, log_law}
-use Rattle.run_laws.proofs.RunSteps.{steps_most}
-use Rattle.run_laws.proofs.ProcessNames.{names, Grows, grows_itself, Named}
+use Rattle.run_laws.proofs.ProcessNames.{names, Grows, grows_itself, Named, last_parts}
 use Rattle.free_order.specs.Private.{spawned_in, writes_own, private_test}
 use Rattle.free_order.specs.Orders.{with_seed, from_step, OrderLaw}
 use Rattle.free_order.proofs.Boards.{Solo, Board, May, Owner, IsOpenTo, Goes, Runs}
 use Rattle.free_order.proofs.ByName.{at_number, solo_of, solos, board_of, named_found}
-use Rattle.free_order.proofs.SoundBoards.{no_end, last_parts, Sound}
+use Rattle.free_order.proofs.SoundBoards.{Sound}
 use Rattle.free_order.proofs.Descent.{IsEnd, Leads, leads, at_end}
 use Rattle.free_order.proofs.RunsByName.{Real, Stride, stride, Went, went, EventsFit, ran, births_append, made_counts, all_steps}
 use Rattle.free_order.proofs.EndsByName.{same_outcome, solo_found}
@@ -112,7 +112,7 @@ module _ (owner : Owner) (steps_made : ℕ) (begin end : State LogDatabase) (rea
       let rest = at_end owner leading.rest (board_of final) (board_of end) leading.runs stays in
       let count_is : steps_made ≡ count + leading.rest = leading.count in
       let none : leading.rest ≡ 0 = rest.0 in
-      let most : count ≤ budget = steps_most log_base budget picks begin in
+      let most : count ≤ budget = few_steps log_base budget picks begin in
       let goes : is_some final.core.diverged ≡ false = ap (λ (b : Board). b.stopped) rest.1 ∙ ended.runs in
       let all : have_all_ended final.core ≡ true = ap (λ (d : Bool). d || have_all_ended final.core) (sym goes) ∙ over in
       let late : nat_lt budget steps_made ≡ false = not_less budget steps_made (omega (arith, count_is, none, most)) in

@@ -1,8 +1,9 @@
 -- A run over recorded replies, whatever chooses its steps, is a run of its processes taken by name.
-use Rattle.std.proofs.Common.{◌≡◌, ℕ, zero, suc, ◌+◌, List, [], ◌∷◌, ◌++◌, length, refl, sym, ap, ◌∙◌, subst, Bool, true, false, arith, inl, inr}
-use Rattle.std.specs.Prelude.{Option, Some, None, is_some, map, ◌||◌, slice_get, slice_set}
+use Rattle.std.proofs.Common.{◌≡◌, ℕ, zero, suc, ◌+◌, List, [], ◌∷◌, ◌++◌, length, refl, sym, ap, ◌∙◌, subst, true, false, arith, inl, inr}
+use Rattle.std.specs.Prelude.{Option, Some, None, is_some, map, slice_get, slice_set}
 use Rattle.std.specs.List.{AllByRecursion}
 use Rattle.std.proofs.lemmas.Bool.{cases_Bool}
+use Rattle.ldv_value.proofs.Booleans.{or-parts}
 use Rattle.free_order.specs.Types.{Act, Event, Reply, Entry}
 use Rattle.run_model.specs.Core.{Process, Core, have_all_ended, is_over}
 use Rattle.run_model.specs.Database.{Answer, Gives, Diverges}
@@ -12,11 +13,12 @@ use Rattle.run_model.specs.Run.{first_pick, later_picks, chosen, move_of, move, 
 use Rattle.run_model.specs.RunLaw.{MayRun}
 use Rattle.run_model.specs.Schedule.{choose}
 use Rattle.run_model.specs.State.{State, StepResult}
-use Rattle.run_model.specs.Step.{Ask, entry_of, process_with_reply, local_step, next_ask, took_of, told, asking}
+use Rattle.run_model.specs.Step.{Ask, process_with_reply, local_step, next_ask, took_of, told, asking}
 use Rattle.run_model.proofs.Equations.{run-zero, run-over, run-suc, steps-zero, steps-over, steps-suc, events-zero, events-over, events-suc}
 use Rattle.run_model.proofs.NeverStuck.{Ordered, move_ordered, chosen_runs}
-use Rattle.run_laws.proofs.ProcessNames.{Later, Grows, grows_itself, grows_trans, found_later, set_grows, names, names_set, Distinct, Named, named_later}
+use Rattle.run_laws.proofs.ProcessNames.{Grows, grows_itself, grows_trans, found_later, set_grows, names, names_set, Distinct, Named, named_later}
 use Rattle.run_laws.proofs.QuietSteps.{Quiets, quiet_quiets}
+use Rattle.run_laws.proofs.LogRuns.{replied_later}
 use Rattle.free_order.specs.Private.{spawned_by, spawned_in}
 use Rattle.free_order.proofs.Boards.{Solo, Board, Use, Deed, deed, born_count, applied, May, Owner, Fits, Fit, Goes, Runs}
 use Rattle.free_order.proofs.ByName.{at_number, solo_of, board_of, name_at}
@@ -34,14 +36,6 @@ pub record Real (c : Core) : Type 0 where
 record Grown (c d : Core) : Type 0 where
   grows : Grows c.processes d.processes
   named : Named c.processes → Named d.processes
-
-replied_later : (a : Ask) (reply : Reply) (p : Process) → Later p (process_with_reply a reply p)
-replied_later a reply p = record {
-  name = refl;
-  spawned = omega arith;
-  rest = entry_of a.question reply ∷ [];
-  entries = refl;
-}
 
 took_grown : (o : Option Process) (k : ℕ) (a : Ask) (reply : Reply) (c : Core) → slice_get c.processes k ≡ o
     → Grown c (took_of o k a reply c)
@@ -83,11 +77,6 @@ run_grows (suc n) picks s = elim (cases_Bool (is_over s.core)) [
 
 -- ---- one step
 
-neither : (a b : Bool) → (a || b) ≡ false → (a ≡ false) × (b ≡ false)
-neither false false none = (refl, refl)
-neither false true none = absurd cc
-neither true b none = absurd cc
-
 pub record Stride (s : State LogDatabase) (m : StepResult LogDatabase) : Type 0 where
   pub process : Process
   pub there : slice_get s.core.processes m.process ≡ Some process
@@ -105,7 +94,7 @@ asking_process k s (Some a) = told_process k a s (log_base s.db a.question)
 
 pub stride : (pick : Option ℕ) (s : State LogDatabase) → Real s.core → is_over s.core ≡ false → Stride s (move log_base pick s)
 stride pick s real going =
-    let parts = neither (is_some s.core.diverged) (have_all_ended s.core) going in
+    let parts = or-parts (is_some s.core.diverged) (have_all_ended s.core) going in
     let k : ℕ = choose pick s.core in
     let runs : MayRun k s.core = chosen_runs pick s.core real.ordered parts.1 in
     let t : State LogDatabase = chosen k s in

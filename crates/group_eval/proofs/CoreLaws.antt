@@ -1,11 +1,12 @@
 -- Groups of picks stand for groups of combinations.
 use Rattle.std.proofs.Common.{◌≡◌, ◌∙◌, sym, ap, subst, refl, ℕ, Bool, true, false, List, [], ◌∷◌, map, length, ◌==◌, arith, inl, inr, Option, Some, None}
-use Rattle.std.specs.Prelude.{filter, not, slice_get, unwrap_or, if◌then◌else◌}
+use Rattle.std.specs.Prelude.{filter, not, if◌then◌else◌}
 use Rattle.std.specs.FinMap.{empty}
 use Rattle.std.specs.List.{flat_map}
 use Rattle.std.proofs.lemmas.Bool.{cases_Bool}
 use Rattle.std.proofs.lemmas.Bool.Decides.{nat_tests}
 use Rattle.std.proofs.lemmas.Simd.{map-map}
+use Rattle.ldv_value.proofs.Options.{same-some}
 use Rattle.lineage.specs.Lineage.{Lineage}
 use Rattle.lineage.specs.Rows.{kept_origins, IsRow, AnswersStandFor, PicksStandFor, joined_row}
 use Rattle.lineage.specs.StandsFor.{StandsFor}
@@ -14,12 +15,12 @@ use Rattle.lineage.specs.declared.answer.Pick.{Pick}
 use Rattle.lineage.proofs.Origins.{stands-empty}
 use Rattle.lineage.proofs.RowLaws.{kept_origins-union}
 use Rattle.lineage.proofs.Unions.{version_union}
-use Rattle.core_parts.specs.Checking.{core_at, places_at, IsChecked}
+use Rattle.core_parts.specs.Checking.{core_at, places_at}
 use Rattle.group_eval.specs.Evaluating.{group_values, is_group_kept, ArePlaced, IsHavingPlaced, IsPlacedPlan, group_answer, answers_of, rejected_of, IsGroupedBy, IsGrouped}
 use Rattle.group_eval.specs.Folding.{first_row, pick_environments, group_meaning}
 use Rattle.group_eval.specs.Grouping.{key_of, is_under, picks_under, keyed_groups, pick_groups}
 use Rattle.group_eval.specs.inner.Planning.{AreItems, IsHaving, IsPlan}
-use Rattle.group_eval.specs.Types.{Catalog, Checked, ColumnName, Core, Expr, FromItem, Item, Query, Statement, TheQuery, Value}
+use Rattle.group_eval.specs.Types.{Checked, ColumnName, Core, Expr, FromItem, Item, Value}
 use Rattle.lineage.specs.Lineage.{union_of}
 use Rattle.group_eval.specs.Uniting.{lineage_of_picks}
 use Rattle.group_eval.specs.declared.grouping.Grouped.{Grouped}
@@ -28,23 +29,10 @@ use Rattle.group_eval.specs.declared.plan.Plan.{Plan}
 use Rattle.sql_model.specs.Keys.{same_values}
 use Rattle.sql_model.specs.Meaning.{Environment, Meaning, eval, is_true}
 use Rattle.sql_model.specs.Needs.{Versions}
-use Rattle.core_parts.proofs.Lists.{got-mapped}
-use Rattle.sql_model.specs.Places.{core_places, order_places}
+use Rattle.core_parts.proofs.CorePlaces.{core-places}
 use Rattle.sql_model.specs.QueryAnswer.{Combination, combination_rows, joined_values, environments, item_values, first_values, group_key, has_key, groups_of, group_row, is_kept, distinct_values, one_combination}
-use Rattle.sql_model.specs.Refusals.{answer_titles, core_names, cores_of, groups}
+use Rattle.sql_model.specs.Refusals.{core_names, groups}
 use Rattle.sql_model.specs.Scope.{InScope, environment, places_in, place_of, scope_of, value_at}
-
--- ---- the places of a core
-
-module _ (checked : Checked) (query : Query) (catalog : Catalog) (is : IsChecked checked query catalog) where
-  statement-is : checked.statement ≡ TheQuery query
-  statement-is = ap (λ (c : Checked). c.statement) is
-
-  places-are : (place : ℕ) (core : Core) → core_at checked place ≡ Some core → places_at checked place ≡ places_in (scope_of core.from catalog) (core_names core)
-  places-are place core at =
-      let got : slice_get query.cores place ≡ Some core = ap (λ (s : Statement). slice_get (cores_of s) place) (sym statement-is) ∙ at in
-      ap (λ (c : Checked). places_at c place) is
-      ∙ ap (λ (o : Option (List ℕ)). unwrap_or o []) (got-mapped (core_places catalog) query.cores (order_places (answer_titles catalog query.cores) query.order) place core got)
 
 -- ---- picks and combinations
 
@@ -221,9 +209,6 @@ module _ (names : List (List ℕ)) (versions : Versions) (keep : Bool) (scope : 
   placed-plan : IsPlacedPlan scope plan
   placed-plan = record { items = placed-items core.items plan.items is.items; having = placed-having core.having plan.having is.having }
 
-some-same : (a b : Core) → Some a ≡ Some b → a ≡ b
-some-same a b is = cc
-
 pub grouped_is : (checked : Checked) (place : ℕ) (of : Core) (picks : List Pick) (plan : Plan) (grouped : Grouped)
     → core_at checked place ≡ Some of
     → ((scope : List InScope) → places_at checked place ≡ places_in scope (core_names of) → IsPlan scope of plan)
@@ -231,10 +216,10 @@ pub grouped_is : (checked : Checked) (place : ℕ) (of : Core) (picks : List Pic
     → IsGrouped checked place picks grouped
 grouped_is checked place of picks plan grouped at planned made query catalog core names versions keep all is got grouping stand =
     let scope : List InScope = scope_of core.from catalog in
-    let same : of ≡ core = some-same of core (sym at ∙ got) in
+    let same : of ≡ core = same-some of core (sym at ∙ got) in
     let here : IsPlan scope core plan =
     subst (λ (c : Core). IsPlan scope c plan) same
-    (planned scope (places-are checked query catalog is place core got ∙ ap (λ (c : Core). places_in scope (core_names c)) (sym same))) in
+    (planned scope (core-places checked query catalog is place core got ∙ ap (λ (c : Core). places_in scope (core_names c)) (sym same))) in
     let result : IsGroupedBy scope plan (pick_groups plan.group picks) grouped = made scope (placed-plan names versions keep scope core plan here) in
     let standing : GroupsStand names versions keep core.from (pick_groups plan.group picks) (groups_of scope core.group all) =
     groups-stand names versions keep core.from scope core.group plan.group here.group picks all stand in (

@@ -5,51 +5,21 @@ use Rattle.std.specs.List.{AllByRecursion}
 use Rattle.std.specs.Option.{option_map}
 use Rattle.std.specs.BTreeMap as tree
 use Rattle.std.specs.BTreeMap.{BTreeMap}
-use Rattle.std.specs.Ordering.{is_eq}
 use Rattle.std.proofs.lemmas.Bool.{cases_Bool}
-use Rattle.std.proofs.lemmas.Cmp.{tied_itself}
 use Rattle.std.proofs.lemmas.Simd.{map-map}
 use Rattle.ldv_value.proofs.Booleans.{true≢false}
 use Rattle.lineage.specs.declared.answer.Pick.{Pick}
 use Rattle.core_parts.proofs.Lists.{both_filters, kept_twice, all_kept}
-use Rattle.core_parts.proofs.SameValues.{tied, all_exact}
-use Rattle.sql_model.specs.KeyOrder.{values_order, values_total}
+use Rattle.core_parts.proofs.CountedOn.{not_some, some_more, none_zero, later_some}
+use Rattle.sql_model.specs.KeyOrder.{values_order}
 use Rattle.sql_model.specs.Keys.{same_values}
 use Rattle.sql_model.specs.QueryAnswer.{distinct_values}
+use Rattle.sql_model.proofs.SameValues.{same_turned, is_same, same_exact}
 use Rattle.group_eval.specs.Grouping.{key_of, is_under, picks_under, keyed_groups, own_picks, group_of, number_of, with_pick, groups_with_pick, grouped_onto, IsIndex}
 use Rattle.group_eval.specs.Types.{Value}
 use Rattle.group_eval.specs.declared.groups.KeyedGroup.{KeyedGroup}
 
--- ---- the same values
-
-same_is : (a b : List Value) → same_values a b ≡ true → a ≡ b
-same_is a b is = all_exact a b (tied (values_order a b) is)
-
-is_same : (a b : List Value) → a ≡ b → same_values a b ≡ true
-is_same a b is = ap (λ (v : List Value). same_values a v) (sym is) ∙ ap is_eq (tied_itself values_total a)
-
-turned : (a b : List Value) → same_values a b ≡ same_values b a
-turned a b = elim (cases_Bool (same_values a b)) [
-  | inl hit ↦ hit ∙ sym (is_same b a (sym (same_is a b hit)))
-  | inr miss ↦ elim (cases_Bool (same_values b a)) [
-    | inl hit ↦ absurd (true≢false (sym (is_same a b (sym (same_is b a hit))) ∙ miss))
-    | inr also ↦ miss ∙ sym also
-  ]
-]
-
 -- ---- the number of a group
-
-not_some : (o : Option ℕ) → option_map suc o ≡ None → o ≡ None
-not_some None is = refl
-not_some (Some i) is = cc
-
-some_more : (o : Option ℕ) (i : ℕ) → option_map suc o ≡ Some (suc i) → o ≡ Some i
-some_more None i is = cc
-some_more (Some k) i is = let same : suc k ≡ suc i = cc in let it : k ≡ i = omega (arith, same) in ap Some it
-
-none_zero : (o : Option ℕ) → option_map suc o ≡ Some zero → ⊥
-none_zero None is = cc
-none_zero (Some k) is = let same : suc k ≡ zero = cc in omega (arith, same)
 
 missed : (m : KeyedGroup) (ms : List KeyedGroup) (v : List Value) → number_of v (m ∷ ms) ≡ None → same_values m.key v ≡ false
 missed m ms v is = elim (cases_Bool (same_values m.key v)) [
@@ -75,10 +45,6 @@ number_within (m ∷ ms) v (suc i) is = elim (cases_Bool (same_values m.key v)) 
       let more : length (m ∷ ms) ≡ suc (length ms) = refl in
       omega (arith, rest, more)
 ]
-
-later_number : (o : Option ℕ) (P : Type 0) → ((k : ℕ) → o ≡ Some k → P) → (i : ℕ) → option_map suc o ≡ Some i → P
-later_number None P there i is = cc
-later_number (Some k) P there i is = there k refl
 
 module _ (places : List ℕ) where
   -- a group that is there takes the pick
@@ -106,7 +72,7 @@ module _ (places : List ℕ) where
     | inr miss ↦
         ap (λ b. number_of v (cond b (with_pick m p ∷ ms) (m ∷ groups_with_pick places ms p))) miss
         ∙ ap (λ (o : Option ℕ). cond (same_values m.key v) (Some zero) (option_map suc o))
-        (later_number (number_of (key_of places p) ms) (number_of v (groups_with_pick places ms p) ≡ number_of v ms) (λ k at. numbers_again ms p k at v) i
+        (later_some (number_of (key_of places p) ms) (number_of v (groups_with_pick places ms p) ≡ number_of v ms) (λ k at. numbers_again ms p k at v) i
         (sym (ap (λ b. cond b (Some zero) (option_map suc (number_of (key_of places p) ms))) miss) ∙ is))
   ]
 
@@ -135,7 +101,7 @@ module _ (places : List ℕ) where
       ap (λ (o : Option ℕ). cond (same_values m.key v) (Some zero) (option_map suc o)) (numbers_first ms p (missed_rest m ms (key_of places p) none) v)
       ∙ elim (cases_Bool (same_values (key_of places p) v)) [
         | inl hit ↦
-            let gone : same_values m.key v ≡ false = ap (same_values m.key) (sym (same_is (key_of places p) v hit)) ∙ missed m ms (key_of places p) none in
+            let gone : same_values m.key v ≡ false = ap (same_values m.key) (sym (same_exact (key_of places p) v hit)) ∙ missed m ms (key_of places p) none in
             rw (hit, gone) refl
         | inr miss ↦ rw miss refl
       ]
@@ -161,7 +127,7 @@ module _ (places : List ℕ) where
   first_grows m [] ms = ap (λ l. group_of m.key l ∷ ms) (sym (append-nil m.picks))
   first_grows m (p ∷ rest) ms = elim (cases_Bool (same_values m.key (key_of places p))) [
     | inl hit ↦
-        let back : is_under places m.key p ≡ true = turned (key_of places p) m.key ∙ hit in
+        let back : is_under places m.key p ≡ true = same_turned (key_of places p) m.key ∙ hit in
         ap (λ b. grouped_onto places (cond b (with_pick m p ∷ ms) (m ∷ groups_with_pick places ms p)) rest) hit
         ∙ first_grows (with_pick m p) rest ms
         ∙ ap (λ l. group_of m.key l ∷ grouped_onto places ms (filter (differs m.key) rest))
@@ -169,7 +135,7 @@ module _ (places : List ℕ) where
         ∙ sym (ap (λ b. group_of m.key (m.picks ++ cond b (p ∷ filter (is_under places m.key) rest) (filter (is_under places m.key) rest))
         ∷ grouped_onto places ms (cond (not b) (p ∷ filter (differs m.key) rest) (filter (differs m.key) rest))) back)
     | inr miss ↦
-        let back : is_under places m.key p ≡ false = turned (key_of places p) m.key ∙ miss in
+        let back : is_under places m.key p ≡ false = same_turned (key_of places p) m.key ∙ miss in
         ap (λ b. grouped_onto places (cond b (with_pick m p ∷ ms) (m ∷ groups_with_pick places ms p)) rest) miss
         ∙ first_grows m rest (groups_with_pick places ms p)
         ∙ sym (ap (λ b. group_of m.key (m.picks ++ cond b (p ∷ filter (is_under places m.key) rest) (filter (is_under places m.key) rest))
@@ -200,7 +166,7 @@ module _ (places : List ℕ) where
 
   apart_from : (q : List Value → Bool) (p : Pick) (v : List Value) → q (key_of places p) ≡ false → q v ≡ true → same_values (key_of places p) v ≡ false
   apart_from q p v none some = elim (cases_Bool (same_values (key_of places p) v)) [
-    | inl hit ↦ absurd (true≢false (sym some ∙ ap q (sym (same_is (key_of places p) v hit)) ∙ none))
+    | inl hit ↦ absurd (true≢false (sym some ∙ ap q (sym (same_exact (key_of places p) v hit)) ∙ none))
     | inr miss ↦ miss
   ]
 
@@ -231,11 +197,11 @@ module _ (places : List ℕ) where
             let both : List Value → Bool = λ v. cond (other v) (q v) false in
             ap (λ b. grouped_onto places [] (cond b (p ∷ kept) kept)) hit
             ∙ first_grows (alone p) kept []
-            ∙ (λ j. group_of own (p ∷ twice (is_under places own) (λ b. q (key_of places b)) (λ b same. ap q (same_is (key_of places b) own same) ∙ hit) rest j)
+            ∙ (λ j. group_of own (p ∷ twice (is_under places own) (λ b. q (key_of places b)) (λ b same. ap q (same_exact (key_of places b) own same) ∙ hit) rest j)
             ∷ grouped_onto places [] (both_filters (differs own) (λ b. q (key_of places b)) (λ b. both (key_of places b)) (λ b. swapped (other (key_of places b)) (q (key_of places b))) rest j))
             ∙ ap (λ l. group_of own (p ∷ filter (is_under places own) rest) ∷ l)
             (groups_kept rest both
-            ∙ map_kept both (whole rest) (whole (p ∷ rest)) (λ v is. whole_past p rest v (turned own v ∙ not_is (same_values v own) (and_first (other v) (q v) is))) values
+            ∙ map_kept both (whole rest) (whole (p ∷ rest)) (λ v is. whole_past p rest v (same_turned own v ∙ not_is (same_values v own) (and_first (other v) (q v) is))) values
             ∙ ap (map (whole (p ∷ rest))) (sym (both_filters q other both (λ v. refl) values)))
             ∙ ap (λ b. group_of own (cond b (p ∷ filter (is_under places own) rest) (filter (is_under places own) rest)) ∷ map (whole (p ∷ rest)) (filter q (filter other values)))
             (sym (is_same own own refl))
@@ -244,7 +210,7 @@ module _ (places : List ℕ) where
             ap (λ b. grouped_onto places [] (cond b (p ∷ kept) kept)) miss
             ∙ groups_kept rest q
             ∙ map_kept q (whole rest) (whole (p ∷ rest)) (λ v is. whole_past p rest v (apart_from q p v miss is)) values
-            ∙ ap (map (whole (p ∷ rest))) (sym (twice q other (λ v is. ap not (turned v own ∙ apart_from q p v miss is)) values))
+            ∙ ap (map (whole (p ∷ rest))) (sym (twice q other (λ v is. ap not (same_turned v own ∙ apart_from q p v miss is)) values))
             ∙ ap (λ b. map (whole (p ∷ rest)) (cond b (own ∷ filter q (filter other values)) (filter q (filter other values)))) (sym miss)
       ]
 

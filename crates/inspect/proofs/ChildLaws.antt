@@ -7,11 +7,11 @@ use Rattle.std.proofs.lemmas.Option.{get_or_from_slice_get, slice_get_cases}
 use Rattle.inspect.specs.inner.ChildRoom.{HasRoom, HaveRoom, births, all_births}
 use Rattle.ldv_value.proofs.Booleans.{and-first, and-second}
 use Rattle.ldv_value.specs.Limits.{max_processes}
-use Rattle.run_model.specs.ValidTrace.{made_after, IsTrace}
+use Rattle.run_model.specs.ValidTrace.{made_after, IsTrace, is_spawn}
 use Rattle.run_model.specs.declared.event.Act.TheVariants as acts
 use Rattle.trace_graph.specs.Building.{made_fits}
 use Rattle.trace_graph.proofs.TraceLaws.{trace_fits}
-use Rattle.inspect.specs.ProcessNames.{parent_of, child_of, with_child, named_after, is_spawn}
+use Rattle.inspect.specs.ProcessNames.{parent_of, child_of, with_child, named_after}
 use Rattle.inspect.specs.Types.{Act, Event, NamedProcess}
 
 -- who has room for one child more than others need has room for them

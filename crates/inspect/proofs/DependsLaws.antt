@@ -4,12 +4,12 @@ use Rattle.std.specs.Prelude.{Some, None, option_map}
 use Rattle.std.proofs.lemmas.List.Quantifiers.{position-Some}
 use Rattle.ldv_value.proofs.Cases.{cases-option}
 use Rattle.trace_graph.proofs.GraphLaw.{between}
-use Rattle.trace_graph.specs.Graph.{Parts, same_node, graph_of}
+use Rattle.trace_graph.specs.Graph.{Parts, same_node, graph_of, place_of}
 use Rattle.trace_graph.specs.Links.{links_of}
 use Rattle.reach.specs.Depends.{depends_of}
 use Rattle.reach.specs.ReachLaws.{DependsLaw}
 use Rattle.inspect.specs.Types.{Event, Path}
-use Rattle.inspect.specs.DependsReports.{place_of, depends_at, depends_report}
+use Rattle.inspect.specs.DependsReports.{depends_at, depends_report}
 use Rattle.inspect.specs.DependsSources.{ListsSources, SourcesLaw}
 
 pub lists_sources : DependsLaw → SourcesLaw

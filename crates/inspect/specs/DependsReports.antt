@@ -1,10 +1,10 @@
 -- `inspect depends`: what the content of a path came from.
-use Rattle.std.specs.Prelude.{ℕ, List, ◌++◌, codes, position, Option, option_map}
+use Rattle.std.specs.Prelude.{ℕ, List, ◌++◌, codes, Option, option_map}
 use Rattle.std.specs.List.{flat_map}
 use Rattle.std.specs.Fmt.{decimal}
 use Rattle.inspect.specs.Types.{Event, NamedProcess, Member, Node, Path, Process, Row, Ask, Reply}
 use Rattle.run_model.specs.OutcomeText.{line}
-use Rattle.trace_graph.specs.Graph.{Parts, same_node, graph_of}
+use Rattle.trace_graph.specs.Graph.{graph_of, place_of}
 use Rattle.reach.specs.Depends.{depends_of}
 use Rattle.inspect.specs.ProcessNames.{processes_of, name_in}
 
@@ -22,9 +22,6 @@ node_line processes (Reply statement) = line (codes "reply " ++ decimal statemen
 
 abbrev pub nodes_report : List Event → List Node → List ℕ
 nodes_report events nodes = flat_map (node_line (processes_of events)) nodes
-
-abbrev pub place_of : Parts → List ℕ → Option ℕ
-place_of graph path = position (same_node (Path path)) graph.nodes
 
 -- the nodes from which a path of edges leads to a place of the graph, at times that never fall, the last at
 -- most the given one

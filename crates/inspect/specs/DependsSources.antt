@@ -1,9 +1,9 @@
 -- What `inspect depends` says of a path: from which nodes information may have got to it.
 use Rattle.std.specs.Prelude.{◌≡◌, ℕ, List, Some}
 use Rattle.inspect.specs.Types.{Event, Node}
-use Rattle.trace_graph.specs.Graph.{graph_of}
+use Rattle.trace_graph.specs.Graph.{graph_of, place_of}
 use Rattle.reach.specs.Reach.{AreSources}
-use Rattle.inspect.specs.DependsReports.{nodes_report, place_of, depends_report}
+use Rattle.inspect.specs.DependsReports.{nodes_report, depends_report}
 
 -- The text lists nodes of the graph of the events: exactly those from which a path of one or more edges leads
 -- to the node of the path, on which a time can be chosen within the interval of each edge so that the times

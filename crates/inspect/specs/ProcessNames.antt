@@ -1,10 +1,10 @@
 -- The names of the processes of a trace, made from its Spawned events in order. That of a run's processes is
 -- made in the same way as they are (run_model's `child_of`), so a trace has the names of its run.
-use Rattle.std.specs.Prelude.{ℕ, ◌+◌, List, [], ◌∷◌, ◌++◌, Bool, true, false, if◌then◌else◌, Option}
+use Rattle.std.specs.Prelude.{ℕ, ◌+◌, List, [], ◌∷◌, ◌++◌, if◌then◌else◌, Option}
 use Rattle.std.specs.Prelude.{Some, None, slice_get, slice_set}
-use Rattle.inspect.specs.Types.{Act, Event, NamedProcess}
-use Rattle.run_model.specs.declared.event.Act.TheVariants as acts
+use Rattle.inspect.specs.Types.{Event, NamedProcess}
 use Rattle.run_model.specs.OutcomeText.{name_text}
+use Rattle.run_model.specs.ValidTrace.{is_spawn}
 
 -- the first process of a run, before it has children
 abbrev pub first_process : NamedProcess
@@ -22,24 +22,6 @@ abbrev pub with_child : ℕ → Option NamedProcess → List NamedProcess → Li
 with_child number None processes = processes
 with_child number (Some parent) processes =
     slice_set processes number (parent_of parent) ++ child_of parent ∷ []
-
--- whether a child was made
-abbrev pub is_spawn : Act → Bool
-is_spawn (acts.Started path) = false
-is_spawn (acts.Spawned path) = true
-is_spawn (acts.Unspawned path found) = false
-is_spawn (acts.OpenedRead path) = false
-is_spawn (acts.OpenedWrite path) = false
-is_spawn (acts.OpenedAppend path found) = false
-is_spawn (acts.OpenedNew path) = false
-is_spawn (acts.Unopened path found) = false
-is_spawn (acts.Read path) = false
-is_spawn (acts.Wrote path) = false
-is_spawn (acts.Removed path) = false
-is_spawn (acts.Tested path found) = false
-is_spawn (acts.Waited child) = false
-is_spawn (acts.Ended status) = false
-is_spawn (acts.Asked statement tables reads made) = false
 
 -- after an event
 abbrev pub named_after : List NamedProcess → Event → List NamedProcess

@@ -2,9 +2,9 @@
 
 ghost use Rattle.std.specs.Prelude.{◌≡◌, ◌<◌, ◌^◌, ◌∷◌, ◌++◌, [], length, reverse, Some};
 ghost use Rattle.std.specs.Prelude.{slice_get, slice_index_or, slice_set, IfOk, OnOk};
-ghost use Rattle.run_model.specs.ValidTrace.{IsTrace};
+ghost use Rattle.run_model.specs.ValidTrace.{IsTrace, is_spawn};
 ghost use Rattle.inspect.specs.inner.ChildRoom.{HaveRoom, all_births, births};
-ghost use Rattle.inspect.specs.ProcessNames.{first_process, is_spawn, name_in, named_after};
+ghost use Rattle.inspect.specs.ProcessNames.{first_process, name_in, named_after};
 ghost use Rattle.inspect.specs.ProcessNames.{processes_of, with_child};
 ghost use Rattle.inspect.specs.inner.ProcessPlaces.{ComeAfter, MayAllGrow, MayGrow, made_of_first, made_with_child, made_with};
 ghost use Rattle.inspect.specs.inner.ProcessPlaces.{name_at, named_of, next_child};

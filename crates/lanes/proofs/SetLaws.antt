@@ -1,10 +1,10 @@
 -- What merged words make of the members of two sets.
-use Rattle.std.proofs.Common.{◌≡◌, ◌==◌, ℕ, zero, suc, ◌-◌, ◌/◌, ◌%◌, ◌^◌, ◌<◌, ◌≤◌, ◌⊎◌, inl, inr, Bool, false, not, ◌&&◌, ◌||◌, List, length, get_or, min, max, refl, ap, sym, ◌∙◌, arith, bit_and, bit_or, Fits, w64}
+use Rattle.std.proofs.Common.{◌≡◌, ◌==◌, ℕ, zero, suc, ◌-◌, ◌*◌, ◌/◌, ◌%◌, ◌^◌, ◌<◌, ◌≤◌, ◌⊎◌, inl, inr, Bool, true, false, not, ◌&&◌, ◌||◌, List, length, get_or, min, max, refl, ap, sym, ◌∙◌, arith, bit_and, bit_or, Fits, w64}
 use Rattle.std.specs.Int.{bit_at, bit_not}
 use Rattle.std.proofs.lemmas.Bool.{cases_lt}
 use Rattle.std.proofs.lemmas.List.{get_or_past}
 use Rattle.std.proofs.lemmas.Nat.Bits.{bit_at-lt, bit_at-zero, bit_at_and, bit_at_or, bit_at_not}
-use Rattle.ldv_value.proofs.Booleans.{or-false, and-false, and-true}
+use Rattle.ldv_value.proofs.Booleans.{or-false, and-false, and-true, true≢false}
 use Rattle.lanes.specs.Sets.{member, IsUnion, IsIntersection, IsDifference}
 use Rattle.lanes.specs.inner.Merged.{IsMergedTo, without}
 
@@ -66,4 +66,11 @@ difference_is a b new same fit done n = elim (cases_lt (n / 64) (length a)) [
   | inr past ↦
       ap (λ (x : ℕ). bit_at x (n % 64) == 1) (done.kept (n / 64) past)
       ∙ sym (ap (λ (t : Bool). member a n && not t) (no_member b n (omega arith)) ∙ and-true (member a n))
+]
+
+-- a slot that is set has its word
+pub slot_within : (words : List ℕ) (slot : ℕ) → member words slot ≡ true → slot < 64 * length words
+slot_within words slot set = elim (cases_lt (slot / 64) (length words)) [
+  | inl below ↦ omega (arith, below)
+  | inr over ↦ absurd (true≢false (sym set ∙ no_member words slot (omega (arith, over))))
 ]

@@ -6,10 +6,10 @@ use Rattle.ldv_value.proofs.Booleans.{and-second}
 use Rattle.ldv_value.specs.Limits.{input_limit, max_steps}
 use Rattle.run_model.specs.declared.package.Package.{Package}
 use Rattle.package_layout.specs.Valid.{reading}
-use Rattle.trace_graph.specs.Graph.{Parts, graph_of}
+use Rattle.trace_graph.specs.Graph.{Parts, graph_of, place_of}
 use Rattle.reach.specs.Depends.{depends_of}
 use Rattle.inspect.specs.DependsReports.{nodes_report as named_report}
-use Rattle.prov_export.specs.Dependence.{place_of, nodes_report as numbered_report}
+use Rattle.prov_export.specs.Dependence.{nodes_report as numbered_report}
 use Rattle.prov_export.specs.Document.{prov_text}
 use Rattle.prov_export.specs.Laws.{TraceLaw}
 use Rattle.prov_export.specs.Reading.{prov_reading}

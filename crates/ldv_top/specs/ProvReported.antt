@@ -4,10 +4,10 @@ use Rattle.ldv_value.specs.Limits.{input_limit}
 use Rattle.run_model.specs.declared.package.Package.{Package}
 use Rattle.package_layout.specs.Valid.{IsValidPackage}
 use Rattle.package_layout.specs.Whole.{IsTyped}
-use Rattle.trace_graph.specs.Graph.{graph_of}
+use Rattle.trace_graph.specs.Graph.{graph_of, place_of}
 use Rattle.trace_graph.specs.declared.node.Node.{Node}
 use Rattle.reach.specs.Depends.{depends_of}
-use Rattle.inspect.specs.DependsReports.{place_of, nodes_report as named_report}
+use Rattle.inspect.specs.DependsReports.{nodes_report as named_report}
 use Rattle.prov_export.specs.Dependence.{nodes_report as numbered_report}
 use Rattle.prov_export.specs.Document.{prov_text}
 use Rattle.ldv_top.specs.DueParts.{DueOutput}

@@ -6,7 +6,7 @@ use Rattle.std.specs.declared.cmp.Ordering.{Ordering}
 use Rattle.std.specs.declared.cmp.Ordering.TheVariants.{Less, Equal, Greater}
 use Rattle.std.specs.Ordering.{match_ordering}
 use Rattle.std.specs.List.{list_all}
-use Rattle.std.proofs.lemmas.Bool.{le-leb, leb-true}
+use Rattle.std.proofs.lemmas.Bool.{le-leb}
 use Rattle.ldv_value.specs.declared.file.File.{File}
 use Rattle.ldv_value.specs.declared.file.OpenMode.{OpenMode}
 use Rattle.ldv_value.specs.declared.file.OpenMode.TheVariants.{Read, Write, Append, New}
@@ -18,6 +18,7 @@ use Rattle.ldv_value.proofs.Booleans.{and-first, and-second, and-from, or-true}
 use Rattle.ldv_value.proofs.Lists.{found-all, list_all-filter}
 use Rattle.ldv_value.proofs.SameBytes.{bytes_eq-true, bytes_eq-itself, bytes_eq-other}
 use Rattle.ldv_value.proofs.FileLists.{content-put, content-remove, touched-add, sorted-put, sorted-remove, sorted-add, same-files}
+use Rattle.ldv_value.proofs.ValidFiles.{files_sorted, file_is}
 
 -- ---- the content at a path after each call
 
@@ -103,12 +104,6 @@ touched-removed_other s p q apart = touched-touch_other s p q apart
 file-from : (path bytes : List ℕ) → IsFile path bytes → file_test (file_of path bytes) ≡ true
 file-from path bytes is = and-from (path_test path) (nat_le (length bytes) file_limit) is.0 (le-leb (length bytes) file_limit is.1)
 
-pub file-to : (f : File) → file_test f ≡ true → IsFile f.path f.content
-file-to f is = (
-  and-first (path_test f.path) (nat_le (length f.content) file_limit) is,
-  leb-true (length f.content) file_limit (and-second (path_test f.path) (nat_le (length f.content) file_limit) is),
-)
-
 valid-put : (p bytes : List ℕ) (files : List File) → IsFile p bytes → list_all file_test files ≡ true → list_all file_test (put_file p bytes files) ≡ true
 valid-put p bytes [] is all = and-from _ _ (file-from p bytes is) refl
 valid-put p bytes (f ∷ fs) is all =
@@ -118,7 +113,7 @@ valid-put p bytes (f ∷ fs) is all =
     by : (r : Ordering) → file_test f ≡ true → list_all file_test fs ≡ true → list_all file_test (put_file p bytes fs) ≡ true
         → list_all file_test (match_ordering r (file_of p bytes ∷ f ∷ fs) (file_of f.path bytes ∷ fs) (f ∷ put_file p bytes fs)) ≡ true
     by Less first rest more = and-from _ _ (file-from p bytes is) (and-from _ _ first rest)
-    by Equal first rest more = and-from _ _ (file-from f.path bytes ((file-to f first).0, is.1)) rest
+    by Equal first rest more = and-from _ _ (file-from f.path bytes ((file_is f first).0, is.1)) rest
     by Greater first rest more = and-from _ _ first more
 
 valid-add : (p : List ℕ) (ps : List (List ℕ)) → path_test p ≡ true → list_all path_test ps ≡ true → list_all path_test (add_path p ps) ≡ true
@@ -136,15 +131,12 @@ valid-add p (q ∷ qs) is all =
 all-valid : (files : List File) → files_test files ≡ true → list_all file_test files ≡ true
 all-valid files is = and-first (list_all file_test files) (is_strictly_sorted file_precedes files) is
 
-all-sorted : (files : List File) → files_test files ≡ true → is_strictly_sorted file_precedes files ≡ true
-all-sorted files is = and-second (list_all file_test files) (is_strictly_sorted file_precedes files) is
-
 pub files-put : (p bytes : List ℕ) (files : List File) → IsFile p bytes → files_test files ≡ true → files_test (put_file p bytes files) ≡ true
 files-put p bytes files file is =
-    and-from _ _ (valid-put p bytes files file (all-valid files is)) (sorted-put p bytes files (all-sorted files is))
+    and-from _ _ (valid-put p bytes files file (all-valid files is)) (sorted-put p bytes files (files_sorted files is))
 
 pub files-remove : (p : List ℕ) (files : List File) → files_test files ≡ true → files_test (remove_file p files) ≡ true
-files-remove p files is = and-from _ _ (list_all-filter file_test _ files (all-valid files is)) (sorted-remove p files (all-sorted files is))
+files-remove p files is = and-from _ _ (list_all-filter file_test _ files (all-valid files is)) (sorted-remove p files (files_sorted files is))
 
 pub state-initial_files : (files : List File) → files_test files ≡ true → IsFileState (initial_files files)
 state-initial_files files is = record { files = is; paths = refl; sorted = refl }
@@ -160,7 +152,7 @@ state-after_remove s p h is = record { files = files-remove p s.files h.files; p
 
 -- the file at a path is valid
 pub file-there : (s : FileState) (p : List ℕ) (f : File) → IsFileState s → file_at p s.files ≡ Some f → IsFile f.path f.content
-file-there s p f h found = file-to f (found-all (λ file. bytes_eq p file.path) file_test s.files f (all-valid s.files h.files) found)
+file-there s p f h found = file_is f (found-all (λ file. bytes_eq p file.path) file_test s.files f (all-valid s.files h.files) found)
 
 bytes-within : (o : Option File) → ((f : File) → o ≡ Some f → length f.content ≤ file_limit) → length (unwrap_or (option_map (λ (file : File). file.content) o) []) ≤ file_limit
 bytes-within None h = omega arith
@@ -193,7 +185,7 @@ put-same s p h there = λ i. record { files = same i; touched = s.touched }
     at q false apart = refl
 
     same : put_file p (bytes_at s p) s.files ≡ s.files
-    same = same-files (put_file p (bytes_at s p) s.files) s.files (sorted-put p (bytes_at s p) s.files (all-sorted s.files h.files)) (all-sorted s.files h.files)
+    same = same-files (put_file p (bytes_at s p) s.files) s.files (sorted-put p (bytes_at s p) s.files (files_sorted s.files h.files)) (files_sorted s.files h.files)
         (λ q. content-put p (bytes_at s p) s.files q ∙ at q (bytes_eq q p) refl)
 
 -- the second of two puts at a path stands
@@ -206,7 +198,7 @@ put-put s p v w h = λ i. record { files = same i; touched = s.touched }
 
     same : put_file p w (put_file p v s.files) ≡ put_file p w s.files
     same =
-        let sorted = all-sorted s.files h.files in
+        let sorted = files_sorted s.files h.files in
         same-files (put_file p w (put_file p v s.files)) (put_file p w s.files) (sorted-put p w (put_file p v s.files) (sorted-put p v s.files sorted)) (sorted-put p w s.files sorted)
         (λ q. content-put p w (put_file p v s.files) q ∙ ap (cond (bytes_eq q p) (Some w)) (content-put p v s.files q) ∙ twice (bytes_eq q p) (content_at s q) ∙ sym (content-put p w s.files q))
 

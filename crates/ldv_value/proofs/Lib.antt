@@ -9,5 +9,6 @@ pub mod Places
 pub mod SameBytes
 pub mod Scanning
 pub mod SortedMaps
+pub mod TextOrders
 pub mod Utf8Parts
 pub mod ValidFiles

@@ -6,7 +6,7 @@ pub use Rattle.std.proofs.lemmas.List.{append-nil, nil_from_length as nil-from-l
 pub use Rattle.std.proofs.lemmas.List.Folds.{find-append, list_all-append, list_any-append, list_all-map}
 pub use Rattle.std.proofs.lemmas.List.Elements.{filter-append, filter_map-append, filter_agree as filter-agree}
 pub use Rattle.std.proofs.lemmas.Simd.{map-map}
-use Rattle.ldv_value.proofs.Booleans.{and-first, and-second, and-from}
+use Rattle.ldv_value.proofs.Booleans.{and-first, and-second, and-from, and-parts}
 use Rattle.ldv_value.proofs.Cases.{cases-bool}
 use Rattle.ldv_value.specs.Sorted.{is_strictly_sorted}
 
@@ -104,3 +104,11 @@ sorted-map p q f same (x ∷ y ∷ ys) = λ j. same x y j && sorted-map p q f sa
 pub sorted-under : {X Y : Type 0} (precedes : Y → Y → Bool) (f : X → Y) (xs : List X)
     → is_strictly_sorted precedes (map f xs) ≡ is_strictly_sorted (λ a b. precedes (f a) (f b)) xs
 sorted-under precedes f xs = sorted-map (λ a b. precedes (f a) (f b)) precedes f (λ a b. refl) xs
+
+-- all have the one, and all the other
+pub list_all-both : {X : Type 0} (p q : X → Bool) (xs : List X) → list_all p xs ≡ true → list_all q xs ≡ true → list_all (λ x. p x && q x) xs ≡ true
+list_all-both p q [] ps qs = refl
+list_all-both p q (x ∷ xs) ps qs =
+    let a = and-parts (p x) (list_all p xs) ps in
+    let b = and-parts (q x) (list_all q xs) qs in
+    and-from (p x && q x) (list_all (λ x. p x && q x) xs) (and-from (p x) (q x) a.0 b.0) (list_all-both p q xs a.1 b.1)

@@ -9,7 +9,7 @@ use Rattle.ldv_value.specs.Sorted.{is_strictly_sorted}
 use Rattle.ldv_value.specs.declared.file.File.{File}
 use Rattle.ldv_value.proofs.Booleans.{and-parts, and-first, and-second}
 
-file_is : (f : File) → file_test f ≡ true → IsFile f.path f.content
+pub file_is : (f : File) → file_test f ≡ true → IsFile f.path f.content
 file_is f met =
     let parts = and-parts _ _ met in
     (parts.0, leb-true (length f.content) file_limit parts.1)

@@ -63,7 +63,7 @@ has_either : (a b : Option ℕ) → is_some (option_or a b) ≡ (is_some a || is
 has_either None b = refl
 has_either (Some v) b = refl
 
-has_alone : (b : Bool) (version : ℕ) → is_some (cond b (Some version) None) ≡ b
+pub has_alone : (b : Bool) (version : ℕ) → is_some (cond b (Some version) None) ≡ b
 has_alone true version = refl
 has_alone false version = refl
 

@@ -1,5 +1,5 @@
 -- Words that a set lends.
-use Rattle.std.proofs.Common.{◌≡◌, ◌∙◌, sym, ap, subst, refl, ℕ, ◌+◌, ◌*◌, ◌/◌, ◌%◌, ◌<◌, inl, inr, Bool, true, false, cond, List, length, Option, Some, None, is_some, arith, Bor}
+use Rattle.std.proofs.Common.{◌≡◌, ◌∙◌, sym, ap, subst, ℕ, ◌+◌, ◌*◌, ◌/◌, ◌%◌, ◌<◌, inl, inr, true, false, List, length, Option, Some, None, is_some, arith, Bor}
 use Rattle.std.specs.Prelude.{MatchOption, IfSome}
 use Rattle.std.specs.BTreeMap as tree
 use Rattle.std.specs.BTreeMap.{BTreeMap}
@@ -11,14 +11,11 @@ use Rattle.lineage.specs.Blocks.{all_rows, row_at, row_in, version_of, has_in_bl
 use Rattle.lineage.specs.Lineage.{Row, row_cmp, Lineage}
 use Rattle.lineage.specs.declared.blocks.Block.{Block}
 use Rattle.lineage.proofs.Seen.{seen_in}
+use Rattle.lineage.proofs.Laws.{has_alone}
 use Rattle.ldv_value.proofs.Booleans.{true≢false}
 
-some_row : (b : Bool) (v : ℕ) → is_some (cond b (Some v) None) ≡ b
-some_row true v = refl
-some_row false v = refl
-
 pub is_member : (b : Block) (n : ℕ) → is_some (row_in b n) ≡ member b.words.items n
-is_member b n = some_row (member b.words.items n) (version_of b.versions n)
+is_member b n = has_alone (member b.words.items n) (version_of b.versions n)
 
 -- a row of a block is told by its place in it
 pub in_block_seen : (m : BTreeMap Row Block) (set : Lineage) → from_entries (all_rows m) ≡ set → (table block n : ℕ) → n < 65536

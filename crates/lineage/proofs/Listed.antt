@@ -12,11 +12,12 @@ use Rattle.std.specs.FinMap.{find, is_sorted, entries, entries_sorted, from_entr
 use Rattle.std.specs.FinMap.Entries.{below_all}
 use Rattle.std.proofs.lemmas.Cmp.{tied_itself}
 use Rattle.std.proofs.lemmas.Map.Keys.{Less-from_sorted}
-use Rattle.lineage.specs.Lineage.{Row, row_cmp, Lineage, IsNamed, name_at, member, members_of, member_cmp}
+use Rattle.lineage.specs.Lineage.{Row, row_cmp, Lineage, IsNamed, name_at, member, members_of}
 use Rattle.lineage.proofs.Laws.{row_total}
 use Rattle.ldv_value.proofs.Booleans.{t-first, t-second, t-both}
 use Rattle.ldv_value.proofs.Orderings.{t-less}
 use Rattle.ldv_value.proofs.SortedMaps.{entries-sorted}
+use Rattle.sql_model.specs.MemberOrder.{member_cmp}
 
 -- ---- entries of which the keys are sorted
 

@@ -5,6 +5,7 @@ use Rattle.std.specs.BTreeMap as tree
 use Rattle.std.specs.BTreeMap.{BTreeMap}
 use Rattle.std.specs.Map.{keys_of}
 use Rattle.std.proofs.lemmas.Bool.{cases_lt}
+use Rattle.std.proofs.lemmas.List.{map-append}
 use Rattle.lanes.specs.Sets.{member as has_member, IsNext}
 use Rattle.lanes.proofs.SetLaws.{no_member}
 use Rattle.lineage.specs.Blocks.{row_in, row_at, version_of, rows_from, rows_of_block, rows_under, found_at}
@@ -14,10 +15,6 @@ use Rattle.lineage.proofs.BlockOrder.{next_row, no_row}
 use Rattle.lineage.proofs.Lent.{is_member}
 use Rattle.ldv_value.proofs.Booleans.{true≢false}
 use Rattle.sql_model.specs.declared.need.Member.{Member}
-
-map_append : {A B : Type 0} (f : A → B) (xs ys : List A) → map f (xs ++ ys) ≡ map f xs ++ map f ys
-map_append f [] ys = refl
-map_append f (x ∷ xs) ys = λ j. f x ∷ map_append f xs ys j
 
 pub within_words : (words : List ℕ) (n : ℕ) → length words ≡ 1024 → has_member words n ≡ true → n < 65536
 within_words words n long is = elim (cases_lt (n / 64) (length words)) [
@@ -64,7 +61,7 @@ pub place_listed : (names : List (List ℕ)) (at : Row → Option Block) (es res
 place_listed names at es rest place b before after split is =
     ap (λ (ms : List Member). ms ++ map (member names) (rows_under at (keys_of rest))) is
     ∙ append_assoc before (map (member names) (rows_of_block (at place) place)) (map (member names) (rows_under at (keys_of rest)))
-    ∙ ap (λ (ms : List Member). before ++ ms) (sym (map_append (member names) (rows_of_block (at place) place) (rows_under at (keys_of rest))))
+    ∙ ap (λ (ms : List Member). before ++ ms) (sym (map-append (member names) (rows_of_block (at place) place) (rows_under at (keys_of rest))))
     ∙ ap (λ (fs : List (Row × Block)). before ++ map (member names) (rows_under at (keys_of fs))) (sym split)
 
 -- the tables of the rows of a block are named

@@ -16,7 +16,7 @@ use Rattle.lineage.specs.declared.blocks.Block.{Block}
 use Rattle.lineage.proofs.Laws.{same_row, or_none, or_assoc}
 use Rattle.lineage.proofs.Seen.{tied_row, apart_row}
 use Rattle.lineage.proofs.Maps.{one_first}
-use Rattle.ldv_value.proofs.Booleans.{true≢false}
+use Rattle.ldv_value.proofs.Booleans.{true≢false, or-parts}
 
 -- ---- one block
 
@@ -143,10 +143,6 @@ put_first : (e b : Bool) (v w : ℕ) → cond (e || b) (Some (cond e v w)) None 
 put_first true b v w = refl
 put_first false b v w = refl
 
-neither : (a b : Bool) → (a || b) ≡ false → (a ≡ false) × (b ≡ false)
-neither true b is = cc
-neither false b is = (refl, is)
-
 whole_row : (a b : Row) → block_of a ≡ block_of b → a.1 % 65536 ≡ b.1 % 65536 → a ≡ b
 whole_row a b block place =
     let table : a.0 ≡ b.0 = ap (λ (r : Row). r.0) block in
@@ -177,7 +173,7 @@ module _ (m n : BTreeMap Row Block) (row : Row) (v : ℕ) (old new : Block) (was
       within = (kept (block_of row) old was).within;
       long = long;
       clear = λ k gone.
-          let both = neither (k == row.1 % 65536) (member old.words.items k) (sym (words k) ∙ gone) in
+          let both = or-parts (k == row.1 % 65536) (member old.words.items k) (sym (words k) ∙ gone) in
           versions k ∙ ap (λ b. cond b v (version_of old.versions k)) both.0 ∙ (kept (block_of row) old was).clear k both.1;
     }) kept
 
@@ -219,7 +215,7 @@ module _ (m n : BTreeMap Row Block) (place : Row) (old new other : Block) (was :
     within = also.within;
     long = long;
     clear = λ k gone.
-        let both = neither (member old.words.items k) (member other.words.items k) (sym (words k) ∙ gone) in
+        let both = or-parts (member old.words.items k) (member other.words.items k) (sym (words k) ∙ gone) in
         versions k ∙ neither_version (member old.words.items k) (version_of old.versions k) (version_of other.versions k) both.0 (also.clear k both.1);
   }) kept
 

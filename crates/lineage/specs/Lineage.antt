@@ -5,7 +5,6 @@ use Rattle.std.specs.Option.{option_or}
 use Rattle.std.specs.Coded.{Coded, coded×, coded_ℕ}
 use Rattle.std.specs.declared.cmp.Ordering.{Ordering}
 use Rattle.std.specs.Ordering.{nat_cmp, ordering_then}
-use Rattle.std.specs.Cmp.Lexicographic.{slice_cmp}
 use Rattle.std.specs.FinMap as finmap
 use Rattle.sql_model.specs.declared.need.Member.{Member}
 
@@ -60,7 +59,3 @@ member names entry = record { table = name_at names entry.0.0; row = entry.0.1; 
 -- in the order of their rows
 abbrev pub members_of : List (List ℕ) → Lineage → List Member
 members_of names set = map (member names) (finmap.entries set)
-
--- by the bytes of the table's name, then by the row's number
-abbrev pub member_cmp : Member → Member → Ordering
-member_cmp a b = ordering_then (slice_cmp nat_cmp a.table b.table) (nat_cmp a.row b.row)

@@ -5,7 +5,8 @@ ghost use Rattle.std.specs.List.Sorted.{IsStrictlySortedBy};
 ghost use Rattle.std.specs.Ordering.{nat_cmp};
 ghost use Rattle.std.specs.Cmp.Lexicographic.{slice_cmp};
 ghost use Rattle.std.specs.FinMap as finmap;
-ghost use Rattle.lineage.specs.Lineage.{with_version, IsUnion, IsNamed, members_of, member_cmp};
+ghost use Rattle.sql_model.specs.MemberOrder.{member_cmp};
+ghost use Rattle.lineage.specs.Lineage.{with_version, IsUnion, IsNamed, members_of};
 ghost use Rattle.lineage.specs.Blocks.{HasNone, IsBlock};
 
 use crate::blocks::{Blocks, Row, with_member};

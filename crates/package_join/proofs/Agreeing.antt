@@ -10,11 +10,15 @@ use Rattle.std.specs.declared.cmp.Ordering.TheVariants.{Less, Equal, Greater}
 use Rattle.std.proofs.lemmas.Bool.{and_parts}
 use Rattle.std.proofs.lemmas.Cmp.{tied_back}
 use Rattle.ldv_value.proofs.SameBytes.{bytes_eq-true, nat_eq-true}
+use Rattle.ldv_value.proofs.Orderings.{is_eq-true}
+use Rattle.ldv_value.proofs.Booleans.{not-false}
 use Rattle.sql_model.specs.declared.table.Column.{Column}
 use Rattle.sql_model.specs.declared.table.Foreign.{Foreign}
 use Rattle.sql_model.specs.declared.table.Schema.{Schema}
 use Rattle.sql_model.specs.Keys.{same_values}
 use Rattle.sql_model.specs.KeyOrder.{values_order}
+use Rattle.sql_model.proofs.UniqueKeys.{or_none}
+use Rattle.sql_model.proofs.SameValues.{all_exact}
 use Rattle.run_model.specs.Between.{IsIn}
 use Rattle.package_join.specs.Types.{Table, TableRow}
 use Rattle.package_join.specs.declared.joined.Clash.{Clash}
@@ -23,11 +27,6 @@ use Rattle.package_join.specs.Joined.{clash_if, tables_differ}
 use Rattle.package_join.specs.Same.{same_flag, same_column, same_foreign, same_keys, same_schema, contents_differ}
 use Rattle.package_join.proofs.Cuts.{Rising}
 use Rattle.package_join.proofs.Lists.{pointwise_equal}
-use Rattle.core_parts.proofs.SameValues.{all_exact, tied}
-
-pub none_of : {A : Type 0} (a b : Option A) → option_or a b ≡ None → (a ≡ None) × (b ≡ None)
-none_of None b is = (refl, is)
-none_of (Some x) b is = cc
 
 module _ {X K C : Type 0} (key : X → K) (key_cmp : K → K → Ordering) (total : IsTotalOrder key_cmp) (differ : X → X → Option C) where
   abbrev by_key : X → X → Ordering
@@ -58,14 +57,14 @@ module _ {X K C : Type 0} (key : X → K) (key_cmp : K → K → Ordering) (tota
               absurd (apart (total.trans (key x) (key z) (key v) is (rz.0 v v_more)) (ap (λ (w : X). by_key w v) (sym u_is) ∙ equal))
           by Less is none more u v (inr u_more) v_in equal = later (z ∷ zs) none rz u v u_more v_in equal
           by Equal is none more u v (inl u_is) (inl v_is) equal =
-              (λ j. differ (u_is j) (v_is j)) ∙ (none_of (differ x z) (first_clash by_key differ xs zs) none).0
+              (λ j. differ (u_is j) (v_is j)) ∙ (or_none (differ x z) (first_clash by_key differ xs zs) none).0
           by Equal is none more u v (inl u_is) (inr v_more) equal =
               absurd (apart (total.congr (key x) (key z) (key v) is ∙ rz.0 v v_more) (ap (λ (w : X). by_key w v) (sym u_is) ∙ equal))
           by Equal is none more u v (inr u_more) (inl v_is) equal =
               let less : by_key z u ≡ Less = sym (total.congr (key x) (key z) (key u) is) ∙ rx.0 u u_more in
               absurd (apart less (tied_back total (key u) (key z) (ap (by_key u) (sym v_is) ∙ equal)))
           by Equal is none more u v (inr u_more) (inr v_more) equal =
-              later zs (none_of (differ x z) (first_clash by_key differ xs zs) none).1 rz.1 u v u_more v_more equal
+              later zs (or_none (differ x z) (first_clash by_key differ xs zs) none).1 rz.1 u v u_more v_more equal
           by Greater is none more u v (inl u_is) (inl v_is) equal =
               let never : Greater ≡ Equal = sym is ∙ (λ j. by_key (sym u_is j) (sym v_is j)) ∙ equal in cc
           by Greater is none more u v (inr u_more) (inl v_is) equal =
@@ -80,15 +79,11 @@ pub no_clash_if : (b : Bool) (clash : Clash) → clash_if b clash ≡ None → b
 no_clash_if true clash none = cc
 no_clash_if false clash none = refl
 
-not_false : (b : Bool) → not b ≡ false → b ≡ true
-not_false true is = refl
-not_false false is = cc
-
 -- of two contents that don't differ, the first is the second where that is whole
 pub whole_of : (a b : Option (List ℕ)) → contents_differ a b ≡ false → (bytes : List ℕ) → b ≡ Some bytes → option_or a b ≡ Some bytes
 whole_of None b agree bytes is = is
 whole_of (Some x) None agree bytes is = cc
-whole_of (Some x) (Some y) agree bytes is = ap Some (bytes_eq-true x y (not_false (bytes_eq x y) agree)) ∙ is
+whole_of (Some x) (Some y) agree bytes is = ap Some (bytes_eq-true x y (not-false (bytes_eq x y) agree)) ∙ is
 
 flags : (a b : Bool) → same_flag a b ≡ true → a ≡ b
 flags true true is = refl
@@ -119,9 +114,9 @@ schemas a b is =
 
 pub same_tables : (a b : Table) → tables_differ a b ≡ false → (a.schema ≡ b.schema) × (a.next ≡ b.next)
 same_tables a b is =
-    let parts = and_parts (same_schema a.schema b.schema) (a.next == b.next) (not_false (same_schema a.schema b.schema && a.next == b.next) is) in
+    let parts = and_parts (same_schema a.schema b.schema) (a.next == b.next) (not-false (same_schema a.schema b.schema && a.next == b.next) is) in
     (schemas a.schema b.schema parts.0, nat_eq-true a.next b.next parts.1)
 
 pub same_rows : (a b : TableRow) → not (same_values a.values b.values) ≡ false → a.values ≡ b.values
 same_rows a b is =
-    all_exact a.values b.values (tied (values_order a.values b.values) (not_false (same_values a.values b.values) is))
+    all_exact a.values b.values (is_eq-true (values_order a.values b.values) (not-false (same_values a.values b.values) is))

@@ -18,6 +18,7 @@ use Rattle.package_layout.specs.Valid.{valid_test}
 use Rattle.package_layout.specs.Whole.{has_room}
 use Rattle.package_layout.proofs.Laws.{IsBytes}
 use Rattle.package_layout.proofs.Runs.{is_cut}
+use Rattle.package_layout.proofs.RunReading.{behind}
 use Rattle.package_join.specs.Types.{Package, PackedFile, Table}
 use Rattle.package_join.specs.declared.joined.Clash.{Clash}
 use Rattle.package_join.specs.declared.joined.Joined.{Joined}
@@ -30,17 +31,13 @@ use Rattle.package_join.specs.Layout.{bare_run_at, bare_run_spelling, run_at, co
 use Rattle.package_join.specs.RunJoins.{whole_run, whole_join, cut_run_at, cut_joined_of, cut_sections, picked_runs, with_runs, if_rejoined, join_of_packages, cut_anew, cut_spelled_so, cuts_in}
 use Rattle.package_join.specs.Rooms.{joined_room}
 use Rattle.package_join.specs.Valid.{if_joined, joined_anew, if_spelling_is, joined_in}
-use Rattle.package_join.proofs.LayoutLaws.{all_took}
+use Rattle.package_join.proofs.LayoutLaws.{all_took, ended}
 use Rattle.package_join.proofs.RoomLaws.{picked_room}
 
 -- ---- a run
 
 abbrev run_kept : CutRun × List ℕ → DecodeResult JoinedRun
 run_kept x = cond (are_runs x.0.runs) (Some (whole_run x.0, x.1)) None
-
--- what is found, and the bytes behind it
-abbrev behind : {X : Type 0} → X → List ℕ → DecodeResult X
-behind x rest = Some (x, rest)
 
 abbrev paired : {X Y : Type 0} → X → Y × List ℕ → DecodeResult (X × Y)
 paired x y = Some ((x, y.0), y.1)
@@ -87,9 +84,6 @@ put q = behind (record { files = q.0.0; tables = q.0.1.0; first = q.0.1.1.0; sec
 
 abbrev cut_put : CutParts × List ℕ → DecodeResult RunJoined
 cut_put q = behind (record { files = q.0.0; tables = q.0.1.0; first = q.0.1.1.0; second = q.0.1.1.1 }) q.1
-
-abbrev ended : Joined × List ℕ → Option Joined
-ended x = cond (length x.1 == 0) (Some x.0) None
 
 abbrev cut_ended : RunJoined × List ℕ → Option RunJoined
 cut_ended x = cond (length x.1 == 0) (Some x.0) None

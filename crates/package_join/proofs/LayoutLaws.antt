@@ -13,10 +13,10 @@ use Rattle.sql_model.specs.declared.table.Schema.{Schema}
 use Rattle.package_layout.specs.Counts.{CountedList, CountedFile, CountedSchema}
 use Rattle.package_layout.specs.Events.{names_spelling, names_at}
 use Rattle.package_layout.specs.Fields.{DecodeResult, then_at, both_at, number_at, text_spelling, list_spelling, list_at, text_at}
-use Rattle.package_layout.specs.Reading.{value_at, reason_at, cells_at, schema_at, file_at}
+use Rattle.package_layout.specs.Reading.{value_at, reason_at, cells_at, schema_at}
 use Rattle.package_layout.specs.Room.{schema_room, fits_u16_count}
 use Rattle.package_layout.specs.Runs.{CountedRun, runs_of, runs_spelling, runs_at, trace_room}
-use Rattle.package_layout.specs.Spelling.{value_spelling, number_spelling, reason_spelling, cells_spelling, schema_spelling, file_spelling}
+use Rattle.package_layout.specs.Spelling.{value_spelling, number_spelling, reason_spelling, cells_spelling, schema_spelling}
 use Rattle.package_layout.specs.Typed.{IsU32, TypedValue, TypedValues, TypedFile, TypedEvent, TypedSchema}
 use Rattle.package_layout.specs.declared.version.Version.TheVariants.{Two}
 use Rattle.package_layout.proofs.Events.{names_law}
@@ -24,7 +24,8 @@ use Rattle.package_layout.proofs.Laws.{IsBytes, IsBytes-rest, IsField, just, alw
 use Rattle.package_layout.proofs.Numbers.{wide64, number_law, text_law, items_law, long_law, short_list_law}
 use Rattle.package_layout.proofs.RunFields.{runs_law}
 use Rattle.package_layout.proofs.Tables.{u32_law, reason_law, schema_fits, schema_law, so_many}
-use Rattle.package_layout.proofs.Values.{value_law, file_law, file_filled}
+use Rattle.package_layout.proofs.Values.{value_law}
+use Rattle.package_layout.proofs.Whole.{files_law}
 use Rattle.package_join.specs.Types.{PackedFile, Event, Table, TableRow, Value}
 use Rattle.package_join.specs.declared.joined.Joined.{Joined}
 use Rattle.package_join.specs.declared.joined.JoinedRun.{JoinedRun}
@@ -116,10 +117,6 @@ common_table_law = recount CountedCommonTable (struct_law (λ (p : TableParts). 
 
 tables_law : IsField (list_spelling w16 common_table_spelling) (AllByRecursion TypedCommonTable) common_tables_room (AllByRecursion CountedCommonTable) (list_at w16 common_table_at)
 tables_law = short_list_law common_table_spelling TypedCommonTable common_table_room common_table_at common_table_law
-
-files_law : IsField (list_spelling w32 file_spelling) (AllByRecursion TypedFile) always (CountedList CountedFile) (list_at w32 file_at)
-files_law = restate (list_spelling w32 file_spelling) (AllByRecursion TypedFile) (AllByRecursion TypedFile) (list_all always) always (list_at w32 file_at) (long_law file_spelling TypedFile always file_at file_law file_filled)
-    (λ fs t h. (t, list_all-always fs)) (λ fs t h. (t, refl))
 
 -- ---- what a run needs
 
@@ -434,7 +431,7 @@ all_again j t h n =
     let two : joined_at (joined_sections j) ≡ Some (j, []) = ap joined_at (sym (append-nil (joined_sections j))) ∙ one in
     rw two refl
 
-abbrev ended : Joined × List ℕ → Option Joined
+abbrev pub ended : Joined × List ℕ → Option Joined
 ended x = cond (length x.1 == 0) (Some x.0) None
 
 ended_is : (x : Joined × List ℕ) (j : Joined) (b : Bool) → (length x.1 == 0) ≡ b → cond b (Some x.0) None ≡ Some j → (x.0 ≡ j) × (x.1 ≡ [])

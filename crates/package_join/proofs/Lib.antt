@@ -4,7 +4,6 @@ pub mod CutLaws
 pub mod Cuts
 pub mod Files
 pub mod Joining
-pub mod Keys
 pub mod LayoutLaws
 pub mod ListedTables
 pub mod Lists

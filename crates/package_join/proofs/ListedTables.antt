@@ -3,13 +3,13 @@ use Rattle.std.proofs.Common.{◌≡◌, List, map, ap, ◌∙◌, Bool, true}
 use Rattle.std.specs.Prelude.{◌&&◌}
 use Rattle.std.specs.List.{list_all}
 use Rattle.ldv_value.proofs.Booleans.{and-parts}
-use Rattle.ldv_value.proofs.Lists.{map-map}
 use Rattle.ldv_value.specs.Sorted.{is_strictly_sorted}
 use Rattle.sql_model.specs.ForeignKeys.{have_parents}
 use Rattle.sql_model.specs.Scope.{catalog_of}
 use Rattle.run_model.specs.Package.{own_table}
 use Rattle.run_model.specs.ValidPackage.{table_rule, packed_table_precedes, packed_catalog, are_tables}
-use Rattle.package_join.specs.Types.{PackedTable, Table}
+use Rattle.run_laws.proofs.SliceLaws.{own_catalog}
+use Rattle.package_join.specs.Types.{PackedTable}
 
 pub record Listed (tables : List PackedTable) : Type 0 where
   pub each : list_all table_rule tables ≡ true
@@ -23,13 +23,6 @@ listed tables met =
     let all = and-parts (each && sorted) (have_parents (packed_catalog tables)) met in
     let lists = and-parts each sorted all.0 in
     record { each = lists.0; sorted = lists.1; parents = all.1 }
-
--- with their names and schemas
-own_catalog : (tables : List PackedTable) → catalog_of (map own_table tables) ≡ packed_catalog tables
-own_catalog tables = λ j. record {
-  names = map-map (λ (t : Table). t.name) own_table tables j;
-  schemas = map-map (λ (t : Table). t.schema) own_table tables j;
-}
 
 pub own_parents : (tables : List PackedTable) → have_parents (packed_catalog tables) ≡ true
     → have_parents (catalog_of (map own_table tables)) ≡ true

@@ -8,6 +8,7 @@ use Rattle.std.specs.declared.cmp.Ordering.{Ordering}
 use Rattle.std.specs.declared.cmp.Ordering.TheVariants.{Less, Equal, Greater}
 use Rattle.std.proofs.lemmas.Bool.{cases_Bool}
 use Rattle.std.proofs.lemmas.Cmp.{nat_list_cmp_total}
+use Rattle.std.proofs.lemmas.Map.Lookups.{exact_bytes}
 use Rattle.ldv_value.proofs.Lists.{list_all-map, list_all-weaker}
 use Rattle.ldv_value.proofs.Options.{same-some}
 use Rattle.ldv_value.proofs.SameBytes.{bytes_eq-true}
@@ -23,7 +24,7 @@ use Rattle.package_join.specs.Types.{Table}
 use Rattle.package_join.specs.Joined.{both_tables, merged_tables, table_cmp}
 use Rattle.package_join.proofs.Lists.{all_in, each_of}
 use Rattle.package_join.proofs.MergedLists.{in_merged, IsOf}
-use Rattle.package_join.proofs.PickedTables.{equal_names, name_of}
+use Rattle.package_join.proofs.PickedTables.{name_of}
 
 -- ---- the schema of a name
 
@@ -103,7 +104,7 @@ module _ (name : List ℕ) where
                 → Has (match_ordering o (x ∷ merged_tables xs (u ∷ us)) (both_tables x u ∷ merged_tables xs us) (u ∷ merged_tables (x ∷ xs) us))
             by Less e rest = has_more x (merged_tables xs (u ∷ us)) own (λ miss. later (u ∷ us) there)
             by Equal e rest =
-                let one : x.name ≡ u.name = equal_names x.name u.name e in
+                let one : x.name ≡ u.name = exact_bytes x.name u.name e in
                 has_more (both_tables x u) (merged_tables xs us) own
                 (λ miss. later us (has_later u us there (ap (λ (n : List ℕ). same_text n name) (sym one) ∙ miss)))
             by Greater e rest = has_more u (merged_tables (x ∷ xs) us) (has_own u us there) rest

@@ -10,14 +10,15 @@ use Rattle.ldv_value.proofs.Lists.{all-weaker, list_any-map}
 use Rattle.script_parse.specs.declared.script.Instr.{Instr}
 use Rattle.sql_model.specs.declared.statement.Statement.{Statement}
 use Rattle.sql_model.specs.Needs.{NeededRow, Versions, read_of, need_of, asked_tables, table_name}
-use Rattle.sql_model.specs.Scope.{same_text, is_table}
+use Rattle.sql_model.specs.Scope.{same_text, is_table, has_row}
 use Rattle.sql_model.specs.Statements.{reply_of, after}
 use Rattle.sql_model.specs.Texts.{statement_of}
 use Rattle.sql_laws.proofs.AskedTables.{asked_needs_law}
 use Rattle.run_laws.proofs.QuietActs.{Unasked, ends_unasked, quiet_unasked}
 use Rattle.run_laws.proofs.StatementNames.{names_after}
+use Rattle.run_laws.proofs.ListMembers.{any_in, in_any}
 use Rattle.run_model.proofs.Equations.{events-zero, events-over, events-suc}
-use Rattle.run_model.specs.Between.{has_row, is_initial, is_row_needed}
+use Rattle.run_model.specs.Between.{is_initial, is_row_needed}
 use Rattle.run_model.specs.Core.{is_over}
 use Rattle.run_model.specs.Events.{event_at, events, start_events}
 use Rattle.run_model.specs.Run.{first_pick, later_picks, chosen, move}
@@ -29,7 +30,6 @@ use Rattle.run_model.specs.State.{State, StepResult}
 use Rattle.run_model.specs.Step.{Ask, asked_act, local_step, took, next_ask, ends_at, asking}
 use Rattle.run_model.specs.WorldRun.{events_in, events_within}
 use Rattle.package_join.specs.Types.{Act, Asked, Event, Table, World}
-use Rattle.package_join.proofs.Lists.{any_in, in_any}
 use Rattle.package_join.proofs.PickedBy.{set_of_names}
 
 or_later : {A : Type 0} (a b : Option A) → is_some a ≡ false → is_some (option_or a b) ≡ true → is_some b ≡ true

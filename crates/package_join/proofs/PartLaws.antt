@@ -2,13 +2,14 @@
 use Rattle.std.proofs.Common.{◌≡◌, ◌∙◌, refl, subst, Option, Some, None}
 use Rattle.std.specs.Prelude.{Result, Err}
 use Rattle.std.specs.Option.{option_or}
+use Rattle.ldv_value.specs.Options.{first_some}
 use Rattle.package_join.specs.Types.{Package}
 use Rattle.package_join.specs.declared.joined.Clash.{Clash}
 use Rattle.package_join.specs.declared.joined.Joined.{Joined}
 use Rattle.package_join.specs.declared.joins.JoinStop.{JoinStop}
 use Rattle.package_join.specs.declared.parts.Parts.{Parts}
 use Rattle.package_join.specs.Joined.{joined_of, put_together, unless_clash, own_tables, merged_tables, file_cmp, file_clash, table_cmp, table_clash, rows_clash, keys_clash}
-use Rattle.package_join.specs.Merging.{first_clash, first_of}
+use Rattle.package_join.specs.Merging.{first_clash}
 use Rattle.package_join.specs.Parts.{JoinsAs, joined_after, joined_parts, parts_in}
 
 -- one clash after another
@@ -25,7 +26,7 @@ same a b = late
     (first_clash file_cmp file_clash a.files b.files)
     (first_clash table_cmp table_clash (own_tables a) (own_tables b))
     (first_clash table_cmp rows_clash (own_tables a) (own_tables b))
-    (first_of keys_clash (merged_tables (own_tables a) (own_tables b)))
+    (first_some keys_clash (merged_tables (own_tables a) (own_tables b)))
     (put_together a b)
     (λ clash. joined_after clash (parts_in a) (parts_in b))
     (λ clash. refl) refl

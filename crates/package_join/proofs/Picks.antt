@@ -11,22 +11,24 @@ use Rattle.std.proofs.lemmas.Bool.{and_parts}
 use Rattle.std.proofs.lemmas.Cmp.{nat_cmp_total, nat_list_cmp_total, tied_itself}
 use Rattle.ldv_value.specs.Sorted.{is_strictly_sorted, text_precedes}
 use Rattle.ldv_value.proofs.Orderings.{is_lt-true}
+use Rattle.ldv_value.specs.Options.{first_some}
 use Rattle.sql_model.specs.Keys.{same_values}
 use Rattle.sql_model.specs.ForeignKeys.{have_parents}
 use Rattle.sql_model.specs.Tables.{schema_test, is_row, is_short, numbers_test, are_keys_unique}
 use Rattle.sql_model.specs.SqlNames.{sql_name_test}
+use Rattle.sql_model.proofs.UniqueKeys.{or_none}
 use Rattle.run_model.specs.Between.{IsIn}
 use Rattle.run_model.specs.Package.{own_row, own_table}
 use Rattle.run_model.specs.ValidPackage.{file_rule, packed_catalog, packed_file_precedes, rows_rule, table_rule, packed_table_precedes}
 use Rattle.package_join.specs.Types.{Package, PackedFile, PackedRow, PackedTable, Table, TableRow}
 use Rattle.package_join.specs.declared.joined.ClashKind.TheVariants as kinds
-use Rattle.package_join.specs.Merging.{first_clash, first_of}
+use Rattle.package_join.specs.Merging.{first_clash}
 use Rattle.package_join.specs.Same.{contents_differ}
 use Rattle.package_join.specs.Joined.{joined_of, unless_clash, put_together, run_in, file_cmp, table_cmp, both_files, both_tables, both_rows, merged_rows, merged_files, merged_tables, own_tables, clash_at, file_clash, table_clash, tables_differ, row_clash, rows_clash, keys_clash, clash_in, clash_of, picked_file, picked_row, picked_package}
 use Rattle.package_join.specs.declared.joined.Clash.{Clash}
 use Rattle.package_join.specs.declared.joined.Joined.{Joined}
 use Rattle.package_join.specs.Laws.{IsIncluded, PickLaw, AnewLaw}
-use Rattle.package_join.proofs.Agreeing.{none_of, agree, no_clash_if, whole_of, same_tables, same_rows}
+use Rattle.package_join.proofs.Agreeing.{agree, no_clash_if, whole_of, same_tables, same_rows}
 use Rattle.package_join.proofs.Cuts.{Rising, rising}
 use Rattle.package_join.proofs.Picking.{merged_flip}
 use Rattle.package_join.proofs.PickedFiles.{path_of, files_picked, picked_either}
@@ -120,13 +122,13 @@ module _ (a b : Package) (va : IsIncluded a) (vb : IsIncluded b) (none : clash_o
   -- ---- what has no clash
 
   no_file_clash : first_clash file_cmp file_clash a.files b.files ≡ None
-  no_file_clash = (none_of (first_clash file_cmp file_clash a.files b.files) (clash_in (own_tables a) (own_tables b) both_lists) none).0
+  no_file_clash = (or_none (first_clash file_cmp file_clash a.files b.files) (clash_in (own_tables a) (own_tables b) both_lists) none).0
 
   no_others : (first_clash table_cmp table_clash (own_tables a) (own_tables b) ≡ None) × (first_clash table_cmp rows_clash (own_tables a) (own_tables b) ≡ None)
   no_others =
-      let rest = (none_of (first_clash file_cmp file_clash a.files b.files) (clash_in (own_tables a) (own_tables b) both_lists) none).1 in
-      let two = none_of (first_clash table_cmp table_clash (own_tables a) (own_tables b)) (option_or (first_clash table_cmp rows_clash (own_tables a) (own_tables b)) (first_of keys_clash both_lists)) rest in
-      (two.0, (none_of (first_clash table_cmp rows_clash (own_tables a) (own_tables b)) (first_of keys_clash both_lists) two.1).0)
+      let rest = (or_none (first_clash file_cmp file_clash a.files b.files) (clash_in (own_tables a) (own_tables b) both_lists) none).1 in
+      let two = or_none (first_clash table_cmp table_clash (own_tables a) (own_tables b)) (option_or (first_clash table_cmp rows_clash (own_tables a) (own_tables b)) (first_some keys_clash both_lists)) rest in
+      (two.0, (or_none (first_clash table_cmp rows_clash (own_tables a) (own_tables b)) (first_some keys_clash both_lists) two.1).0)
 
   contents_agree : (f g : PackedFile) → IsIn f a.files → IsIn g b.files → f.path ≡ g.path → contents_differ f.content g.content ≡ false
   contents_agree f g is there same =

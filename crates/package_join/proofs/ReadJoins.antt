@@ -6,6 +6,7 @@ use Rattle.std.proofs.lemmas.List.{length-append}
 use Rattle.std.proofs.lemmas.Slice.Eq.{bytes_eq-Decides}
 use Rattle.ldv_value.proofs.Booleans.{and-parts}
 use Rattle.ldv_value.proofs.Options.{bind-some, same-some}
+use Rattle.ldv_value.proofs.SameBytes.{bytes_eq-itself}
 use Rattle.sha2.specs.Sha256.{sha256}
 use Rattle.package_layout.specs.declared.damage.DamageKind.{DamageKind}
 use Rattle.package_layout.specs.declared.damage.DamageKind.TheVariants.{Magic, Digest, Form}
@@ -15,9 +16,10 @@ use Rattle.package_layout.specs.declared.layout.PackageStop.{PackageStop}
 use Rattle.package_layout.specs.declared.layout.PackageStop.TheVariants.{Damaged, NoMemory}
 use Rattle.package_layout.specs.Fields.{◌>>=◌, Makes}
 use Rattle.package_layout.specs.Runs.{are_runs}
-use Rattle.package_layout.specs.Valid.{HasDigest, before_digest, has_digest, middle, valid_test}
-use Rattle.package_layout.proofs.Laws.{IsBytes, IsBytes-take, IsBytes-drop, just}
-use Rattle.package_layout.proofs.Package.{digest_fact, digest_test, true_not_false, not_true}
+use Rattle.package_layout.specs.Valid.{HasDigest, has_digest, middle, valid_test}
+use Rattle.package_layout.proofs.Laws.{IsBytes, just}
+use Rattle.package_layout.proofs.Package.{digest_fact, digest_test, true_not_false, not_true, stopped, damaged}
+use Rattle.package_layout.proofs.RunReading.{clean}
 use Rattle.package_join.specs.Types.{Package}
 use Rattle.package_join.specs.declared.joined.Clash.{Clash}
 use Rattle.package_join.specs.declared.joined.Joined.{Joined}
@@ -77,9 +79,6 @@ digest_tests false d o e = absurd cc
 eight : 8 ≡ length joined_magic
 eight = refl
 
-same_bytes : (bytes : List ℕ) → bytes_eq bytes bytes ≡ true
-same_bytes bytes = (bytes_eq-Decides bytes bytes).1 refl
-
 anew_again : (j : Joined) → IsValidJoined j → joined_anew j ≡ Some j
 anew_again j v =
     let one : valid_test (run_package First j) ≡ true = v.first in
@@ -93,13 +92,13 @@ in_again j t v n =
     let anew : joined_anew j ≡ Some j = anew_again j v in
     ap (λ (o : Option Joined). o >>= λ k. joined_anew k >>= if_spelling_is bytes) read
     ∙ ap (λ (o : Option Joined). o >>= if_spelling_is bytes) anew
-    ∙ ap (λ (b : Bool). cond b (Some j) None) (same_bytes bytes)
+    ∙ ap (λ (b : Bool). cond b (Some j) None) (bytes_eq-itself bytes)
 
 pub read_again : (j : Joined) → IsTypedJoined j → IsValidJoined j → IsCountedJoined j → joined_reading (joined_spelling j) ≡ Ok j
 read_again j t v n =
     let bytes : List ℕ = joined_spelling j in
     let m : has_joined_magic bytes ≡ true =
-    ap (λ (l : List ℕ). bytes_eq l joined_magic) (spelled_magic joined_magic (joined_sections j) eight) ∙ same_bytes joined_magic in
+    ap (λ (l : List ℕ). bytes_eq l joined_magic) (spelled_magic joined_magic (joined_sections j) eight) ∙ bytes_eq-itself joined_magic in
     let d : has_digest bytes ≡ true = digest_test bytes (spelled_digest joined_magic (joined_sections j) eight) in
     let o : joined_in (middle bytes) ≡ Some j = ap joined_in (spelled_middle joined_magic (joined_sections j) eight) ∙ in_again j t v n in
     λ i. by_magic (m i) (d i) (o i)
@@ -163,9 +162,6 @@ form_read bytes e = (
 
 -- ---- what an answer says, which tells what reading gives
 
-abbrev damaged : {X : Type 0} → DamageKind → Result X PackageStop
-damaged kind = Err (Damaged kind)
-
 abbrev seen : Bool → Bool → Option DamageKind
 seen m d = cond m (cond d None (Some Digest)) (Some Magic)
 
@@ -205,9 +201,6 @@ cuts_found bytes (Err stop) due = tt
 
 -- ---- the answers
 
-clean : (bytes : List ℕ) → IsBytes bytes → IsBytes (middle bytes)
-clean bytes h = IsBytes-drop 8 (before_digest bytes) (IsBytes-take (length bytes - 32) bytes h)
-
 pub middle_ok : (bytes m : List ℕ) (r : RunJoined) → IsBytes bytes → has_digest bytes ≡ true → m ≡ middle bytes → cuts_in m ≡ Some r
     → digested_reading bytes ≡ Ok (whole_join r)
 middle_ok bytes m r h d is e =
@@ -244,9 +237,6 @@ not_damaged bytes r o once = by (joined_damage_before bytes) once
     by : (d : Option DamageKind) → IfSome d (λ kind. Ok r ≡ damaged {X = RunJoined} kind) → IfSome d (λ kind. o ≡ damaged kind)
     by None h = tt
     by (Some kind) h = absurd cc
-
-abbrev stopped : {X : Type 0} → PackageStop → Result X PackageStop
-stopped stop = Err stop
 
 same_stop : (stop other : PackageStop) → stopped {X = RunJoined} stop ≡ stopped {X = RunJoined} other → stop ≡ other
 same_stop stop other e = cc

@@ -17,11 +17,13 @@ use Rattle.ldv_value.specs.FileState.{file_test, file_precedes, files_test, file
 use Rattle.ldv_value.specs.Limits.{file_limit, max_next}
 use Rattle.ldv_value.specs.Names.{path_test}
 use Rattle.ldv_value.specs.Sorted.{is_strictly_sorted, precedes_first}
+use Rattle.ldv_value.specs.Options.{first_some}
 use Rattle.std.specs.Ordering.{is_lt}
+use Rattle.std.proofs.lemmas.Map.Lookups.{exact_bytes}
 use Rattle.script_parse.specs.Script.{script_of}
 use Rattle.script_parse.specs.declared.script.Instr.{Instr}
 use Rattle.sql_model.proofs.Databases.{database-from}
-use Rattle.sql_model.proofs.UniqueKeys.{unique-clash}
+use Rattle.sql_model.proofs.UniqueKeys.{unique-clash, or_none}
 use Rattle.sql_model.proofs.ValidTables.{table-from}
 use Rattle.sql_model.specs.Changes.{KeyClash, key_clash}
 use Rattle.sql_model.specs.ForeignKeys.{have_parents}
@@ -29,6 +31,7 @@ use Rattle.sql_model.specs.Scope.{catalog_of}
 use Rattle.sql_model.specs.SqlNames.{sql_name_test}
 use Rattle.sql_model.specs.Tables.{are_tables, is_database, is_described, is_row, is_short, is_valid_table, numbers_test, are_keys_unique, schema_test, table_precedes, tables_test}
 use Rattle.sql_model.specs.declared.table.Schema.{Schema}
+use Rattle.sql_model.proofs.NewNumbers.{row_precedes}
 use Rattle.run_model.proofs.StartScripts.{first_script}
 use Rattle.run_model.specs.Between.{IsIn}
 use Rattle.run_model.specs.Package.{own_row, own_table}
@@ -36,6 +39,7 @@ use Rattle.run_model.specs.ValidPackage.{content_rule, file_rule, is_script, is_
 use Rattle.run_model.specs.ValidWorld.{CanRun}
 use Rattle.package_layout.specs.Valid.{IsValidPackage}
 use Rattle.package_layout.specs.Whole.{has_room}
+use Rattle.run_laws.proofs.ListMembers.{filter_map_in}
 use Rattle.package_join.specs.Types.{File, Package, PackedFile, PackedRow, PackedTable, Table, TableRow}
 use Rattle.package_join.specs.declared.joined.Joined.{Joined}
 use Rattle.package_join.specs.declared.joined.JoinedRun.{JoinedRun}
@@ -43,17 +47,16 @@ use Rattle.package_join.specs.declared.joined.Which.{Which}
 use Rattle.package_join.specs.declared.joined.Which.TheVariants.{First, Second}
 use Rattle.package_join.specs.Joined.{as_present, both_files, both_rows, both_tables, clash_in, clash_of, clash_of_keys, file_clash, file_cmp, is_among, keys_clash, merged_files, merged_rows, merged_tables, own_tables, picked_file, put_together, rows_clash, run_package, table_clash, table_cmp}
 use Rattle.package_join.specs.Laws.{IsIncluded, RunsLaw}
-use Rattle.package_join.specs.Merging.{first_clash, first_of}
+use Rattle.package_join.specs.Merging.{first_clash}
 use Rattle.package_join.specs.Rooms.{TypedCommonTable}
 use Rattle.package_join.specs.Worlds.{empty_if, joined_world, seen_file, world_file, world_of}
-use Rattle.package_join.proofs.Agreeing.{none_of}
 use Rattle.package_join.proofs.Cuts.{Rising}
 use Rattle.package_join.proofs.ListedTables.{listed, own_parents}
-use Rattle.package_join.proofs.Lists.{all_in, each_of, filter_map_in}
+use Rattle.package_join.proofs.Lists.{all_in, each_of}
 use Rattle.package_join.proofs.MergedLists.{in_merged, merged_rises, IsOf}
 use Rattle.package_join.proofs.MergedParents.{merged_parents}
 use Rattle.package_join.proofs.PickedFiles.{path_of}
-use Rattle.package_join.proofs.PickedTables.{equal_names, name_of, number_of}
+use Rattle.package_join.proofs.PickedTables.{name_of, number_of}
 use Rattle.package_join.proofs.Picks.{files_rise, its_rows_rise, of_map, own_rise, tables_agree}
 use Rattle.package_join.proofs.ValidJoins.{included}
 use Rattle.package_join.proofs.ValidRooms.{unclashed}
@@ -277,9 +280,6 @@ own_met p ip t is =
     let from = of_map own_table p.tables t is in
     subst Met (sym from.1.1) (packed_met from.0 (each_of table_rule p.tables (listed p.tables ip.tables).each from.0 from.1.0))
 
-abbrev number_lower : TableRow → TableRow → Bool
-number_lower a b = nat_lt a.number b.number
-
 is_lower : (lower same : Bool) → cond lower Less (cond same Equal Greater) ≡ Less → lower ≡ true
 is_lower true same e = refl
 is_lower false true e = let never : Equal ≡ Less = e in absurd cc
@@ -288,10 +288,10 @@ is_lower false false e = let never : Greater ≡ Less = e in absurd cc
 lower_number : (a b : ℕ) → nat_cmp a b ≡ Less → nat_lt a b ≡ true
 lower_number a b e = is_lower (nat_lt a b) (a == b) e
 
-first_none : (ts : List Table) → first_of keys_clash ts ≡ None → (t : Table) → IsIn t ts → keys_clash t ≡ None
+first_none : (ts : List Table) → first_some keys_clash ts ≡ None → (t : Table) → IsIn t ts → keys_clash t ≡ None
 first_none [] none t is = absurd is
-first_none (u ∷ us) none t (inl same) = ap keys_clash same ∙ (none_of (keys_clash u) (first_of keys_clash us) none).0
-first_none (u ∷ us) none t (inr more) = first_none us (none_of (keys_clash u) (first_of keys_clash us) none).1 t more
+first_none (u ∷ us) none t (inl same) = ap keys_clash same ∙ (or_none (keys_clash u) (first_some keys_clash us) none).0
+first_none (u ∷ us) none t (inr more) = first_none us (or_none (keys_clash u) (first_some keys_clash us) none).1 t more
 
 no_key_clash : (t : Table) → keys_clash t ≡ None → key_clash t ≡ None
 no_key_clash t none = by (key_clash t) none
@@ -309,11 +309,11 @@ module _ (a b : Package) (ia : IsIncluded a) (ib : IsIncluded b) (none : clash_o
   abbrev both_lists : List Table
   both_lists = merged_tables (own_tables a) (own_tables b)
 
-  no_keys : first_of keys_clash both_lists ≡ None
+  no_keys : first_some keys_clash both_lists ≡ None
   no_keys =
-      let rest = (none_of (first_clash file_cmp file_clash a.files b.files) (clash_in (own_tables a) (own_tables b) both_lists) none).1 in
-      let two = none_of (first_clash table_cmp table_clash (own_tables a) (own_tables b)) (option_or (first_clash table_cmp rows_clash (own_tables a) (own_tables b)) (first_of keys_clash both_lists)) rest in
-      (none_of (first_clash table_cmp rows_clash (own_tables a) (own_tables b)) (first_of keys_clash both_lists) two.1).1
+      let rest = (or_none (first_clash file_cmp file_clash a.files b.files) (clash_in (own_tables a) (own_tables b) both_lists) none).1 in
+      let two = or_none (first_clash table_cmp table_clash (own_tables a) (own_tables b)) (option_or (first_clash table_cmp rows_clash (own_tables a) (own_tables b)) (first_some keys_clash both_lists)) rest in
+      (or_none (first_clash table_cmp rows_clash (own_tables a) (own_tables b)) (first_some keys_clash both_lists) two.1).1
 
   of_either : (p : TableRow → Bool) (xs ys : List TableRow) → list_all p xs ≡ true → list_all p ys ≡ true → list_all p (merged_rows xs ys) ≡ true
   of_either p xs ys hx hy = all_in p (merged_rows xs ys) (λ z is. by z (in_merged number_of nat_cmp nat_cmp_total both_rows (λ x y e. refl) z xs ys is))
@@ -344,7 +344,7 @@ module _ (a b : Package) (ia : IsIncluded a) (ib : IsIncluded b) (none : clash_o
       by (inr (inl there)) = own_met b ib z there
       by (inr (inr made)) =
           subst Met (sym made.1.1.1.1.1)
-          (both_met made.0 made.1.0 made.1.1.0 made.1.1.1.0 (equal_names made.0.name made.1.0.name made.1.1.1.1.0))
+          (both_met made.0 made.1.0 made.1.1.0 made.1.1.1.0 (exact_bytes made.0.name made.1.0.name made.1.1.1.1.0))
 
   rows_rising : (z : Table) → IsIn z both_lists → Rising number_of nat_cmp z.rows
   rows_rising z is = by (in_merged name_of (slice_cmp nat_cmp) nat_list_cmp_total both_tables (λ x y e. refl) z (own_tables a) (own_tables b) is)
@@ -361,11 +361,11 @@ module _ (a b : Package) (ia : IsIncluded a) (ib : IsIncluded b) (none : clash_o
   table_valid typed z is =
       let met : Met z = merged_met z is in
       let small = (typed_in TypedCommonTable both_lists typed z is).1.1.0 in
-      let sorted : is_strictly_sorted number_lower z.rows ≡ true =
-      sorted_from number_of nat_cmp number_lower (λ r s e. lower_number r.number s.number e) z.rows (rows_rising z is) in
+      let sorted : is_strictly_sorted row_precedes z.rows ≡ true =
+      sorted_from number_of nat_cmp row_precedes (λ r s e. lower_number r.number s.number e) z.rows (rows_rising z is) in
       table-from z (record {
         next = le-leb z.next max_next (omega (arith, small));
-        numbers = and-from (is_strictly_sorted number_lower z.rows) (list_all (λ (row : TableRow). nat_lt row.number z.next) z.rows) sorted met.below;
+        numbers = and-from (is_strictly_sorted row_precedes z.rows) (list_all (λ (row : TableRow). nat_lt row.number z.next) z.rows) sorted met.below;
         rows = met.rows;
         keys = unique-clash z.schema.key z.rows (no_key_clash z (first_none both_lists no_keys z is));
       })

@@ -1,5 +1,5 @@
 -- What is joined of two packages in memory has numbers of their types and texts of UTF-8, as these have.
-use Rattle.std.proofs.Common.{ℕ, List, [], ◌∷◌, ◌++◌, map, Option, Some, None, refl, sym, subst, inl, inr}
+use Rattle.std.proofs.Common.{ℕ, List, [], ◌∷◌, map, Option, Some, None, refl, sym, subst, inl, inr}
 use Rattle.std.specs.List.{flat_map, cons_option, AllByRecursion}
 use Rattle.std.specs.Ordering.{nat_cmp}
 use Rattle.std.specs.Cmp.Lexicographic.{slice_cmp}
@@ -8,6 +8,7 @@ use Rattle.std.proofs.lemmas.Cmp.{nat_cmp_total, nat_list_cmp_total}
 use Rattle.run_model.specs.Between.{IsIn}
 use Rattle.run_model.specs.Package.{own_row, own_table}
 use Rattle.run_model.specs.TypedPackage.{IsTyped, TypedFile, TypedRow, TypedTable}
+use Rattle.package_layout.proofs.RunFields.{all_appended, all_mapped}
 use Rattle.package_join.specs.Types.{Package, PackedFile, PackedTable, Table, TableRow}
 use Rattle.package_join.specs.Joined.{both_files, both_rows, both_tables, merged_files, merged_rows, merged_tables, own_tables, path_unless, presents_of, put_together, row_reason, run_in, table_reasons, whole_path, wholes_of}
 use Rattle.package_join.specs.Rooms.{TypedCommonRow, TypedCommonTable, IsTypedJoined, TypedJoinedRun, TypedReason, TypedTexts}
@@ -21,14 +22,6 @@ use Rattle.package_join.proofs.RunsOfJoins.{typed_in}
 all_typed : {X : Type 0} (P : X → Type 0) (xs : List X) → ((x : X) → IsIn x xs → P x) → AllByRecursion P xs
 all_typed P [] each = tt
 all_typed P (x ∷ xs) each = (each x (inl refl), all_typed P xs (λ y is. each y (inr is)))
-
-both_typed : {X : Type 0} (P : X → Type 0) (xs ys : List X) → AllByRecursion P xs → AllByRecursion P ys → AllByRecursion P (xs ++ ys)
-both_typed P [] ys one two = two
-both_typed P (x ∷ xs) ys one two = (one.0, both_typed P xs ys one.1 two)
-
-map_typed : {X Y : Type 0} (P : X → Type 0) (Q : Y → Type 0) (f : X → Y) → ((x : X) → P x → Q (f x)) → (xs : List X) → AllByRecursion P xs → AllByRecursion Q (map f xs)
-map_typed P Q f each [] all = tt
-map_typed P Q f each (x ∷ xs) all = (each x all.0, map_typed P Q f each xs all.1)
 
 -- ---- a run
 
@@ -52,8 +45,8 @@ presents_typed (f ∷ fs) typed = by f.content (presents_typed fs typed.1)
 reasons_typed : (tables : List PackedTable) → AllByRecursion TypedTable tables → AllByRecursion TypedReason (flat_map table_reasons tables)
 reasons_typed [] typed = tt
 reasons_typed (t ∷ ts) typed =
-    both_typed TypedReason (table_reasons t) (flat_map table_reasons ts)
-    (map_typed TypedRow TypedReason (row_reason t.name) (λ row r. (typed.0.0, (r.0, r.1.0))) t.rows typed.0.1.1.1) (reasons_typed ts typed.1)
+    all_appended TypedReason (table_reasons t) (flat_map table_reasons ts)
+    (all_mapped TypedRow TypedReason (row_reason t.name) (λ row r. (typed.0.0, (r.0, r.1.0))) t.rows typed.0.1.1.1) (reasons_typed ts typed.1)
 
 run_typed : (p : Package) → IsTyped p → TypedJoinedRun (run_in p)
 run_typed p t = (
@@ -65,7 +58,7 @@ run_typed p t = (
         t.1.1.0,
         (
           wholes_typed p.files t.1.1.1.0,
-          (presents_typed p.files t.1.1.1.0, (map_typed TypedTable IsUtf8 (λ table. table.name) (λ table r. r.0) p.tables t.1.1.1.1.0, reasons_typed p.tables t.1.1.1.1.0)),
+          (presents_typed p.files t.1.1.1.0, (all_mapped TypedTable IsUtf8 (λ table. table.name) (λ table r. r.0) p.tables t.1.1.1.1.0, reasons_typed p.tables t.1.1.1.1.0)),
         ),
       ),
     ),
@@ -76,8 +69,8 @@ run_typed p t = (
 -- ---- files and tables
 
 own_typed : (tables : List PackedTable) → AllByRecursion TypedTable tables → AllByRecursion TypedCommonTable (map own_table tables)
-own_typed = map_typed TypedTable TypedCommonTable own_table
-    (λ t r. (r.0, (r.1.0, (r.1.1.0, map_typed TypedRow TypedCommonRow own_row (λ row k. (k.0, k.1.1)) t.rows r.1.1.1))))
+own_typed = all_mapped TypedTable TypedCommonTable own_table
+    (λ t r. (r.0, (r.1.0, (r.1.1.0, all_mapped TypedRow TypedCommonRow own_row (λ row k. (k.0, k.1.1)) t.rows r.1.1.1))))
 
 files_typed : (xs ys : List PackedFile) → AllByRecursion TypedFile xs → AllByRecursion TypedFile ys → AllByRecursion TypedFile (merged_files xs ys)
 files_typed xs ys tx ty =

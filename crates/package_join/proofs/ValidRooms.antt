@@ -8,6 +8,7 @@ use Rattle.std.specs.declared.cmp.Ordering.{Ordering}
 use Rattle.std.specs.declared.cmp.Ordering.TheVariants.{Less, Equal, Greater}
 use Rattle.std.proofs.lemmas.Bool.{leb-true, lt-ltb}
 use Rattle.std.proofs.lemmas.Cmp.{nat_cmp_total, nat_list_cmp_total}
+use Rattle.std.proofs.lemmas.Map.Lookups.{exact_bytes}
 use Rattle.ldv_value.proofs.Booleans.{and-parts, and-from}
 use Rattle.ldv_value.proofs.Lists.{length-map}
 use Rattle.ldv_value.specs.Limits.{max_tables}
@@ -30,7 +31,7 @@ use Rattle.package_join.specs.Rooms.{common_row_room, common_table_room, common_
 use Rattle.package_join.specs.Valid.{IsValidJoined}
 use Rattle.package_join.proofs.Lists.{all_in, each_of}
 use Rattle.package_join.proofs.MergedLists.{in_merged, IsOf}
-use Rattle.package_join.proofs.PickedTables.{equal_names, name_of, number_of}
+use Rattle.package_join.proofs.PickedTables.{name_of, number_of}
 use Rattle.package_join.proofs.Picks.{of_map, tables_agree}
 use Rattle.package_join.proofs.ValidJoins.{included}
 
@@ -127,7 +128,7 @@ module _ (a b : Package) (va : IsValidPackage a) (vb : IsValidPackage b) (ia : I
       by (inr (inl there)) = own_fits b vb z there
       by (inr (inr made)) =
           ap common_table_room made.1.1.1.1.1
-          ∙ both_fit made.0 made.1.0 made.1.1.0 made.1.1.1.0 (equal_names made.0.name made.1.0.name made.1.1.1.1.0)
+          ∙ both_fit made.0 made.1.0 made.1.1.0 made.1.1.1.0 (exact_bytes made.0.name made.1.0.name made.1.1.1.1.0)
 
   pub together_fits : joined_room (put_together a b) ≡ true
   together_fits =

@@ -6,6 +6,7 @@ use Rattle.std.specs.Option.{option_or}
 use Rattle.std.specs.Ordering.{nat_cmp}
 use Rattle.std.specs.Cmp.Lexicographic.{slice_cmp}
 use Rattle.std.specs.declared.cmp.Ordering.{Ordering}
+use Rattle.ldv_value.specs.Options.{first_some}
 use Rattle.sql_model.specs.Changes.{KeyClash, key_clash}
 use Rattle.sql_model.specs.Keys.{same_values}
 use Rattle.sql_model.specs.Scope.{same_text}
@@ -19,7 +20,7 @@ use Rattle.package_join.specs.declared.joined.ClashKind.{ClashKind}
 use Rattle.package_join.specs.declared.joined.ClashKind.TheVariants as kinds
 use Rattle.package_join.specs.declared.joined.Which.{Which}
 use Rattle.package_join.specs.declared.joined.Which.TheVariants.{First, Second}
-use Rattle.package_join.specs.Merging.{merged, first_clash, first_of}
+use Rattle.package_join.specs.Merging.{merged, first_clash}
 use Rattle.package_join.specs.Same.{same_schema, contents_differ}
 
 -- ---- what a run needs
@@ -138,7 +139,7 @@ keys_clash table = option_map (clash_of_keys table.name) (key_clash table)
 -- of two lists of tables, and of what they are merged to
 abbrev pub clash_in : List Table → List Table → List Table → Option Clash
 clash_in a b all = option_or (first_clash table_cmp table_clash a b)
-    (option_or (first_clash table_cmp rows_clash a b) (first_of keys_clash all))
+    (option_or (first_clash table_cmp rows_clash a b) (first_some keys_clash all))
 
 -- the least path, else the least table, else the least row, else the least table with a key twice
 abbrev pub clash_of : Package → Package → Option Clash

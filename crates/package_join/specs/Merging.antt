@@ -32,11 +32,6 @@ module _ {X : Type 0} (cmp : X → X → Ordering) where
     first_clash [] ys = None
     first_clash (x ∷ xs) ys = clash_into x (λ zs. first_clash xs zs) ys
 
--- the first that an item has
-abbrev pub first_of : {X C : Type 0} → (X → Option C) → List X → Option C
-first_of f [] = None
-first_of f (x ∷ xs) = option_or (f x) (first_of f xs)
-
 -- ---- a list whose first item was taken out; without it nothing was left
 
 abbrev pub queue_with : {X : Type 0} → Option X → List X → List X

@@ -1,6 +1,7 @@
 -- The parts of a package, and what two of them are joined to; and what a call of `join` returns.
 use Rattle.std.specs.Prelude.{◌≡◌, Option, Some, None, Result, Ok, Err}
 use Rattle.std.specs.Option.{option_or}
+use Rattle.ldv_value.specs.Options.{first_some}
 use Rattle.package_join.specs.Types.{Package}
 use Rattle.package_join.specs.declared.joined.Clash.{Clash as TheClash}
 use Rattle.package_join.specs.declared.joined.Joined.{Joined}
@@ -9,7 +10,7 @@ use Rattle.package_join.specs.declared.joins.JoinStop.TheVariants.{Clash, NoMemo
 use Rattle.package_join.specs.declared.parts.Parts.{Parts}
 use Rattle.package_join.specs.Joined.{run_in, own_tables, merged_files, merged_tables, unless_clash}
 use Rattle.package_join.specs.Joined.{file_cmp, file_clash, table_cmp, table_clash, rows_clash, keys_clash}
-use Rattle.package_join.specs.Merging.{first_clash, first_of}
+use Rattle.package_join.specs.Merging.{first_clash}
 
 abbrev pub parts_in : Package → Parts
 parts_in p = record { run = run_in p; files = p.files; tables = own_tables p }
@@ -29,7 +30,8 @@ parts_together a b = record {
 }
 
 abbrev pub join_of_parts : Parts → Parts → Result Joined TheClash
-join_of_parts a b = unless_clash (first_of keys_clash (merged_tables a.tables b.tables)) (parts_together a b)
+join_of_parts a b =
+    unless_clash (first_some keys_clash (merged_tables a.tables b.tables)) (parts_together a b)
 
 abbrev pub joined_after : Option TheClash → Parts → Parts → Result Joined TheClash
 joined_after None a b = join_of_parts a b

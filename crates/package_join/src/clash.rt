@@ -1,9 +1,10 @@
 //! In what two packages differ.
 
 ghost use Rattle.std.specs.Prelude.{◌≡◌, IfOk};
+ghost use Rattle.ldv_value.specs.Options.{first_some as first_of};
 ghost use Rattle.package_join.specs.Joined.{clash_at, clash_if, file_clash, file_cmp};
 ghost use Rattle.package_join.specs.Joined.{keys_clash, row_clash, row_cmp, rows_clash, table_clash, table_cmp};
-ghost use Rattle.package_join.specs.Merging.{first_clash, first_of};
+ghost use Rattle.package_join.specs.Merging.{first_clash};
 
 use crate::joined::{Clash, ClashKind};
 use crate::key_clash::second_row;

@@ -4,20 +4,16 @@ use Rattle.std.specs.Prelude.{bytes_eq, ◌==◌}
 use Rattle.std.specs.List.{flat_map, list_all, AllByRecursion}
 use Rattle.std.specs.Str.{IsUtf8}
 use Rattle.std.proofs.lemmas.Bool.{not-true, not_from_false}
-use Rattle.std.proofs.lemmas.Bool.Decides.{same_from_decides, Decides-like}
 use Rattle.std.proofs.lemmas.Slice.Eq.{bytes_eq-Decides}
 use Rattle.std.proofs.lemmas.List.{map-append, append-nil, take_more, length-append}
 use Rattle.ldv_value.proofs.Booleans.{and-parts, and-from}
-use Rattle.ldv_value.proofs.SameBytes.{bytes_eq-true}
+use Rattle.ldv_value.proofs.SameBytes.{bytes_eq-true, bytes_eq-sym}
 use Rattle.sql_model.specs.SqlNames.{sql_name_test}
 use Rattle.package_layout.specs.declared.group.Group.{Group}
 use Rattle.package_layout.specs.Groups.{TypedGroup, group_of_one, with_part, after, add, add_all, groups, is_group, neighbours_differ, ungroup}
 
 bytes_eq-self : (a b : List ℕ) → a ≡ b → bytes_eq a b ≡ true
 bytes_eq-self a b e = (bytes_eq-Decides a b).1 e
-
-bytes_eq-sym : (a b : List ℕ) → bytes_eq a b ≡ bytes_eq b a
-bytes_eq-sym a b = same_from_decides (bytes_eq a b) (bytes_eq b a) (bytes_eq-Decides a b) (Decides-like (bytes_eq b a) (λ e. sym e) (λ e. sym e) (bytes_eq-Decides b a))
 
 other : (a b : List ℕ) → not (bytes_eq a b) ≡ true → bytes_eq b a ≡ false
 other a b h = bytes_eq-sym b a ∙ not-true (bytes_eq a b) h

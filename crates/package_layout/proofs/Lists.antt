@@ -1,7 +1,6 @@
 -- Lists that are read or written item by item, as a loop does.
 use Rattle.std.proofs.Common.{◌≡◌, ℕ, suc, ◌-◌, ◌+◌, ◌≤◌, ◌<◌, List, [], ◌∷◌, ◌++◌, Some, None, Err, refl, sym, ap, ◌∙◌, append_assoc, arith}
 use Rattle.std.proofs.lemmas.List.{append-nil}
-use Rattle.std.specs.List.{AllByRecursion}
 use Rattle.package_layout.specs.declared.decode_error.DecodeError.{DecodeError}
 use Rattle.package_layout.specs.declared.decode_error.DecodeError.TheVariants.{NoMemory, Malformed}
 use Rattle.package_layout.specs.Fields.{DecodeResult, ◌>>=◌, Decodes, items_at}
@@ -45,7 +44,3 @@ is_done item_at front count i bytes total le so_far =
     let k : count - i ≡ 0 = omega arith in
     let one : with_front front (items_at item_at (count - i) bytes) ≡ Some (front, bytes) = rw k (ap (λ xs. Some (xs, bytes)) (append-nil front)) in
     sym so_far ∙ one
-
-pub all_more : {X : Type 0} (P : X → Type 0) (front : List X) (x : X) → AllByRecursion P front → P x → AllByRecursion P (front ++ x ∷ [])
-all_more P [] x h p = (p, tt)
-all_more P (y ∷ front) x h p = (h.0, all_more P front x h.1 p)

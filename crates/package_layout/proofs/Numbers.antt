@@ -12,7 +12,8 @@ use Rattle.std.proofs.lemmas.List.{take_at, drop_at, take-append-drop, length-ap
 use Rattle.std.proofs.lemmas.Nat.{be_bytes_2, be_bytes_4, be_bytes_8, from_be_bytes-to_be_bytes_2, from_be_bytes-to_be_bytes_4, from_be_bytes-to_be_bytes_8}
 use Rattle.ldv_value.proofs.Booleans.{and-parts, and-from}
 use Rattle.ldv_value.proofs.Options.{bind-some, same-some}
-use Rattle.package_layout.specs.Fields.{DecodeResult, ◌>>=◌, bytes_at, number_at, signed_at, items_at, list_at, list_spelling, text_spelling, sized_at, text_of, text_at}
+use Rattle.ldv_value.specs.Texts.{text_of}
+use Rattle.package_layout.specs.Fields.{DecodeResult, ◌>>=◌, bytes_at, number_at, signed_at, items_at, list_at, list_spelling, text_spelling, sized_at, text_at}
 use Rattle.package_layout.specs.Counts.{IsCountable, CountedList}
 use Rattle.package_layout.proofs.Laws.{IsBytes, IsBytes-take, IsBytes-rest, just, guard_some, Took, IsField, always, Uncounted, recount, made_law}
 

@@ -231,7 +231,7 @@ module _ (bytes : List ℕ) where
 
 -- ---- what an answer says, which tells what reading gives
 
-abbrev damaged : {X : Type 0} → DamageKind → Result X PackageStop
+abbrev pub damaged : {X : Type 0} → DamageKind → Result X PackageStop
 damaged kind = Err (Damaged kind)
 
 module _ {X : Type 0} (bytes : List ℕ) (r : Result X PackageStop) (says : (kind : DamageKind) → r ≡ damaged kind → reading bytes ≡ Err kind) (once : IfSome (damage_before bytes) (λ kind. r ≡ damaged kind)) where
@@ -314,7 +314,7 @@ not_damaged bytes r o once = by (damage_before bytes) once
     by None h = tt
     by (Some kind) h = absurd cc
 
-abbrev stopped : {X : Type 0} → PackageStop → Result X PackageStop
+abbrev pub stopped : {X : Type 0} → PackageStop → Result X PackageStop
 stopped stop = Err stop
 
 same_stop : (stop other : PackageStop) → stopped {X = RunPackage} stop ≡ stopped {X = RunPackage} other → stop ≡ other

@@ -22,7 +22,7 @@ use Rattle.package_layout.proofs.Numbers.{long_law}
 use Rattle.package_layout.proofs.Tables.{u32_law}
 use Rattle.package_layout.specs.Runs.{Run, TypedRun, CountedRun, run_room, run_spelling, run_at, runs_spelling, runs_at, trace_room, events_of_runs}
 use Rattle.package_layout.specs.Runs.{Begun, run_of_one, joins, run_with_event, runs_from, runs_of, steps_from, at_step, run_events, events_in, total, last_step, is_run, stops_before, are_longest, are_runs, max_events}
-use Rattle.package_layout.proofs.Runs.{grown_begun, grown_events, unasked, last_from, last-is, last_step-is, joined, IsBegun, single_begun, events_again, formed_run, run_shape, run_some, heads_by, runs_again, HasShape, IsSmall, run_is, all_formed, runs_good, events-length}
+use Rattle.package_layout.proofs.Runs.{grown_begun, grown_events, unasked, last_from, last-is, last_step-is, joined, IsBegun, single_begun, events_again, formed_run, run_shape, heads_by, runs_again, HasShape, IsSmall, run_is, all_formed, runs_good, events-length}
 
 -- ---- numbers of their types, and room
 
@@ -32,11 +32,11 @@ small_steps step stride (suc n) limit less =
     let reach : last_from (step + stride) stride n ≡ step + stride + n * stride = last-is (step + stride) stride n in
     (omega (arith, reach, less), small_steps (step + stride) stride n limit less)
 
-all_mapped : {X Y : Type 0} (P : X → Type 0) (Q : Y → Type 0) (f : X → Y) → ((x : X) → P x → Q (f x)) → (xs : List X) → AllByRecursion P xs → AllByRecursion Q (map f xs)
+pub all_mapped : {X Y : Type 0} (P : X → Type 0) (Q : Y → Type 0) (f : X → Y) → ((x : X) → P x → Q (f x)) → (xs : List X) → AllByRecursion P xs → AllByRecursion Q (map f xs)
 all_mapped P Q f h [] all = tt
 all_mapped P Q f h (x ∷ xs) all = (h x all.0, all_mapped P Q f h xs all.1)
 
-all_appended : {X : Type 0} (P : X → Type 0) (xs ys : List X) → AllByRecursion P xs → AllByRecursion P ys → AllByRecursion P (xs ++ ys)
+pub all_appended : {X : Type 0} (P : X → Type 0) (xs ys : List X) → AllByRecursion P xs → AllByRecursion P ys → AllByRecursion P (xs ++ ys)
 all_appended P [] ys h k = k
 all_appended P (x ∷ xs) ys h k = (h.0, all_appended P xs ys h.1 k)
 
@@ -263,10 +263,6 @@ good_next left r rs all is run stops same =
     let step : (list_all is_run rs && are_longest rs) ≡ (list_all is_run (r ∷ rs) && are_longest (r ∷ rs)) = rw run (rw stops refl) in
     step ∙ ap (λ (l : List Run). list_all is_run l && are_longest l) (sym is) ∙ same
 
-pub not_false : (x : Bool) → not x ≡ false → x ≡ true
-not_false true no-more = refl
-not_false false no-more = sym no-more
-
 -- ---- a run's events, one after another
 
 abbrev pub SmallFrom : ℕ → ℕ → ℕ → Type 0
@@ -280,9 +276,6 @@ small_first r h = by r.count refl
     by (suc n) is =
         let less : last_from r.first.step r.stride n < 2 ^ 32 = subst (λ (k : ℕ). k < 2 ^ 32) (last_step-is r n is) (run_shape r h).2 in
         small_steps r.first.step r.stride n (2 ^ 32) less
-
-pub some_first : (r : Run) → is_run r ≡ true → 1 ≤ r.count
-some_first = run_some
 
 -- an act that is there twice is no question
 pub unasked_run : (r : Run) → is_run r ≡ true → 1 < r.count → is_asked r.first.act ≡ false

@@ -24,7 +24,7 @@ use Rattle.package_layout.specs.Whole.{bare_at, trace_at, with_events}
 use Rattle.package_layout.proofs.Laws.{IsBytes, IsBytes-take, IsBytes-drop}
 use Rattle.package_layout.proofs.Runs.{events_again, runs_good, events-length}
 use Rattle.package_layout.proofs.RunFields.{small_events}
-use Rattle.package_layout.proofs.Whole.{bare_took, events_took}
+use Rattle.package_layout.proofs.Whole.{bare_took, events_took, ended}
 
 -- ---- the trace
 
@@ -32,7 +32,7 @@ abbrev kept_events : List Run × List ℕ → DecodeResult (List Event)
 kept_events x = cond (are_runs x.0) (Some (events_in x.0, x.1)) None
 
 -- what is found, and the bytes behind it
-abbrev behind : {X : Type 0} → X → List ℕ → DecodeResult X
+abbrev pub behind : {X : Type 0} → X → List ℕ → DecodeResult X
 behind x rest = Some (x, rest)
 
 kept_by : (b : Bool) (es : List Event) (rest : List ℕ) → (cond b (Some es) None >>= λ x. behind x rest) ≡ cond b (behind es rest) None
@@ -70,9 +70,6 @@ trace_cut Two bytes h = two_cut (list_at w32 run_at bytes)
 
 abbrev of_parts : Package → List Run → RunPackage
 of_parts p rs = record { bare = p; runs = rs }
-
-abbrev ended : Package × List ℕ → Option Package
-ended x = cond (length x.1 == 0) (Some x.0) None
 
 -- the package is valid, and the version has what is in it
 abbrev passes : Version → Package → Bool
@@ -176,7 +173,7 @@ runs_read v bytes r h e =
     subst (λ (r : RunPackage). (are_runs r.runs ≡ true) × (r.bare.events ≡ [])) two.1
     ((and-parts (are_runs q.runs) (passes v (expanded_package q)) two.0).0, no_events v bytes q h one.1)
 
-clean : (bytes : List ℕ) → IsBytes bytes → IsBytes (middle bytes)
+pub clean : (bytes : List ℕ) → IsBytes bytes → IsBytes (middle bytes)
 clean bytes h = IsBytes-drop 8 (before_digest bytes) (IsBytes-take (length bytes - 32) bytes h)
 
 pub read_ok : (v : Version) (bytes : List ℕ) (r : RunPackage) → IsBytes bytes → has_digest bytes ≡ true → runs_in v (middle bytes) ≡ Some r → reading_as v bytes ≡ Ok (expanded_package r)

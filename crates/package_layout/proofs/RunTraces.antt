@@ -10,8 +10,9 @@ use Rattle.ldv_value.proofs.Booleans.{and-parts, and-from, and-true, and-false}
 use Rattle.run_model.specs.declared.event.Act.{Act}
 use Rattle.run_model.specs.declared.event.Act.TheVariants as acts
 use Rattle.run_model.specs.declared.event.Event.{Event}
+use Rattle.run_model.specs.ValidTrace.{is_spawn}
 use Rattle.package_layout.specs.Runs.{Run, steps_from, at_step, run_events, events_in, last_step, is_run}
-use Rattle.package_layout.specs.inner.RunTrace.{is_spawned, spawns_fit, made_by, run_rule, progress_by}
+use Rattle.package_layout.specs.inner.RunTrace.{spawns_fit, made_by, run_rule, progress_by}
 use Rattle.package_layout.specs.inner.Trace.{Progress, act_rule, event_rule, made_after, is_asked, asked_after, progress_after, follows, at_start, starts_on, starts, trace_test, asked_among}
 use Rattle.package_layout.proofs.Runs.{last_from, last_step-is, run_some}
 use Rattle.package_layout.proofs.RunFields.{unasked_run}
@@ -41,14 +42,14 @@ by_times made true n = omega arith
 by_times made false n = omega arith
 
 made_more : (made : ℕ) (act : Act) (n : ℕ) → made_after made act + made_by act n ≡ made + made_by act (suc n)
-made_more made act n = ap (λ (k : ℕ). k + made_by act n) (made_once made act) ∙ by_times made (is_spawned act) n
+made_more made act n = ap (λ (k : ℕ). k + made_by act n) (made_once made act) ∙ by_times made (is_spawn act) n
 
 fits_times : (made : ℕ) (spawned : Bool) (n : ℕ) → cond spawned (nat_le ((made + cond spawned 1 0) + n) max_processes) true ≡ cond spawned (nat_le (made + suc n) max_processes) true
 fits_times made true n = let same : (made + 1) + n ≡ made + suc n = omega arith in ap (λ (k : ℕ). nat_le k max_processes) same
 fits_times made false n = refl
 
 spawns_more : (made : ℕ) (act : Act) (n : ℕ) → spawns_fit (made_after made act) act n ≡ spawns_fit made act (suc n)
-spawns_more made act n = ap (λ (k : ℕ). spawns_fit k act n) (made_once made act) ∙ fits_times made (is_spawned act) n
+spawns_more made act n = ap (λ (k : ℕ). spawns_fit k act n) (made_once made act) ∙ fits_times made (is_spawn act) n
 
 spawns_once : (before : Progress) (act : Act) → act_rule before act ≡ true → spawns_fit before.made act 1 ≡ true
 spawns_once before (acts.Started path) h = refl

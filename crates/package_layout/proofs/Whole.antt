@@ -26,6 +26,7 @@ use Rattle.package_layout.specs.Runs.{max_events, few_events, trace_room}
 use Rattle.package_layout.proofs.RunFields.{runs_law}
 use Rattle.std.specs.Prelude.{nat_le}
 use Rattle.ldv_value.proofs.Booleans.{and-parts, and-from}
+use Rattle.ldv_value.proofs.Lists.{list_all-both}
 use Rattle.package_layout.specs.Reading.{file_at, table_at, log_at}
 use Rattle.package_layout.specs.Events.{names_spelling, names_at, event_spelling, TypedEvent, event_room, event_at}
 use Rattle.package_layout.specs.Version.{Version, One, Two}
@@ -51,7 +52,7 @@ mode_law : IsField mode_spelling Anything always Uncounted mode_at
 mode_law = made_law (to_be_bytes w8) (λ n. n < 256) always (number_at w8) Anything always mode_of mode_number (number_law w8 256 wide8)
     (λ m t f. mode_again m) (λ n m t f e. (mode_back n m e, tt, refl))
 
-files_law : IsField (list_spelling w32 file_spelling) (AllByRecursion TypedFile) always (CountedList CountedFile) (list_at w32 file_at)
+pub files_law : IsField (list_spelling w32 file_spelling) (AllByRecursion TypedFile) always (CountedList CountedFile) (list_at w32 file_at)
 files_law = restate (list_spelling w32 file_spelling) (AllByRecursion TypedFile) (AllByRecursion TypedFile) (list_all always) always (list_at w32 file_at) (long_law file_spelling TypedFile always file_at file_law file_filled)
     (λ fs t h. (t, list_all-always fs)) (λ fs t h. (t, refl))
 
@@ -287,14 +288,6 @@ sections_law v = recount (IsCounted v) (made_law (λ (q : Sections). bytes_befor
 
 -- ---- room, and tables that the version has
 
--- all have the one, and all the other
-both_all : {X : Type 0} (p q : X → Bool) (xs : List X) → list_all p xs ≡ true → list_all q xs ≡ true → list_all (λ x. p x && q x) xs ≡ true
-both_all p q [] h k = refl
-both_all p q (x ∷ xs) h k =
-    let a = and-parts (p x) (list_all p xs) h in
-    let b = and-parts (q x) (list_all q xs) k in
-    and-from (p x && q x) (list_all (λ x. p x && q x) xs) (and-from (p x) (q x) a.0 b.0) (both_all p q xs a.1 b.1)
-
 all_both : {X : Type 0} (p q : X → Bool) (xs : List X) → list_all (λ x. p x && q x) xs ≡ true → (list_all p xs ≡ true) × (list_all q xs ≡ true)
 all_both p q [] h = (refl, refl)
 all_both p q (x ∷ xs) h =
@@ -318,7 +311,7 @@ place_from v p h k =
     let two = and-parts (tables_room p) rest one.1 in
     let three = and-parts (fits_u16_count p.tables) (list_all table_room p.tables) two.0 in
     let each : list_all (table_fits v) p.tables ≡ true =
-    both_all table_room (λ (t : PackedTable). has_of v t.schema.foreign) p.tables three.1 (foreign_of v p k) in
+    list_all-both table_room (λ (t : PackedTable). has_of v t.schema.foreign) p.tables three.1 (foreign_of v p k) in
     and-from (fits_u16_count p.start) (tables_fit v p.tables && rest) one.0
     (and-from (tables_fit v p.tables) rest (and-from (fits_u16_count p.tables) (list_all (table_fits v) p.tables) three.0 each) two.1)
 
@@ -351,7 +344,7 @@ all_again v p t h k n =
     let two : sections_at v (sections v p) ≡ Some (p, []) = ap (sections_at v) (sym (append-nil (sections v p))) ∙ one in
     rw two refl
 
-abbrev ended : Package × List ℕ → Option Package
+abbrev pub ended : Package × List ℕ → Option Package
 ended x = cond (length x.1 == 0) (Some x.0) None
 
 ended_is : (x : Package × List ℕ) (p : Package) (b : Bool) → (length x.1 == 0) ≡ b → cond b (Some x.0) None ≡ Some p → (x.0 ≡ p) × (x.1 ≡ [])

@@ -2,8 +2,8 @@
 use Rattle.std.specs.Prelude.{◌≡◌, ℕ, ℤ, zero, suc, List, [], ◌∷◌, ◌++◌, length, take, drop, Option, Some}
 use Rattle.std.specs.Prelude.{None, Result, Ok, Err, nat_lt, if◌then◌else◌}
 use Rattle.std.specs.List.{flat_map}
-use Rattle.std.specs.Str.{is_utf8}
 use Rattle.std.specs.Int.{Width, w8, w32, w64, byte_len, to_be_bytes, from_be_bytes, cast_signed}
+use Rattle.ldv_value.specs.Texts.{text_of}
 pub use Rattle.ldv_value.specs.Options.{◌>>=◌}
 use Rattle.package_layout.specs.declared.decode_error.DecodeError.{DecodeError}
 use Rattle.package_layout.specs.declared.decode_error.DecodeError.TheVariants.{NoMemory, Malformed}
@@ -71,9 +71,6 @@ abbrev pub sized_at : List ℕ → DecodeResult (List ℕ)
 sized_at bytes = do
   n ← number_at w32 bytes
   bytes_at n.0 n.1
-
-abbrev pub text_of : List ℕ → Option (List ℕ)
-text_of bytes = if is_utf8 bytes then Some bytes else None
 
 abbrev pub text_at : List ℕ → DecodeResult (List ℕ)
 text_at = made_at text_of sized_at

@@ -2,7 +2,8 @@
 
 ghost use Rattle.std.specs.Prelude.{◌≡◌, ◌++◌, OnOk};
 ghost use Rattle.std.specs.Str.{IsUtf8};
-ghost use Rattle.package_layout.specs.Fields.{Decodes, Makes, sized_at, text_at, text_of, text_spelling};
+ghost use Rattle.ldv_value.specs.Texts.{text_of};
+ghost use Rattle.package_layout.specs.Fields.{Decodes, Makes, sized_at, text_at, text_spelling};
 
 use crate::cursor::Cursor;
 use crate::decode_error::DecodeError;

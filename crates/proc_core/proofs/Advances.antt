@@ -124,7 +124,7 @@ module _ {Db : Type 0} (base : Base Db) (m ready after last : Machine) (number :
 
 -- ---- never stuck
 
-first_false : (a b : Bool) → (a || b) ≡ false → b ≡ false
+pub first_false : (a b : Bool) → (a || b) ≡ false → b ≡ false
 first_false true b is = cc
 first_false false b is = is
 

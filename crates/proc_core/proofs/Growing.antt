@@ -11,7 +11,7 @@ use Rattle.proc_core.specs.inner.SlotReady.{Grows}
 use Rattle.proc_core.specs.inner.SlotSpawn.{slot_parent, HasChild, IsNoChild}
 use Rattle.proc_core.proofs.Machines.{get_some}
 
-one_more : {X : Type 0} (xs : List X) (x : X) → length (xs ++ x ∷ []) ≡ suc (length xs)
+pub one_more : {X : Type 0} (xs : List X) (x : X) → length (xs ++ x ∷ []) ≡ suc (length xs)
 one_more [] x = refl
 one_more (y ∷ xs) x = ap suc (one_more xs x)
 

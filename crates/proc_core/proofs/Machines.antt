@@ -1,6 +1,7 @@
 -- Steps of a machine, over slots and as they are defined.
-use Rattle.std.proofs.Common.{◌≡◌, ℕ, zero, suc, List, [], ◌∷◌, ◌++◌, length, map, refl, sym, ap, ◌∙◌, subst, Bool, ◌<◌, ◌≤◌, arith, append_assoc}
+use Rattle.std.proofs.Common.{◌≡◌, ℕ, zero, suc, List, [], ◌∷◌, ◌++◌, length, map, refl, sym, ap, ◌∙◌, subst, Bool, ◌<◌, arith, append_assoc}
 use Rattle.std.specs.Prelude.{Option, Some, None, pos, slice_get, slice_set, option_and_then}
+use Rattle.std.proofs.lemmas.List.{map-append}
 use Rattle.ldv_value.proofs.Lists.{append-nil}
 use Rattle.script_parse.specs.declared.script.Instr.TheVariants as instr
 use Rattle.proc_core.specs.Types.{Value, Int, Instr, Act, Event}
@@ -295,11 +296,6 @@ none_told m number step c keeps old none core =
 pub none_core : (m : Machine) (number : ℕ) (c : Core) → slice_get m.processes.items number ≡ None → IsCore m c → IsCore m (local_step number c).core
 none_core m number c none core = subst (λ (e : Effect). IsCore m e.core) (sym (kept_none m number c core none)) core
 
-pub get_none : {X : Type 0} (xs : List X) (n : ℕ) → length xs ≤ n → slice_get xs n ≡ None
-get_none [] n past = refl
-get_none (x ∷ xs) zero past = absurd (omega (arith, past))
-get_none (x ∷ xs) (suc n) past = get_none xs n (omega (arith, past))
-
 -- ---- the end of a process
 
 ends_by : (o : Option SlotProcess) (q : Option Process) → option_and_then (λ r. r.status) o ≡ option_and_then (λ p. p.status) q
@@ -314,10 +310,6 @@ pub ends_same : (m : Machine) (number : ℕ) (c : Core) → IsCore m c → statu
 ends_same m number c core =
     ap status_acts (status_same m.codes m.processes.items c.processes number core.processes) ∙ acts_of_end (slice_get c.processes number)
 
-map_more : {X Y : Type 0} (f : X → Y) (xs ys : List X) → map f (xs ++ ys) ≡ map f xs ++ map f ys
-map_more f [] ys = refl
-map_more {X} {Y} f (x ∷ xs) ys = ap (λ (l : List Y). f x ∷ l) (map_more f xs ys)
-
 -- one after the other
 pub told_more : (keeps : Bool) (old mid new : List Event) (step number : ℕ) (first second : List Act)
     → AppendsEvents keeps old mid (map (event_at step number) first) → AppendsEvents keeps mid new (map (event_at step number) second)
@@ -325,4 +317,4 @@ pub told_more : (keeps : Bool) (old mid new : List Event) (step number : ℕ) (f
 told_more keeps old mid new step number first second a b = λ on.
     b on ∙ ap (λ (l : List Event). l ++ map (event_at step number) second) (a on)
     ∙ append_assoc old (map (event_at step number) first) (map (event_at step number) second)
-    ∙ ap (λ (l : List Event). old ++ l) (sym (map_more (event_at step number) first second))
+    ∙ ap (λ (l : List Event). old ++ l) (sym (map-append (event_at step number) first second))

@@ -1,6 +1,6 @@
 -- What a step leaves of the processes: one of them is changed, or one more is made.
-use Rattle.std.proofs.Common.{◌≡◌, ℕ, List, refl, sym, subst, Bool, true, inl, inr}
-use Rattle.std.specs.Prelude.{Option, Some, None, slice_get, slice_set, is_none, ◌&&◌, not}
+use Rattle.std.proofs.Common.{◌≡◌, ℕ, List, refl, sym, subst, inl, inr}
+use Rattle.std.specs.Prelude.{Option, Some, None, slice_get, slice_set, not}
 use Rattle.ldv_value.specs.FileState.{content_at}
 use Rattle.ldv_value.specs.Order.{order, meets}
 use Rattle.script_parse.specs.declared.script.Instr.TheVariants as instr
@@ -17,12 +17,10 @@ use Rattle.run_model.specs.StepProcesses.{SpawnRequest, spawn_script, script_wit
 use Rattle.run_model.specs.StepReplies.{row_count, status_value}
 use Rattle.run_model.specs.StepVariables.{calculation, to_number, printed_line}
 use Rattle.run_model.proofs.StepKeeps.{Keeps, keeps_assign, keeps_glue, keeps_cut, keeps_jump, keeps_line, keeps_fetch, keeps_close, keeps_open, keeps_read, keeps_write, keeps_copy, keeps_remove, keeps_test, calculated_byte, to_number_byte, counted_byte, status_value_byte}
+use Rattle.run_model.proofs.StepActs.{none_is}
+use Rattle.run_model.proofs.NeverStuck.{Any}
 use Rattle.proc_core.proofs.Machines.{set_itself}
 use Rattle.proc_core.proofs.Readiness.{Moved}
-
--- of no file anything is to be known
-abbrev Any : List ℕ → Type 0
-Any path = Unit {0}
 
 module _ (number : ℕ) (p : Process) (c : Core) where
   abbrev pub MovedTo : Core → Type 0
@@ -118,11 +116,6 @@ module _ {Db : Type 0} (base : Base Db) (number : ℕ) (p : Process) (s : State 
   pub step_moved : MovedTo number p s.core (step base number s).state.core
   step_moved = asking_moved (next_ask number s.core)
 
--- what may run hasn't ended
-going_by : (o : Option ℕ) (b : Bool) → (is_none o && b) ≡ true → o ≡ None
-going_by None b is = refl
-going_by (Some status) b is = absurd cc
-
 pub may_run_going : (number : ℕ) (c : Core) → (may : MayRun number c) → may.0.status ≡ None
 may_run_going number c may =
-    going_by may.0.status (not (is_waiting (slice_get may.0.script may.0.place) may.0 c.processes)) may.2
+    none_is may.0.status (not (is_waiting (slice_get may.0.script may.0.place) may.0 c.processes)) may.2

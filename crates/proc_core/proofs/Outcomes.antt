@@ -11,6 +11,7 @@ use Rattle.std.proofs.lemmas.List.{reverse-append}
 use Rattle.ldv_value.proofs.Cases.{cases-bool}
 use Rattle.ldv_value.proofs.Lists.{append-nil}
 use Rattle.sql_model.specs.Sorting.{put_sorted, sorted_by}
+use Rattle.sql_model.proofs.StableSorting.{reverse_upto}
 use Rattle.run_model.specs.Core.{Process, Core}
 use Rattle.run_model.specs.Outcome.{insert_by_name, by_name, outcome_of_process, outcomes_of_paths, outcome_of}
 use Rattle.run_model.specs.declared.outcome.ProcOutcome.{ProcOutcome}
@@ -25,11 +26,6 @@ use Rattle.proc_core.specs.Stands.{IsProcess, AreProcesses, IsCore}
 pub name_total : IsTotalOrder name_cmp
 name_total = on_total (λ (o : ProcOutcome). o.name.parts) nat_list_cmp_total
 
-turned_by : (o : Ordering) → is_gt o ≡ true → is_gt (ordering_reverse o) ≡ false
-turned_by Less g = cc
-turned_by Equal g = cc
-turned_by Greater g = refl
-
 below_by : (o : Ordering) → is_lt o ≡ is_gt (ordering_reverse o)
 below_by Less = refl
 below_by Equal = refl
@@ -43,7 +39,7 @@ below_is : (a b : ProcOutcome) → is_lt (name_cmp a b) ≡ above b a
 below_is a b = below_by (name_cmp a b) ∙ ap is_gt (sym (name_total.antisymm b a))
 
 turned : (a b : ProcOutcome) → above a b ≡ true → above b a ≡ false
-turned a b is = ap is_gt (name_total.antisymm b a) ∙ turned_by (name_cmp a b) is
+turned a b is = ap is_gt (name_total.antisymm b a) ∙ reverse_upto (name_cmp a b) is
 
 -- before the first that is above it
 abbrev insert : ProcOutcome → List ProcOutcome → List ProcOutcome

@@ -24,6 +24,7 @@ use Rattle.proc_core.specs.Stands.{AreProcesses, IsCore}
 use Rattle.proc_core.proofs.Machines.{slot_process-at, not_found, status_same}
 use Rattle.proc_core.proofs.Runnable.{runnable_one}
 use Rattle.proc_core.proofs.SpawnSame.{as_many}
+use Rattle.proc_core.proofs.Growing.{one_more}
 
 -- ---- flags of processes
 
@@ -217,10 +218,6 @@ set_append [] ys n x within = absurd (omega (arith, within))
 set_append {X} (y ∷ xs) ys zero x within = refl
 set_append {X} (y ∷ xs) ys (suc n) x within = ap (λ (l : List X). y ∷ l) (set_append xs ys n x (omega (arith, within)))
 
-append_length : {X : Type 0} (xs : List X) (x : X) → length (xs ++ x ∷ []) ≡ suc (length xs)
-append_length [] x = refl
-append_length (y ∷ xs) x = ap suc (append_length xs x)
-
 module _ (parents : List ℕ) (ps : List Process) (number : ℕ) (name : List ℕ) (script : List Instr) (arguments : List Value) (p : Process)
     (kin : AreKin parents ps) (at : slice_get ps number ≡ Some p) (count : length parents ≡ length ps) where
   abbrev parent : Process
@@ -270,7 +267,7 @@ module _ (parents : List ℕ) (ps : List Process) (number : ℕ) (name : List �
         let same : child ≡ r = some_same child r (sym (get-append_end front child) ∙ ap (slice_get more) (sym equal) ∙ is) in
         subst (λ (x : Process). AllByRecursion (IsKin (parents ++ number ∷ []) k) x.children) same tt
     | inr apart ↦
-        let below : k < length front = omega (arith, apart, slice_get_within more k r is, append_length front child) in
+        let below : k < length front = omega (arith, apart, slice_get_within more k r is, one_more front child) in
         kin_front k r (sym (get-append_left front (child ∷ []) k below) ∙ is)
   ]
 
@@ -342,7 +339,7 @@ module _ (m after last : Machine) (number : ℕ) (c d : Core) (p : Process) (cor
       let arguments : List Value = made.2 in
       let front : List Process = slice_set c.processes number (parent_of (length c.processes) name p) in
       let long : length d.processes ≡ suc (length c.processes) =
-      ap length made.3 ∙ append_length front (child_of p script arguments) ∙ ap suc (length-set c.processes number (parent_of (length c.processes) name p)) in
+      ap length made.3 ∙ one_more front (child_of p script arguments) ∙ ap suc (length-set c.processes number (parent_of (length c.processes) name p)) in
       let grown = grows.more (after_long ∙ long ∙ ap suc (sym before_long)) in
       let parents : last.parents ≡ m.parents ++ number ∷ [] = same_parents ∙ grown.1 in
       record {
@@ -350,7 +347,7 @@ module _ (m after last : Machine) (number : ℕ) (c d : Core) (p : Process) (cor
             ∙ (λ i. fresh (made.3 i) (grown.1 i) number ((grown.0 ∙ ap (λ (l : List Bool). l ++ true ∷ []) ready.flags) i))
             ∙ fresh_made m.parents c.processes number name script arguments p ready.kin at ready.count runs
             ∙ ap runnable_flags (sym made.3);
-        count = ap length parents ∙ append_length m.parents number ∙ ap suc ready.count ∙ sym long;
+        count = ap length parents ∙ one_more m.parents number ∙ ap suc ready.count ∙ sym long;
         kin = subst (λ (l : List ℕ). AreKin l d.processes) (sym parents)
             (subst (AreKin (m.parents ++ number ∷ [])) (sym made.3) (kin_made m.parents c.processes number name script arguments p ready.kin at ready.count));
       }

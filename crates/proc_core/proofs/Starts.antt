@@ -3,6 +3,7 @@ use Rattle.std.proofs.Common.{◌≡◌, ℕ, zero, suc, List, [], ◌∷◌, le
 use Rattle.std.specs.Prelude.{Option, Some, slice_get, is_some, option_and_then, IsSome}
 use Rattle.std.specs.List.{AllByRecursion}
 use Rattle.ldv_value.specs.FileState.{FileState, content_at, initial_files}
+use Rattle.ldv_value.proofs.Options.{same-some}
 use Rattle.script_parse.specs.Script.{script_of}
 use Rattle.script_code.specs.declared.code.Code.{Code}
 use Rattle.script_code.specs.Resolved.{IsCode, IsRead}
@@ -57,14 +58,11 @@ module _ (m : Machine) (path : List ℕ) (words : List (List ℕ)) (seed : ℕ) 
 
 -- ---- the script of a file
 
-one_script : (a b : List Instr) → Some a ≡ Some b → a ≡ b
-one_script a b both = cc
-
 pub code_due : (bytes : List ℕ) (o : Option (List ℕ)) (code : Code) (due : List Instr) → Some bytes ≡ o → IsRead bytes (Some code)
     → option_and_then script_of o ≡ Some due → IsCode code due
 code_due bytes o code due at read is =
     let both : Some read.0 ≡ Some due = sym read.1 ∙ ap (option_and_then script_of) at ∙ is in
-    subst (IsCode code) (one_script read.0 due both) read.2
+    subst (IsCode code) (same-some read.0 due both) read.2
 
 -- there is one at the first start word
 pub first_there : (path : List ℕ) (words start : List (List ℕ)) (tree : FileState) → start ≡ path ∷ words → HasStartScript start tree

@@ -4,7 +4,6 @@ ghost use Rattle.std.specs.Int.{w64};
 ghost use Rattle.std.specs.Option.{SomeIff};
 ghost use Rattle.std.specs.Prelude.{◌≡◌, ◌++◌, ℤ, FitsSigned, IfOk, OnOk};
 ghost use Rattle.ldv_value.specs.Shown.{value_text};
-ghost use Rattle.sql_model.specs.Meaning.{is_null};
 ghost use Rattle.run_model.specs.StepBase.{number_within};
 ghost use Rattle.run_model.specs.StepVariables.{calculation, concatenation, text_within, to_number, result_of};
 ghost use Rattle.run_model.specs.StepVariables.{number_or_misuse};
@@ -13,6 +12,7 @@ ghost use Rattle.proc_core.specs.inner.Slots.{computation_of};
 use itoa::Buffer;
 use ldv_value::{TEXT_LIMIT, Utf8, Value};
 use script_parse::{CalcOp, read_number};
+use sql_model::is_null;
 use std::alloc::{AllocError, Global};
 
 /// A value of the wrong kind, or a name that means nothing.
@@ -64,16 +64,6 @@ fn within(number: Option<i64>) -> Computed
     match number {
         Some(number) => Computed::Yields(Value::Int(number)),
         None => Computed::Misused(NUMBER_TOO_LARGE),
-    }
-}
-
-fn is_null(value: &Value) -> bool
-    ensures { result ≡ is_null value.now }
-{
-    match value {
-        Value::Null => true,
-        Value::Int(_) => false,
-        Value::Text(_) => false,
     }
 }
 

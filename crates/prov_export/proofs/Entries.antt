@@ -1,11 +1,10 @@
 -- Members that are put into an object: they are there, and the others stay.
-use Rattle.std.proofs.Common.{◌≡◌, ℕ, List, [], ◌∷◌, ◌++◌, refl, sym, ap, ◌∙◌, Bool, true, false, Ordering, Less, Equal, Greater, nat_cmp, is_eq, inl, inr}
+use Rattle.std.proofs.Common.{◌≡◌, ℕ, List, [], ◌∷◌, ◌++◌, refl, sym, ap, ◌∙◌, Bool, true, false, Ordering, Less, Equal, Greater, nat_cmp, inl, inr}
 use Rattle.std.specs.Prelude.{◌⊎◌, Some, find, codes}
 use Rattle.std.specs.Cmp.Lexicographic.{slice_cmp}
 use Rattle.std.specs.Ordering.{match_ordering}
 use Rattle.std.proofs.lemmas.Bool.{cases_Bool}
-use Rattle.std.proofs.lemmas.Map.Text.{is_eq-slice_cmp}
-use Rattle.std.proofs.lemmas.Slice.Eq.{bytes_eq-Decides}
+use Rattle.std.proofs.lemmas.Map.Lookups.{exact_bytes}
 use Rattle.serde_json.specs.Data.{Data, Members, no_members, member, put}
 use Rattle.run_model.specs.Between.{IsIn}
 use Rattle.prov_export.specs.Reading.{is_number, number_at}
@@ -20,9 +19,6 @@ entries (member k d ms) = (k, d) ∷ entries ms
 abbrev pub has_place : ℕ → Entry → Bool
 has_place place entry = is_number place (number_at (codes "ldv:place") entry.1)
 
-equal_names : (k l : List ℕ) → slice_cmp nat_cmp k l ≡ Equal → k ≡ l
-equal_names k l is = (bytes_eq-Decides k l).0 (sym (is_eq-slice_cmp k l) ∙ ap is_eq is)
-
 pub put_there : (k : List ℕ) (d : Data) (ms : Members) → IsIn (k, d) (entries (put k d ms))
 put_there k d no_members = inl refl
 put_there k d (member l e ms) = by (slice_cmp nat_cmp k l) refl (put_there k d ms)
@@ -30,7 +26,7 @@ put_there k d (member l e ms) = by (slice_cmp nat_cmp k l) refl (put_there k d m
     by : (o : Ordering) → slice_cmp nat_cmp k l ≡ o → IsIn (k, d) (entries (put k d ms))
         → IsIn (k, d) (entries (match_ordering o (member k d (member l e ms)) (member l d ms) (member l e (put k d ms))))
     by Less is more = inl refl
-    by Equal is more = let same : k ≡ l = equal_names k l is in inl (λ j. (same j, d))
+    by Equal is more = let same : k ≡ l = exact_bytes k l is in inl (λ j. (same j, d))
     by Greater is more = inr more
 
 pub put_keeps : (k : List ℕ) (d : Data) (ms : Members) (x : Entry) → (x.0 ≡ k → ⊥) → IsIn x (entries ms) → IsIn x (entries (put k d ms))
@@ -41,7 +37,7 @@ put_keeps k d (member l e ms) x other is = by (slice_cmp nat_cmp k l) refl is (�
         → IsIn x (entries (match_ordering o (member k d (member l e ms)) (member l d ms) (member l e (put k d ms))))
     by Less same is more = inr is
     by Equal same (inl first) more =
-        let name : x.0 ≡ l = ap (λ (y : Entry). y.0) first in absurd (other (name ∙ sym (equal_names k l same)))
+        let name : x.0 ≡ l = ap (λ (y : Entry). y.0) first in absurd (other (name ∙ sym (exact_bytes k l same)))
     by Equal same (inr later) more = inr later
     by Greater same (inl first) more = inl first
     by Greater same (inr later) more = inr (more later)
@@ -61,7 +57,7 @@ put_from k d (member l e ms) x is = by (slice_cmp nat_cmp k l) refl is (λ more.
         → (x ≡ (k, d)) ⊎ ((x ≡ (l, e)) ⊎ IsIn x (entries ms))
     by Less same (inl first) more = inl first
     by Less same (inr rest) more = inr rest
-    by Equal same (inl first) more = let name : l ≡ k = sym (equal_names k l same) in inl (first ∙ λ j. (name j, d))
+    by Equal same (inl first) more = let name : l ≡ k = sym (exact_bytes k l same) in inl (first ∙ λ j. (name j, d))
     by Equal same (inr rest) more = inr (inr rest)
     by Greater same (inl first) more = inr (inl first)
     by Greater same (inr rest) more = later (more rest)

@@ -9,10 +9,12 @@ use Rattle.std.proofs.lemmas.Bool.{and_parts, and_from, le-leb, lt-ltb, ne_eqb}
 use Rattle.std.proofs.lemmas.Fmt.{decimal_by_steps}
 use Rattle.std.proofs.lemmas.List.{length-append}
 use Rattle.ldv_value.specs.Names.{is_word_start, is_word_byte, word_test}
+use Rattle.ldv_value.proofs.Booleans.{not-true}
+use Rattle.ldv_value.specs.Texts.{text_of}
 use Rattle.sql_model.specs.SqlNames.{is_reserved, sql_name_test}
 use Rattle.prov_export.specs.Types.{Member, Path, Process, Row, Ask, Reply}
 use Rattle.prov_export.specs.Ids.{member_id, with_digit, with_digits, number_in, is_slash, cut_at, parts_at_slash}
-use Rattle.prov_export.specs.Ids.{text_in, version_from, version_in, row_of, row_from, row_in}
+use Rattle.prov_export.specs.Ids.{version_from, version_in, row_of, row_from, row_in}
 use Rattle.prov_export.proofs.IdTexts.{text_made}
 use Rattle.prov_export.proofs.Written.{IdLaw}
 
@@ -94,15 +96,11 @@ name_plain (c ∷ cs) met =
     let inner = and_parts (is_word_start c) (nat_lt (length cs) 63) outer.0 in
     and_from (is_plain c) (list_all is_plain cs) (word_plain c (start_word c inner.0)) (words_plain cs outer.1)
 
-not_is : (b : Bool) → not b ≡ true → b ≡ false
-not_is false is = refl
-not_is true is = cc
-
 slash_place : (xs ys : List ℕ) → HasNoSlash xs → position_or_len is_slash (xs ++ 47 ∷ ys) ≡ length xs
 slash_place [] ys plain = refl
 slash_place (x ∷ xs) ys plain =
     let parts = and_parts (is_plain x) (list_all is_plain xs) plain in
-    let other : is_slash x ≡ false = not_is (x == 47) parts.0 in
+    let other : is_slash x ≡ false = not-true (x == 47) parts.0 in
     let next : 1 + length xs ≡ length (x ∷ xs) = omega arith in
     ap (λ (b : Bool). cond (not b) (1 + position_or_len is_slash (xs ++ 47 ∷ ys)) 0) other
     ∙ ap (λ (n : ℕ). 1 + n) (slash_place xs ys parts.1) ∙ next
@@ -137,7 +135,7 @@ row_back m named row version utf8 =
     let word : word_test m.table ≡ true = (and_parts (word_test m.table) (not (is_reserved m.table)) named).0 in
     let rest : List ℕ = decimal m.row ++ 47 ∷ decimal m.version in
     ap (option_and_then row_from) (parts_back m.table rest (name_plain m.table word))
-    ∙ ap (option_and_then (λ (v : ℕ × ℕ). option_map (λ (t : List ℕ). row_of t v) (text_in m.table))) (version_back m.row m.version row version)
+    ∙ ap (option_and_then (λ (v : ℕ × ℕ). option_map (λ (t : List ℕ). row_of t v) (text_of m.table))) (version_back m.row m.version row version)
     ∙ ap (option_map (λ (t : List ℕ). row_of t (m.row, m.version))) (text_made m.table utf8)
 
 pub id_law : IdLaw

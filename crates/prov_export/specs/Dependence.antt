@@ -1,11 +1,11 @@
 -- What the document of a graph says that a path depends on, in the lines of the report on a package. A
 -- document has no names of processes, so they are named by their creation numbers.
-use Rattle.std.specs.Prelude.{ℕ, List, ◌++◌, codes, position, Option, option_map}
+use Rattle.std.specs.Prelude.{ℕ, List, ◌++◌, codes, Option, option_map}
 use Rattle.std.specs.List.{flat_map}
 use Rattle.std.specs.Fmt.{decimal}
 use Rattle.ldv_value.specs.Limits.{max_steps}
 use Rattle.run_model.specs.OutcomeText.{line}
-use Rattle.trace_graph.specs.Graph.{Parts, same_node}
+use Rattle.trace_graph.specs.Graph.{Parts, place_of}
 use Rattle.reach.specs.Depends.{depends_of}
 use Rattle.prov_export.specs.Types.{Member, Node, Path, Process, Row, Ask, Reply}
 
@@ -23,9 +23,6 @@ node_line (Reply statement) = line (codes "reply " ++ decimal statement)
 
 abbrev pub nodes_report : List Node → List ℕ
 nodes_report nodes = flat_map node_line nodes
-
-abbrev pub place_of : Parts → List ℕ → Option ℕ
-place_of graph path = position (same_node (Path path)) graph.nodes
 
 -- by the last step that any run may have
 abbrev pub depends_at : Parts → ℕ → List ℕ

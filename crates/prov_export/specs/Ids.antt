@@ -6,7 +6,8 @@ use Rattle.std.specs.Prelude.{ℕ, ◌+◌, ◌-◌, ◌*◌, List, [], ◌∷�
 use Rattle.std.specs.Prelude.{Bool, true, false, ◌&&◌, ◌==◌, nat_le, if◌then◌else◌}
 use Rattle.std.specs.Prelude.{Option, Some, None, option_map, option_and_then}
 use Rattle.std.specs.Fmt.{decimal}
-use Rattle.std.specs.Str.{is_utf8}
+use Rattle.ldv_value.specs.Texts.{text_of}
+use Rattle.sql_model.specs.TextBytes.{is_digit}
 use Rattle.prov_export.specs.Types.{Member, Node, Path, Process, Row, Ask, Reply}
 
 -- paths, row versions and replies are entities; processes and statements are activities
@@ -37,9 +38,6 @@ after [] text = Some text
 after (p ∷ ps) [] = None
 after (p ∷ ps) (t ∷ ts) = if p == t then after ps ts else None
 
-abbrev pub is_digit : ℕ → Bool
-is_digit byte = nat_le 48 byte && nat_le byte 57
-
 abbrev pub with_digit : ℕ → ℕ → Option ℕ
 with_digit n byte =
     if is_digit byte && nat_le (n * 10 + (byte - 48)) 4294967295 then Some (n * 10 + (byte - 48)) else None
@@ -52,10 +50,6 @@ with_digits n (byte ∷ bytes) = option_and_then (λ m. with_digits m bytes) (wi
 -- a number of four bytes
 abbrev pub number_in : List ℕ → Option ℕ
 number_in bytes = with_digits 0 bytes
-
--- bytes that are UTF-8
-abbrev pub text_in : List ℕ → Option (List ℕ)
-text_in bytes = if is_utf8 bytes then Some bytes else None
 
 abbrev pub is_slash : ℕ → Bool
 is_slash byte = byte == 47
@@ -82,13 +76,13 @@ row_of table version = Row (record { table = table; row = version.0; version = v
 -- `TABLE/ROW/VERSION`
 abbrev pub row_from : List ℕ × List ℕ → Option Node
 row_from p =
-    option_and_then (λ version. option_map (λ table. row_of table version) (text_in p.0)) (version_in p.1)
+    option_and_then (λ version. option_map (λ table. row_of table version) (text_of p.0)) (version_in p.1)
 
 abbrev pub row_in : List ℕ → Option Node
 row_in text = option_and_then row_from (parts_at_slash text)
 
 abbrev pub path_in : List ℕ → Option Node
-path_in text = option_map Path (text_in text)
+path_in text = option_map Path (text_of text)
 
 -- what is read of the rest, if there is one
 abbrev pub rest_or : (List ℕ → Option Node) → Option (List ℕ) → Option Node → Option Node

@@ -7,11 +7,11 @@ use Rattle.ldv_value.specs.Names.{path_test}
 use Rattle.run_model.specs.declared.event.Event.{Event}
 use Rattle.run_model.specs.TypedPackage.{TypedEvent}
 use Rattle.run_model.specs.ValidTrace.{ValidTrace}
-use Rattle.trace_graph.specs.Graph.{Parts, graph_of}
+use Rattle.trace_graph.specs.Graph.{Parts, graph_of, place_of}
 use Rattle.trace_graph.specs.WellFormed.{IsWellFormed}
 use Rattle.reach.specs.Depends.{depends_of}
 use Rattle.prov_export.specs.Types.{Node, Path, Process, Row, Ask, Reply}
-use Rattle.prov_export.specs.Dependence.{nodes_report, place_of, depends_report}
+use Rattle.prov_export.specs.Dependence.{nodes_report, depends_report}
 use Rattle.prov_export.specs.Document.{prov_text}
 use Rattle.prov_export.specs.Reading.{prov_reading}
 

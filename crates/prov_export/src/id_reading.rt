@@ -2,7 +2,8 @@
 
 ghost use Rattle.std.specs.Prelude.{◌≡◌, ◌<◌, ◌+◌, take, drop, length, position, option_map, IfSome};
 ghost use Rattle.ldv_value.specs.Gives.{Gives};
-ghost use Rattle.prov_export.specs.Ids.{after, with_digit, with_digits, number_in, text_in, is_slash};
+ghost use Rattle.ldv_value.specs.Texts.{text_of as text_in};
+ghost use Rattle.prov_export.specs.Ids.{after, with_digit, with_digits, number_in, is_slash};
 ghost use Rattle.prov_export.specs.Ids.{parts_at_slash, version_from, version_in, row_from, row_in};
 ghost use Rattle.prov_export.specs.Ids.{path_in};
 ghost use Rattle.prov_export.specs.Ids.{reply_in, statement_in, numbered_in, other_in, node_in};

@@ -5,51 +5,21 @@ use Rattle.std.specs.List.{AllByRecursion}
 use Rattle.std.specs.Option.{option_map}
 use Rattle.std.specs.BTreeMap as tree
 use Rattle.std.specs.BTreeMap.{BTreeMap}
-use Rattle.std.specs.Ordering.{is_eq}
 use Rattle.std.proofs.lemmas.Bool.{cases_Bool}
-use Rattle.std.proofs.lemmas.Cmp.{tied_itself}
-use Rattle.ldv_value.proofs.Booleans.{true≢false}
+use Rattle.ldv_value.proofs.Booleans.{true≢false, not-true}
 use Rattle.lineage.specs.Lineage.{Lineage, union_of}
 use Rattle.lineage.specs.declared.answer.Answer.{Answer}
 use Rattle.lineage.proofs.Unions.{union_assoc, none_union}
 use Rattle.core_parts.proofs.Lists.{both_filters, kept_twice, all_kept}
-use Rattle.core_parts.proofs.SameValues.{tied, all_exact}
-use Rattle.sql_model.specs.KeyOrder.{values_order, values_total}
+use Rattle.core_parts.proofs.CountedOn.{not_some, some_more, none_zero, later_some}
+use Rattle.sql_model.specs.KeyOrder.{values_order}
 use Rattle.sql_model.specs.Keys.{same_values}
 use Rattle.sql_model.specs.QueryAnswer.{distinct_values}
+use Rattle.sql_model.proofs.SameValues.{same_turned, is_same, same_exact}
 use Rattle.query_eval.specs.Merging.{lineage_of_answers, own_values, with_values, merged_answer, place_of, with_more, with_answer, merged_onto, IsIndex}
 use Rattle.query_eval.specs.Types.{Value}
 
--- ---- the same values
-
-same_is : (a b : List Value) → same_values a b ≡ true → a ≡ b
-same_is a b is = all_exact a b (tied (values_order a b) is)
-
-is_same : (a b : List Value) → a ≡ b → same_values a b ≡ true
-is_same a b is = ap (λ (v : List Value). same_values a v) (sym is) ∙ ap is_eq (tied_itself values_total a)
-
-turned : (a b : List Value) → same_values a b ≡ same_values b a
-turned a b = elim (cases_Bool (same_values a b)) [
-  | inl hit ↦ hit ∙ sym (is_same b a (sym (same_is a b hit)))
-  | inr miss ↦ elim (cases_Bool (same_values b a)) [
-    | inl hit ↦ absurd (true≢false (sym (is_same a b (sym (same_is b a hit))) ∙ miss))
-    | inr also ↦ miss ∙ sym also
-  ]
-]
-
 -- ---- the place of an answer
-
-not_some : (o : Option ℕ) → option_map suc o ≡ None → o ≡ None
-not_some None is = refl
-not_some (Some i) is = cc
-
-some_more : (o : Option ℕ) (i : ℕ) → option_map suc o ≡ Some (suc i) → o ≡ Some i
-some_more None i is = cc
-some_more (Some k) i is = let same : suc k ≡ suc i = cc in let it : k ≡ i = omega (arith, same) in ap Some it
-
-none_zero : (o : Option ℕ) → option_map suc o ≡ Some zero → ⊥
-none_zero None is = cc
-none_zero (Some k) is = let same : suc k ≡ zero = cc in omega (arith, same)
 
 missed : (m : Answer) (ms : List Answer) (v : List Value) → place_of v (m ∷ ms) ≡ None → same_values m.values v ≡ false
 missed m ms v is = elim (cases_Bool (same_values m.values v)) [
@@ -93,10 +63,6 @@ absorbed_again (m ∷ ms) a d (suc i) is = elim (cases_Bool (same_values m.value
       ∙ ap (λ l. m ∷ l) (absorbed_again ms a d i (some_more (place_of a.values ms) i (sym (ap (λ b. cond b (Some zero) (option_map suc (place_of a.values ms))) miss) ∙ is)))
 ]
 
-later_place : (o : Option ℕ) (P : Type 0) → ((k : ℕ) → o ≡ Some k → P) → (i : ℕ) → option_map suc o ≡ Some i → P
-later_place None P there i is = cc
-later_place (Some k) P there i is = there k refl
-
 -- and stays where it is
 pub places_again : (ms : List Answer) (a : Answer) (i : ℕ) → place_of a.values ms ≡ Some i → (v : List Value) → place_of v (with_answer ms a) ≡ place_of v ms
 places_again [] a i is v = cc
@@ -105,7 +71,7 @@ places_again (m ∷ ms) a i is v = elim (cases_Bool (same_values m.values a.valu
   | inr miss ↦
       ap (λ b. place_of v (cond b (with_more m a ∷ ms) (m ∷ with_answer ms a))) miss
       ∙ ap (λ (o : Option ℕ). cond (same_values m.values v) (Some zero) (option_map suc o))
-      (later_place (place_of a.values ms) (place_of v (with_answer ms a) ≡ place_of v ms) (λ k at. places_again ms a k at v) i
+      (later_some (place_of a.values ms) (place_of v (with_answer ms a) ≡ place_of v ms) (λ k at. places_again ms a k at v) i
       (sym (ap (λ b. cond b (Some zero) (option_map suc (place_of a.values ms))) miss) ∙ is))
 ]
 
@@ -131,7 +97,7 @@ places_first (m ∷ ms) a none v =
     ap (λ (o : Option ℕ). cond (same_values m.values v) (Some zero) (option_map suc o)) (places_first ms a (missed_rest m ms a.values none) v)
     ∙ elim (cases_Bool (same_values a.values v)) [
       | inl hit ↦
-          let gone : same_values m.values v ≡ false = ap (same_values m.values) (sym (same_is a.values v hit)) ∙ missed m ms a.values none in
+          let gone : same_values m.values v ≡ false = ap (same_values m.values) (sym (same_exact a.values v hit)) ∙ missed m ms a.values none in
           rw (hit, gone) refl
       | inr miss ↦ rw miss refl
     ]
@@ -159,7 +125,7 @@ first_grows : (m : Answer) (rest ms : List Answer) → merged_onto (m ∷ ms) re
 first_grows m [] ms = ap (λ l. answer_of m.values l ∷ ms) (sym (none_union m.lineage))
 first_grows m (a ∷ rest) ms = elim (cases_Bool (same_values m.values a.values)) [
   | inl hit ↦
-      let back : same_values a.values m.values ≡ true = turned a.values m.values ∙ hit in
+      let back : same_values a.values m.values ≡ true = same_turned a.values m.values ∙ hit in
       ap (λ b. merged_onto (cond b (with_more m a ∷ ms) (m ∷ with_answer ms a)) rest) hit
       ∙ first_grows (with_more m a) rest ms
       ∙ ap (λ l. answer_of m.values l ∷ merged_onto ms (filter (differs m.values) rest))
@@ -167,7 +133,7 @@ first_grows m (a ∷ rest) ms = elim (cases_Bool (same_values m.values a.values)
       ∙ sym (ap (λ b. answer_of m.values (union_of m.lineage (lineage_of_answers (cond b (a ∷ filter (with_values m.values) rest) (filter (with_values m.values) rest))))
       ∷ merged_onto ms (cond (not b) (a ∷ filter (differs m.values) rest) (filter (differs m.values) rest))) back)
   | inr miss ↦
-      let back : same_values a.values m.values ≡ false = turned a.values m.values ∙ miss in
+      let back : same_values a.values m.values ≡ false = same_turned a.values m.values ∙ miss in
       ap (λ b. merged_onto (cond b (with_more m a ∷ ms) (m ∷ with_answer ms a)) rest) miss
       ∙ first_grows m rest (with_answer ms a)
       ∙ sym (ap (λ b. answer_of m.values (union_of m.lineage (lineage_of_answers (cond b (a ∷ filter (with_values m.values) rest) (filter (with_values m.values) rest))))
@@ -194,13 +160,9 @@ merged_past a rest v miss = sym (ap (λ b. answer_of v (lineage_of_answers (cond
 
 apart_from : (p : List Value → Bool) (a : Answer) (v : List Value) → p a.values ≡ false → p v ≡ true → same_values a.values v ≡ false
 apart_from p a v none some = elim (cases_Bool (same_values a.values v)) [
-  | inl hit ↦ absurd (true≢false (sym some ∙ ap p (sym (same_is a.values v hit)) ∙ none))
+  | inl hit ↦ absurd (true≢false (sym some ∙ ap p (sym (same_exact a.values v hit)) ∙ none))
   | inr miss ↦ miss
 ]
-
-not_is : (b : Bool) → not b ≡ true → b ≡ false
-not_is true is = cc
-not_is false is = refl
 
 and_first : (a b : Bool) → cond a b false ≡ true → a ≡ true
 and_first true b is = refl
@@ -227,11 +189,11 @@ merges_kept (a ∷ rest) p =
           let kept : List Answer = filter (λ b. p b.values) rest in
           ap (λ b. merged_onto [] (cond b (a ∷ kept) kept)) hit
           ∙ first_grows a kept []
-          ∙ (λ j. answer_of a.values (union_of a.lineage (lineage_of_answers (filter-of-implied (with_values a.values) (λ b. p b.values) (λ b same. ap p (same_is b.values a.values same) ∙ hit) rest j)))
+          ∙ (λ j. answer_of a.values (union_of a.lineage (lineage_of_answers (filter-of-implied (with_values a.values) (λ b. p b.values) (λ b same. ap p (same_exact b.values a.values same) ∙ hit) rest j)))
           ∷ merged_onto [] (both_filters (differs a.values) (λ b. p b.values) (λ b. both b.values) (λ b. swapped (other b.values) (p b.values)) rest j))
           ∙ ap (λ l. answer_of a.values (union_of a.lineage (lineage_of_answers (filter (with_values a.values) rest))) ∷ l)
           (merges_kept rest both
-          ∙ map_kept both (merged_answer rest) (merged_answer (a ∷ rest)) (λ v is. merged_past a rest v (turned a.values v ∙ not_is (same_values v a.values) (and_first (other v) (p v) is))) values
+          ∙ map_kept both (merged_answer rest) (merged_answer (a ∷ rest)) (λ v is. merged_past a rest v (same_turned a.values v ∙ not-true (same_values v a.values) (and_first (other v) (p v) is))) values
           ∙ ap (map (merged_answer (a ∷ rest))) (sym (both_filters p other both (λ v. refl) values)))
           ∙ ap (λ b. answer_of a.values (lineage_of_answers (cond b (a ∷ filter (with_values a.values) rest) (filter (with_values a.values) rest))) ∷ map (merged_answer (a ∷ rest)) (filter p (filter other values)))
           (sym (is_same a.values a.values refl))
@@ -240,7 +202,7 @@ merges_kept (a ∷ rest) p =
           ap (λ b. merged_onto [] (cond b (a ∷ filter (λ b. p b.values) rest) (filter (λ b. p b.values) rest))) miss
           ∙ merges_kept rest p
           ∙ map_kept p (merged_answer rest) (merged_answer (a ∷ rest)) (λ v is. merged_past a rest v (apart_from p a v miss is)) values
-          ∙ ap (map (merged_answer (a ∷ rest))) (sym (filter-of-implied p other (λ v is. ap not (turned v a.values ∙ apart_from p a v miss is)) values))
+          ∙ ap (map (merged_answer (a ∷ rest))) (sym (filter-of-implied p other (λ v is. ap not (same_turned v a.values ∙ apart_from p a v miss is)) values))
           ∙ ap (λ b. map (merged_answer (a ∷ rest)) (cond b (a.values ∷ filter p (filter other values)) (filter p (filter other values)))) (sym miss)
     ]
 

@@ -1,22 +1,19 @@
 -- Rows by the value of a column.
-use Rattle.std.proofs.Common.{◌≡◌, ◌∙◌, sym, ap, refl, ℕ, Bool, true, false, cond, List, [], ◌∷◌, ◌++◌}
+use Rattle.std.proofs.Common.{◌≡◌, ◌∙◌, sym, ap, refl, ℕ, true, false, cond, List, [], ◌∷◌, ◌++◌}
 use Rattle.std.specs.Ordering.{is_eq, int_cmp}
 use Rattle.std.specs.Cmp.{eq_by_cmp_equiv}
 use Rattle.ldv_value.specs.declared.value.Value.{Value}
 use Rattle.ldv_value.specs.declared.value.Value.TheVariants.{Null, Int, Text}
-use Rattle.ldv_value.specs.Order.{order, truth_of_bool}
+use Rattle.ldv_value.specs.Order.{order}
 use Rattle.sql_model.specs.KeyOrder.{order_total}
 use Rattle.core_parts.proofs.Listings.{moved}
 use Rattle.core_parts.specs.declared.refs_by.RefsBy.{RefsBy}
 use Rattle.core_parts.specs.Equality.{equals}
+use Rattle.core_parts.proofs.Equalities.{truth_of_bool-true}
 use Rattle.query_eval.specs.inner.Joining.{rows_listed, row_added, with_value}
 use Rattle.query_eval.specs.declared.source.SourceRow.{SourceRow}
-use Rattle.sql_model.specs.Meaning.{is_true, is_null}
+use Rattle.sql_model.specs.Meaning.{is_null}
 use Rattle.sql_model.specs.Scope.{value_at}
-
-true_of : (b : Bool) → is_true (truth_of_bool b) ≡ b
-true_of true = refl
-true_of false = refl
 
 -- `=` of what isn't NULL is a tie in the order
 equals_tied : (v w : Value) → is_null w ≡ false → equals v w ≡ is_eq (order w v)
@@ -24,11 +21,11 @@ equals_tied Null Null is = cc
 equals_tied Null (Int n) is = refl
 equals_tied Null (Text t) is = refl
 equals_tied (Int m) Null is = cc
-equals_tied (Int m) (Int n) is = true_of (is_eq (int_cmp m n)) ∙ (eq_by_cmp_equiv order_total).symm (Int m) (Int n)
+equals_tied (Int m) (Int n) is = truth_of_bool-true (is_eq (int_cmp m n)) ∙ (eq_by_cmp_equiv order_total).symm (Int m) (Int n)
 equals_tied (Int m) (Text t) is = refl
 equals_tied (Text s) Null is = cc
 equals_tied (Text s) (Int n) is = refl
-equals_tied (Text s) (Text t) is = true_of (is_eq (order (Text s) (Text t))) ∙ (eq_by_cmp_equiv order_total).symm (Text s) (Text t)
+equals_tied (Text s) (Text t) is = truth_of_bool-true (is_eq (order (Text s) (Text t))) ∙ (eq_by_cmp_equiv order_total).symm (Text s) (Text t)
 
 equals_null : (v w : Value) → is_null w ≡ true → equals v w ≡ false
 equals_null Null w is = refl

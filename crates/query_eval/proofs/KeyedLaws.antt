@@ -8,9 +8,9 @@ use Rattle.query_eval.specs.Leaving.{with_version}
 use Rattle.query_eval.specs.Sourcing.{table_row}
 use Rattle.query_eval.specs.Types.{TableRow, Value}
 use Rattle.sql_model.specs.Tables.{are_keys_unique, row_values}
+use Rattle.sql_model.specs.References.{has_key}
 use Rattle.table_store.proofs.StandingRows.{slot-has, not-there, none-twice, only-one}
 use Rattle.table_store.specs.Histories.{TableHistory, rows_now, table_now}
-use Rattle.table_store.specs.KeyIndex.{has_key}
 
 pub ruleset slot_rules = (slot-has, not-there)
 

@@ -1,12 +1,10 @@
 -- The rows that masks leave, slot by slot.
-use Rattle.std.proofs.Common.{◌≡◌, ◌∙◌, sym, ap, subst, refl, ℕ, zero, suc, ◌+◌, ◌-◌, ◌*◌, ◌/◌, ◌<◌, ◌≤◌, Bool, true, false, ◌&&◌, List, [], ◌∷◌, ◌++◌, map, drop, length, get_or, append_assoc, append-nil, inl, inr, arith, Option, Some, None}
+use Rattle.std.proofs.Common.{◌≡◌, ◌∙◌, sym, ap, subst, refl, ℕ, zero, suc, ◌+◌, ◌-◌, ◌<◌, ◌≤◌, Bool, true, false, ◌&&◌, List, [], ◌∷◌, ◌++◌, map, drop, length, get_or, append_assoc, append-nil, inl, inr, arith, Option, Some, None}
 use Rattle.std.specs.Prelude.{filter, cond, unwrap_or, slice_get, is_some, IfSome, IsSome}
 use Rattle.std.specs.List.{cons_option, filter_map, AllByRecursion}
 use Rattle.std.proofs.lemmas.List.{drop-drop, get_or-drop, get_or_past}
 use Rattle.std.specs.Option.{option_map, option_map_or, option_to_list}
 use Rattle.std.proofs.lemmas.Bool.{cases_Bool, cases_lt}
-use Rattle.ldv_value.proofs.Booleans.{true≢false}
-use Rattle.lanes.proofs.SetLaws.{no_member}
 use Rattle.lanes.specs.Sets.{member, IsNext}
 use Rattle.core_parts.specs.Masking.{passes, passes_all, suits}
 use Rattle.core_parts.specs.declared.mask.Mask.{Mask}
@@ -107,13 +105,6 @@ rows_at_slots-is words p at (slot ∷ slots) same =
 pub rows_at_slots-left : (masks : List Mask) (words : List ℕ) (slots : List RowHistory) → ((n : ℕ) → member words n ≡ slot_passes masks (get_or slots n no_history))
     → rows_at_slots words 0 slots ≡ filter (slot_passes masks) slots
 rows_at_slots-left masks words slots same = rows_at_slots-is words (slot_passes masks) 0 slots (λ n. let whole : 0 + n ≡ n = omega arith in ap (member words) whole ∙ same n)
-
--- a slot that is set has its word
-pub slot_within : (words : List ℕ) (slot : ℕ) → member words slot ≡ true → slot < 64 * length words
-slot_within words slot set = elim (cases_lt (slot / 64) (length words)) [
-  | inl below ↦ omega (arith, below)
-  | inr over ↦ absurd (true≢false (sym set ∙ no_member words slot (omega (arith, over))))
-]
 
 -- slots that aren't set are passed over
 passed-over : (words : List ℕ) (at n : ℕ) (slots : List RowHistory) → ((m : ℕ) → at ≤ m → m < at + n → member words m ≡ false) → rows_at_slots words at slots ≡ rows_at_slots words (at + n) (drop n slots)

@@ -3,8 +3,11 @@ use Rattle.std.proofs.Common.{◌≡◌, ◌∙◌, sym, ap, subst, refl, ℕ, z
 use Rattle.std.proofs.lemmas.Bool.{cases_Bool}
 use Rattle.std.specs.Prelude.{filter, nat_lt}
 use Rattle.std.specs.List.{list_all, remove, AllByRecursion}
+use Rattle.std.proofs.lemmas.Grind.{flat_map-append}
+use Rattle.ldv_value.proofs.Booleans.{and-assoc}
+use Rattle.ldv_value.proofs.Lists.{filter-append}
 use Rattle.query_eval.proofs.Agree.{first_rows_tell}
-use Rattle.query_eval.proofs.Product.{extensions, filter_joined, flat_map_joined, products-more, pushed, EachSplits, all_of, all_there}
+use Rattle.query_eval.proofs.Product.{extensions, products-more, pushed, EachSplits, all_of, all_there}
 use Rattle.core_parts.specs.Conditions.{meets}
 use Rattle.core_parts.specs.Equality.{equals}
 use Rattle.query_eval.specs.inner.Joining.{combos, tests, is_ready, ready_conditions, later_conditions, extensions_left, extensions_of, extensions_of_all, EachHas, HasProbe, extensions_by_probe}
@@ -19,7 +22,7 @@ use Rattle.sql_model.specs.Meaning.{is_true, truth}
 use Rattle.sql_model.specs.Scope.{InScope, environment, place_of, places_in, value_at}
 
 pub joined_row_values-append : (p others : List SourceRow) → joined_row_values (p ++ others) ≡ joined_row_values p ++ joined_row_values others
-joined_row_values-append p others = flat_map_joined (λ (row : SourceRow). row.values) p others
+joined_row_values-append p others = flat_map-append (λ (row : SourceRow). row.values) p others
 
 pub joined_row_values-one : (p : List SourceRow) (row : SourceRow) → joined_row_values (p ++ row ∷ []) ≡ joined_row_values p ++ row.values
 joined_row_values-one p row = joined_row_values-append p (row ∷ []) ∙ ap (λ l. joined_row_values p ++ l) (append-nil row.values)
@@ -31,10 +34,6 @@ pub both-of : (a b : Bool) → (a && b) ≡ true → (a ≡ true) × (b ≡ true
 both-of true true is = (refl, refl)
 both-of true false is = cc
 both-of false b is = cc
-
-and-assoc : (a b c : Bool) → ((a && b) && c) ≡ (a && (b && c))
-and-assoc true b c = refl
-and-assoc false b c = refl
 
 swapped : (a b c : Bool) → (a && (b && c)) ≡ (b && (a && c))
 swapped true b c = refl
@@ -102,7 +101,7 @@ module _ (scope : List InScope) where
   all-together : (conds : List BoundExpr) (ps : List (List SourceRow)) (rows : List SourceRow) → filter (tests scope conds) (extensions ps rows) ≡ extensions_of_all scope conds ps rows
   all-together conds [] rows = refl
   all-together conds (p ∷ ps) rows =
-      filter_joined (tests scope conds) (map (λ row. p ++ row ∷ []) rows) (extensions ps rows)
+      filter-append (tests scope conds) (map (λ row. p ++ row ∷ []) rows) (extensions ps rows)
       ∙ ap (λ l. extensions_of scope conds p rows ++ l) (all-together conds ps rows)
 
   joined-long : (n : ℕ) (ps qs : List (List SourceRow)) → EachHas n ps → EachHas n qs → EachHas n (ps ++ qs)

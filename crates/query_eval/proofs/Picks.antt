@@ -8,13 +8,13 @@ use Rattle.std.specs.List.Sorted.{IsStrictlySortedBy}
 use Rattle.std.specs.Ordering.{nat_cmp}
 use Rattle.std.proofs.lemmas.Bool.{cases_Bool}
 use Rattle.std.proofs.lemmas.List.{map-append}
+use Rattle.ldv_value.proofs.Lists.{filter-append}
 use Rattle.lineage.specs.Lineage.{Row, Lineage, name_at, with_version}
 use Rattle.lineage.specs.Rows.{kept_origins, PicksStandFor, joined_row}
 use Rattle.lineage.specs.StandsFor.{StandsFor, origin_at}
 use Rattle.lineage.specs.declared.answer.Pick.{Pick}
 use Rattle.lineage.proofs.Origins.{AreDistinct, distinct-sorted, stands-empty, stands-with_version}
 use Rattle.core_parts.proofs.Lists.{kept_twice}
-use Rattle.query_eval.proofs.Product.{filter_joined}
 use Rattle.core_parts.specs.Conditions.{AreConditions}
 use Rattle.query_eval.specs.inner.Joining.{combos, tests}
 use Rattle.query_eval.specs.Picking.{rows_added, kept_rows, pick_of}
@@ -69,11 +69,11 @@ kept-product stays keeps ds (row ∷ rows) =
     elim (cases_Bool (stays row)) [
       | inl hit ↦
           rw hit (λ j. filter-through (λ others. row ∷ others) (are_kept keeps) (are_kept (stays ∷ keeps)) (λ others. sym (ap (λ b. b && are_kept keeps others) hit)) ds j ++ kept-product stays keeps ds rows j)
-          ∙ sym (filter_joined (are_kept (stays ∷ keeps)) (map (λ others. row ∷ others) ds) more)
+          ∙ sym (filter-append (are_kept (stays ∷ keeps)) (map (λ others. row ∷ others) ds) more)
       | inr miss ↦
           rw miss (kept-product stays keeps ds rows)
           ∙ (λ j. none-pass (λ others. row ∷ others) (are_kept (stays ∷ keeps)) (λ others. ap (λ b. b && are_kept keeps others) miss) ds j ++ filter (are_kept (stays ∷ keeps)) more)
-          ∙ sym (filter_joined (are_kept (stays ∷ keeps)) (map (λ others. row ∷ others) ds) more)
+          ∙ sym (filter-append (are_kept (stays ∷ keeps)) (map (λ others. row ∷ others) ds) more)
     ]
 
 pub combos-are : (names : List (List ℕ)) (versions : Versions) (db : List Table) (from : List FromItem) (keeps : List (TableRow → Bool)) (sources : List Source)

@@ -3,29 +3,15 @@ use Rattle.std.proofs.Common.{◌≡◌, ◌∙◌, sym, ap, refl, Bool, true, f
 use Rattle.std.proofs.lemmas.Bool.{cases_Bool}
 use Rattle.std.specs.Prelude.{filter}
 use Rattle.std.specs.List.{flat_map}
+use Rattle.std.proofs.lemmas.List.{map-append}
+use Rattle.std.proofs.lemmas.Grind.{flat_map-append}
+use Rattle.ldv_value.proofs.Lists.{filter-append}
 use Rattle.query_eval.specs.inner.Joining.{combos, products}
 use Rattle.query_eval.specs.declared.source.SourceRow.{SourceRow}
 
 -- each prefix with each row
 abbrev pub extensions : List (List SourceRow) → List SourceRow → List (List SourceRow)
 extensions ps rows = flat_map (λ p. map (λ row. p ++ row ∷ []) rows) ps
-
--- ---- lists
-
-pub filter_joined : {X : Type 0} (p : X → Bool) (xs ys : List X) → filter p (xs ++ ys) ≡ filter p xs ++ filter p ys
-filter_joined p [] ys = refl
-filter_joined p (x ∷ xs) ys = elim (cases_Bool (p x)) [
-  | inl hit ↦ rw hit (ap (λ l. x ∷ l) (filter_joined p xs ys))
-  | inr miss ↦ rw miss (filter_joined p xs ys)
-]
-
-pub flat_map_joined : {X A : Type 0} (f : X → List A) (xs ys : List X) → flat_map f (xs ++ ys) ≡ flat_map f xs ++ flat_map f ys
-flat_map_joined f [] ys = refl
-flat_map_joined f (x ∷ xs) ys = ap (λ l. f x ++ l) (flat_map_joined f xs ys) ∙ sym (append_assoc (f x) (flat_map f xs) (flat_map f ys))
-
-map_joined : {X A : Type 0} (f : X → A) (xs ys : List X) → map f (xs ++ ys) ≡ map f xs ++ map f ys
-map_joined f [] ys = refl
-map_joined f (x ∷ xs) ys = ap (λ l. f x ∷ l) (map_joined f xs ys)
 
 -- ---- one more source
 
@@ -36,7 +22,7 @@ moved p row (c ∷ cs) = λ j. sym (append_assoc p (row ∷ []) c) j ∷ moved p
 one_more : (p : List SourceRow) (rows : List SourceRow) (rest : List (List SourceRow)) → map (λ c. p ++ c) (combos (rows ∷ rest)) ≡ products (map (λ row. p ++ row ∷ []) rows) rest
 one_more p [] rest = refl
 one_more p (row ∷ rows) rest =
-    map_joined (λ c. p ++ c) (map (λ others. row ∷ others) (combos rest)) (flat_map (λ r. map (λ others. r ∷ others) (combos rest)) rows)
+    map-append (λ c. p ++ c) (map (λ others. row ∷ others) (combos rest)) (flat_map (λ r. map (λ others. r ∷ others) (combos rest)) rows)
     ∙ (λ j. moved p row (combos rest) j ++ one_more p rows rest j)
 
 -- the product goes on from the left
@@ -44,7 +30,7 @@ pub products-more : (ps : List (List SourceRow)) (rows : List SourceRow) (rest :
 products-more [] rows rest = refl
 products-more (p ∷ ps) rows rest =
     (λ j. one_more p rows rest j ++ products-more ps rows rest j)
-    ∙ sym (flat_map_joined (λ q. map (λ others. q ++ others) (combos rest)) (map (λ row. p ++ row ∷ []) rows) (extensions ps rows))
+    ∙ sym (flat_map-append (λ q. map (λ others. q ++ others) (combos rest)) (map (λ row. p ++ row ∷ []) rows) (extensions ps rows))
 
 prefixed_none : (cs : List (List SourceRow)) → map (λ others. [] ++ others) cs ≡ cs
 prefixed_none [] = refl
@@ -83,9 +69,9 @@ module _ (whole first rest : List SourceRow → Bool) where
   pub pushed : (ps : List (List SourceRow)) (tables : List (List SourceRow)) → EachSplits ps → filter whole (products ps tables) ≡ filter rest (products (filter first ps) tables)
   pushed [] tables s = refl
   pushed (p ∷ ps) tables s =
-      filter_joined whole (map (λ o. p ++ o) (combos tables)) (products ps tables)
+      filter-append whole (map (λ o. p ++ o) (combos tables)) (products ps tables)
       ∙ elim (cases_Bool (first p)) [
-        | inl hit ↦ rw hit ((λ j. passed p (combos tables) s.0 hit j ++ pushed ps tables s.1 j) ∙ sym (filter_joined rest (map (λ o. p ++ o) (combos tables)) (products (filter first ps) tables)))
+        | inl hit ↦ rw hit ((λ j. passed p (combos tables) s.0 hit j ++ pushed ps tables s.1 j) ∙ sym (filter-append rest (map (λ o. p ++ o) (combos tables)) (products (filter first ps) tables)))
         | inr miss ↦ rw miss ((λ j. failed p (combos tables) s.0 miss j ++ pushed ps tables s.1 j))
       ]
 

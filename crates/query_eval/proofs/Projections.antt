@@ -1,38 +1,26 @@
 -- Answers of picks stand for the rows of a core.
 use Rattle.std.proofs.Common.{◌≡◌, ◌∙◌, sym, ap, subst, refl, ℕ, zero, suc, Bool, false, List, [], ◌∷◌, ◌++◌, map, append-nil, Option, Some, None}
-use Rattle.std.specs.Prelude.{filter, slice_get, unwrap_or, if◌then◌else◌, option_to_list}
+use Rattle.std.specs.Prelude.{filter, unwrap_or, if◌then◌else◌, option_to_list}
 use Rattle.std.specs.List.{flat_map}
 use Rattle.std.proofs.lemmas.List.{map-append}
+use Rattle.ldv_value.proofs.Options.{same-some}
 use Rattle.lineage.specs.Rows.{kept_origins, IsRow, AnswersStandFor, PicksStandFor, joined_row}
 use Rattle.lineage.specs.StandsFor.{StandsFor}
 use Rattle.lineage.specs.declared.answer.Answer.{Answer}
 use Rattle.lineage.specs.declared.answer.Pick.{Pick}
-use Rattle.core_parts.specs.Checking.{core_at, places_at, IsChecked}
+use Rattle.core_parts.specs.Checking.{core_at, places_at}
 use Rattle.core_parts.specs.Placing.{AreAllPlaced}
 use Rattle.query_eval.specs.Projecting.{values_over}
 use Rattle.query_eval.specs.Projecting.{projected_answer, answer_of_all_columns, IsProjected}
-use Rattle.query_eval.specs.Types.{Catalog, Checked, Core, Item, Query, Statement, TheQuery, Value}
+use Rattle.query_eval.specs.Types.{Checked, Core, Item, Value}
 use Rattle.core_parts.specs.declared.placed.BoundExpr.{BoundExpr}
 use Rattle.sql_model.specs.Kinds.{names_in}
 use Rattle.sql_model.specs.Meaning.{eval}
 use Rattle.sql_model.specs.Needs.{Versions}
-use Rattle.core_parts.proofs.Lists.{got-mapped}
-use Rattle.sql_model.specs.Places.{core_places, order_places}
+use Rattle.core_parts.proofs.CorePlaces.{core-places}
 use Rattle.sql_model.specs.QueryAnswer.{Origin, Combination, combination_rows, joined_values, item_values, group_row, one_combination, rows_in_scope, is_kept, groups_of}
-use Rattle.sql_model.specs.Refusals.{answer_titles, core_names, cores_of, groups, names_of_items}
+use Rattle.sql_model.specs.Refusals.{groups, names_of_items}
 use Rattle.sql_model.specs.Scope.{InScope, environment, places_in, place_of, scope_of}
-
--- ---- the places of a core
-
-module _ (checked : Checked) (query : Query) (catalog : Catalog) (is : IsChecked checked query catalog) where
-  pub statement-is : checked.statement ≡ TheQuery query
-  statement-is = ap (λ (c : Checked). c.statement) is
-
-  pub core-places : (place : ℕ) (core : Core) → core_at checked place ≡ Some core → places_at checked place ≡ places_in (scope_of core.from catalog) (core_names core)
-  core-places place core at =
-      let got : slice_get query.cores place ≡ Some core = ap (λ (s : Statement). slice_get (cores_of s) place) (sym statement-is) ∙ at in
-      ap (λ (c : Checked). places_at c place) is
-      ∙ ap (λ (o : Option (List ℕ)). unwrap_or o []) (got-mapped (core_places catalog) query.cores (order_places (answer_titles catalog query.cores) query.order) place core got)
 
 -- ---- rows
 
@@ -91,14 +79,11 @@ module _ (names : List (List ℕ)) (versions : Versions) (keep : Bool) (scope : 
   ungrouped alone all =
       sym (ap (λ (b : Bool). if b then map (group_row scope core) (filter (is_kept scope core.having) (groups_of scope core.group all)) else map (λ rows. group_row scope core (one_combination rows)) all) alone)
 
-pub some-same : (a b : Core) → Some a ≡ Some b → a ≡ b
-some-same a b is = cc
-
 -- ---- the answers of a core
 
 pub answer_of_all_columns-projected : (checked : Checked) (place : ℕ) (of : Core) (picks : List Pick) → core_at checked place ≡ Some of → of.items ≡ None → IsProjected checked place picks (map answer_of_all_columns picks)
 answer_of_all_columns-projected checked place of picks at none query catalog core names versions keep all is got alone stand =
-    let same : of ≡ core = some-same of core (sym at ∙ got) in
+    let same : of ≡ core = same-some of core (sym at ∙ got) in
     subst (AnswersStandFor names versions keep (map answer_of_all_columns picks)) (ungrouped names versions keep (scope_of core.from catalog) core alone all)
     (answer_of_all_columns-stands names versions keep (scope_of core.from catalog) core (ap (λ (c : Core). c.items) (sym same) ∙ none) picks all stand)
 
@@ -109,7 +94,7 @@ pub items-projected : (checked : Checked) (place : ℕ) (of : Core) (items : Lis
     → ((scope : List InScope) → AreAllPlaced scope placed → answers ≡ map (projected_answer scope placed) picks)
     → IsProjected checked place picks answers
 items-projected checked place of items picks placed answers at some exprs placing made query catalog core names versions keep all is got alone stand =
-    let same : of ≡ core = some-same of core (sym at ∙ got) in
+    let same : of ≡ core = same-some of core (sym at ∙ got) in
     let scope : List InScope = scope_of core.from catalog in
     let written : core.items ≡ Some items = ap (λ (c : Core). c.items) (sym same) ∙ some in
     let rest = flat_map names_in core.picks ++ (core.group ++ flat_map names_in (option_to_list core.having)) in

@@ -4,9 +4,8 @@ use Rattle.std.specs.Prelude.{filter, find, is_none, option_map, slice_get, zip,
 use Rattle.std.specs.Cmp.Lexicographic.{slice_cmp, nat_list_cmp_total}
 use Rattle.std.specs.List.{flat_map, list_all, list_any, AllByRecursion}
 use Rattle.std.specs.List.Sorted.{IsStrictlySortedBy}
-use Rattle.std.specs.Ordering.{nat_cmp, is_lt}
-use Rattle.std.specs.declared.cmp.Ordering.{Ordering}
-use Rattle.std.specs.declared.cmp.Ordering.TheVariants.{Less, Equal, Greater}
+use Rattle.std.specs.Ordering.{nat_cmp}
+use Rattle.std.specs.declared.cmp.Ordering.TheVariants.{Less}
 use Rattle.std.proofs.lemmas.Bool.Decides.{Decides-eqb}
 use Rattle.std.proofs.lemmas.Bool.{cases_Bool}
 use Rattle.std.proofs.lemmas.List.{drop_all, length-append}
@@ -18,6 +17,8 @@ use Rattle.ldv_value.proofs.Booleans.{and-first, and-parts, and-second, true≢f
 use Rattle.ldv_value.proofs.Lists.{all-tested, all-weaker, list_all-map}
 use Rattle.ldv_value.proofs.SameBytes.{bytes_eq-true}
 use Rattle.ldv_value.specs.Sorted.{is_strictly_sorted, precedes_first}
+use Rattle.ldv_value.proofs.Orderings.{is_lt-true}
+use Rattle.ldv_value.proofs.Options.{same-some}
 use Rattle.lineage.specs.Lineage.{name_at}
 use Rattle.lineage.specs.declared.answer.Pick.{Pick}
 use Rattle.core_parts.proofs.FixingLaws.{fixed-key}
@@ -30,7 +31,6 @@ use Rattle.query_eval.proofs.LeavingLaws.{rows-left}
 use Rattle.query_eval.proofs.Widths.{all-wide}
 use Rattle.query_eval.proofs.Picks.{all-stand}
 use Rattle.query_eval.proofs.Probes.{value-next}
-use Rattle.query_eval.proofs.Projections.{some-same}
 use Rattle.core_parts.specs.Conditions.{AreConditions}
 use Rattle.query_eval.specs.inner.Conditions.{AreOfCore}
 use Rattle.core_parts.specs.Fixing.{FixesKey}
@@ -48,18 +48,12 @@ use Rattle.sql_model.specs.Refusals.{cores_of, doubles_source, is_missing, table
 use Rattle.sql_model.specs.Scope.{InScope, catalog_of, is_schema, rows_of, same_text, schema_in, scope_of, table_at, value_at}
 use Rattle.sql_model.proofs.Databases.{sorted_of_database, valid_of_database}
 use Rattle.sql_model.specs.Tables.{AreWellFormed, is_database, is_row, is_valid_table, table_precedes}
+use Rattle.sql_model.specs.References.{has_key}
 use Rattle.query_eval.specs.Types.{Catalog, Checked, Core, FromItem, Schema, Statement, Table, TableRow, Value}
 use Rattle.table_store.specs.Histories.{TableHistory, StoreHistory, history_at, is_history, rows_now, table_now, tables_now}
-use Rattle.table_store.specs.KeyIndex.{has_key}
+use Rattle.table_store.proofs.NowLaws.{found_now}
 
 -- ---- the tables of a store, as they are now
-
-pub table-now : (name : List ℕ) (tables : List TableHistory) → table_at name (map table_now tables) ≡ option_map table_now (find (is_history name) tables)
-table-now name [] = refl
-table-now name (table ∷ tables) = elim (cases_Bool (same_text table.name name)) [
-  | inl hit ↦ rw hit refl
-  | inr miss ↦ rw miss (table-now name tables)
-]
 
 abbrev IsValid : TableHistory → Type 0
 IsValid table = is_valid_table (table_now table) ≡ true
@@ -174,7 +168,7 @@ module _ (store : StoreHistory) (database : is_database (tables_now store) ≡ t
 
   table-wide : (item : FromItem) → AllByRecursion (λ row. length row.values ≡ width_at store item) (rows_of (table_at item.table (tables_now store)))
   table-wide item =
-      subst (λ (o : Option Table). AllByRecursion (λ row. length row.values ≡ width_at store item) (rows_of o)) (sym (table-now item.table store.tables))
+      subst (λ (o : Option Table). AllByRecursion (λ row. length row.values ≡ width_at store item) (rows_of o)) (sym (found_now item.table store.tables))
       (wide-of (history_at item.table store) (valid-at item.table))
 
   pub tables-wide : (from : List FromItem) → TablesAreWide from (tables_now store) (map (width_at store) from)
@@ -187,7 +181,7 @@ module _ (store : StoreHistory) (database : is_database (tables_now store) ≡ t
         → map table_row source.rows ≡ filter (keep_of conds before (history_at item.table store) source.rows stored.taken.rows) (rows_of (table_at item.table (tables_now store)))
     stored-rows item before source stored =
         chosen-are conds before (history_at item.table store) source.rows stored.taken.rows (valid-at item.table)
-        ∙ ap (λ (o : Option Table). filter (keep_of conds before (history_at item.table store) source.rows stored.taken.rows) (rows_of o)) (sym (table-now item.table store.tables))
+        ∙ ap (λ (o : Option Table). filter (keep_of conds before (history_at item.table store) source.rows stored.taken.rows) (rows_of o)) (sym (found_now item.table store.tables))
 
     source-wide : (item : FromItem) (before : ℕ) (source : Source) → IsStored store conds item before source → AreWide source.width source.rows
     source-wide item before source stored =
@@ -210,14 +204,9 @@ abbrev First : List ℕ → List Table → Type 0
 First name [] = Unit {0}
 First name (table ∷ tables) = slice_cmp nat_cmp name table.name ≡ Less
 
-less-is : (o : Ordering) → is_lt o ≡ true → o ≡ Less
-less-is Less is = refl
-less-is Equal is = cc
-less-is Greater is = cc
-
 first-is : (table : Table) (tables : List Table) → precedes_first table_precedes table tables ≡ true → First table.name tables
 first-is table [] is = tt
-first-is table (other ∷ tables) is = less-is (slice_cmp nat_cmp table.name other.name) is
+first-is table (other ∷ tables) is = is_lt-true (slice_cmp nat_cmp table.name other.name) is
 
 first-next : (name : List ℕ) (table : Table) (tables : List Table) → slice_cmp nat_cmp name table.name ≡ Less → First table.name tables → First name tables
 first-next name table [] before first = tt
@@ -360,7 +349,7 @@ pub stored-picked : (checked : Checked) (place : ℕ) (store : StoreHistory) (ke
     → ArePicked checked place store keep picks
 stored-picked checked place store keep conds sources picks of formed at conditions stored made query core versions given got tell =
     let database : is_database (tables_now store) ≡ true = formed.database in
-    let same : of ≡ core = some-same of core (sym at ∙ got) in
+    let same : of ≡ core = same-some of core (sym at ∙ got) in
     let own : AreStored store conds core.from 0 sources = subst (λ (c : Core). AreStored store conds c.from 0 sources) same stored in
     let catalog : Catalog = catalog_of (tables_now store) in
     let scope : List InScope = scope_of core.from catalog in

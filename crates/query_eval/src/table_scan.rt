@@ -107,7 +107,7 @@ pub(crate) fn add_slot(
 }
 
 // The slot after one that is set.
-#[tactic(auto, using(crate::proofs::LeavingLaws::slot_within))]
+#[tactic(auto, using(lanes::proofs::SetLaws::slot_within))]
 fn after(words: &[u64], slot: u64) -> u64
     requires few { length words.now < 2 ^ 57 }
     requires set { member words.now slot ≡ true }

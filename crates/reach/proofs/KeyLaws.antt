@@ -2,16 +2,13 @@
 use Rattle.std.proofs.Common.{◌≡◌, ◌∙◌, sym, refl, List, [], ◌∷◌, map}
 use Rattle.std.specs.List.{AllByRecursion}
 use Rattle.std.specs.List.Sorted.{IsStrictlySortedBy}
-use Rattle.std.specs.declared.cmp.Ordering.{Ordering}
 use Rattle.std.specs.declared.cmp.Ordering.TheVariants.{Less}
 use Rattle.reach.specs.Order.{node_cmp}
 use Rattle.trace_graph.specs.Building.{node_of}
 use Rattle.trace_graph.specs.declared.key.NodeKey.{NodeKey}
 use Rattle.trace_graph.specs.declared.key.NodeKey.TheVariants as keys
 use Rattle.trace_graph.specs.contracts.key.NodeKeyOrd.TheImpl as key_order
-
-abbrev pub key_cmp : NodeKey → NodeKey → Ordering
-key_cmp = (key_order.ghosts).cmp
+use Rattle.trace_graph.proofs.Repeats.{key_cmp}
 
 pub key_ordered : (a b : NodeKey) → key_cmp a b ≡ node_cmp (node_of a) (node_of b)
 key_ordered (keys.Path a) (keys.Path b) = refl

@@ -16,11 +16,12 @@ use Rattle.trace_graph.specs.declared.key.NodeKey.{NodeKey}
 use Rattle.trace_graph.specs.Graph.{same_node}
 use Rattle.trace_graph.proofs.KeyLaws.{same_key, key_same}
 use Rattle.trace_graph.proofs.NodeLaws.{node_is, node_itself}
+use Rattle.trace_graph.proofs.Repeats.{key_cmp}
 use Rattle.reach.specs.Types.{Node}
 use Rattle.reach.specs.Order.{node_cmp}
 use Rattle.reach.specs.inner.Marks.{SameNodes}
 use Rattle.reach.proofs.FoundLaws.{node_exact}
-use Rattle.reach.proofs.KeyLaws.{key_cmp, key_ordered, keys_sorted}
+use Rattle.reach.proofs.KeyLaws.{key_ordered, keys_sorted}
 use Rattle.reach.proofs.Members.{in_nil, in_head, in_tail, in_cons, in_same}
 use Rattle.reach.proofs.OrderLaws.{node_total}
 

@@ -1,19 +1,14 @@
 -- Whichever way the latest times are found, the same nodes come of them.
-use Rattle.std.proofs.Common.{◌≡◌, sym, ap, refl, ℕ, Bool, true, false, List, None}
+use Rattle.std.proofs.Common.{◌≡◌, ap, ℕ, Bool, true, List, None}
 use Rattle.std.specs.Prelude.{◌&&◌, nat_le, slice_get, if◌then◌else◌}
 use Rattle.std.specs.List.{filter_map}
 use Rattle.trace_graph.specs.Graph.{Parts}
+use Rattle.trace_graph.proofs.NodeLaws.{same_tests}
 use Rattle.reach.specs.Types.{Node, Edge}
 use Rattle.reach.specs.Found.{Times, time_at, reaches, is_open, open_source, in_order, open_sources}
 use Rattle.reach.specs.Search.{HasPath, AreLatest}
 use Rattle.reach.proofs.TimeLaws.{reaches_some}
 use Rattle.reach.proofs.PathLaws.{earlier, in_time}
-
--- two tests that hold together are the same
-same_tests : (a b : Bool) → (a ≡ true → b ≡ true) → (b ≡ true → a ≡ true) → a ≡ b
-same_tests true b there back = sym (there refl)
-same_tests false true there back = back refl
-same_tests false false there back = refl
 
 module _ (edges : List Edge) (node time : ℕ) where
   reaches_path : (latest : Times) → AreLatest edges node time latest → (a place : ℕ) → reaches a (time_at latest place) ≡ true

@@ -20,6 +20,7 @@ use Rattle.run_model.specs.WorldRun.{core_after, ends_in, ends_within, outcome_i
 use Rattle.sql_model.specs.Tables.{have_distinct_columns}
 use Rattle.sql_model.specs.Tables.{are_distinct, is_database, is_described, tables_test}
 use Rattle.sql_model.specs.declared.table.Table.{Table}
+use Rattle.sql_laws.proofs.DatabaseLaws.{distinct_in}
 use Rattle.run_laws.proofs.BudgetLaw.{going_outcome}
 use Rattle.replay_db.specs.inner.Recording.{HasNotEnded}
 use Rattle.replay_db.specs.Runs.{Stops}
@@ -31,13 +32,9 @@ use Rattle.replay_db.specs.declared.error.EndStop.TheVariants.{NotEnded, NoMemor
 pub tables_database : (ts : List Table) → tables_test ts ≡ true → is_database ts ≡ true
 tables_database ts met = and-first (is_database ts) (list_all is_described ts) met
 
-table_distinct : (t : Table) → is_described t ≡ true → are_distinct t.schema.columns ≡ true
-table_distinct t met =
-    and-second _ _ (and-second _ _ (and-first _ _ (and-first _ _ (and-first _ _ (and-second _ _ met)))))
-
 pub tables_distinct : (ts : List Table) → tables_test ts ≡ true → have_distinct_columns ts ≡ true
 tables_distinct ts met =
-    list_all-weaker is_described (λ t. are_distinct t.schema.columns) table_distinct ts
+    list_all-weaker is_described (λ t. are_distinct t.schema.columns) distinct_in ts
     (and-second (is_database ts) (list_all is_described ts) met)
 
 -- ---- the end

@@ -9,7 +9,7 @@ use Rattle.std.specs.declared.cmp.Ordering.TheVariants.{Less, Equal, Greater}
 use Rattle.std.proofs.lemmas.Cmp.{on_total}
 use Rattle.std.proofs.lemmas.Bool.{cases_Bool}
 use Rattle.std.proofs.lemmas.Map.Text.{is_eq-slice_cmp}
-use Rattle.ldv_value.proofs.SameBytes.{bytes_eq-true, bytes_eq-itself}
+use Rattle.ldv_value.proofs.SameBytes.{bytes_eq-true, bytes_eq-itself, bytes_eq-sym}
 use Rattle.std.proofs.lemmas.List.{append-nil}
 use Rattle.sql_model.specs.Sorting.{put_sorted, sorted_by}
 use Rattle.replay_db.specs.Types.{Log}
@@ -49,18 +49,6 @@ joined_is false s k log is = by (is_of s log) where
   by true = sym (ap (λ (b : Bool). if b then with_last k (with_first s log) ∷ [] else with_first s log ∷ new_log k ∷ []) is)
   by false = sym (ap (λ (b : Bool). new_log s ∷ (if b then with_last k log ∷ [] else log ∷ new_log k ∷ [])) is)
 
-same_way : (a b : List ℕ) → bytes_eq a b ≡ bytes_eq b a
-same_way a b = by (bytes_eq a b) (bytes_eq b a) refl refl where
-  by : (c d : Bool) → bytes_eq a b ≡ c → bytes_eq b a ≡ d → c ≡ d
-  by true true one two = refl
-  by false false one two = refl
-  by true false one two =
-      let same : a ≡ b = bytes_eq-true a b one in
-      sym (bytes_eq-itself a) ∙ ap (λ (l : List ℕ). bytes_eq l a) same ∙ two
-  by false true one two =
-      let same : b ≡ a = bytes_eq-true b a two in
-      sym one ∙ ap (λ (l : List ℕ). bytes_eq a l) same ∙ bytes_eq-itself a
-
 first_joined : (b : Bool) (s k : Kept) → bytes_eq s.process.parts k.process.parts ≡ b
     → front_if b s (new_log k) []
     ≡ (if b then with_last k (new_log s) ∷ [] else new_log s ∷ new_log k ∷ [])
@@ -78,7 +66,7 @@ front_kept : (s k : Kept) (logs : List Log) → front s (with_kept k logs) ≡ w
 front_kept s k [] =
     first_joined (is_of s (new_log k)) s k refl
     ∙ ap (λ (b : Bool). if b then with_last k (new_log s) ∷ [] else new_log s ∷ new_log k ∷ [])
-    (same_way s.process.parts k.process.parts)
+    (bytes_eq-sym s.process.parts k.process.parts)
 front_kept s k (d ∷ []) = joined_is (is_of k d) s k d refl
 front_kept s k (d ∷ e ∷ logs) = more_front (is_of s d) s k d e logs
 

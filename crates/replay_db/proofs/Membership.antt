@@ -6,13 +6,14 @@ use Rattle.std.proofs.lemmas.Bool.{cases_Bool, and_parts, and_from, eq-eqb}
 use Rattle.std.proofs.lemmas.Bool.Decides.{nat_tests}
 use Rattle.ldv_value.proofs.Booleans.{or-left, or-right}
 use Rattle.ldv_value.proofs.SameBytes.{bytes_eq-true, bytes_eq-itself, nat_eq-true}
-use Rattle.sql_model.specs.Scope.{same_text, is_table}
+use Rattle.sql_model.specs.Scope.{same_text, is_table, has_row}
 use Rattle.replay_db.specs.Types.{File, Table, TableRow, Event, World}
-use Rattle.run_model.specs.Between.{IsIn, HasParents, is_row_needed, with_content, IsPresent, TableBetween, LiesBetween, FileCut, Gone, Same, Other, Cut, kept_file, cut_files, row_stays, cut_table, table_stays, cut_tables, cut_world, KeepsFile, has_row, is_initial, KeepsNeeded, CutOf}
+use Rattle.run_model.specs.Between.{IsIn, HasParents, is_row_needed, with_content, IsPresent, TableBetween, LiesBetween, FileCut, Gone, Same, Other, Cut, kept_file, cut_files, row_stays, cut_table, table_stays, cut_tables, cut_world, KeepsFile, is_initial, KeepsNeeded, CutOf}
 use Rattle.run_model.specs.Slice.{FileNeed, Whole, Present, file_need, is_table_needed}
 use Rattle.package_layout.specs.inner.Order.{rises, is_below}
+use Rattle.run_laws.proofs.ListMembers.{found_in, none_in, any_in, in_any, in_filter, filter_in, in_filter_map, filter_map_in}
 use Rattle.replay_db.specs.Laws.{MembershipLaw}
-use Rattle.replay_db.proofs.SortedLists.{found_in, none_in, any_in, in_any, in_filter, filter_in, in_filter_map, filter_map_in, same_item, at, at_key, at_item, found_all}
+use Rattle.replay_db.proofs.SortedLists.{same_item, at, at_key, at_item, found_all}
 use Rattle.replay_db.proofs.TraceLists.{below_next, below_itself, less_next}
 use Rattle.replay_db.proofs.WorldRules.{SortedWorld, sorted_world}
 

@@ -9,6 +9,7 @@ use Rattle.std.proofs.lemmas.Bool.{cases_Bool}
 use Rattle.std.proofs.lemmas.Bool.Decides.{nat_tests}
 use Rattle.std.proofs.lemmas.Cmp.{nat_list_cmp_total}
 use Rattle.std.proofs.lemmas.Map.Text.{is_eq-slice_cmp}
+use Rattle.std.proofs.lemmas.Map.Lookups.{exact_bytes}
 use Rattle.ldv_value.proofs.Booleans.{and-first, and-second, and-parts, and-from}
 use Rattle.ldv_value.proofs.SameBytes.{bytes_eq-true, nat_eq-true}
 use Rattle.ldv_value.proofs.Lists.{sorted-under}
@@ -81,22 +82,19 @@ same_under n m k same under =
 
 -- ---- one row below another, below a third
 
-same_table : (a b : List ℕ) → slice_cmp nat_cmp a b ≡ Equal → a ≡ b
-same_table a b tied = bytes_eq-true a b (sym (is_eq-slice_cmp a b) ∙ ap is_eq tied)
-
 under_by : (a b c : NeededRow) (o p : Ordering) → slice_cmp nat_cmp a.table b.table ≡ o → slice_cmp nat_cmp b.table c.table ≡ p
     → row_after_table o a.row b.row ≡ true → row_after_table p b.row c.row ≡ true → row_under a c ≡ true
 under_by a b c Less Less first second h k =
     ap (λ (o : Ordering). row_after_table o a.row c.row) (nat_list_cmp_total.trans a.table b.table c.table first second)
 under_by a b c Less Equal first second h k =
     ap (λ (o : Ordering). row_after_table o a.row c.row)
-    (ap (slice_cmp nat_cmp a.table) (sym (same_table b.table c.table second)) ∙ first)
+    (ap (slice_cmp nat_cmp a.table) (sym (exact_bytes b.table c.table second)) ∙ first)
 under_by a b c Less Greater first second h k = cc
 under_by a b c Equal Less first second h k =
     ap (λ (o : Ordering). row_after_table o a.row c.row)
-    (ap (λ (t : List ℕ). slice_cmp nat_cmp t c.table) (same_table a.table b.table first) ∙ second)
+    (ap (λ (t : List ℕ). slice_cmp nat_cmp t c.table) (exact_bytes a.table b.table first) ∙ second)
 under_by a b c Equal Equal first second h k =
-    under_in_table a c (same_table a.table b.table first ∙ same_table b.table c.table second) ∙ less_next a.row b.row c.row h k
+    under_in_table a c (exact_bytes a.table b.table first ∙ exact_bytes b.table c.table second) ∙ less_next a.row b.row c.row h k
 under_by a b c Equal Greater first second h k = cc
 under_by a b c Greater p first second h k = cc
 

@@ -8,9 +8,9 @@ use Rattle.std.proofs.lemmas.Bool.{cases_Bool, ltb-true, lt-ltb, false≢true}
 use Rattle.std.proofs.lemmas.Bool.Decides.{nat_tests}
 use Rattle.ldv_value.specs.Sorted.{is_strictly_sorted}
 use Rattle.ldv_value.specs.declared.value.Value.{Value}
-use Rattle.ldv_value.proofs.Booleans.{and-parts, and-assoc, and-true, and-false, or-parts, or-from, or-left, or-right, or-false, not-true}
+use Rattle.ldv_value.proofs.Booleans.{and-parts, and-assoc, and-true, and-false, or-parts, or-from, or-false, not-true}
 use Rattle.ldv_value.proofs.Lists.{list_any-map, list_any-append, list_any-false, found-passes, found-all}
-use Rattle.ldv_value.proofs.SameBytes.{bytes_eq-true, nat_eq-true}
+use Rattle.ldv_value.proofs.SameBytes.{bytes_eq-true, nat_eq-true, bytes_eq-sym}
 use Rattle.sql_model.specs.declared.catalog.Catalog.{Catalog}
 use Rattle.sql_model.specs.declared.reply.SqlRefusal.{SqlRefusal}
 use Rattle.sql_model.specs.declared.statement.Insert.{Insert}
@@ -24,6 +24,7 @@ use Rattle.sql_model.specs.Scope.{InScope, same_text, is_table, table_at, rows_o
 use Rattle.sql_model.specs.Statements.{target, refusal_of, after_unless, after}
 use Rattle.sql_model.specs.Tables.{is_valid_table, table_precedes, is_database}
 use Rattle.sql_model.proofs.Databases.{tables_of_database}
+use Rattle.sql_model.proofs.ReferenceLists.{any_fewer}
 use Rattle.sql_laws.proofs.NeedsSound.{needs_good}
 use Rattle.sql_laws.proofs.AskedTables.{asked_needs_law}
 use Rattle.sql_laws.proofs.StatementParts.{after_is}
@@ -38,15 +39,6 @@ use Rattle.run_laws.proofs.SortedNeeds.{is_lineage, lineage}
 use Rattle.run_laws.proofs.StatementVersions.{next_of, origin_of, made_if, updated_if, made_parts, updated_parts, made_none, updated_none, target_rises}
 
 -- ---- tests
-
-swapped : (a b : List ℕ) → bytes_eq a b ≡ bytes_eq b a
-swapped a b = elim (cases_Bool (bytes_eq a b)) [
-  | inl same ↦ let e : a ≡ b = bytes_eq-true a b same in λ j. bytes_eq (e j) (sym e j)
-  | inr other ↦ elim (cases_Bool (bytes_eq b a)) [
-    | inl same ↦ let e : b ≡ a = bytes_eq-true b a same in λ j. bytes_eq (sym e j) (e j)
-    | inr back ↦ other ∙ sym back
-  ]
-]
 
 swapped_numbers : (m n : ℕ) → (m == n) ≡ (n == m)
 swapped_numbers m n = elim (cases_Bool (m == n)) [
@@ -81,21 +73,6 @@ fewer true whole more = rw (more refl) refl
 fewer false whole more = refl
 
 -- ---- lists
-
--- one among those that are left is one of all
-any_left : {X : Type 0} (p keep : X → Bool) (xs : List X) → list_any p (filter keep xs) ≡ true → list_any p xs ≡ true
-any_left p keep [] some = some
-any_left p keep (x ∷ xs) some = elim (cases_Bool (keep x)) [
-  | inl stays ↦
-      let parts : (p x || list_any p (filter keep xs)) ≡ true = rw stays at some in
-      elim (cases_Bool (p x)) [
-        | inl here ↦ or-left (p x) (list_any p xs) here
-        | inr other ↦
-            or-right (p x) (list_any p xs)
-            (any_left p keep xs (sym (ap (λ (b : Bool). b || list_any p (filter keep xs)) other) ∙ parts))
-      ]
-  | inr goes ↦ or-right (p x) (list_any p xs) (any_left p keep xs (rw goes at some))
-]
 
 module _ {X : Type 0} (p : X → Bool) where
   none_of : (xs : List X) → AllByRecursion (λ x. p x ≡ false) xs → list_any p xs ≡ false
@@ -175,7 +152,7 @@ module _ (table : List ℕ) (row : ℕ) where
   same_first : (other : List ℕ) (number version : ℕ)
       → same_member first (record { table = other; row = number; version = version }) ≡ (is_it other number && 0 == version)
   same_first other number version =
-      (λ j. swapped table other j && (swapped_numbers row number j && 0 == version))
+      (λ j. bytes_eq-sym table other j && (swapped_numbers row number j && 0 == version))
       ∙ sym (and-assoc (bytes_eq other table) (number == row) (0 == version))
 
   -- ---- what is read
@@ -272,7 +249,7 @@ module _ (table : List ℕ) (row : ℕ) where
       ≡ (list_any (is_first versions) ns || makes (map (next_of versions) (lineage ns)))
   lineage_seen versions ns =
       (λ j. list_any (is_first versions) ns || (next_makes versions (lineage ns) j || next_changes versions (lineage ns) j))
-      ∙ fewer (list_any (is_first versions) (lineage ns)) (list_any (is_first versions) ns) (any_left (is_first versions) is_lineage ns)
+      ∙ fewer (list_any (is_first versions) (lineage ns)) (list_any (is_first versions) ns) (any_fewer (is_first versions) is_lineage ns)
       ∙ sym (λ j. list_any (is_first versions) ns || next_makes versions (lineage ns) j)
 
   seen_by : (versions : Versions) (refusal : Option SqlRefusal) (s : Statement) (o : Option Table) (ns : List NeededRow)
@@ -470,7 +447,7 @@ module _ (table : List ℕ) (row : ℕ) where
   ]
 
   names_turned : (names : List (List ℕ)) → list_any (same_text table) names ≡ list_any (λ name. same_text name table) names
-  names_turned names = λ j. list_any (λ name. swapped table name j) names
+  names_turned names = λ j. list_any (λ name. bytes_eq-sym table name j) names
 
   pub needed_named : (statement : Option Statement) (db : List Table) → is_database db ≡ true
       → is_needed (need_of statement db) ≡ true

@@ -10,11 +10,11 @@ use Rattle.run_model.specs.Start.{start_script, start_state}
 use Rattle.run_model.specs.State.{State}
 use Rattle.run_model.specs.WorldRun.{ends_in, ends_within, steps_in, steps_by}
 use Rattle.run_model.specs.Core.{have_all_ended}
+use Rattle.run_model.proofs.StepActs.{few_steps}
 use Rattle.replay_db.specs.TableAt.{IsDueStop, table_verdict, stored_table, table_after, table_of_run, tables_after}
 use Rattle.replay_db.specs.Types.{Instr, Table, World}
 use Rattle.replay_db.specs.declared.table.TableStop.{TableStop}
 use Rattle.replay_db.specs.declared.table.TableStop.TheVariants.{NoTable, NotEnded, NoStep, NoMemory}
-use Rattle.run_laws.proofs.RunSteps.{steps_most}
 use Rattle.run_laws.proofs.TableSteps.{run_on, steps_on}
 
 -- what is the same as what is due is given
@@ -76,4 +76,4 @@ module _ (budget step early : ℕ) (name : List ℕ) (w : World) (script : List 
       ∙ judged_early (ends_within budget w) (nat_lt (steps_by budget [] w) step) (steps_by budget [] w) step (Ok table)
       (stored_table (table_after step name w)) refl
       (λ soon. table_is table found
-      (whole (omega (arith, ltb-false (steps_by budget [] w) step soon, ap (steps_in budget [] w) is, steps_most sql_base budget [] start))))
+      (whole (omega (arith, ltb-false (steps_by budget [] w) step soon, ap (steps_in budget [] w) is, few_steps sql_base budget [] start))))

@@ -1,6 +1,6 @@
 -- The events of a run, step by step.
 use Rattle.std.proofs.Common.{◌≡◌, ℕ, zero, suc, ◌+◌, ◌<◌, ◌≤◌, List, [], ◌∷◌, ◌++◌, length, refl, sym, ap, ◌∙◌, subst, Bool, true, false, arith, inl, inr}
-use Rattle.std.specs.Prelude.{Option, Some, None, map, slice_get, is_some, ◌&&◌, ◌||◌, nat_le, nat_lt}
+use Rattle.std.specs.Prelude.{Option, Some, None, map, slice_get, is_some, ◌&&◌, nat_le, nat_lt}
 use Rattle.std.specs.List.{AllByRecursion}
 use Rattle.std.proofs.lemmas.Bool.{cases_Bool, le-leb, lt-ltb, ltb-true}
 use Rattle.ldv_value.specs.Limits.{max_processes}
@@ -19,6 +19,7 @@ use Rattle.run_model.specs.State.{State, StepResult}
 use Rattle.run_model.specs.Step.{Ask, Effect, local_step, took, next_ask, ends_at, asked_act, asking}
 use Rattle.run_model.proofs.Equations.{events-zero, events-over, events-suc, steps-suc}
 use Rattle.run_model.proofs.NeverStuck.{Ordered, found_below, move_ordered, chosen_runs}
+use Rattle.proc_core.proofs.Advances.{first_false}
 use Rattle.package_layout.specs.Events.{act_room, TypedAct}
 use Rattle.package_layout.specs.inner.Trace.{act_rule, made_after, is_asked, asked_after, follows}
 use Rattle.replay_db.proofs.StatementEvents.{RuledNames, GoodDatabase, good_after, asked_ruled}
@@ -126,15 +127,11 @@ chosen_step number p s is good =
       acts = m.acts;
     }
 
-going_on : (diverged ended : Bool) → (diverged || ended) ≡ false → ended ≡ false
-going_on true ended going = absurd cc
-going_on false ended going = going
-
 pub move_step : (pick : Option ℕ) (s : State SqlDatabase) → GoodList s.core.processes → Ordered s.core → is_over s.core ≡ false
     → StepOf s (move sql_base pick s)
 move_step pick s good ordered going =
     let may : MayRun (choose pick s.core) s.core =
-    chosen_runs pick s.core ordered (going_on (is_some s.core.diverged) (have_all_ended s.core) going) in
+    chosen_runs pick s.core ordered (first_false (is_some s.core.diverged) (have_all_ended s.core) going) in
     chosen_step (choose pick s.core) may.0 s may.1 good
 
 abbrev pub events_by_kind : Kind → ℕ → ℕ → ℕ → SqlDatabase → List Act → List Event

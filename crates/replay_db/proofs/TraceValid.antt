@@ -19,7 +19,6 @@ use Rattle.run_model.specs.State.{State}
 use Rattle.run_model.specs.WorldRun.{ends_in, ends_by, steps_in, steps_by, events_in, events_by}
 use Rattle.run_model.specs.ValidTrace.{named_rule, are_named, ValidTrace}
 use Rattle.run_model.proofs.Equations.{run-zero, steps-suc}
-use Rattle.run_laws.proofs.RunSteps.{steps_most}
 use Rattle.package_layout.specs.Events.{TypedEvent, event_room}
 use Rattle.package_layout.specs.inner.Trace.{follows, at_start, starts, trace_test, asked_count}
 use Rattle.package_layout.specs.Typed.{IsU32}
@@ -32,6 +31,7 @@ use Rattle.run_model.proofs.NeverStuck.{Ordered}
 use Rattle.replay_db.proofs.TraceRun.{plain_room, plain_typed, run_follows, run_good}
 use Rattle.run_laws.proofs.TraceState.{GoodList, PlainAct}
 use Rattle.run_model.proofs.ValidWorlds.{ruled_by}
+use Rattle.run_model.proofs.StepActs.{few_steps}
 use Rattle.replay_db.proofs.WorldRules.{few_names, texts_of_names}
 
 -- ---- the number of steps
@@ -163,7 +163,7 @@ module _ (n : ℕ) (picks : List ℕ) (w : World) (script : List Instr) (is : st
 
     run_typed : TypedWorld w → n ≤ 10000000 → AllByRecursion TypedEvent later_events
     run_typed typed small =
-        let most : steps sql_base n picks begun ≤ n = steps_most sql_base n picks begun in
+        let most : steps sql_base n picks begun ≤ n = few_steps sql_base n picks begun in
         let u32 : (number : ℕ) → number ≤ steps sql_base n picks begun → IsU32 number = λ number within. omega arith in
         let small_number : (process : ℕ) → process < 65535 → IsU32 process = λ process below. omega (arith, below) in
         run_good names TypedEvent (steps sql_base n picks begun)

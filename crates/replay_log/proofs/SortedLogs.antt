@@ -1,5 +1,5 @@
 -- Logs that are sorted by process: where that of a process is.
-use Rattle.std.proofs.Common.{◌≡◌, ◌≢◌, ℕ, zero, suc, ◌<◌, inl, inr, Bool, true, false, ◌&&◌, List, [], ◌∷◌, length, get_or, set, refl, ap, sym, ◌∙◌, arith}
+use Rattle.std.proofs.Common.{◌≡◌, ℕ, zero, suc, ◌<◌, inl, inr, Bool, true, false, ◌&&◌, List, [], ◌∷◌, length, get_or, set, refl, ap, sym, ◌∙◌, arith}
 use Rattle.std.specs.Ordering.{nat_cmp, is_lt, is_eq, ordering_reverse}
 use Rattle.std.specs.List.Sorted.{IsPartitionedBy}
 use Rattle.std.specs.declared.cmp.Ordering.{Ordering}
@@ -9,27 +9,15 @@ use Rattle.std.specs.Prelude.{bytes_eq}
 use Rattle.std.proofs.lemmas.Bool.{cases_lt}
 use Rattle.std.proofs.lemmas.Map.Text.{is_eq-slice_cmp}
 use Rattle.ldv_value.proofs.Booleans.{and-parts}
-use Rattle.ldv_value.proofs.Orderings.{is_lt-true}
 use Rattle.ldv_value.specs.Sorted.{is_strictly_sorted, precedes_first, text_precedes}
 use Rattle.ldv_value.proofs.SameBytes.{bytes_eq-true, bytes_eq-itself, bytes_eq-other}
+use Rattle.ldv_value.proofs.TextOrders.{text_trans, text_apart}
 use Rattle.run_model.specs.LogDatabase.{is_log_of}
 use Rattle.replay_log.specs.Types.{Log}
 use Rattle.run_model.specs.ValidPackage.{log_precedes}
 use Rattle.replay_log.specs.inner.Places.{no_log, IsAt, IsNowhere}
 
 -- ---- names
-
-name_trans : (a b c : List ℕ) → text_precedes a b ≡ true → text_precedes b c ≡ true → text_precedes a c ≡ true
-name_trans a b c one two =
-    ap is_lt (nat_list_cmp_total.trans a b c (is_lt-true (slice_cmp nat_cmp a b) one) (is_lt-true (slice_cmp nat_cmp b c) two))
-
--- a name isn't before itself
-name_apart : (a b : List ℕ) → text_precedes a b ≡ true → a ≢ b
-name_apart a b before same =
-    let less : slice_cmp nat_cmp a b ≡ Less = is_lt-true (slice_cmp nat_cmp a b) before in
-    let equal : is_eq (slice_cmp nat_cmp a b) ≡ true = is_eq-slice_cmp a b ∙ ap (λ (l : List ℕ). bytes_eq l b) same ∙ bytes_eq-itself b in
-    let wrong : false ≡ true = sym (ap is_eq less) ∙ equal in
-    cc
 
 -- a name that isn't before another, and isn't that one, is after it
 name_after : (a b : List ℕ) → text_precedes a b ≡ false → bytes_eq b a ≡ false → text_precedes b a ≡ true
@@ -60,7 +48,7 @@ module _ (d : Log) where
   after_first log (next ∷ logs) sorted zero below = (and-parts (log_precedes log next) (is_sorted (next ∷ logs)) sorted).0
   after_first log (next ∷ logs) sorted (suc k) below =
       let both = and-parts (log_precedes log next) (is_sorted (next ∷ logs)) sorted in
-      name_trans log.process.parts next.process.parts (get_or logs k d).process.parts both.0 (after_first next logs both.1 k (omega (arith, below)))
+      text_trans log.process.parts next.process.parts (get_or logs k d).process.parts both.0 (after_first next logs both.1 k (omega (arith, below)))
 
   names_rise : (logs : List Log) → is_sorted logs ≡ true → (i j : ℕ) → i < j → j < length logs
       → text_precedes (get_or logs i d).process.parts (get_or logs j d).process.parts ≡ true
@@ -74,7 +62,7 @@ module _ (d : Log) where
 pub logs_parted : (process : List ℕ) (logs : List Log) → is_sorted logs ≡ true
     → IsPartitionedBy (λ (log : Log). text_precedes log.process.parts process) logs
 logs_parted process logs sorted i j d to within before = elim (cases_lt i j) [
-  | inl less ↦ name_trans (get_or logs i d).process.parts (get_or logs j d).process.parts process (names_rise d logs sorted i j less within) before
+  | inl less ↦ text_trans (get_or logs i d).process.parts (get_or logs j d).process.parts process (names_rise d logs sorted i j less within) before
   | inr from ↦
       let same : i ≡ j = omega (arith, from, to) in
       ap (λ (k : ℕ). text_precedes (get_or logs k d).process.parts process) same ∙ before
@@ -83,11 +71,11 @@ logs_parted process logs sorted i j d to within before = elim (cases_lt i j) [
 -- a log before a name isn't its log
 before_other : (process : List ℕ) (log : Log) → text_precedes log.process.parts process ≡ true → is_log_of process log ≡ false
 before_other process log before =
-    bytes_eq-other process log.process.parts (λ same. name_apart log.process.parts process before (sym same))
+    bytes_eq-other process log.process.parts (λ same. text_apart log.process.parts process before (sym same))
 
 -- nor is one after it
 after_other : (process : List ℕ) (log : Log) → text_precedes process log.process.parts ≡ true → is_log_of process log ≡ false
-after_other process log after = bytes_eq-other process log.process.parts (name_apart process log.process.parts after)
+after_other process log after = bytes_eq-other process log.process.parts (text_apart process log.process.parts after)
 
 -- the first that isn't before the name, where it is the one of the name
 pub found_at : (process : List ℕ) (logs : List Log) (n : ℕ) → n < length logs
@@ -107,7 +95,7 @@ none_after process log [] sorted after = (after_other process log after, tt)
 none_after process log (next ∷ logs) sorted after =
     let both = and-parts (log_precedes log next) (is_sorted (next ∷ logs)) sorted in (
       after_other process log after,
-      none_after process next logs both.1 (name_trans process log.process.parts next.process.parts after both.0),
+      none_after process next logs both.1 (text_trans process log.process.parts next.process.parts after both.0),
     )
 
 -- the first that isn't before the name, where it isn't the one of the name

@@ -9,6 +9,7 @@ pub mod Keeps
 pub mod KeptNames
 pub mod KeptRuns
 pub mod KeptSplits
+pub mod ListMembers
 pub mod LogEntries
 pub mod LogLaws
 pub mod LogRuns

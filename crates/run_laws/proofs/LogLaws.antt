@@ -20,6 +20,7 @@ use Rattle.run_model.specs.SqlDatabase.{SqlDatabase, db_after, lists_of, sql_bas
 use Rattle.run_model.specs.Start.{start_script, start_state}
 use Rattle.run_model.specs.State.{State}
 use Rattle.run_model.specs.WorldRun.{core_after, ends_in, ends_by, outcome_in, outcome_by, steps_in, steps_by, events_by, logs_of, logs_in}
+use Rattle.run_model.proofs.StepActs.{few_steps as steps_most}
 use Rattle.run_laws.specs.Laws.{SameRun, SettledRun}
 use Rattle.run_laws.specs.LogLaws.{LogLaw, PickedLogLaw}
 use Rattle.run_laws.proofs.EndedLaw.{ended_law}
@@ -27,7 +28,7 @@ use Rattle.run_laws.proofs.LogEntries.{logged_entries}
 use Rattle.run_laws.proofs.LogRuns.{Follows, Left, run_follows, grows_more, log_run}
 use Rattle.run_laws.proofs.ProcessNames.{Grows, Named}
 use Rattle.run_laws.proofs.QuietSteps.{entries_in}
-use Rattle.run_laws.proofs.RunSteps.{steps_most, no_more}
+use Rattle.run_laws.proofs.RunSteps.{no_more}
 use Rattle.run_laws.proofs.SliceLaws.{own_files, slice_keeps, slice_parents}
 use Rattle.run_laws.proofs.WorldLaws.{interleaving_law}
 

@@ -45,7 +45,7 @@ follows_trans a b c first second = record {
   diverged = second.diverged ∙ first.diverged;
 }
 
-replied_later : (a : Ask) (reply : Reply) (p : Process) → Later p (process_with_reply a reply p)
+pub replied_later : (a : Ask) (reply : Reply) (p : Process) → Later p (process_with_reply a reply p)
 replied_later a reply p = record {
   name = refl;
   spawned = omega arith;

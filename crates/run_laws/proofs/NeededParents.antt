@@ -6,7 +6,7 @@ use Rattle.std.specs.List.{list_any, AllByRecursion}
 use Rattle.std.proofs.lemmas.Bool.{cases_Bool}
 use Rattle.ldv_value.proofs.Booleans.{or-left, or-right}
 use Rattle.ldv_value.proofs.Lists.{all-weaker}
-use Rattle.ldv_value.proofs.SameBytes.{bytes_eq-true}
+use Rattle.ldv_value.proofs.SameBytes.{bytes_eq-sym}
 use Rattle.sql_model.specs.declared.catalog.Catalog.{Catalog}
 use Rattle.sql_model.specs.declared.reply.SqlRefusal.{SqlRefusal}
 use Rattle.sql_model.specs.declared.statement.Statement.TheVariants.{Query as TheQuery, Insert as TheInsert, Update as TheUpdate, Delete as TheDelete}
@@ -32,15 +32,6 @@ use Rattle.sql_model.specs.Statements.{reply_of}
 use Rattle.run_model.proofs.Equations.{events-zero, events-over, events-suc}
 use Rattle.run_laws.proofs.QuietActs.{Unasked, ends_unasked, quiet_unasked}
 use Rattle.run_laws.proofs.RunSame.{database_of, move_stays}
-
-swapped : (a b : List ℕ) → same_text a b ≡ same_text b a
-swapped a b = elim (cases_Bool (same_text a b)) [
-  | inl same ↦ let e : a ≡ b = bytes_eq-true a b same in λ j. same_text (e j) (sym e j)
-  | inr other ↦ elim (cases_Bool (same_text b a)) [
-    | inl same ↦ let e : b ≡ a = bytes_eq-true b a same in λ j. same_text (sym e j) (e j)
-    | inr back ↦ other ∙ sym back
-  ]
-]
 
 module _ (child parent : List ℕ) where
   -- ---- a statement leaves what refers to what
@@ -93,7 +84,7 @@ module _ (child parent : List ℕ) where
   all_unasked acts all = all-weaker Unasked Brings unasked_brings acts all
 
   names_asked : (name : List ℕ) (names : List (List ℕ)) → list_any (λ other. same_text other name) names ≡ list_any (same_text name) names
-  names_asked name names = λ j. list_any (λ other. swapped other name j) names
+  names_asked name names = λ j. list_any (λ other. bytes_eq-sym other name j) names
 
   asked_brings : (asked : ℕ) (statement : Option Statement) (db : SqlDatabase) → is_database db.tables ≡ true
       → refers db.tables child parent ≡ true → Brings (asked_act asked (lists_of statement db))

@@ -180,11 +180,11 @@ named_later ps qs grows same named = record {
 
 -- ---- one more child
 
-none_is_one : (xs : List ℕ) (x : ℕ) → [] ≢ (xs ++ x ∷ [])
+pub none_is_one : (xs : List ℕ) (x : ℕ) → [] ≢ (xs ++ x ∷ [])
 none_is_one [] x same = absurd cc
 none_is_one (y ∷ xs) x same = absurd cc
 
-last_parts : (xs ys : List ℕ) (x y : ℕ) → xs ++ x ∷ [] ≡ ys ++ y ∷ [] → (xs ≡ ys) × (x ≡ y)
+pub last_parts : (xs ys : List ℕ) (x y : ℕ) → xs ++ x ∷ [] ≡ ys ++ y ∷ [] → (xs ≡ ys) × (x ≡ y)
 last_parts [] [] x y same = let last : x ≡ y = cc in (refl, last)
 last_parts [] (b ∷ ys) x y same = let rest : [] ≡ ys ++ y ∷ [] = cc in absurd (none_is_one ys y rest)
 last_parts (a ∷ xs) [] x y same = let rest : [] ≡ xs ++ x ∷ [] = cc in absurd (none_is_one xs x rest)

@@ -11,18 +11,10 @@ use Rattle.run_model.specs.SqlDatabase.{sql_base}
 use Rattle.run_model.specs.Start.{start_script, start_state}
 use Rattle.run_model.specs.State.{State, StepResult}
 use Rattle.run_model.specs.WorldRun.{steps_in, steps_by}
-use Rattle.run_model.proofs.Equations.{run-zero, run-over, run-suc, steps-zero, steps-over, steps-suc}
+use Rattle.run_model.proofs.Equations.{run-zero, run-over, run-suc, steps-suc}
+use Rattle.run_model.proofs.StepActs.{few_steps}
 
 module _ {Db : Type 0} (base : Base Db) where
-  pub steps_most : (n : ℕ) (picks : List ℕ) (s : State Db) → steps base n picks s ≤ n
-  steps_most zero picks s = omega (arith, steps-zero base picks s)
-  steps_most (suc n) picks s = elim (cases_Bool (is_over s.core)) [
-    | inl over ↦ omega (arith, steps-over base (suc n) picks s over)
-    | inr going ↦
-        omega
-        (arith, steps-suc base n picks s going, steps_most n (later_picks picks) (move base (first_pick picks) s).state)
-  ]
-
   no_step : (n : ℕ) (picks : List ℕ) (s : State Db) → steps base n picks s ≤ 0 → run base n picks s ≡ s
   no_step zero picks s none = run-zero base picks s
   no_step (suc n) picks s none = elim (cases_Bool (is_over s.core)) [
@@ -57,5 +49,5 @@ module _ {Db : Type 0} (base : Base Db) where
 pub steps_at_most : (n : ℕ) (picks : List ℕ) (w : World) → steps_by n picks w ≤ n
 steps_at_most n picks w = elim (cases-option (start_script w)) [
   | inl none ↦ omega (arith, ap (steps_in n picks w) none)
-  | inr found ↦ omega (arith, ap (steps_in n picks w) found.1, steps_most sql_base n picks (start_state w found.0))
+  | inr found ↦ omega (arith, ap (steps_in n picks w) found.1, few_steps sql_base n picks (start_state w found.0))
 ]

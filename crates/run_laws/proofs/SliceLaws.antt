@@ -87,7 +87,7 @@ module _ (all : List Event) where
   own_table_same : (t : Table) → own_table (packed_table all t) ≡ cut_table (slice_cut all) t
   own_table_same t = λ j. record { name = t.name; schema = t.schema; rows = own_rows t.name t.rows j; next = t.next }
 
-  own_tables : (tables : List Table) → map own_table (tables_needed all tables) ≡ cut_tables (slice_cut all) tables
+  pub own_tables : (tables : List Table) → map own_table (tables_needed all tables) ≡ cut_tables (slice_cut all) tables
   own_tables [] = refl
   own_tables (t ∷ ts) = elim (cases_Bool (is_table_needed all t.name)) [
     | inl needed ↦ rw needed (λ j. own_table_same t j ∷ own_tables ts j)
@@ -101,7 +101,7 @@ own_law n w =
 
 -- ---- packed tables have their parents among them
 
-own_catalog : (ts : List PackedTable) → catalog_of (map own_table ts) ≡ packed_catalog ts
+pub own_catalog : (ts : List PackedTable) → catalog_of (map own_table ts) ≡ packed_catalog ts
 own_catalog ts = λ j. record {
   names = map-map (λ (t : Table). t.name) own_table ts j;
   schemas = map-map (λ (t : Table). t.schema) own_table ts j;

@@ -63,7 +63,7 @@ pub sorted_all : (P : Process → Type 0) (ps : List Process) → AllByRecursion
 sorted_all P [] all = tt
 sorted_all P (p ∷ ps) all = insert_all P p (by_name ps) all.0 (sorted_all P ps all.1)
 
-abbrev Apart : Process → Process → Type 0
+abbrev pub Apart : Process → Process → Type 0
 Apart p q = p.name ≢ q.name
 
 insert_rises : (p : Process) (qs : List Process) → AllByRecursion (Apart p) qs → Rises qs → Rises (insert_by_name p qs)

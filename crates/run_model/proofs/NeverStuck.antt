@@ -80,7 +80,7 @@ with_ordered number p q c is same ordered =
     (subst (AllByRecursion (IsAbove (0 + number))) (sym same) (found_above number p c is ordered)) ordered
 
 -- of no file anything is to be known
-abbrev Any : List ℕ → Type 0
+abbrev pub Any : List ℕ → Type 0
 Any path = Unit {0}
 
 kept_ordered : (number : ℕ) (p q : Process) (c : Core) → slice_get c.processes number ≡ Some p → Keeps Any p q → Ordered c

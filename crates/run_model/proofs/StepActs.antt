@@ -173,7 +173,7 @@ quiet_few number p c is none =
 
 -- ---- a move, and a run
 
-none_is : (o : Option ℕ) (b : Bool) → (is_none o && b) ≡ true → o ≡ None
+pub none_is : (o : Option ℕ) (b : Bool) → (is_none o && b) ≡ true → o ≡ None
 none_is None b is = refl
 none_is (Some status) b is = absurd cc
 

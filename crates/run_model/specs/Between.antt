@@ -1,10 +1,10 @@
 -- The slice of a world, and the worlds that lie between the slice and the world: by what is in them, and as
 -- the world without what is cut.
-use Rattle.std.specs.Prelude.{◌≡◌, ◌⊎◌, ℕ, ◌==◌, List, [], ◌∷◌, map, filter, Bool, true, ◌&&◌}
+use Rattle.std.specs.Prelude.{◌≡◌, ◌⊎◌, ℕ, List, [], ◌∷◌, map, filter, Bool, true}
 use Rattle.std.specs.Prelude.{Option, Some, None, is_some}
 use Rattle.std.specs.List.{list_any, filter_map}
 use Rattle.sql_model.specs.ForeignKeys.{have_parents}
-use Rattle.sql_model.specs.Scope.{is_table, catalog_of}
+use Rattle.sql_model.specs.Scope.{catalog_of, has_row}
 use Rattle.run_model.specs.Types.{File, Table, TableRow, Event, World}
 use Rattle.run_model.specs.Slice.{FileNeed, Whole, Present, file_need, first_reason, is_table_needed}
 use Rattle.run_model.specs.SqlDatabase.{SqlDatabase}
@@ -128,10 +128,6 @@ KeepsFile (Some Present) (Other bytes) = Unit {0}
 KeepsFile None Gone = Unit {0}
 KeepsFile None Same = Unit {0}
 KeepsFile None (Other bytes) = ⊥
-
--- a table of the name has a row of the number
-abbrev pub has_row : List ℕ → ℕ → Table → Bool
-has_row name number table = is_table name table && list_any (λ row. row.number == number) table.rows
 
 -- the world of a run has the row from the start; a row that the run makes is never cut
 abbrev pub is_initial : List Table → List ℕ → ℕ → Bool

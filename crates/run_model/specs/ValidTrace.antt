@@ -79,6 +79,24 @@ is_asked (acts.Waited child) = false
 is_asked (acts.Ended status) = false
 is_asked (acts.Asked statement tables reads made) = true
 
+-- whether a child was made
+abbrev pub is_spawn : Act → Bool
+is_spawn (acts.Started path) = false
+is_spawn (acts.Spawned path) = true
+is_spawn (acts.Unspawned path found) = false
+is_spawn (acts.OpenedRead path) = false
+is_spawn (acts.OpenedWrite path) = false
+is_spawn (acts.OpenedAppend path found) = false
+is_spawn (acts.OpenedNew path) = false
+is_spawn (acts.Unopened path found) = false
+is_spawn (acts.Read path) = false
+is_spawn (acts.Wrote path) = false
+is_spawn (acts.Removed path) = false
+is_spawn (acts.Tested path found) = false
+is_spawn (acts.Waited child) = false
+is_spawn (acts.Ended status) = false
+is_spawn (acts.Asked statement tables reads made) = false
+
 abbrev pub asked_after : ℕ → Bool → ℕ
 asked_after asked true = asked + 1
 asked_after asked false = asked

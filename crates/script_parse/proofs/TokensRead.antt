@@ -24,7 +24,7 @@ use Rattle.ldv_value.proofs.Booleans.{not-so}
 use Rattle.ldv_value.proofs.Lists.{append-nil}
 use Rattle.ldv_value.proofs.Scanning.{before-none, stays-run, stays-only}
 
-blank_low : (b : ℕ) → IsTrue (is_blank b) → b < 128
+pub blank_low : (b : ℕ) → IsTrue (is_blank b) → b < 128
 blank_low b h = elim (cases_Bool (b == 32)) [
   | inl space ↦ omega (arith, eqb-true b 32 space)
   | inr other ↦ let h2 : (b == 9) ≡ true = rw other at h in omega (arith, eqb-true b 9 h2)
@@ -131,7 +131,7 @@ utf8_blanks : (front rest : List ℕ) → AreBlanks front → IsUtf8 (front ++ r
 utf8_blanks [] rest h u = u
 utf8_blanks (b ∷ front) rest h u = utf8_blanks front rest h.1 (utf8-tail b (front ++ rest) (blank_low b h.0) u)
 
-utf8_parts : (piece rest : List ℕ) → EndsToken rest → IsUtf8 (piece ++ rest) → IsUtf8 piece × IsUtf8 rest
+pub utf8_parts : (piece rest : List ℕ) → EndsToken rest → IsUtf8 (piece ++ rest) → IsUtf8 piece × IsUtf8 rest
 utf8_parts piece [] ends u = (subst IsUtf8 (append-nil piece) u, IsUtf8-nil)
 utf8_parts piece (b ∷ rest) ends u = utf8-cut piece b rest (blank_low b ends) u
 

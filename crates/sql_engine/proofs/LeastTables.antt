@@ -7,16 +7,10 @@ use Rattle.std.proofs.lemmas.Bool.{cases_Bool}
 use Rattle.ldv_value.proofs.Booleans.{or-cases}
 use Rattle.ldv_value.proofs.Lists.{list_any-append}
 use Rattle.ldv_value.proofs.SameBytes.{bytes_eq-true}
-use Rattle.sql_laws.proofs.ParentTables.{Among, Refers}
+use Rattle.sql_laws.proofs.ParentTables.{Among, Refers, taken, left}
 use Rattle.sql_model.specs.ForeignKeys.{NamedSchema, name_of, is_among, parent_names, close}
 use Rattle.sql_model.specs.Scope.{same_text}
 use Rattle.sql_model.specs.declared.table.Foreign.{Foreign}
-
-abbrev taken : List (List ℕ) → List NamedSchema → List NamedSchema
-taken names rest = filter (is_among names) rest
-
-abbrev left : List (List ℕ) → List NamedSchema → List NamedSchema
-left names rest = filter (λ t. not (is_among names t)) rest
 
 -- what is among those that pass a test is among all, and passes it
 filtered : (p : NamedSchema → Bool) (t : NamedSchema) (us : List NamedSchema) → Among t (filter p us) → Among t us × (p t ≡ true)

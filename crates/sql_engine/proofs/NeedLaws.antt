@@ -18,7 +18,7 @@ use Rattle.core_parts.proofs.RowLists.{IsBefore, Rises, sorted_united, read_unit
 use Rattle.ldv_value.proofs.Booleans.{or-right, t-first, t-second}
 use Rattle.ldv_value.proofs.Orderings.{t-less}
 use Rattle.ldv_value.proofs.SameBytes.{bytes_eq-true}
-use Rattle.lineage.specs.Lineage.{Row, row_cmp, Lineage, version_at, name_at, member, members_of, member_cmp}
+use Rattle.lineage.specs.Lineage.{Row, row_cmp, Lineage, version_at, name_at, member, members_of}
 use Rattle.lineage.specs.StandsFor.{origin_at, StandsFor}
 use Rattle.lineage.proofs.Laws.{row_total, same_row}
 use Rattle.lineage.proofs.Listed.{members-sorted}
@@ -31,6 +31,7 @@ use Rattle.sql_model.specs.Origins.{is_origin, has_origin, SameSet, RuleOrigins}
 use Rattle.sql_model.proofs.OriginSets.{origin-same, origin-itself}
 use Rattle.sql_model.specs.QueryAnswer.{Origin}
 use Rattle.sql_model.specs.Scope.{same_text}
+use Rattle.sql_model.specs.MemberOrder.{member_cmp}
 
 -- the table of a row has a name
 abbrev pub IsNamedIn : List (List ℕ) → Origin → Type 0

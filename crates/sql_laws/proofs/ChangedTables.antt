@@ -51,7 +51,7 @@ change_parts s catalog t is =
     let two = else-parts (key_refusal t (key_clash (table_after s catalog t))) (refusal_if (is_full s t) Full) one.1 in
     (if-none (lacks_value s catalog t) NotNull one.0, clash_none t (key_clash (table_after s catalog t)) two.0, if-none (is_full s t) Full two.1)
 
-second_of : (a b : Bool) → (a || not b) ≡ false → b ≡ true
+pub second_of : (a b : Bool) → (a || not b) ≡ false → b ≡ true
 second_of true b is = cc
 second_of false true is = refl
 second_of false false is = cc

@@ -128,7 +128,7 @@ described_by (t ∷ ts) = λ j. is_described t && described_by ts j
 abbrev all_named : Catalog → Bool
 all_named catalog = list_all named_test (zip catalog.names catalog.schemas)
 
-distinct_in : (t : Table) → is_described t ≡ true → are_distinct t.schema.columns ≡ true
+pub distinct_in : (t : Table) → is_described t ≡ true → are_distinct t.schema.columns ≡ true
 distinct_in t is =
     let columns = t.schema.columns in
     let key = t.schema.key in

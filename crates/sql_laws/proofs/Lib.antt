@@ -7,6 +7,7 @@ pub mod FewerTablesChanges
 pub mod FewerTablesQueries
 pub mod ItemLists
 pub mod KeptClash
+pub mod KeyClashes
 pub mod KindLaws
 pub mod LeftRows
 pub mod LeftRowsRefusals

@@ -6,11 +6,12 @@ use Rattle.std.specs.List.{list_any, list_all}
 use Rattle.ldv_value.proofs.Booleans.{or-false}
 use Rattle.ldv_value.proofs.Lists.{list_any-append, filter-filter}
 use Rattle.sql_model.proofs.ReferenceLists.{any_fewer, any_split, any_replaced, lost_same}
-use Rattle.sql_model.proofs.UniqueRows.{values_in, apart_from}
+use Rattle.sql_model.proofs.UniqueRows.{apart_from}
 use Rattle.sql_model.specs.Changes.{is_matched, rows_of_insert, updated_row, matched, table_after}
 use Rattle.sql_model.specs.References.{has_key, is_lost}
 use Rattle.sql_model.specs.Scope.{own_scope}
 use Rattle.sql_model.specs.Tables.{are_keys_unique}
+use Rattle.sql_model.proofs.UniqueKeys.{values_in}
 use Rattle.sql_laws.specs.Types.{Value, Catalog, Statement, TheQuery, TheInsert, TheUpdate, TheDelete, Table, TableRow}
 use Rattle.sql_laws.specs.QueryLaw.{Keep, stays, cut_table}
 use Rattle.sql_laws.proofs.LeftRows.{KeepsNew}

@@ -12,6 +12,7 @@ use Rattle.ldv_value.proofs.SameBytes.{bytes_eq-true, bytes_eq-itself}
 use Rattle.sql_laws.specs.KindLaw.{is_typed_row}
 use Rattle.sql_laws.specs.Types.{Value, Null, Int, Text, Kind, IntKind, TextKind, AnyKind, TruthKind, Expr, Set, Column}
 use Rattle.sql_laws.proofs.KindLaws.{kind_law, row_law}
+use Rattle.sql_laws.proofs.FewerTables.{found_there}
 use Rattle.sql_model.specs.Changes.{plain_value, value_given, new_values, sets_column, value_set, updated_value, updated_values}
 use Rattle.sql_model.specs.Keys.{repeats}
 use Rattle.sql_model.specs.Kinds.{kind_of_column, are_comparable, row_kind, is_of_kind}
@@ -84,13 +85,6 @@ first_by (c ∷ cs) is =
 pub all_first : (columns : List Column) → are_distinct columns ≡ true → AllFirst columns columns
 all_first columns is = first_by columns (not-true (repeats same_text (column_names columns)) is)
 
-any_found : {X : Type 0} (p : X → Bool) (xs : List X) → list_any p xs ≡ true → (x : X) × (find p xs ≡ Some x)
-any_found p [] is = cc
-any_found p (x ∷ xs) is = elim (cases-bool (p x)) [
-  | inl hit ↦ (x, rw hit refl)
-  | inr miss ↦ let rest : list_any p xs ≡ true = rw miss at is in let more = any_found p xs rest in (more.0, rw miss more.1)
-]
-
 -- ---- INSERT
 
 plain_values : (columns : List Column) (exprs : List Expr) → list_all takes_value (zip columns exprs) ≡ true
@@ -110,7 +104,7 @@ module _ (columns : List Column) where
   named_value c first (n ∷ ns) [] there fit = refl
   named_value c first (n ∷ ns) (e ∷ es) there fit =
       let both = and-parts (has_column columns n) (list_all (has_column columns) ns) there in
-      let d = any_found (is_column n) columns both.0 in
+      let d = found_there (is_column n) columns both.0 in
       let here : list_all takes_value (zip (d.0 ∷ columns_named columns ns) (e ∷ es)) ≡ true = rw d.1 at fit in
       let parts = and-parts (takes_value (d.0, e)) (list_all takes_value (zip (columns_named columns ns) es)) here in
       elim (cases-bool (same_text n c.name)) [

@@ -11,8 +11,8 @@ use Rattle.ldv_value.proofs.SameBytes.{bytes_eq-itself}
 use Rattle.sql_laws.specs.Types.{Table, TableRow}
 use Rattle.sql_model.specs.Needs.{NeededRow}
 use Rattle.sql_laws.specs.QueryLaw.{Keep, stays, cut_tables, KeepsNeeded}
-use Rattle.sql_model.specs.Scope.{is_table}
-use Rattle.sql_laws.specs.StatementLaw.{has_row, keep_others}
+use Rattle.sql_model.specs.Scope.{is_table, has_row}
+use Rattle.sql_laws.specs.StatementLaw.{keep_others}
 use Rattle.sql_model.proofs.ValidTables.{table-parts}
 use Rattle.sql_model.specs.Tables.{is_valid_table, table_precedes, is_database}
 use Rattle.sql_model.proofs.NewNumbers.{row_precedes}

@@ -10,7 +10,7 @@ use Rattle.ldv_value.proofs.SameBytes.{bytes_eq-true}
 use Rattle.sql_model.proofs.Equations.{changed_name}
 use Rattle.sql_model.specs.Changes.{had_row, changed_in}
 use Rattle.sql_model.specs.QueryAnswer.{Origin}
-use Rattle.sql_model.specs.References.{reference, has_key, MissingParent, missing_key, missing_by, missing_parents, parents_in, parents_by, parents_of}
+use Rattle.sql_model.specs.References.{reference, has_key, missing_key, missing_by, missing_parents, parents_in, parents_by, parents_of}
 use Rattle.sql_model.specs.Scope.{same_text, is_table, table_at}
 use Rattle.sql_laws.specs.Types.{Value, Catalog, Foreign, Statement, Table, TableRow}
 use Rattle.sql_laws.specs.QueryLaw.{Keep, stays, cut_table, cut_tables}
@@ -18,6 +18,7 @@ use Rattle.sql_laws.proofs.LeftRows.{KeepsNew, KeepsAllNew, safe, stood_safe, ch
 use Rattle.sql_laws.proofs.QueryCombinations.{table_cut}
 use Rattle.sql_laws.proofs.QueryKeeps.{kept_origin, all_kept}
 use Rattle.sql_model.proofs.ReferenceLists.{any_kept}
+use Rattle.sql_model.proofs.ParentSchemas.{missing_if}
 
 -- what all that pass have, all have that pass after the first
 all_tail : {X : Type 0} (k q : X → Bool) (x : X) (xs : List X) → list_all k (filter q (x ∷ xs)) ≡ true
@@ -38,9 +39,6 @@ all_head k q x xs hit all =
 -- the table of a name has it
 pub found_named : (name : List ℕ) (db : List Table) (t : Table) → table_at name db ≡ Some t → t.name ≡ name
 found_named name db t found = bytes_eq-true t.name name (found-passes (is_table name) db t found)
-
-abbrev missing_if : Foreign → List Value → Bool → Option MissingParent
-missing_if foreign key has = if has then None else Some (record { parent = foreign.parent; key = key })
 
 abbrev origin_of : Foreign → TableRow → Origin
 origin_of foreign row = record { table = foreign.parent; row = row.number }

@@ -20,10 +20,10 @@ names_in tables = map name_of tables
 abbrev named_stays : KeepTables → NamedSchema → Bool
 named_stays tables named = tables named.0
 
-abbrev taken : List (List ℕ) → List NamedSchema → List NamedSchema
+abbrev pub taken : List (List ℕ) → List NamedSchema → List NamedSchema
 taken names rest = filter (is_among names) rest
 
-abbrev left : List (List ℕ) → List NamedSchema → List NamedSchema
+abbrev pub left : List (List ℕ) → List NamedSchema → List NamedSchema
 left names rest = filter (λ t. not (is_among names t)) rest
 
 none_in : (rest : List NamedSchema) → taken [] rest ≡ []

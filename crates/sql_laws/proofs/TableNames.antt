@@ -4,7 +4,7 @@ use Rattle.std.specs.Prelude.{Some, find, map, if◌then◌else◌}
 use Rattle.std.specs.List.{list_all}
 use Rattle.std.specs.declared.cmp.Ordering.TheVariants.{Less}
 use Rattle.std.specs.Cmp.Lexicographic.{slice_cmp}
-use Rattle.std.specs.Ordering.{nat_cmp, is_lt, is_eq, ordering_reverse}
+use Rattle.std.specs.Ordering.{nat_cmp, is_eq, ordering_reverse}
 use Rattle.std.proofs.lemmas.Cmp.{nat_list_cmp_total}
 use Rattle.std.proofs.lemmas.Map.Text.{is_eq-slice_cmp}
 use Rattle.ldv_value.proofs.Booleans.{and-parts, and-from}
@@ -17,10 +17,7 @@ use Rattle.sql_model.proofs.SortedLists.{sorted-all, sorted-tail}
 use Rattle.sql_model.specs.Scope.{same_text, is_table}
 use Rattle.sql_model.specs.Tables.{table_precedes}
 use Rattle.ldv_value.proofs.Orderings.{is_lt-true}
-
-pub text-trans : (a b c : List ℕ) → text_precedes a b ≡ true → text_precedes b c ≡ true → text_precedes a c ≡ true
-text-trans a b c first second =
-    ap is_lt (nat_list_cmp_total.trans a b c (is_lt-true (slice_cmp nat_cmp a b) first) (is_lt-true (slice_cmp nat_cmp b c) second))
+use Rattle.ldv_value.proofs.TextOrders.{text_trans}
 
 pub less-differs : (a b : List ℕ) → text_precedes a b ≡ true → same_text a b ≡ false
 less-differs a b is = sym (is_eq-slice_cmp a b) ∙ ap is_eq (is_lt-true (slice_cmp nat_cmp a b) is)
@@ -31,7 +28,7 @@ more-differs a b is =
     sym (is_eq-slice_cmp b a) ∙ ap is_eq (nat_list_cmp_total.antisymm b a ∙ ap ordering_reverse less)
 
 pub table-trans : (a b c : Table) → table_precedes a b ≡ true → table_precedes b c ≡ true → table_precedes a c ≡ true
-table-trans a b c first second = text-trans a.name b.name c.name first second
+table-trans a b c first second = text_trans a.name b.name c.name first second
 
 -- the tables after one have other names
 module _ (change : Table → Table) where

@@ -1,13 +1,13 @@
 -- The law of a statement's needed rows: over a database from which rows were left out that a statement
 -- doesn't need, and tables that it doesn't ask, its refusal, reply, needs and asked tables are the same, and
 -- the tables after it are those after it over the whole database without the same rows and tables.
-use Rattle.std.specs.Prelude.{◌≡◌, ℕ, ◌==◌, List, [], ◌∷◌, filter, Bool, true, not, ◌&&◌, ◌||◌, Option}
+use Rattle.std.specs.Prelude.{◌≡◌, ℕ, List, [], ◌∷◌, filter, Bool, true, not, ◌&&◌, ◌||◌, Option}
 use Rattle.std.specs.List.{list_any}
 use Rattle.sql_laws.specs.Types.{Statement, Table}
 use Rattle.sql_model.specs.ForeignKeys.{have_parents}
 use Rattle.sql_model.specs.Needs.{need_of, asked_tables}
 use Rattle.sql_laws.specs.QueryLaw.{Keep, cut_tables, KeepsNeeded}
-use Rattle.sql_model.specs.Scope.{same_text, is_table, catalog_of}
+use Rattle.sql_model.specs.Scope.{same_text, is_table, catalog_of, has_row}
 use Rattle.sql_model.specs.Statements.{refusal_of, reply_of, after}
 use Rattle.sql_model.specs.Tables.{is_database, tables_test}
 
@@ -26,10 +26,6 @@ cut_database tables keep db = filter (table_stays tables) (cut_tables keep db)
 abbrev pub KeepsAsked : KeepTables → List (List ℕ) → Type 0
 KeepsAsked tables [] = Unit {0}
 KeepsAsked tables (name ∷ names) = (tables name ≡ true) × KeepsAsked tables names
-
--- a table of the name has a row of the number
-abbrev pub has_row : List ℕ → ℕ → Table → Bool
-has_row name number table = is_table name table && list_any (λ row. row.number == number) table.rows
 
 -- only rows of the database are left out: a row that a statement appends stays, and an updated row goes
 -- with its number

@@ -18,7 +18,7 @@ number_of row = row.number
 abbrev pub row_precedes : TableRow → TableRow → Bool
 row_precedes a b = nat_lt a.number b.number
 
-abbrev is_under : ℕ → TableRow → Bool
+abbrev pub is_under : ℕ → TableRow → Bool
 is_under next row = nat_lt row.number next
 
 pub row-trans : (a b c : TableRow) → row_precedes a b ≡ true → row_precedes b c ≡ true → row_precedes a c ≡ true

@@ -88,7 +88,7 @@ none_missing tables foreigns rows =
 
 -- ---- one foreign key
 
-abbrev missing_if : Foreign → List Value → Bool → Option MissingParent
+abbrev pub missing_if : Foreign → List Value → Bool → Option MissingParent
 missing_if foreign key b = if b then None else Some (record { parent = foreign.parent; key = key })
 
 module _ (foreign : Foreign) (row : TableRow) where

@@ -19,7 +19,7 @@ use Rattle.sql_model.specs.Types.{Value}
 
 -- ---- a sorted list
 
-reverse_upto : (o : Ordering) → is_gt o ≡ true → is_gt (ordering_reverse o) ≡ false
+pub reverse_upto : (o : Ordering) → is_gt o ≡ true → is_gt (ordering_reverse o) ≡ false
 reverse_upto Less g = cc
 reverse_upto Equal g = cc
 reverse_upto Greater g = refl

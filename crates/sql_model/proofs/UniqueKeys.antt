@@ -16,7 +16,7 @@ use Rattle.sql_model.specs.Tables.{are_keys_unique}
 abbrev pub values_in : List TableRow → List (List Value)
 values_in rows = map (λ row. row.values) rows
 
-or_none : {A : Type 0} (a b : Option A) → option_or a b ≡ None → (a ≡ None) × (b ≡ None)
+pub or_none : {A : Type 0} (a b : Option A) → option_or a b ≡ None → (a ≡ None) × (b ≡ None)
 or_none None b is = (refl, is)
 or_none (Some x) b is = absurd (none-some x (sym is))
 

@@ -3,31 +3,27 @@ use Rattle.std.proofs.Common.{◌≡◌, ℕ, List, [], ◌∷◌, refl, sym, ap
 use Rattle.std.specs.Prelude.{map, filter, length, not, ◌&&◌, ◌==◌}
 use Rattle.std.specs.List.{list_any}
 use Rattle.std.specs.Ordering.{is_eq, ordering_reverse}
-use Rattle.std.specs.declared.cmp.Ordering.{Ordering}
-use Rattle.std.specs.declared.cmp.Ordering.TheVariants.{Less, Equal, Greater}
+use Rattle.std.specs.declared.cmp.Ordering.TheVariants.{Equal}
 use Rattle.std.specs.Cmp.Lexicographic.{slice_cmp}
 use Rattle.std.proofs.lemmas.Bool.{cases_Bool, not-true}
 use Rattle.ldv_value.specs.Order.{order}
 use Rattle.ldv_value.proofs.Booleans.{or-parts, or-left, or-right, not-so, true≢false}
+use Rattle.ldv_value.proofs.Orderings.{is_eq-true}
 use Rattle.sql_model.specs.KeyOrder.{values_total}
 use Rattle.sql_model.specs.Keys.{same_values, values_at, repeats}
 use Rattle.sql_model.specs.References.{has_key}
 use Rattle.sql_model.specs.Tables.{are_keys_unique}
 use Rattle.sql_model.specs.Types.{Value, TableRow}
 use Rattle.sql_model.proofs.ReferenceLists.{any_fewer}
+use Rattle.sql_model.proofs.UniqueKeys.{values_in}
 
 -- ---- two rows of one key
-
-equal_is : (o : Ordering) → is_eq o ≡ true → o ≡ Equal
-equal_is Less is = absurd cc
-equal_is Equal is = refl
-equal_is Greater is = absurd cc
 
 -- what is the same as a third is the same as each other
 pub same_both : (a b k : List Value) → same_values a k ≡ true → same_values b k ≡ true → same_values a b ≡ true
 same_both a b k one two =
-    let first : slice_cmp order a k ≡ Equal = equal_is (slice_cmp order a k) one in
-    let second : slice_cmp order b k ≡ Equal = equal_is (slice_cmp order b k) two in
+    let first : slice_cmp order a k ≡ Equal = is_eq-true (slice_cmp order a k) one in
+    let second : slice_cmp order b k ≡ Equal = is_eq-true (slice_cmp order b k) two in
     let turned : slice_cmp order k b ≡ Equal = values_total.antisymm k b ∙ ap ordering_reverse second in
     ap is_eq (values_total.congr a k b first ∙ turned)
 
@@ -63,9 +59,6 @@ unique_one same f p q alike (x ∷ xs) apart hit = elim (cases_Bool (p x)) [
 ]
 
 -- ---- rows of a table
-
-abbrev pub values_in : List TableRow → List (List Value)
-values_in rows = map (λ row. row.values) rows
 
 pub keys_apart : (key : List ℕ) (rows : List TableRow) (b : Bool) → (length key == 0) ≡ b → b ≡ false → are_keys_unique key (values_in rows) ≡ true
     → repeats same_values (map (values_at key) (values_in rows)) ≡ false

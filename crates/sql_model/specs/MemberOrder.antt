@@ -2,7 +2,7 @@
 use Rattle.std.specs.Prelude.{ℕ, Bool, true, false, nat_lt}
 use Rattle.std.specs.declared.cmp.Ordering.{Ordering}
 use Rattle.std.specs.declared.cmp.Ordering.TheVariants.{Less, Equal, Greater}
-use Rattle.std.specs.Ordering.{nat_cmp}
+use Rattle.std.specs.Ordering.{nat_cmp, ordering_then}
 use Rattle.std.specs.Cmp.Lexicographic.{slice_cmp}
 use Rattle.sql_model.specs.Types.{Member, Need}
 
@@ -16,3 +16,7 @@ member_precedes a b = row_after_table (slice_cmp nat_cmp a.table b.table) a.row 
 
 abbrev pub need_precedes : Need → Need → Bool
 need_precedes a b = member_precedes a.member b.member
+
+-- by the bytes of the table's name, then by the row's number
+abbrev pub member_cmp : Member → Member → Ordering
+member_cmp a b = ordering_then (slice_cmp nat_cmp a.table b.table) (nat_cmp a.row b.row)

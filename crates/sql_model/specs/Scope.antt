@@ -18,6 +18,10 @@ is_table name table = same_text table.name name
 abbrev pub table_at : List ℕ → List Table → Option Table
 table_at name db = find (is_table name) db
 
+-- a table of the name has a row of the number
+abbrev pub has_row : List ℕ → ℕ → Table → Bool
+has_row name number table = is_table name table && list_any (λ row. row.number == number) table.rows
+
 abbrev pub rows_of : Option Table → List TableRow
 rows_of None = []
 rows_of (Some table) = table.rows

@@ -212,7 +212,7 @@ blank_bytes : (piece : List ℕ) → AreBlanks piece → AllByRecursion (λ b. b
 blank_bytes [] h = tt
 blank_bytes (b ∷ piece) h = (omega (arith, blank_low b h.0), blank_bytes piece h.1)
 
-after_token : (t : Token) (piece rest : List ℕ) → IsUtf8 (piece ++ rest) → IsToken piece rest t → IsUtf8 rest
+pub after_token : (t : Token) (piece rest : List ℕ) → IsUtf8 (piece ++ rest) → IsToken piece rest t → IsUtf8 rest
 after_token (Word w) [] rest u (inl (is, e, ends)) = absurd is
 after_token (Word w) (b ∷ piece) rest u (inl (is, e, ends)) = utf8-rest (b ∷ piece) rest (omega (arith, (letter_range b is.0).1), inside_bytes piece is.1) u
 after_token (Word w) piece rest u (inr (is, e, whole)) = utf8-rest piece rest (symbol_low piece is) u

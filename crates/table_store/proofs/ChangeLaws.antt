@@ -258,7 +258,7 @@ still_ready old new number time low (first ∷ rest) others below rise ready =
 
 -- ---- ready for a change
 
-count_from : (first : Change) (rest : List Change) → IsSortedFrom first.time rest → first.time + length rest ≤ last_time (first ∷ rest)
+pub count_from : (first : Change) (rest : List Change) → IsSortedFrom first.time rest → first.time + length rest ≤ last_time (first ∷ rest)
 count_from first [] sorted = omega arith
 count_from first (next ∷ rest) sorted = omega (arith, sorted.0, count_from next rest sorted.1)
 

@@ -15,13 +15,13 @@ use Rattle.ldv_value.proofs.Options.{none-some, same-some}
 use Rattle.sql_model.specs.KeyOrder.{key_order, values_total}
 use Rattle.sql_model.specs.Keys.{same_values, values_at}
 use Rattle.sql_model.specs.Meaning.{is_null}
-use Rattle.sql_model.specs.References.{reference}
+use Rattle.sql_model.specs.References.{reference, has_key}
+use Rattle.sql_model.proofs.SameValues.{same_exact}
 use Rattle.table_store.specs.inner.ChildPairs.{AreReferred, IsFirstFrom, IsNextOf, IsReferred, KeepBut, KeepPairs, Pairs, no_foreign, pair_as, refers}
 use Rattle.table_store.specs.Histories.{RowHistory, no_history, row_now, rows_now}
-use Rattle.table_store.specs.KeyIndex.{has_key, int_key}
+use Rattle.table_store.specs.KeyIndex.{int_key}
 use Rattle.table_store.specs.RowOrder.{AreInOrder}
 use Rattle.table_store.specs.Types.{Foreign, TableRow, Value}
-use Rattle.table_store.proofs.IndexLaws.{same_exact}
 use Rattle.table_store.proofs.IndexViewLaws.{int_tied}
 use Rattle.table_store.proofs.StandingRows.{InSlot, all-in-slots, number-is}
 

@@ -19,12 +19,13 @@ use Rattle.sql_model.specs.Keys.{same_values, values_at}
 use Rattle.sql_model.specs.Meaning.{is_null}
 use Rattle.sql_model.specs.References.{Child, Orphan, has_key, orphan_by, reference}
 use Rattle.sql_model.specs.Scope.{is_table, same_text}
+use Rattle.sql_model.proofs.SameValues.{same_exact}
 use Rattle.table_store.specs.inner.Afterwards.{in_set, loses, orphan_in_row, orphan_in_other, orphan_in_slot}
 use Rattle.table_store.specs.Histories.{RowHistory, is_of_number, no_history, numbered_row, row_now, row_of, rows_now, slot_of_row}
 use Rattle.table_store.specs.RowOrder.{AreInOrder}
 use Rattle.table_store.specs.Stops.{is_among}
 use Rattle.table_store.specs.Types.{Foreign, RowKey, Table, TableRow, Value}
-use Rattle.table_store.proofs.IndexLaws.{no_slot_has, row_in_slot, same_exact}
+use Rattle.table_store.proofs.IndexLaws.{no_slot_has, row_in_slot}
 use Rattle.table_store.proofs.PutLaws.{any_same, bool_same}
 use Rattle.table_store.proofs.StandingRows.{not-there, there-by-number}
 use Rattle.table_store.proofs.TableLaws.{slot_here_is}

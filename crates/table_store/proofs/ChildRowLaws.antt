@@ -10,11 +10,12 @@ use Rattle.std.proofs.lemmas.List.{take_more}
 use Rattle.ldv_value.proofs.Booleans.{and-false, or-false, or-parts, true≢false}
 use Rattle.ldv_value.proofs.Lists.{list_any-append, list_any-false}
 use Rattle.ldv_value.proofs.Options.{none-some}
+use Rattle.ldv_value.specs.Options.{first_some}
 use Rattle.row_version.specs.History.{current_values}
 use Rattle.sql_model.specs.Keys.{same_values}
 use Rattle.sql_model.specs.References.{Orphan, child_of, orphan_by, reference}
 use Rattle.sql_model.specs.Scope.{is_table, same_text}
-use Rattle.table_store.specs.inner.Afterwards.{first_some, in_set, is_other, orphan_in_other, orphan_in_row, orphan_in_slot, orphan_in_table}
+use Rattle.table_store.specs.inner.Afterwards.{in_set, is_other, orphan_in_other, orphan_in_row, orphan_in_slot, orphan_in_table}
 use Rattle.table_store.specs.inner.ChildPairs.{IsNextOf, first_number, given_in, is_child, is_child_by, is_child_in, is_child_of, lower_of, refers}
 use Rattle.table_store.specs.inner.ChildSteps.{AreFrom, IsStep, after}
 use Rattle.table_store.specs.Histories.{RowHistory, TableHistory, no_history, row_now, row_of, rows_now, slot_of_row, table_now}
@@ -25,9 +26,7 @@ use Rattle.table_store.specs.declared.child_rows.Search.TheVariants.{Ends, GoesO
 use Rattle.table_store.proofs.FirstLaws.{first_filtered}
 use Rattle.table_store.proofs.InsertLaws.{AllRows, RisesFrom, rows_below, rows_rise}
 use Rattle.table_store.proofs.StandingRows.{slot-has}
-
-some_number : {a b : ℕ} → Some a ≡ Some b → a ≡ b
-some_number is = cc
+use Rattle.table_store.proofs.GivenKeyLaws.{some_is}
 
 -- ---- the first of two
 
@@ -35,7 +34,7 @@ first_above : (p : TableRow → Bool) (low : ℕ) (rows : List TableRow) → Ris
 first_above p low [] rises n is = cc
 first_above p low (row ∷ rows) rises n is = elim (cases_Bool (p row)) [
   | inl hit ↦
-      let e : row.number ≡ n = some_number (sym (ap (λ b. option_map (λ (r : TableRow). r.number) (cond b (Some row) (find p rows))) hit) ∙ is) in
+      let e : row.number ≡ n = some_is (sym (ap (λ b. option_map (λ (r : TableRow). r.number) (cond b (Some row) (find p rows))) hit) ∙ is) in
       omega (arith, e, rises.0)
   | inr miss ↦
       let later : row.number + 1 ≤ n = first_above p (row.number + 1) rows rises.1 n (sym (ap (λ b. option_map (λ (r : TableRow). r.number) (cond b (Some row) (find p rows))) miss) ∙ is) in
@@ -83,7 +82,7 @@ lower_or p q low (row ∷ rows) rises =
     by : (a b : Bool) → p row ≡ a → q row ≡ b → first_number (λ r. p r || q r) rows ≡ lower_of (first_number p rows) (first_number q rows)
         → option_map (λ (r : TableRow). r.number) (cond (a || b) (Some row) (find (λ r. p r || q r) rows))
         ≡ lower_of (option_map (λ (r : TableRow). r.number) (cond a (Some row) (find p rows))) (option_map (λ (r : TableRow). r.number) (cond b (Some row) (find q rows)))
-    by true true ip iq more = lower_left row.number (Some row.number) (λ m is. let e : row.number ≡ m = some_number is in omega (arith, e))
+    by true true ip iq more = lower_left row.number (Some row.number) (λ m is. let e : row.number ≡ m = some_is is in omega (arith, e))
     by true false ip iq more = lower_left row.number (first_number q rows) (past q)
     by false true ip iq more = lower_right row.number (first_number p rows) (past p)
     by false false ip iq more = more

@@ -6,8 +6,8 @@ use Rattle.std.specs.List.{flat_map, filter_map, cons_option, list_any}
 use Rattle.std.specs.Option.{option_map, option_and_then, option_or}
 use Rattle.std.proofs.lemmas.Bool.{cases_Bool}
 use Rattle.ldv_value.proofs.Booleans.{or-parts}
+use Rattle.ldv_value.specs.Options.{first_some}
 use Rattle.sql_model.specs.References.{first_in}
-use Rattle.table_store.specs.inner.Afterwards.{first_some}
 
 module _ {X Y : Type 0} (f : X → Option Y) where
   -- ---- a walk over the items

@@ -12,7 +12,7 @@ use Rattle.ldv_value.specs.Sorted.{is_strictly_sorted}
 use Rattle.sql_model.proofs.Databases.{database-from, parents_of_database, valid_of_database}
 use Rattle.sql_model.specs.ForeignKeys.{have_parents}
 use Rattle.sql_model.proofs.NewNumbers.{numbers-insert, numbers-map, numbers-filter, next-within}
-use Rattle.sql_model.proofs.UniqueKeys.{unique-clash, unique-fewer}
+use Rattle.sql_model.proofs.UniqueKeys.{unique-clash, unique-fewer, or_none}
 use Rattle.sql_model.proofs.ValidTables.{TableParts, table-parts, table-from, row_from}
 use Rattle.sql_model.specs.Changes.{KeyClash, has_null, key_clash, numbered_rows}
 use Rattle.sql_model.specs.Tables.{AreWellFormed, are_distinct, each_value, has_kind, have_distinct_columns, is_database, is_row, is_valid_table, table_precedes}
@@ -22,10 +22,6 @@ use Rattle.table_store.specs.declared.error.StoreStop.{StoreStop}
 use Rattle.table_store.specs.declared.error.StoreStop.TheVariants.{NotNull, Full}
 
 -- ---- what no stop says
-
-pub or_none : {A : Type 0} (a b : Option A) → option_or a b ≡ None → (a ≡ None) × (b ≡ None)
-or_none None b is = (refl, is)
-or_none (Some x) b is = absurd (none-some x (sym is))
 
 if_none : (b : Bool) (stop : StoreStop) → stop_if b stop ≡ None → b ≡ false
 if_none true stop is = absurd (none-some stop (sym is))
@@ -51,7 +47,7 @@ given_rows columns (row ∷ rows) shape null =
     (row_from columns row.values ((Decides-eqb (length row.values) (length columns)).0 one.0) one.1 parts.0)
     (given_rows columns rows both.1 parts.1)
 
-values_numbered : (n : ℕ) (rows : List (List Value)) → values_of (numbered_rows n rows) ≡ rows
+pub values_numbered : (n : ℕ) (rows : List (List Value)) → values_of (numbered_rows n rows) ≡ rows
 values_numbered n [] = refl
 values_numbered n (values ∷ rows) = ap (λ (l : List (List Value)). values ∷ l) (values_numbered (n + 1) rows)
 

@@ -7,31 +7,29 @@ use Rattle.std.specs.BTreeMap.{is_at}
 use Rattle.std.proofs.lemmas.Bool.{cases_Bool, cases_lt, ne_eqb, eqb-true, ltb-true, lt-ltb, le-ltb}
 use Rattle.std.proofs.lemmas.List.{take_more}
 use Rattle.std.proofs.lemmas.List.Folds.{find-append}
-use Rattle.ldv_value.proofs.Booleans.{and-parts, and-false, false≢true}
+use Rattle.ldv_value.proofs.Booleans.{and-parts, and-false, false≢true, or-right}
 use Rattle.sql_model.specs.Changes.{KeyClash, clash_or, clash_after, shares_key}
 use Rattle.sql_model.specs.KeyOrder.{key_order}
 use Rattle.sql_model.specs.Keys.{same_values, values_at, key_at}
+use Rattle.sql_model.specs.References.{has_key}
+use Rattle.sql_model.proofs.SameValues.{same_exact}
 use Rattle.table_store.specs.Types.{Value, RowKey, TableRow}
 use Rattle.table_store.specs.inner.Claims.{IsIndexOf, both_stop}
 use Rattle.table_store.specs.inner.GivenKeys.{with_claims, unless_given, keeper, clash_of, earlier_clash, first_clash, is_below, IsLate, HasKeyAt, IsClash, AreJudged}
-use Rattle.table_store.specs.KeyIndex.{has_key, row_of_key, HeldKeys, AreHeld}
+use Rattle.table_store.specs.KeyIndex.{row_of_key, HeldKeys, AreHeld}
 use Rattle.table_store.specs.Stops.{replaced_by, are_sorted_rows}
 use Rattle.table_store.specs.declared.clash.Clash.{Clash}
 use Rattle.table_store.specs.declared.error.StoreStop.TheVariants.{KeyTaken}
-use Rattle.table_store.proofs.IndexLaws.{same_itself, same_exact, any_alike, split_at}
+use Rattle.table_store.proofs.IndexLaws.{same_itself, any_alike, split_at}
 use Rattle.table_store.proofs.InsertLaws.{AllRows, all_append, all_weaker, found_all, RisesFrom, apart_key, clash_front}
 use Rattle.table_store.proofs.KeptKeyLaws.{rises_replaced, all_more}
 use Rattle.table_store.proofs.RekeyLaws.{index_none, index_more}
 use Rattle.table_store.proofs.TableLaws.{number_found}
 
-some_is : {X : Type 0} {a b : X} → Some a ≡ Some b → a ≡ b
+pub some_is : {X : Type 0} {a b : X} → Some a ≡ Some b → a ≡ b
 some_is same = cc
 
 -- ---- rows that are found
-
-or_right : (a b : Bool) → b ≡ true → (a || b) ≡ true
-or_right true b is = refl
-or_right false b is = is
 
 found_is : (p : TableRow → Bool) (rows : List TableRow) (row : TableRow) → find p rows ≡ Some row → p row ≡ true
 found_is p [] row is = cc
@@ -67,7 +65,7 @@ any_found : (q p : TableRow → Bool) (rows : List TableRow) (row : TableRow) �
 any_found q p [] row is hit = cc
 any_found q p (first ∷ rows) row is hit = elim (cases_Bool (p first)) [
   | inl here ↦ ap (λ b. b || list_any q rows) (subst (λ (r : TableRow). q r ≡ true) (sym (some_is (sym (ap (λ b. cond b (Some first) (find p rows)) here) ∙ is))) hit)
-  | inr miss ↦ or_right (q first) (list_any q rows) (any_found q p rows row (sym (ap (λ b. cond b (Some first) (find p rows)) miss) ∙ is) hit)
+  | inr miss ↦ or-right (q first) (list_any q rows) (any_found q p rows row (sym (ap (λ b. cond b (Some first) (find p rows)) miss) ∙ is) hit)
 ]
 
 none_below : (number low : ℕ) (rows : List TableRow) → number < low → RisesFrom low rows → find (λ new. new.number == number) rows ≡ None
@@ -145,7 +143,7 @@ module _ (places : List ℕ) (k : List Value) where
   any_front number [] ys none has = absurd (false≢true (sym none ∙ has))
   any_front number (x ∷ xs) ys none has = elim (cases_Bool (is_it number x)) [
     | inl hit ↦ ap (λ b. b || list_any (is_it number) xs) hit
-    | inr miss ↦ or_right (is_it number x) (list_any (is_it number) xs) (any_front number xs ys none (sym (ap (λ b. b || list_any (is_it number) (xs ++ ys)) miss) ∙ has))
+    | inr miss ↦ or-right (is_it number x) (list_any (is_it number) xs) (any_front number xs ys none (sym (ap (λ b. b || list_any (is_it number) (xs ++ ys)) miss) ∙ has))
   ]
 
   module _ (held : HeldKeys) where
@@ -175,7 +173,7 @@ all_have places [] = tt
 all_have places (row ∷ rows) = (
   ap (λ b. b || list_any (is_it places (values_at places row.values) row.number) rows) (is_so places (values_at places row.values) row.number row refl refl),
   all_weaker (λ one. HasKeyAt places (values_at places one.values) rows one.number) (λ one. HasKeyAt places (values_at places one.values) (row ∷ rows) one.number)
-      (λ one has. or_right (is_it places (values_at places one.values) one.number row) (list_any (is_it places (values_at places one.values) one.number) rows) has) rows (all_have places rows),
+      (λ one has. or-right (is_it places (values_at places one.values) one.number row) (list_any (is_it places (values_at places one.values) one.number) rows) has) rows (all_have places rows),
 )
 
 -- ---- the first clash of rows
@@ -228,7 +226,7 @@ module _ (places : List ℕ) (rows given : List TableRow) where
         let here : replaced_by given row ≡ new = ap (λ (n : ℕ). unwrap_or (find (λ one. one.number == n) given) row) (eqb-true row.number number hit) ∙ ap (λ (o : Option TableRow). unwrap_or o row) is in
         ap (λ b. b || list_any (is_it places (values_at places new.values) number) (map (replaced_by given) some))
         (ap (is_it places (values_at places new.values) number) here ∙ is_so places (values_at places new.values) number new (number_found number given new is) refl)
-    | inr miss ↦ or_right (is_it places (values_at places new.values) number (replaced_by given row)) (list_any (is_it places (values_at places new.values) number) (map (replaced_by given) some))
+    | inr miss ↦ or-right (is_it places (values_at places new.values) number (replaced_by given row)) (list_any (is_it places (values_at places new.values) number) (map (replaced_by given) some))
         (given_has some number new is (sym (ap (λ b. b || list_any (λ one. one.number == number) some) miss) ∙ any))
   ]
 
@@ -238,7 +236,7 @@ module _ (places : List ℕ) (rows given : List TableRow) where
     | inl hit ↦
         let here : replaced_by given row ≡ row = ap (λ (n : ℕ). unwrap_or (find (λ one. one.number == n) given) row) (it_is places k number row hit).0 ∙ ap (λ (o : Option TableRow). unwrap_or o row) none in
         ap (λ b. b || list_any (is_it places k number) (map (replaced_by given) some)) (ap (is_it places k number) here ∙ hit)
-    | inr miss ↦ or_right (is_it places k number (replaced_by given row)) (list_any (is_it places k number) (map (replaced_by given) some)) (kept_has k some number none (skip places k number row some miss has))
+    | inr miss ↦ or-right (is_it places k number (replaced_by given row)) (list_any (is_it places k number) (map (replaced_by given) some)) (kept_has k some number none (skip places k number row some miss has))
   ]
 
   keeper_is : (k : List Value) (number : ℕ) → keeper places rows given k ≡ Some number → (find (λ one. one.number == number) given ≡ None) × HasKeyAt places k rows number

@@ -1,12 +1,13 @@
 -- Slots as a list.
-use Rattle.std.proofs.Common.{◌≡◌, ◌==◌, ◌≢◌, ℕ, zero, suc, ◌+◌, ◌<◌, ◌≤◌, inl, inr, Bool, true, false, ◌&&◌, List, [], ◌∷◌, ◌++◌, map, length, get_or, set, refl, ap, sym, subst, ◌∙◌, arith, get_or-set_same, get_or-set_other}
+use Rattle.std.proofs.Common.{◌≡◌, ◌≢◌, ℕ, zero, suc, ◌+◌, ◌<◌, ◌≤◌, inl, inr, Bool, true, false, ◌&&◌, List, [], ◌∷◌, ◌++◌, map, length, get_or, set, refl, ap, sym, subst, ◌∙◌, arith, get_or-set_same, get_or-set_other}
 use Rattle.std.specs.Prelude.{ℤ, zip, Option, Some, None, IfSome, slice_get}
 use Rattle.std.specs.List.{range_with_len, list_all}
-use Rattle.std.proofs.lemmas.Bool.{cases_lt, cases_eq, ne_eqb}
+use Rattle.std.proofs.lemmas.Bool.{cases_lt, cases_eq}
 use Rattle.std.proofs.lemmas.List.FromFn.{length-map-range_with_len, get_or-map-range_with_len, map-range_with_len_more, fill_by_all}
 use Rattle.std.proofs.lemmas.List.{get_or_past, length-set, length-map, get_or-map}
 use Rattle.std.proofs.lemmas.Option.{unwrap_or-slice_get}
 use Rattle.ldv_value.proofs.Booleans.{and-parts}
+use Rattle.ldv_value.proofs.SameBytes.{nat_eq-true}
 use Rattle.table_store.specs.Types.{Cmp, Value, Null}
 use Rattle.sql_model.specs.Scope.{value_at}
 use Rattle.column_store.specs.Cells.{Cells, is_of_kind}
@@ -228,12 +229,6 @@ grid_cleared numbers since standing columns next slot bit grid = record {
 
 -- ---- kinds
 
-eq_from : (m n : ℕ) → (m == n) ≡ true → m ≡ n
-eq_from m n is = elim (cases_eq m n) [
-  | inl same ↦ same
-  | inr other ↦ let none : false ≡ true = sym (ne_eqb m n other) ∙ is in cc
-]
-
 -- column by column
 pub fit_columns : (columns : List Cells) (values : List Value) → list_all (λ p. is_of_kind p.0 p.1) (zip (kinds_of columns) values) ≡ true → length values ≡ length (kinds_of columns) → FitColumns columns values
 fit_columns [] values fits long k within = absurd (omega (arith, within))
@@ -242,12 +237,12 @@ fit_columns (c ∷ columns) (v ∷ values) fits long zero within = (and-parts _ 
 fit_columns (c ∷ columns) (v ∷ values) fits long (suc k) within = fit_columns columns values (and-parts _ _ fits).1 (omega (arith, long)) k (omega (arith, within))
 
 pub fits_width : (columns : List Cells) (values : List Value) → fits_kinds (kinds_of columns) values ≡ true → length values ≡ length columns
-fits_width columns values fits = eq_from (length values) (length (kinds_of columns)) (and-parts _ _ fits).0 ∙ length-map columns (λ (column : Cells). column.text)
+fits_width columns values fits = nat_eq-true (length values) (length (kinds_of columns)) (and-parts _ _ fits).0 ∙ length-map columns (λ (column : Cells). column.text)
 
 pub fits_columns : (columns : List Cells) (values : List Value) → fits_kinds (kinds_of columns) values ≡ true → FitColumns columns values
 fits_columns columns values fits =
     let both = and-parts _ _ fits in
-    fit_columns columns values both.1 (eq_from (length values) (length (kinds_of columns)) both.0)
+    fit_columns columns values both.1 (nat_eq-true (length values) (length (kinds_of columns)) both.0)
 
 pub ruleset grid_rules = (slots_len, slot_is, seen_len, seen_slot)
 
@@ -270,7 +265,7 @@ column_there (c ∷ columns) (suc column) text is =
 pub column_within : (columns : List Cells) (kinds : List Bool) → kinds_of columns ≡ kinds → (column : ℕ) → slice_get kinds column ≡ Some false → (column < length columns) × ((get_or columns column no_cells).text ≡ false)
 column_within columns kinds seen column is = column_there columns column false (ap (λ (l : List Bool). slice_get l column) seen ∙ is)
 
-and_turned : (a b : Bool) → (a && b) ≡ (b && a)
+pub and_turned : (a b : Bool) → (a && b) ≡ (b && a)
 and_turned true true = refl
 and_turned true false = refl
 and_turned false true = refl

@@ -10,6 +10,7 @@ use Rattle.table_store.specs.KeyIndex.{HeldKeys, AreHeld}
 use Rattle.table_store.specs.RowOrder.{AreInOrder}
 use Rattle.table_store.proofs.ClaimLaws.{held_same}
 use Rattle.table_store.proofs.InsertLaws.{AllRows, all_append, all_weaker, rows_below}
+use Rattle.table_store.proofs.GivenKeyLaws.{some_is}
 
 abbrev pub both : HeldKeys → HeldKeys → HeldKeys
 both low high q = high_or (low q) (high q)
@@ -25,9 +26,6 @@ high_some low high above is = ap (high_or low) is
 pub widened : (places : List ℕ) (low high : HeldKeys) → ((q : RowKey) → high q ≡ None) → (rows : List TableRow)
     → AreHeld places low rows → AreHeld places (both low high) rows
 widened places low high none rows are = held_same places low (both low high) rows (λ q. ap (high_or (low q)) (none q)) are
-
-some_is : {a b : ℕ} → Some a ≡ Some b → a ≡ b
-some_is same = cc
 
 one_narrow : (low high : Option ℕ) (number : ℕ) → number < 2 ^ 32 → high_or low high ≡ Some number → low ≡ Some number
 one_narrow low None number few is = is

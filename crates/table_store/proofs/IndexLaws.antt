@@ -4,26 +4,23 @@ use Rattle.std.specs.Prelude.{find, IsSome, is_some, if◌then◌else◌}
 use Rattle.std.specs.List.{cons_option, list_any}
 use Rattle.std.specs.Option.{option_map, option_to_list}
 use Rattle.std.specs.Ordering.{is_eq}
-use Rattle.std.specs.Ordering.{ordering_then}
 use Rattle.std.specs.declared.cmp.Ordering.{Ordering}
-use Rattle.std.specs.declared.cmp.Ordering.TheVariants.{Less, Equal, Greater}
-use Rattle.std.proofs.lemmas.Map.Lookups.{exact_signed, exact_bytes}
-use Rattle.ldv_value.specs.declared.value.Value.TheVariants.{Null, Int, Text}
 use Rattle.std.specs.Cmp.{eq_by_cmp_equiv}
 use Rattle.std.specs.Cmp.Lexicographic.{slice_cmp}
 use Rattle.std.specs.BTreeMap.{is_at}
 use Rattle.std.proofs.lemmas.Bool.{cases_Bool, cases_lt, ne_eqb, eqb-true}
-use Rattle.ldv_value.proofs.Orderings.{is_eq-true}
 use Rattle.ldv_value.proofs.Booleans.{and-false, not-true, or-parts}
 use Rattle.ldv_value.specs.Order.{order}
 use Rattle.row_version.specs.History.{current_values}
 use Rattle.sql_model.specs.KeyOrder.{key_order, key_order_total}
 use Rattle.sql_model.specs.Keys.{same_values, values_at, key_at, repeats}
 use Rattle.sql_model.specs.Tables.{are_keys_unique}
+use Rattle.sql_model.specs.References.{has_key}
+use Rattle.sql_model.proofs.SameValues.{same_exact, same_turned}
 use Rattle.table_store.specs.Types.{Value, RowKey, TableRow}
 use Rattle.table_store.specs.Histories.{RowHistory, no_history, row_of, row_now, rows_now}
 use Rattle.table_store.specs.inner.IndexView.{held_in}
-use Rattle.table_store.specs.KeyIndex.{has_key, HeldKeys, AreHeld, AreIndexed}
+use Rattle.table_store.specs.KeyIndex.{HeldKeys, AreHeld, AreIndexed}
 use Rattle.table_store.specs.RowOrder.{AreInOrder}
 use Rattle.table_store.specs.declared.index.Index.{Index}
 
@@ -31,9 +28,6 @@ use Rattle.table_store.specs.declared.index.Index.{Index}
 
 abbrev pub key : List Value → RowKey
 key values = record { values = values }
-
-pub same_turned : (a b : List Value) → same_values a b ≡ same_values b a
-same_turned a b = (eq_by_cmp_equiv key_order_total).symm (key a) (key b)
 
 pub same_itself : (a : List Value) → same_values a a ≡ true
 same_itself a = (eq_by_cmp_equiv key_order_total).refl (key a)
@@ -50,30 +44,6 @@ number_some : (a b : ℕ) → Some a ≡ Some b → a ≡ b
 number_some a b is = cc
 
 -- ---- keys that are the same are equal
-
-order_exact : (x y : Value) → order x y ≡ Equal → x ≡ y
-order_exact Null Null is = refl
-order_exact Null (Int n) is = cc
-order_exact Null (Text t) is = cc
-order_exact (Int m) Null is = cc
-order_exact (Int m) (Int n) is = ap Int (exact_signed m n is)
-order_exact (Int m) (Text t) is = cc
-order_exact (Text s) Null is = cc
-order_exact (Text s) (Int n) is = cc
-order_exact (Text s) (Text t) is = ap Text (exact_bytes s t is)
-
-values_exact : (xs ys : List Value) → slice_cmp order xs ys ≡ Equal → xs ≡ ys
-values_exact [] [] is = refl
-values_exact [] (y ∷ ys) is = cc
-values_exact (x ∷ xs) [] is = cc
-values_exact (x ∷ xs) (y ∷ ys) is = by (order x y) refl (values_exact xs ys) is where
-  by : (o : Ordering) → order x y ≡ o → (slice_cmp order xs ys ≡ Equal → xs ≡ ys) → ordering_then o (slice_cmp order xs ys) ≡ Equal → x ∷ xs ≡ y ∷ ys
-  by Equal one rest both = λ j. order_exact x y one j ∷ rest both j
-  by Less one rest both = cc
-  by Greater one rest both = cc
-
-pub same_exact : (a b : List Value) → same_values a b ≡ true → a ≡ b
-same_exact a b same = values_exact a b (is_eq-true (slice_cmp order a b) same)
 
 pub any_alike : (held : HeldKeys) → Alike held
 unfolding Alike

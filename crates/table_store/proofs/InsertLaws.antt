@@ -6,7 +6,7 @@ use Rattle.std.specs.Option.{option_or}
 use Rattle.ldv_value.specs.Limits.{max_next}
 use Rattle.std.proofs.lemmas.Bool.{cases_Bool, ne_eqb, lt-ltb, le-ltb}
 use Rattle.std.proofs.lemmas.List.Elements.{filter_map-append}
-use Rattle.ldv_value.proofs.Booleans.{and-parts}
+use Rattle.ldv_value.proofs.Booleans.{and-parts, or-right}
 use Rattle.sql_model.specs.Changes.{KeyClash, key_clash, clash_or, clash_after, clash_by, numbered_rows, shares_key, has_null, refuses_null}
 use Rattle.sql_model.specs.Keys.{values_at, key_at}
 use Rattle.row_version.specs.History.{current_values}
@@ -154,16 +154,12 @@ clash_new places held alike slots next order are more =
 
 -- ---- which row of a clash stood before
 
-or_true : (a b : Bool) → b ≡ true → (a || b) ≡ true
-or_true true b is = refl
-or_true false b is = is
-
 pub any_self : (rows : List TableRow) → AllRows (λ row. list_any (λ old. old.number == row.number) rows ≡ true) rows
 any_self [] = tt
 any_self (row ∷ rows) = (
   ap (λ b. b || list_any (λ old. old.number == row.number) rows) (eq-eqb row.number row.number refl),
   all_weaker (λ one. list_any (λ old. old.number == one.number) rows ≡ true) (λ one. ((row.number == one.number) || list_any (λ old. old.number == one.number) rows) ≡ true)
-      (λ one is. or_true (row.number == one.number) (list_any (λ old. old.number == one.number) rows) is) rows (any_self rows),
+      (λ one is. or-right (row.number == one.number) (list_any (λ old. old.number == one.number) rows) is) rows (any_self rows),
 )
 
 none_equal : (number : ℕ) (rows : List TableRow) → AllRows (λ row. row.number < number) rows → list_any (λ old. old.number == number) rows ≡ false

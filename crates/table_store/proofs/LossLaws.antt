@@ -7,19 +7,22 @@ use Rattle.std.proofs.lemmas.Bool.{cases_Bool}
 use Rattle.std.proofs.lemmas.List.Folds.{flat_map-map}
 use Rattle.std.proofs.lemmas.Grind.{flat_map-append as flat_append}
 use Rattle.ldv_value.proofs.Booleans.{or-false}
+use Rattle.ldv_value.specs.Options.{first_some}
 use Rattle.sql_model.proofs.Elsewhere.{no_orphans, elsewhere}
 use Rattle.sql_model.proofs.ReferenceLists.{any_split, lost_same}
-use Rattle.sql_model.proofs.UniqueRows.{values_in, apart_from}
+use Rattle.sql_model.proofs.UniqueRows.{apart_from}
 use Rattle.sql_model.specs.ForeignKeys.{have_parents}
 use Rattle.sql_model.specs.References.{Child, Orphan, first_in, reference, has_key, is_lost, orphan_by, orphans_of, other_rows, child_of, children, orphans}
 use Rattle.sql_model.specs.Scope.{is_table, same_text, table_at, catalog_of}
 use Rattle.sql_model.specs.Tables.{are_keys_unique}
-use Rattle.table_store.specs.inner.Afterwards.{first_some, loses, is_other, refers_to, orphan_in_row, orphan_in_other, orphan_in_slot, orphan_in_table, orphan_in_tables}
+use Rattle.sql_model.proofs.UniqueKeys.{values_in}
+use Rattle.table_store.specs.inner.Afterwards.{loses, is_other, refers_to, orphan_in_row, orphan_in_other, orphan_in_slot, orphan_in_table, orphan_in_tables}
 use Rattle.table_store.specs.Histories.{TableHistory, row_now, rows_now, table_now}
 use Rattle.table_store.specs.Stops.{is_among, with_removed, with_replaced, had_rows}
 use Rattle.table_store.specs.Types.{Foreign, Table, TableRow, Value}
 use Rattle.table_store.proofs.FirstLaws.{first_flat, first_filter_map, first_agree, first_filter, first_filtered, first_none, first_none_of}
 use Rattle.table_store.proofs.PutLaws.{TakesPlace, any_same, or_swap, replaced_has}
+use Rattle.table_store.proofs.GridLaws.{and_turned}
 
 -- ---- the first child, table by table and slot by slot
 
@@ -133,12 +136,6 @@ module _ (t : Table) (keyed : (length t.schema.key == 0) ≡ false) (unique : ar
 
   pub removed_lost : is_lost t.schema.key t.rows (with_removed numbers t).rows key ≡ loses (λ k. false) numbers t key
   removed_lost = lost_by false (with_removed numbers t).rows (sym (or-false out))
-
-and_turned : (a b : Bool) → (a && b) ≡ (b && a)
-and_turned true true = refl
-and_turned true false = refl
-and_turned false true = refl
-and_turned false false = refl
 
 pub replaced_lost : (t : Table) → (length t.schema.key == 0) ≡ false → are_keys_unique t.schema.key (values_in t.rows) ≡ true
     → (given : List TableRow) → TakesPlace given given → had_rows given t ≡ true → (key : List Value)

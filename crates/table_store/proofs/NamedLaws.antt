@@ -12,26 +12,10 @@ use Rattle.std.proofs.lemmas.Map.Text.{is_eq-slice_cmp}
 use Rattle.ldv_value.proofs.Booleans.{and-parts}
 use Rattle.ldv_value.specs.Sorted.{is_strictly_sorted, precedes_first, text_precedes}
 use Rattle.ldv_value.proofs.SameBytes.{bytes_eq-true, bytes_eq-itself, bytes_eq-other}
+use Rattle.ldv_value.proofs.TextOrders.{text_trans, text_apart}
 use Rattle.sql_model.specs.Scope.{same_text}
 
 -- ---- names
-
-lt_from : (o : Ordering) → is_lt o ≡ true → o ≡ Less
-lt_from Less is = refl
-lt_from Equal is = cc
-lt_from Greater is = cc
-
-pub text_trans : (a b c : List ℕ) → text_precedes a b ≡ true → text_precedes b c ≡ true → text_precedes a c ≡ true
-text_trans a b c one two =
-    ap is_lt (nat_list_cmp_total.trans a b c (lt_from (slice_cmp nat_cmp a b) one) (lt_from (slice_cmp nat_cmp b c) two))
-
--- a name isn't before itself
-pub text_apart : (a b : List ℕ) → text_precedes a b ≡ true → a ≢ b
-text_apart a b before same =
-    let less : slice_cmp nat_cmp a b ≡ Less = lt_from (slice_cmp nat_cmp a b) before in
-    let equal : is_eq (slice_cmp nat_cmp a b) ≡ true = is_eq-slice_cmp a b ∙ ap (λ (l : List ℕ). same_text l b) same ∙ bytes_eq-itself b in
-    let wrong : false ≡ true = sym (ap is_eq less) ∙ equal in
-    cc
 
 -- a name that isn't before another, and isn't that one, is after it
 pub text_after : (a b : List ℕ) → text_precedes a b ≡ false → a ≢ b → text_precedes b a ≡ true

@@ -23,7 +23,7 @@ found_now name (table ∷ tables) = by (is_history name table) (found_now name t
   by true rest = refl
   by false rest = rest
 
-some_from : (o : Option TableHistory) → IsSome (option_map table_now o) → IsSome o
+pub some_from : (o : Option TableHistory) → IsSome (option_map table_now o) → IsSome o
 some_from None some = some
 some_from (Some table) some = some
 

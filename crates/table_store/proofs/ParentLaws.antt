@@ -14,8 +14,8 @@ use Rattle.ldv_value.proofs.Lists.{found-passes, sorted-under}
 use Rattle.ldv_value.proofs.Options.{is_none-true, none-some, same-some}
 use Rattle.ldv_value.proofs.SameBytes.{bytes_eq-true}
 use Rattle.row_version.specs.History.{current_values, version}
-use Rattle.sql_model.proofs.UniqueKeys.{unique-clash}
-use Rattle.sql_model.proofs.UniqueRows.{found_same, keys_apart, repeats_map, same_both, values_in}
+use Rattle.sql_model.proofs.UniqueKeys.{unique-clash, or_none, values_in}
+use Rattle.sql_model.proofs.UniqueRows.{found_same, keys_apart, repeats_map, same_both}
 use Rattle.sql_model.specs.Changes.{key_clash, numbered_rows, had_row}
 use Rattle.sql_model.specs.KeyOrder.{key_order}
 use Rattle.sql_model.specs.Keys.{key_at, repeats, same_values, values_at}
@@ -32,7 +32,6 @@ use Rattle.table_store.specs.RowOrder.{AreInOrder}
 use Rattle.table_store.specs.Stops.{are_sorted_numbers, are_sorted_rows, has_number, is_among, replaced_by, values_of, with_changed}
 use Rattle.table_store.specs.Types.{Foreign, Member, RowKey, Table, TableRow, Value}
 use Rattle.table_store.proofs.ChildLaws.{any_found}
-use Rattle.table_store.proofs.FormedLaws.{or_none}
 use Rattle.table_store.proofs.IndexLaws.{no_slot_has, row_in_slot}
 use Rattle.table_store.proofs.NowLaws.{now_at}
 use Rattle.table_store.proofs.PutLaws.{AmongRows, TakesPlace, any_same, find_none, found_some, kept_row, put_found, takes_place}

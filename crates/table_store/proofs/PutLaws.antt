@@ -10,13 +10,14 @@ use Rattle.ldv_value.proofs.Lists.{list_any-append, found-passes}
 use Rattle.ldv_value.proofs.Options.{none-some, same-some}
 use Rattle.ldv_value.proofs.SameBytes.{bytes_eq-true, nat_eq-true}
 use Rattle.std.proofs.lemmas.Bool.Decides.{Decides-eqb}
-use Rattle.sql_model.proofs.UniqueRows.{same_both, found_same, values_in, keys_apart, repeats_map}
+use Rattle.sql_model.proofs.UniqueRows.{same_both, found_same, keys_apart, repeats_map}
 use Rattle.sql_model.specs.Changes.{numbered_rows, had_row}
 use Rattle.sql_model.specs.Keys.{same_values, values_at, repeats}
 use Rattle.sql_model.specs.Meaning.{is_null}
 use Rattle.sql_model.specs.References.{MissingParent, first_in, reference, has_key, missing_key, missing_by, missing_parents}
 use Rattle.sql_model.specs.Scope.{same_text, is_table, table_at}
 use Rattle.sql_model.specs.Tables.{are_keys_unique}
+use Rattle.sql_model.proofs.UniqueKeys.{values_in}
 use Rattle.table_store.specs.inner.Afterwards.{has_values, keeps, has_put, put_missing, missing_put, missing_in_row, missing_in_rows}
 use Rattle.table_store.specs.Stops.{replaced_by, is_among, had_rows, are_sorted_rows, with_inserted, with_changed}
 use Rattle.table_store.specs.Types.{Foreign, Table, TableRow, Value}

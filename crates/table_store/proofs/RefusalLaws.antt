@@ -10,13 +10,13 @@ use Rattle.ldv_value.proofs.Options.{same-some}
 use Rattle.ldv_value.proofs.SameBytes.{bytes_eq-true}
 use Rattle.sql_model.proofs.Databases.{parents_of_database, valid_of_database}
 use Rattle.sql_model.proofs.Equations.{table_schema, schema_found}
-use Rattle.sql_model.proofs.UniqueRows.{values_in}
 use Rattle.sql_model.proofs.ValidTables.{table-parts}
 use Rattle.sql_model.specs.Changes.{numbered_rows}
 use Rattle.sql_model.specs.ForeignKeys.{fits_place, fits_parent, has_parents, have_parents}
 use Rattle.sql_model.specs.References.{Orphan, has_key, is_lost}
 use Rattle.sql_model.specs.Scope.{is_table, table_at, schema_at, catalog_of}
 use Rattle.sql_model.specs.Tables.{AreWellFormed, are_keys_unique, is_valid_table}
+use Rattle.sql_model.proofs.UniqueKeys.{values_in}
 use Rattle.table_store.specs.inner.Afterwards.{has_values, keeps, has_put, is_keyed, missing_in_rows, loses, orphan_in_tables, refers_to}
 use Rattle.table_store.specs.Histories.{StoreHistory, TableHistory, history_at, is_history, table_now}
 use Rattle.table_store.specs.Referring.{parent_stop, child_stop, missing_stop, orphan_stop, is_of}

@@ -13,15 +13,18 @@ use Rattle.ldv_value.proofs.Booleans.{and-parts}
 use Rattle.sql_model.specs.Changes.{KeyClash, key_clash, clash_after, clash_by, has_null}
 use Rattle.sql_model.specs.KeyOrder.{key_order, key_order_total}
 use Rattle.sql_model.specs.Keys.{same_values, values_at, key_at}
+use Rattle.sql_model.specs.References.{has_key}
+use Rattle.sql_model.proofs.SameValues.{same_turned}
 use Rattle.ldv_value.specs.Sorted.{precedes_first}
+use Rattle.ldv_value.proofs.Options.{option_or-none}
 use Rattle.table_store.specs.Types.{Value, RowKey, Table, TableRow}
 use Rattle.table_store.specs.inner.Claims.{IsIndexOf, both_stop}
 use Rattle.table_store.specs.Histories.{TableHistory, rows_now, table_now}
-use Rattle.table_store.specs.KeyIndex.{has_key, row_of_key, HeldKeys}
+use Rattle.table_store.specs.KeyIndex.{row_of_key, HeldKeys}
 use Rattle.table_store.specs.Stops.{replaced_by, with_replaced, are_sorted_rows, key_stop, stop_if, replace_stop, StopsAs}
 use Rattle.table_store.specs.declared.error.StoreStop.{StoreStop}
 use Rattle.table_store.specs.declared.error.StoreStop.TheVariants.{NotNull, KeyTaken}
-use Rattle.table_store.proofs.IndexLaws.{key, same_turned, held_pushed}
+use Rattle.table_store.proofs.IndexLaws.{key, held_pushed}
 use Rattle.table_store.proofs.ClaimLaws.{keyed_clash, unkeyed_clash, stop_kept}
 use Rattle.table_store.proofs.InsertLaws.{AllRows, clash_all, any_self}
 use Rattle.table_store.proofs.TableLaws.{number_found}
@@ -37,10 +40,6 @@ alike_right k q same x = same_turned x k ∙ alike_left k q same x ∙ same_turn
 find_alike : (places : List ℕ) (k q : List Value) → same_values k q ≡ true → (rows : List TableRow) → find (has_key places k) rows ≡ find (has_key places q) rows
 find_alike places k q same [] = refl
 find_alike places k q same (row ∷ rows) = λ j. cond (alike_right k q same (values_at places row.values) j) (Some row) (find_alike places k q same rows j)
-
-or_none : {X : Type 0} (o : Option X) → option_or o None ≡ o
-or_none None = refl
-or_none (Some x) = refl
 
 -- ---- an index of just these rows
 
@@ -60,7 +59,7 @@ index_more places old new row rows index none put = record {
     | inr apart ↦
         put q ∙ ap (λ b. cond b (Some row.number) (old q)) apart ∙ index.only q
         ∙ sym (ap (option_map (λ (one : TableRow). one.number))
-        (find-append (has_key places q.values) rows (row ∷ []) ∙ ap (λ b. option_or (find (has_key places q.values) rows) (cond b (Some row) None)) apart ∙ or_none (find (has_key places q.values) rows)))
+        (find-append (has_key places q.values) rows (row ∷ []) ∙ ap (λ b. option_or (find (has_key places q.values) rows) (cond b (Some row) None)) apart ∙ option_or-none (find (has_key places q.values) rows)))
   ];
 }
 

@@ -13,10 +13,10 @@ use Rattle.row_version.specs.History.{current_values}
 use Rattle.sql_model.specs.KeyOrder.{values_total}
 use Rattle.sql_model.specs.Keys.{repeats, same_values, values_at}
 use Rattle.sql_model.specs.Tables.{are_keys_unique}
+use Rattle.sql_model.specs.References.{has_key}
 use Rattle.table_store.proofs.IndexLaws.{unique_by}
 use Rattle.table_store.proofs.TableLaws.{slot_here_is}
 use Rattle.table_store.specs.Histories.{RowHistory, no_history, row_now, row_of, rows_now, slot_of_row}
-use Rattle.table_store.specs.KeyIndex.{has_key}
 use Rattle.table_store.specs.RowOrder.{AreInOrder}
 use Rattle.table_store.specs.Types.{TableRow, Value}
 

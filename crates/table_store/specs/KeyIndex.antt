@@ -2,15 +2,12 @@
 --
 -- It may have more keys than that: those of rows that are gone or have another key now. Whoever looks up a
 -- key looks at the row too.
-use Rattle.std.specs.Prelude.{◌≡◌, ℕ, ℤ, Bool, List, [], ◌∷◌, Option, Some, None, find}
+use Rattle.std.specs.Prelude.{◌≡◌, ℕ, ℤ, List, [], ◌∷◌, Option, Some, None, find}
 use Rattle.std.specs.Map.{update_all}
 use Rattle.std.specs.Ordering.{int_cmp, eq_by_cmp}
-use Rattle.sql_model.specs.Keys.{same_values, values_at, key_at}
+use Rattle.sql_model.specs.Keys.{key_at}
+use Rattle.sql_model.specs.References.{has_key}
 use Rattle.table_store.specs.Types.{Value, Null, Int, Text, RowKey, TableRow}
-
--- whether a row has a key
-abbrev pub has_key : List ℕ → List Value → TableRow → Bool
-has_key places key row = same_values (values_at places row.values) key
 
 -- the row of a key
 abbrev pub row_of_key : List ℕ → List Value → List TableRow → Option TableRow

@@ -4,9 +4,10 @@ ghost use Rattle.std.specs.Prelude.{◌≡◌, ◌==◌, ◌&&◌, ◌||◌, ℕ
 ghost use Rattle.std.specs.Prelude.{IsSome, OnOk, slice_index_or};
 ghost use Rattle.std.specs.List.{list_any};
 ghost use Rattle.std.specs.Option.{option_and_then, option_map, option_map_or};
+ghost use Rattle.ldv_value.specs.Options.{first_some};
 ghost use Rattle.row_version.specs.History.{current_values};
 ghost use Rattle.sql_model.specs.References.{child_of, has_key, orphan_by, reference};
-ghost use Rattle.table_store.specs.inner.Afterwards.{first_some, in_set, loses, orphan_in_row, orphan_in_slot};
+ghost use Rattle.table_store.specs.inner.Afterwards.{in_set, loses, orphan_in_row, orphan_in_slot};
 ghost use Rattle.table_store.specs.inner.Afterwards.{orphan_in_table, orphan_in_tables, refers_to};
 ghost use Rattle.table_store.specs.inner.ChildPairs.{given_in};
 ghost use Rattle.table_store.specs.Histories.{no_history, row_now, slot_of_row, table_now};

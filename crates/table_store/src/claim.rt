@@ -9,11 +9,12 @@ ghost use Rattle.std.specs.Option.{option_map};
 ghost use Rattle.sql_model.specs.Changes.{clash_after, clash_by, numbered_rows};
 ghost use Rattle.sql_model.specs.KeyOrder.{key_order};
 ghost use Rattle.sql_model.specs.Keys.{same_values, values_at};
+ghost use Rattle.sql_model.specs.References.{has_key};
 ghost use Rattle.table_store.specs.inner.Claims.{claim_stop, taken_stop, old_number, high_or};
 ghost use Rattle.table_store.specs.Histories.{rows_now};
 ghost use Rattle.table_store.specs.inner.HighKeys.{high_in};
 ghost use Rattle.table_store.specs.inner.IndexView.{held_in};
-ghost use Rattle.table_store.specs.KeyIndex.{has_key, AreHeld, AreIndexed};
+ghost use Rattle.table_store.specs.KeyIndex.{AreHeld, AreIndexed};
 ghost use Rattle.table_store.specs.Stops.{StopsAs};
 
 use crate::high_keys::HighKeys;

@@ -10,9 +10,10 @@ ghost use Rattle.std.specs.Ordering.{int_cmp};
 ghost use Rattle.sql_model.specs.KeyOrder.{key_order};
 ghost use Rattle.sql_model.specs.Keys.{values_at, key_at};
 ghost use Rattle.sql_model.specs.Tables.{are_keys_unique};
+ghost use Rattle.sql_model.specs.References.{has_key};
 ghost use Rattle.table_store.specs.Histories.{rows_now, row_now, no_history};
 ghost use Rattle.table_store.specs.inner.IndexView.{held_as, held_in};
-ghost use Rattle.table_store.specs.KeyIndex.{has_key, int_of, int_key, last_under, AreHeld, AreIndexed};
+ghost use Rattle.table_store.specs.KeyIndex.{int_of, int_key, last_under, AreHeld, AreIndexed};
 
 use crate::key_map::KeyMap;
 use crate::rows::Rows;

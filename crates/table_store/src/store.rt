@@ -15,11 +15,11 @@ ghost use Rattle.table_store.specs.Histories.{history_at, is_history, table_now,
 ghost use Rattle.table_store.specs.Histories.{rows_after, next_number_after, AreKeptBefore, changed_at};
 ghost use Rattle.table_store.specs.Histories.{table_with_rows, table_with_values, table_without, version_now, history_of_row};
 ghost use Rattle.table_store.specs.Histories.{row_now, no_history};
-ghost use Rattle.table_store.specs.KeyIndex.{has_key};
 ghost use Rattle.table_store.specs.Stops.{have_shape, values_of, are_sorted_rows, are_sorted_numbers};
 ghost use Rattle.table_store.specs.Stops.{had_rows, all_stand, insert_stop, replace_stop, with_changed};
 ghost use Rattle.table_store.specs.Stops.{is_among, with_inserted, with_replaced, with_removed, StopsAs};
 ghost use Rattle.sql_model.specs.Changes.{numbered_rows};
+ghost use Rattle.sql_model.specs.References.{has_key};
 ghost use Rattle.table_store.specs.Referring.{are_apart, insert_refusal, replace_refusal, delete_refusal};
 ghost use Rattle.table_store.specs.Referring.{parents_now};
 ghost use Rattle.table_store.specs.Referring.{CanBePut, IsAtVersion, is_of, missing_stop, orphan_stop};

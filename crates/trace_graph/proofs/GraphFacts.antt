@@ -77,7 +77,7 @@ any_agree : (p q : Link → Bool) (P : Link → Type 0) → ((l : Link) → P l 
 any_agree p q P agree [] all = refl
 any_agree p q P agree (l ∷ ls) all = λ j. agree l all.0 j || any_agree p q P agree ls all.1 j
 
-once_there : (links : List Link) → AllByRecursion (AreThere (nodes_of links)) (distinct_items same_ends links)
+pub once_there : (links : List Link) → AllByRecursion (AreThere (nodes_of links)) (distinct_items same_ends links)
 once_there links = all_distinct (AreThere (nodes_of links)) same_ends links (all_there links)
 
 -- links between the same nodes lead alike
@@ -100,11 +100,11 @@ edges_law links test n =
 -- ---- intervals
 
 -- what is folded in last is within
-below_least : (a : ℕ) (ts : List ℕ) → fold min a ts ≤ a
+pub below_least : (a : ℕ) (ts : List ℕ) → fold min a ts ≤ a
 below_least a [] = omega arith
 below_least a (t ∷ ts) = let rest : fold min (min a t) ts ≤ min a t = below_least (min a t) ts in omega (arith, rest)
 
-above_greatest : (a : ℕ) (ts : List ℕ) → a ≤ fold max a ts
+pub above_greatest : (a : ℕ) (ts : List ℕ) → a ≤ fold max a ts
 above_greatest a [] = omega arith
 above_greatest a (t ∷ ts) = let rest : max a t ≤ fold max (max a t) ts = above_greatest (max a t) ts in omega (arith, rest)
 

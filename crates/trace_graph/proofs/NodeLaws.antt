@@ -57,7 +57,7 @@ node_itself (Row a) = member_itself a
 node_itself (Ask a) = eq-eqb a a refl
 node_itself (Reply a) = eq-eqb a a refl
 
-same_tests : (a b : Bool) → (a ≡ true → b ≡ true) → (b ≡ true → a ≡ true) → a ≡ b
+pub same_tests : (a b : Bool) → (a ≡ true → b ≡ true) → (b ≡ true → a ≡ true) → a ≡ b
 same_tests true true there back = refl
 same_tests true false there back = sym (there refl)
 same_tests false true there back = back refl

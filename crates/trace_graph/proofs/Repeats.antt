@@ -24,7 +24,7 @@ then_tied Greater b = refl
 
 -- ---- keys
 
-abbrev key_cmp : NodeKey → NodeKey → Ordering
+abbrev pub key_cmp : NodeKey → NodeKey → Ordering
 key_cmp = (key_order.ghosts).cmp
 
 row_tied : (a b : Bor (List ℕ)) (q r u v : ℕ)

@@ -22,6 +22,7 @@ use Rattle.trace_graph.proofs.NodeLaws.{node_laws}
 use Rattle.trace_graph.proofs.PlaceLaws.{same_place}
 use Rattle.trace_graph.proofs.EdgeLaws.{AreThere, all_there, source_there, target_there}
 use Rattle.trace_graph.proofs.GraphLaw.{between}
+use Rattle.trace_graph.proofs.GraphFacts.{below_least, above_greatest}
 
 -- ---- lists
 
@@ -95,14 +96,6 @@ edges_once links =
 
 -- ---- times
 
-least_below : (a : ℕ) (ts : List ℕ) → fold min a ts ≤ a
-least_below a [] = omega arith
-least_below a (t ∷ ts) = let rest : fold min (min a t) ts ≤ min a t = least_below (min a t) ts in omega (arith, rest)
-
-greatest_above : (a : ℕ) (ts : List ℕ) → a ≤ fold max a ts
-greatest_above a [] = omega arith
-greatest_above a (t ∷ ts) = let rest : max a t ≤ fold max (max a t) ts = greatest_above (max a t) ts in omega (arith, rest)
-
 module _ (limit : ℕ) where
   abbrev AreSteps : List ℕ → Type 0
   AreSteps ts = AllByRecursion (λ t. t ≤ limit) ts
@@ -132,8 +125,8 @@ module _ (limit : ℕ) where
 edge_timed : (nodes : List Node) (links : List Link) (l : Link) → AreSound max_steps links → IsSound max_steps l → times_rule (edge_of nodes links l) ≡ true
 edge_timed nodes links l all sound =
     let ts = times_of links l in
-    let least : fold min l.time ts ≤ l.time = least_below l.time ts in
-    let greatest : l.time ≤ fold max l.time ts = greatest_above l.time ts in
+    let least : fold min l.time ts ≤ l.time = below_least l.time ts in
+    let greatest : l.time ≤ fold max l.time ts = above_greatest l.time ts in
     let rise : fold min l.time ts ≤ fold max l.time ts = omega (arith, least, greatest) in
     let low : fold max l.time ts ≤ max_steps = edge_ends max_steps nodes links l all sound in
     and-from (nat_le (fold min l.time ts) (fold max l.time ts)) (nat_le (fold max l.time ts) max_steps)

@@ -2,8 +2,8 @@
 -- linked, each once, in the order in which they are first seen. All links from one node to another are one
 -- edge, with the interval from the first to the last of their times. Edges are in the order of their first
 -- links.
-use Rattle.std.specs.Prelude.{ℕ, min, max, List, [], ◌∷◌, map, Bool, false, not, ◌&&◌, ◌==◌, nat_lt}
-use Rattle.std.specs.Prelude.{bytes_eq, fold}
+use Rattle.std.specs.Prelude.{ℕ, min, max, List, [], ◌∷◌, map, Bool, false, not, ◌&&◌, ◌==◌, nat_lt, position}
+use Rattle.std.specs.Prelude.{bytes_eq, fold, Option}
 use Rattle.std.specs.List.{filter, flat_map, list_all, position_or_len}
 use Rattle.trace_graph.specs.Types.{Member, Event, Node, Path, Process, Row, Ask, Reply, Edge}
 use Rattle.trace_graph.specs.Links.{Link, links_of}
@@ -25,6 +25,10 @@ same_node (Row a) (Row b) = same_member a b
 same_node (Ask a) (Ask b) = a == b
 same_node (Reply a) (Reply b) = a == b
 same_node a b = false
+
+-- the place of the node of a path, if there is one
+abbrev pub place_of : Parts → List ℕ → Option ℕ
+place_of graph path = position (same_node (Path path)) graph.nodes
 
 -- between the same two nodes, in the same direction
 abbrev pub same_ends : Link → Link → Bool

@@ -9,7 +9,7 @@ use Rattle.ldv_value.specs.Limits.{max_next}
 use Rattle.ldv_value.specs.Sorted.{precedes_first, is_strictly_sorted}
 use Rattle.sql_laws.specs.Types.{Catalog, NotNull, Full, Insert, Statement, TheInsert, Table, TableRow}
 use Rattle.sql_laws.proofs.ChangedTables.{check-parts, else-parts, if-none}
-use Rattle.sql_model.proofs.NewNumbers.{row_precedes}
+use Rattle.sql_model.proofs.NewNumbers.{row_precedes, is_under}
 use Rattle.sql_model.proofs.Equations.{table_schema, schema_found}
 use Rattle.sql_model.proofs.ValidTables.{table-parts}
 use Rattle.sql_model.specs.Changes.{table_after, lacks_value, key_clash, key_refusal, is_full, or_else, refusal_if, change_refusal}
@@ -19,9 +19,6 @@ use Rattle.sql_model.specs.Statements.{target, matched_count}
 use Rattle.sql_model.specs.Tables.{is_valid_table}
 
 -- ---- rows that are numbered below a number are no more than it
-
-abbrev is_under : ℕ → TableRow → Bool
-is_under next row = nat_lt row.number next
 
 abbrev BeginsAt : ℕ → List TableRow → Type 0
 BeginsAt low [] = Unit {0}

@@ -10,13 +10,14 @@ use Rattle.sql_laws.specs.Types.{Value, Int, Text}
 use Rattle.sql_model.specs.declared.token.Token.{Token}
 use Rattle.sql_model.specs.declared.token.Token.TheVariants.{Word, Number, Quoted, Given}
 use Rattle.sql_model.specs.GrammarOfStatements.{IsGiven}
-use Rattle.sql_model.specs.GrammarOfTokens.{is_inside, digits_from, with_doubled_quotes, IsToken, Spells}
-use Rattle.sql_model.specs.TextBytes.{is_blank, is_digit, is_letter}
+use Rattle.sql_model.specs.GrammarOfTokens.{digits_from, with_doubled_quotes, IsToken, Spells}
+use Rattle.sql_model.specs.TextBytes.{is_blank}
 use Rattle.sql_parse.proofs.Choices.{or_go}
 use Rattle.sql_parse.proofs.Quotes.{doubled_utf8}
-use Rattle.sql_parse.proofs.Symbols.{symbol_form, symbol_low}
+use Rattle.sql_parse.proofs.Symbols.{symbol_form}
+use Rattle.sql_parse.proofs.TokensRead.{after_token}
 use Rattle.value_laws.specs.Values.{GoodValue, GoodValues}
-use Rattle.value_laws.proofs.LowBytes.{low_as, low_within, all_low}
+use Rattle.value_laws.proofs.LowBytes.{low_as, all_low}
 
 -- a constant is good
 abbrev pub GoodToken : Token → Type 0
@@ -32,15 +33,6 @@ GoodTokens = AllByRecursion GoodToken
 
 blank_low : (b : ℕ) → IsTrue (is_blank b) → b < 128
 blank_low b h = or_go _ _ h (λ h. or_go _ _ h (λ h. or_go _ _ h (low_as b 32 (omega arith)) (low_as b 9 (omega arith))) (low_as b 10 (omega arith))) (low_as b 13 (omega arith))
-
-letter_low : (b : ℕ) → IsTrue (is_letter b) → b < 128
-letter_low b h = or_go _ _ h (λ h. or_go _ _ h (low_within 65 90 b (omega arith)) (low_within 97 122 b (omega arith))) (low_as b 95 (omega arith))
-
-digit_low : (b : ℕ) → IsTrue (is_digit b) → b < 128
-digit_low b h = low_within 48 57 b (omega arith) h
-
-inside_low : (b : ℕ) → IsTrue (is_inside b) → b < 128
-inside_low b h = or_go _ _ h (letter_low b) (digit_low b)
 
 -- ---- one token, and what stands after it
 
@@ -61,15 +53,6 @@ token_good (Number z) piece rest utf8 (digits, e, fits, ends) =
 token_good (Quoted text) piece rest utf8 (e, short, ends) =
     (doubled_utf8 text (unquoted piece rest text e utf8).0, le-leb (length text) text_limit short)
 token_good (Given v) piece rest utf8 is = absurd is
-
-after_token : (t : Token) (piece rest : List ℕ) → IsUtf8 (piece ++ rest) → IsToken piece rest t → IsUtf8 rest
-after_token (Word w) [] rest utf8 (inl is) = absurd is.0
-after_token (Word w) (b ∷ piece) rest utf8 (inl is) =
-    utf8-rest (b ∷ piece) rest (letter_low b is.0.0, all_low (λ c. IsTrue (is_inside c)) inside_low piece is.0.1) utf8
-after_token (Word w) piece rest utf8 (inr is) = utf8-rest piece rest (symbol_low piece is.0) utf8
-after_token (Number z) piece rest utf8 is = utf8-rest piece rest (all_low (λ c. IsTrue (is_digit c)) digit_low piece is.0.1) utf8
-after_token (Quoted text) piece rest utf8 is = utf8-tail 39 rest (omega arith) (unquoted piece rest text is.0 utf8).1
-after_token (Given v) piece rest utf8 is = absurd is
 
 token_filled : (t : Token) (piece rest : List ℕ) → IsToken piece rest t → 1 ≤ length piece
 token_filled t (b ∷ piece) rest is = omega arith

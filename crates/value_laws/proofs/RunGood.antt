@@ -31,7 +31,7 @@ use Rattle.run_model.specs.StepFiles.{path_at, open_for, allows_read, allows_wri
 use Rattle.run_model.specs.StepProcesses.{SpawnRequest, child_of, parent_of, with_child, spawn_script, script_within, spawn_file, spawn_path, spawning_of, status_in, wait_until, wait_for}
 use Rattle.run_model.specs.StepReplies.{row_count, status_value}
 use Rattle.run_model.specs.StepVariables.{calculation, concatenation, to_number, printed_line, exit_status}
-use Rattle.run_model.specs.TypedPackage.{IsU32, TypedValue, TypedValues}
+use Rattle.run_model.specs.TypedPackage.{IsU32}
 use Rattle.run_model.specs.ValidPackage.{is_root_process, is_short_text, reply_rule}
 use Rattle.package_layout.specs.Room.{reply_room}
 use Rattle.run_model.proofs.Equations.{run-zero, run-over, run-suc}
@@ -44,6 +44,7 @@ use Rattle.run_laws.proofs.ProcessPlaces.{set_length, found_all, set_all}
 use Rattle.value_laws.proofs.StepGood.{GoodParts, operand_good, operands_good, end_good, place_good, on_good, variable_good, assign_good, good_cut, good_jump, good_line, good_fetch, good_close, good_open, good_read, good_write, good_copy, good_remove, good_test, GoodCursor, bound, arguments_good}
 use Rattle.run_laws.proofs.StepTrails.{Trail, trail, trail_assign, trail_cut, trail_jump, trail_line, trail_fetch, trail_close, trail_open, trail_read, trail_write, trail_copy, trail_remove, trail_test}
 use Rattle.value_laws.proofs.StepValues.{small_good, calculated_good, glued_good, to_number_good, counted_good, status_value_good}
+use Rattle.value_laws.proofs.GoodRefusals.{typed_values, short_values}
 
 -- ---- processes
 
@@ -368,21 +369,14 @@ process_asks ps number (Some p) a there good is =
 
 -- ---- replies
 
-params_short : (vs : List Value) → GoodValues vs → list_all is_short vs ≡ true
-params_short [] good = refl
-params_short (v ∷ vs) good = and-from (is_short v) (list_all is_short vs) good.0.1 (params_short vs good.1)
-
-params_typed : (vs : List Value) → GoodValues vs → TypedValues vs
-params_typed vs good = all-weaker GoodValue TypedValue (λ v here. here.0) vs good
-
 entry_good : (q : Question) (reply : Reply) → GoodQuestion q → GoodReply reply → GoodEntry (entry_of q reply)
 entry_good q reply good answered =
     let short : is_short_text q.text ≡ true = good.text.1 in
     let few : nat_le (length q.params) 255 ≡ true = le-leb (length q.params) 255 good.few in
     let one = and-from (is_short_text q.text) (nat_le (length q.params) 255) short few in
-    let two = and-from (is_short_text q.text && nat_le (length q.params) 255) (list_all is_short q.params) one (params_short q.params good.params) in
+    let two = and-from (is_short_text q.text && nat_le (length q.params) 255) (list_all is_short q.params) one (short_values q.params good.params) in
     record {
-      typed = (good.text.0, (params_typed q.params good.params, answered.typed));
+      typed = (good.text.0, (typed_values q.params good.params, answered.typed));
       ruled = and-from (is_short_text q.text && nat_le (length q.params) 255 && list_all is_short q.params) (reply_rule reply) two answered.ruled;
       room = and-from (nat_lt (length q.params) 65536) (reply_room reply) (lt-ltb (length q.params) 65536 (omega (arith, good.few))) answered.room;
     }

@@ -1,21 +1,20 @@
 -- The tokens of a line of a script: each constant among them is good.
-use Rattle.std.proofs.Common.{ℕ, zero, suc, ◌<◌, ◌≤◌, ◌^◌, List, [], ◌∷◌, ◌++◌, append-nil, length, refl, sym, subst, inl, inr, arith, w64}
+use Rattle.std.proofs.Common.{ℕ, zero, suc, ◌<◌, ◌≤◌, ◌^◌, List, [], ◌∷◌, ◌++◌, length, refl, sym, subst, inl, inr, arith, w64}
 use Rattle.std.specs.Prelude.{ℤ, pos, neg_ℤ, FitsSigned, IsTrue, IsUtf8}
 use Rattle.std.specs.List.{AllByRecursion}
 use Rattle.std.proofs.lemmas.Bool.{le-leb}
-use Rattle.std.proofs.lemmas.Str.{IsUtf8-nil}
 use Rattle.ldv_value.specs.Limits.{text_limit}
 use Rattle.ldv_value.proofs.Utf8Parts.{utf8-tail, utf8-cut, utf8-rest}
 use Rattle.script_parse.specs.declared.token.Token.{Token}
 use Rattle.script_parse.specs.declared.token.Token.TheVariants.{Word, Number, Quoted}
-use Rattle.script_parse.specs.Grammar.{EndsToken, IsNumber, IsToken, AreTokens}
+use Rattle.script_parse.specs.Grammar.{IsNumber, IsToken, AreTokens}
 use Rattle.script_parse.specs.Number.{digits_from}
 use Rattle.script_parse.specs.Tokens.{is_blank}
 use Rattle.script_parse.proofs.Utf8Law.{spells_utf8}
+use Rattle.script_parse.proofs.TokensRead.{utf8_parts, blank_low}
 use Rattle.sql_laws.specs.Types.{Int, Text}
-use Rattle.sql_parse.proofs.Choices.{or_go}
 use Rattle.value_laws.specs.Values.{GoodValue}
-use Rattle.value_laws.proofs.LowBytes.{low_as, all_low}
+use Rattle.value_laws.proofs.LowBytes.{all_low}
 
 -- a constant is good
 abbrev pub GoodPiece : Token → Type 0
@@ -25,16 +24,6 @@ GoodPiece (Quoted t) = GoodValue (Text t)
 
 abbrev pub GoodPieces : List Token → Type 0
 GoodPieces = AllByRecursion GoodPiece
-
--- ---- bytes
-
-blank_low : (b : ℕ) → IsTrue (is_blank b) → b < 128
-blank_low b h = or_go _ _ h (low_as b 32 (omega arith)) (low_as b 9 (omega arith))
-
--- a token and what stands after it
-cut_utf8 : (piece rest : List ℕ) → EndsToken rest → IsUtf8 (piece ++ rest) → IsUtf8 piece × IsUtf8 rest
-cut_utf8 piece [] ends utf8 = (subst IsUtf8 (append-nil piece) utf8, IsUtf8-nil)
-cut_utf8 piece (b ∷ rest) ends utf8 = utf8-cut piece b rest (blank_low b ends) utf8
 
 -- ---- one token
 
@@ -64,5 +53,5 @@ pub pieces_good : (ts : List Token) (line : List ℕ) → IsUtf8 line → AreTok
 pieces_good [] line utf8 are = tt
 pieces_good (t ∷ ts) line utf8 (front, piece, rest, e, blanks, is, ends, more) =
     let behind : IsUtf8 (piece ++ rest) = utf8-rest front (piece ++ rest) (all_low (λ b. IsTrue (is_blank b)) blank_low front blanks) (subst IsUtf8 e utf8) in
-    let parts = cut_utf8 piece rest ends behind in
+    let parts = utf8_parts piece rest ends behind in
     (piece_good t piece parts.0 is, pieces_good ts rest parts.1 more)

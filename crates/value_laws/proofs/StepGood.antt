@@ -22,8 +22,9 @@ use Rattle.run_model.proofs.StepKeeps.{IsStatus}
 use Rattle.sql_laws.proofs.ItemLists.{all_filter}
 use Rattle.value_laws.specs.Literals.{GoodOperand, GoodOperands, GoodScript}
 use Rattle.value_laws.specs.Values.{GoodValue, GoodValues, GoodReply}
-use Rattle.value_laws.proofs.StepValues.{null_good, small_good, GoodComputed, GoodLine, read_good}
+use Rattle.value_laws.proofs.StepValues.{small_good, GoodComputed, GoodLine, read_good}
 use Rattle.value_laws.proofs.TextParts.{GoodCut, cut_good}
+use Rattle.value_laws.proofs.GoodMeaning.{null_good}
 
 -- ---- names that mean something good
 

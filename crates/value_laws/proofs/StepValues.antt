@@ -26,9 +26,6 @@ use Rattle.value_laws.proofs.ScriptTokens.{number_fits}
 
 -- ---- single values
 
-pub null_good : GoodValue Null
-null_good = (tt, refl)
-
 pub small_good : (n : ℕ) → n < 2 ^ 63 → GoodValue (Int (pos n))
 small_good n below = (record { sfits = below }, refl)
 

@@ -1,7 +1,6 @@
 -- Columns by their names, beside the sets that the code keeps and the places that it finds.
-use Rattle.std.proofs.Common.{◌≡◌, ℕ, ◌+◌, ◌<◌, List, length, map, take, get_or, Bool, true, false, not, ◌&&◌, ◌||◌, cond, Bor, refl, sym, ap, ◌∙◌, inl, inr}
+use Rattle.std.proofs.Common.{◌≡◌, ℕ, ◌+◌, ◌<◌, List, length, map, take, get_or, Bool, true, false, not, ◌&&◌, ◌||◌, cond, Bor, refl, sym, ap, ◌∙◌}
 use Rattle.std.specs.List.{list_all, list_any}
-use Rattle.std.proofs.lemmas.Bool.{cases_Bool}
 use Rattle.std.proofs.lemmas.List.Folds.{list_any_more}
 use Rattle.std.proofs.lemmas.Map.Text.{is_eq-slice_cmp}
 use Rattle.std.specs.BTreeMap.{is_at}
@@ -11,7 +10,7 @@ use Rattle.std.specs.Ordering.{nat_cmp, is_eq}
 use Rattle.sql_model.proofs.RepeatedNames.{text_order}
 use Rattle.ldv_value.proofs.Booleans.{and-assoc}
 use Rattle.ldv_value.proofs.Lists.{list_any-map}
-use Rattle.ldv_value.proofs.SameBytes.{bytes_eq-true}
+use Rattle.ldv_value.proofs.SameBytes.{bytes_eq-sym}
 use Rattle.sql_model.specs.Scope.{same_text, has_column}
 use Rattle.sql_model.specs.Keys.{repeats}
 use Rattle.sql_model.specs.SqlNames.{sql_name_test}
@@ -59,15 +58,6 @@ table_name table = table.name
 
 -- ---- by the names that are known as by the columns and tables that have them
 
-swapped : (a b : List ℕ) → same_text a b ≡ same_text b a
-swapped a b = elim (cases_Bool (same_text a b)) [
-  | inl same ↦ let e : a ≡ b = bytes_eq-true a b same in λ j. same_text (e j) (sym e j)
-  | inr other ↦ elim (cases_Bool (same_text b a)) [
-    | inl same ↦ let e : b ≡ a = bytes_eq-true b a same in λ j. same_text (sym e j) (e j)
-    | inr back ↦ other ∙ sym back
-  ]
-]
-
 -- the columns of a table
 module _ (columns : Names) (table : Draft) (are : (name : List ℕ) → is_known columns name ≡ has_column table.columns name) where
   key_by_columns : (key : List (List ℕ)) → is_key_known columns key ≡ is_key_named table.columns key
@@ -89,7 +79,7 @@ module _ (tables : Names) (drafts : List Draft) (are : (name : List ℕ) → is_
   parent_by_tables : (parent : List ℕ) → is_known tables parent ≡ list_any (same_text parent) names
   parent_by_tables parent =
       are parent
-      ∙ (λ j. list_any (λ (t : Draft). swapped t.name parent j) drafts)
+      ∙ (λ j. list_any (λ (t : Draft). bytes_eq-sym t.name parent j) drafts)
       ∙ sym (list_any-map (same_text parent) table_name drafts)
 
   foreign_by_tables : (t : Draft) (f : DraftForeign) → is_parent_known tables t f ≡ is_foreign_named names t.columns f

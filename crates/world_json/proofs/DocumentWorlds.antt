@@ -1,5 +1,5 @@
 -- The world of a document meets the rules of worlds: documents and packages cite the same tests of tables.
-use Rattle.std.proofs.Common.{◌≡◌, ℕ, suc, ◌+◌, ◌≤◌, List, [], ◌∷◌, length, map, find, zip, Option, Some, None, is_some, Result, Ok, Err, IfOk, refl, sym, ap, ◌∙◌, subst, Bool, true, false, not, ◌&&◌, ◌==◌, IsTrue, nat_le, nat_lt, bytes_eq, slice_get, arith, inl, inr}
+use Rattle.std.proofs.Common.{◌≡◌, ℕ, suc, ◌+◌, ◌≤◌, List, [], ◌∷◌, length, map, find, zip, Option, Some, None, is_some, Result, Ok, Err, IfOk, refl, sym, ap, ◌∙◌, subst, Bool, true, false, not, ◌==◌, IsTrue, nat_le, nat_lt, bytes_eq, slice_get, arith, inl, inr}
 use Rattle.std.specs.List.{list_all, list_any, position_or_len, AllByRecursion}
 use Rattle.std.specs.Prelude.{nat_eq}
 use Rattle.std.proofs.lemmas.Bool.{cases_Bool, lt-ltb, leb-true}
@@ -8,7 +8,7 @@ use Rattle.std.proofs.lemmas.List.Folds.{find_at}
 use Rattle.std.proofs.lemmas.Option.{slice_get_within}
 use Rattle.std.proofs.lemmas.Slice.Eq.{bytes_eq-Decides}
 use Rattle.ldv_value.proofs.Booleans.{and-parts, and-from, and-first, or-parts, or-from, not-true, true≢false}
-use Rattle.ldv_value.proofs.Lists.{list_all-map, list_all-weaker, length-map, sorted-under}
+use Rattle.ldv_value.proofs.Lists.{list_all-map, list_all-weaker, length-map, sorted-under, list_all-both}
 use Rattle.ldv_value.specs.FileState.{file_at}
 use Rattle.ldv_value.specs.Limits.{file_limit, max_files, max_tables, max_start_words}
 use Rattle.ldv_value.specs.Names.{path_test}
@@ -40,15 +40,6 @@ use Rattle.world_json.specs.declared.document.Draft.{Draft}
 use Rattle.world_json.specs.declared.document.DraftForeign.{DraftForeign}
 use Rattle.world_json.specs.declared.fault.WorldStop.{WorldStop}
 use Rattle.world_json.specs.Reading.{numbered_from, table_as, world_as, script_fault, start_fault_of, world_reading}
-
--- ---- lists
-
-all-both : {X : Type 0} (p q : X → Bool) (xs : List X) → list_all p xs ≡ true → list_all q xs ≡ true → list_all (λ x. p x && q x) xs ≡ true
-all-both p q [] ps qs = refl
-all-both p q (x ∷ xs) ps qs =
-    let a = and-parts (p x) (list_all p xs) ps in
-    let b = and-parts (q x) (list_all q xs) qs in
-    and-from (p x && q x) (list_all (λ x. p x && q x) xs) (and-from (p x) (q x) a.0 b.0) (all-both p q xs a.1 b.1)
 
 -- ---- the places of a key's columns
 
@@ -239,7 +230,7 @@ document_met doc w passes form =
     let each = tables_met (faults.table_names doc) doc.tables names.1 limits.1 passes.typed passes.filled passes.keyed form.wide in
     let files_are : files_rule (map all_of_file doc.files) ≡ true =
     and-from _ _ (ap (λ (n : ℕ). nat_le n max_files) (length-map doc.files all_of_file) ∙ small.0)
-    (and-from _ _ (list_all-map file_rule all_of_file doc.files ∙ all-both (λ (f : File). path_test f.path) is_small doc.files names.0 small.1) (sorted-under packed_file_precedes all_of_file doc.files ∙ form.files)) in
+    (and-from _ _ (list_all-map file_rule all_of_file doc.files ∙ list_all-both (λ (f : File). path_test f.path) is_small doc.files names.0 small.1) (sorted-under packed_file_precedes all_of_file doc.files ∙ form.files)) in
     let count : length (map all_of_table tables) ≡ length doc.tables = length-map tables all_of_table ∙ length-map doc.tables table_as in
     let tables_are : tables_rule (map all_of_table tables) ≡ true =
     and-from _ _ (ap (λ (n : ℕ). nat_le n max_tables) count ∙ parts.1)

@@ -27,6 +27,7 @@ use Rattle.world_json.specs.Shape.{◌>>=◌, each_member, array_of, object_of, 
 use Rattle.world_json.specs.Reading.{table_as, world_as, reading_of_document, reading_of_json, json_of, world_reading}
 use Rattle.world_json.specs.SortedWorld.{is_sorted_world}
 use Rattle.world_json.proofs.Readings.{IsWorldOf, document_passes}
+use Rattle.world_json.proofs.Columns.{table_name}
 
 -- ---- what holds of a value, where there is one
 
@@ -207,9 +208,6 @@ path_of file = file.path
 file_read : (path : List ℕ) (d : Data) → Holds (λ (file : File). (file.path ≡ path) × Any file) (file_of path d)
 file_read path d = holds_then Any (λ (file : File). (file.path ≡ path) × Any file) (λ content. Some (record { path = path; content = content })) (λ content h. (refl, tt)) (content_of d) (holds_any (content_of d))
 
-abbrev name_of : Draft → List ℕ
-name_of table = table.name
-
 -- rows as wide as their table
 abbrev pub IsWide : Draft → Type 0
 IsWide table = is_width (length table.columns) table.rows ≡ true
@@ -285,8 +283,8 @@ document_from_read start seed files tables fs ts =
     holds_then Any IsDocument (by_start seed files tables)
     (λ start h. holds_then Any IsDocument (by_seed files tables start)
     (λ seed h. holds_then (AreRead file_of path_of Any file_read) IsDocument (by_files start seed tables)
-    (λ files f. holds_then (AreRead table_of name_of IsWide table_read) IsDocument (λ tables. Some (document_as start seed files tables)) (λ tables t. record { files = f.0; tables = t.0; wide = t.1 })
-    (optional_member (object_of table_of) [] tables) (optional_read table_of name_of IsWide table_read tables ts))
+    (λ files f. holds_then (AreRead table_of table_name IsWide table_read) IsDocument (λ tables. Some (document_as start seed files tables)) (λ tables t. record { files = f.0; tables = t.0; wide = t.1 })
+    (optional_member (object_of table_of) [] tables) (optional_read table_of table_name IsWide table_read tables ts))
     (required_member (object_of file_of) files) (required_read file_of path_of Any file_read files fs))
     number (holds_any number))
     word_list (holds_any word_list)

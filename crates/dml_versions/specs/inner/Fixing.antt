@@ -2,7 +2,7 @@
 use Rattle.std.specs.Prelude.{◌≡◌, ◌<◌, ℕ, List, length, true, Option}
 use Rattle.sql_model.specs.Changes.{is_matched}
 use Rattle.sql_model.specs.Scope.{InScope}
-use Rattle.table_store.specs.KeyIndex.{has_key}
+use Rattle.sql_model.specs.References.{has_key}
 use Rattle.dml_versions.specs.Finding.{IsPickPlaced}
 use Rattle.dml_versions.specs.Types.{Expr, TableRow, Value}
 

@@ -1,8 +1,8 @@
 -- The number of children of each process stays within its type while the processes of a trace are made.
 use Rattle.std.specs.Prelude.{ℕ, ◌+◌, ◌<◌, ◌^◌, List, [], ◌∷◌, if◌then◌else◌}
 use Rattle.std.specs.List.{All}
+use Rattle.run_model.specs.ValidTrace.{is_spawn}
 use Rattle.inspect.specs.Types.{Event, NamedProcess}
-use Rattle.inspect.specs.ProcessNames.{is_spawn}
 
 -- how many children an event makes, and events
 abbrev pub births : Event → ℕ

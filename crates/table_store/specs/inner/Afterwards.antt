@@ -1,10 +1,11 @@
 -- What tables have once rows of one of them are given, new ones or other values for rows of some numbers:
 -- which parents are missing then, and which keys are lost.
-use Rattle.std.specs.Prelude.{ℕ, List, [], ◌∷◌, ◌&&◌, ◌||◌, ◌==◌, Bool, true, not, length, Option, Some}
+use Rattle.std.specs.Prelude.{ℕ, List, ◌&&◌, ◌||◌, ◌==◌, Bool, true, not, length, Option, Some}
 use Rattle.std.specs.Prelude.{None, if◌then◌else◌}
 use Rattle.std.specs.BTreeSet.{BTreeSet, contains}
 use Rattle.std.specs.List.{list_any}
-use Rattle.std.specs.Option.{option_map_or, option_or, option_and_then}
+use Rattle.std.specs.Option.{option_map_or, option_and_then}
+use Rattle.ldv_value.specs.Options.{first_some}
 use Rattle.sql_model.specs.KeyOrder.{key_order}
 use Rattle.sql_model.specs.Keys.{same_values, values_at}
 use Rattle.sql_model.specs.References.{MissingParent, Orphan, reference, has_key, child_of, orphan_by}
@@ -12,11 +13,6 @@ use Rattle.sql_model.specs.Scope.{is_table, same_text, table_at}
 use Rattle.table_store.specs.Histories.{RowHistory, TableHistory, row_now, table_now}
 use Rattle.table_store.specs.Stops.{is_among}
 use Rattle.table_store.specs.Types.{Foreign, RowKey, Table, TableRow, Value}
-
--- the first that some item gives
-abbrev pub first_some : {X Y : Type 0} → (X → Option Y) → List X → Option Y
-first_some f [] = None
-first_some f (x ∷ xs) = option_or (f x) (first_some f xs)
 
 -- values have a key at some places
 abbrev pub has_values : List ℕ → List Value → List Value → Bool

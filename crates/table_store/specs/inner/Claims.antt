@@ -4,8 +4,9 @@ use Rattle.std.specs.Prelude.{nat_lt}
 use Rattle.std.specs.Option.{option_map}
 use Rattle.sql_model.specs.Changes.{KeyClash}
 use Rattle.sql_model.specs.Keys.{values_at}
+use Rattle.sql_model.specs.References.{has_key}
 use Rattle.table_store.specs.Types.{Value, RowKey, TableRow}
-use Rattle.table_store.specs.KeyIndex.{HeldKeys, AreHeld, has_key, row_of_key}
+use Rattle.table_store.specs.KeyIndex.{HeldKeys, AreHeld, row_of_key}
 use Rattle.table_store.specs.declared.error.StoreStop.{StoreStop}
 use Rattle.table_store.specs.declared.error.StoreStop.TheVariants.{KeyTaken}
 

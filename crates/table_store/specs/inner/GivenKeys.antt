@@ -5,9 +5,10 @@ use Rattle.std.specs.Prelude.{find, map, nat_lt, is_some, if◌then◌else◌}
 use Rattle.std.specs.List.{list_any, AllByRecursion}
 use Rattle.std.specs.Option.{option_map, option_or}
 use Rattle.sql_model.specs.Keys.{values_at}
+use Rattle.sql_model.specs.References.{has_key}
 use Rattle.table_store.specs.Types.{Value, TableRow}
 use Rattle.table_store.specs.inner.Claims.{IsIndexOf}
-use Rattle.table_store.specs.KeyIndex.{HeldKeys, has_key, row_of_key}
+use Rattle.table_store.specs.KeyIndex.{HeldKeys, row_of_key}
 use Rattle.table_store.specs.Stops.{replaced_by}
 use Rattle.table_store.specs.declared.clash.Clash.{Clash}
 

@@ -1,5 +1,6 @@
 use Rattle.std.proofs.Common.{◌+◌, drop}
-use Rattle.core_parts.proofs.Lists.{drop-step, IfSome-weaker}
+use Rattle.ldv_value.proofs.Places.{drop_item}
+use Rattle.core_parts.proofs.Lists.{IfSome-weaker}
 use Rattle.core_parts.proofs.FixingLaws.{all-fix}
 use Rattle.core_parts.specs.Fixing.{AllFix, Fixes}
 use Rattle.core_parts.proofs.fixing.constant_at.Goals as goal
@@ -11,5 +12,5 @@ returns-then-is_some c =
     let cond = c.cond-item.result in
     let at = c.args.at in
     IfSome-weaker c.in_ok-found.found (Fixes cond at) (AllFix conds at)
-    (λ value fixes. all-fix conds (drop (i + 1) conds) i cond at value (drop-step conds i cond c.loop-cond-test.true c.cond-item.is) fixes)
+    (λ value fixes. all-fix conds (drop (i + 1) conds) i cond at value (drop_item conds i cond c.loop-cond-test.true c.cond-item.is) fixes)
     c.in_ok-found.ensures

@@ -2,7 +2,7 @@ use Rattle.std.proofs.Common.{rules, ◌≡◌, ◌∙◌, ◌+◌, ◌∷◌, �
 use Rattle.std.specs.Prelude.{IfSome, Option}
 use Rattle.std.specs.List.{AllByRecursion}
 use Rattle.std.proofs.lemmas.List.{drop_all}
-use Rattle.core_parts.proofs.Lists.{drop-step}
+use Rattle.ldv_value.proofs.Places.{drop_item}
 use Rattle.core_parts.proofs.MaskLaws.{exact-more, exact-end, fit-more}
 use Rattle.core_parts.specs.Conditions.{meets}
 use Rattle.core_parts.specs.Masking.{IsFound, fits, passes_at}
@@ -28,7 +28,7 @@ loop-cond-preserved c =
     let cond : Placed = c.cond-item.result in
     let mask : Mask = c.in-Some.mask in
     let masks = c.loop-cond.masks.items in
-    let split : drop i conds ≡ cond ∷ drop (i + 1) conds = drop-step conds i cond c.loop-cond-test.true c.cond-item.is in
+    let split : drop i conds ≡ cond ∷ drop (i + 1) conds = drop_item conds i cond c.loop-cond-test.true c.cond-item.is in
     let pushed : c.push.new.self.items ≡ masks ++ mask ∷ [] = search rules in
     let found : IsFound cond before c.args.columns.now mask = subst (λ (o : Option Mask). IfSome o (IsFound cond before c.args.columns.now)) c.in-Some.is c.in_ok-found.ensures in
     record {

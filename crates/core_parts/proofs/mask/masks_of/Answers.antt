@@ -1,5 +1,5 @@
 use Rattle.std.proofs.Common.{◌+◌, drop, subst, sym}
-use Rattle.core_parts.proofs.Lists.{drop-step}
+use Rattle.ldv_value.proofs.Places.{drop_item}
 use Rattle.core_parts.proofs.MaskLaws.{masks-more}
 use Rattle.core_parts.specs.Masking.{AreMasks}
 use Rattle.core_parts.proofs.mask.masks_of.Goals as goal
@@ -9,6 +9,6 @@ loop-cond-preserved c =
     let conds = c.args.conds.now in
     let i = c.loop-cond.cond-index in
     let cond = c.cond-item.result in
-    let split = drop-step conds i cond c.loop-cond-test.true c.cond-item.is in
+    let split = drop_item conds i cond c.loop-cond-test.true c.cond-item.is in
     subst (AreMasks conds c.args.before c.args.columns.now) (sym c.in_ok-add_mask.ensures)
     (masks-more conds (drop (i + 1) conds) i c.args.before cond c.args.columns.now c.loop-cond.masks.items c.in_ok-mask.mask split c.in_ok-mask.ensures c.loop-cond.invariant)

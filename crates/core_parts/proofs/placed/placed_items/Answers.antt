@@ -1,10 +1,11 @@
 use Rattle.std.proofs.Common.{◌≡◌, ◌+◌, ◌++◌, ◌∷◌, List, ℕ, drop, map, subst, ap, sym, ◌∙◌}
+use Rattle.ldv_value.proofs.Places.{drop_item}
 use Rattle.core_parts.specs.Placing.{AreAllPlaced}
 use Rattle.core_parts.specs.Types.{Item}
 use Rattle.core_parts.specs.declared.placed.BoundExpr.{BoundExpr}
 use Rattle.sql_model.specs.Refusals.{names_of_items}
 use Rattle.sql_model.specs.Scope.{places_in}
-use Rattle.core_parts.proofs.Lists.{drop-step, moved-mapped}
+use Rattle.core_parts.proofs.Lists.{moved-mapped}
 use Rattle.core_parts.proofs.Places.{item-front, placed-front, others-front, placed-more}
 use Rattle.core_parts.proofs.placed.placed_items.Goals as goal
 
@@ -16,7 +17,7 @@ loop-item-preserved c =
     let made = c.loop-item.made in
     let placed = c.in_ok-placed_at.field-0 in
     let at : List ℕ = drop c.loop-item.at c.args.places.now in
-    let split : drop i items ≡ item ∷ drop (i + 1) items = drop-step items i item c.loop-item-test.true c.item-item.is in
+    let split : drop i items ≡ item ∷ drop (i + 1) items = drop_item items i item c.loop-item-test.true c.item-item.is in
     record {
       exprs =
           ap (λ (ps : List BoundExpr). map (λ p. p.expr) ps ++ map (λ item. item.expr) (drop (i + 1) items)) c.in_ok-push.ensures.ok

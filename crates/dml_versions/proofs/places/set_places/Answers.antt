@@ -1,6 +1,7 @@
 use Rattle.std.proofs.Common.{◌≡◌, ◌+◌, ◌++◌, ◌∷◌, List, ℕ, drop, map, ap, sym, ◌∙◌}
 use Rattle.std.specs.List.{flat_map}
-use Rattle.core_parts.proofs.Lists.{drop-step, moved-one, take-mapped}
+use Rattle.ldv_value.proofs.Places.{drop_item}
+use Rattle.core_parts.proofs.Lists.{moved-one, take-mapped}
 use Rattle.core_parts.proofs.Places.{places-append, others-front}
 use Rattle.core_parts.specs.Placing.{own_places}
 use Rattle.sql_model.specs.Kinds.{names_in}
@@ -14,7 +15,7 @@ loop-set-preserved c =
     let i = c.loop-set.set-index in
     let set = c.set-item.result in
     let at : List ℕ = drop c.loop-set.at c.args.places.now in
-    let split : drop i sets ≡ set ∷ drop (i + 1) sets = drop-step sets i set c.loop-set-test.true c.set-item.is in
+    let split : drop i sets ≡ set ∷ drop (i + 1) sets = drop_item sets i set c.loop-set-test.true c.set-item.is in
     λ scope more is.
     let before = c.loop-set.invariant scope more is in
     let mine : Set → List ℕ = λ one. places_in scope (names_in one.expr) in

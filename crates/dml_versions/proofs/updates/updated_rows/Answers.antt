@@ -1,5 +1,6 @@
 use Rattle.std.proofs.Common.{◌≡◌, ◌+◌, ◌++◌, ◌∷◌, List, ℕ, Option, drop, map, ap, sym, ◌∙◌}
-use Rattle.core_parts.proofs.Lists.{drop-step, moved-one}
+use Rattle.ldv_value.proofs.Places.{drop_item}
+use Rattle.core_parts.proofs.Lists.{moved-one}
 use Rattle.sql_model.specs.Changes.{updated_row}
 use Rattle.dml_versions.proofs.MadeLaws.{row-updated}
 use Rattle.dml_versions.specs.Finding.{row_of}
@@ -16,7 +17,7 @@ loop-row-preserved c = λ scope placed.
     let i = c.loop-row.row-index in
     let row = c.row-item.result in
     let values : List Value = c.in_ok-updated_values.field-0 in
-    let split : drop i items ≡ row ∷ drop (i + 1) items = drop-step items i row c.loop-row-test.true c.row-item.is in
+    let split : drop i items ≡ row ∷ drop (i + 1) items = drop_item items i row c.loop-row-test.true c.row-item.is in
     let make : TableRow → TableRow = updated_row scope update columns in
     let rest : List TableRow = map make (map row_of (drop (i + 1) items)) in
     let sources : c.in_ok-sources.sources.items ≡ map (place_set update.sets) columns =

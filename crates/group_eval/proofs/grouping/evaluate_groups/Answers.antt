@@ -1,9 +1,9 @@
 use Rattle.std.proofs.Common.{◌≡◌, ◌+◌, ◌++◌, ◌∷◌, [], List, map, drop, ap, sym, ◌∙◌, arith, append-nil}
 use Rattle.std.proofs.lemmas.List.{drop_all}
+use Rattle.ldv_value.proofs.Places.{drop_item}
 use Rattle.lineage.specs.Lineage.{Lineage}
 use Rattle.lineage.specs.declared.answer.Answer.{Answer}
 use Rattle.lineage.specs.declared.answer.Pick.{Pick}
-use Rattle.core_parts.proofs.Lists.{drop-step}
 use Rattle.lineage.proofs.Unions.{none_union, union_none}
 use Rattle.group_eval.specs.Evaluating.{answers_of, rejected_of}
 use Rattle.group_eval.specs.Grouping.{own_picks}
@@ -26,7 +26,7 @@ loop-group-preserved c = λ scope placed.
     let groups = c.args.groups.now in
     let i = c.loop-group.group-index in
     let group : KeyedGroup = c.group-item.result in
-    let split : drop i groups ≡ group ∷ drop (i + 1) groups = drop-step groups i group c.loop-group-test.true c.group-item.is in
+    let split : drop i groups ≡ group ∷ drop (i + 1) groups = drop_item groups i group c.loop-group-test.true c.group-item.is in
     let rest : List (List Pick) = map own_picks (drop (i + 1) groups) in
     let adds = c.in_ok-add_keyed.ensures scope placed in
     let before = c.loop-group.invariant scope placed in (

@@ -1,7 +1,8 @@
 use Rattle.std.proofs.Common.{◌≡◌, ◌+◌, ◌++◌, ◌∷◌, [], List, map, drop, subst, ap, sym, ◌∙◌, append-nil, arith}
 use Rattle.std.proofs.lemmas.List.{drop_all}
+use Rattle.ldv_value.proofs.Places.{drop_item}
 use Rattle.lineage.specs.declared.answer.Pick.{Pick}
-use Rattle.core_parts.proofs.Lists.{drop-step, moved-one}
+use Rattle.core_parts.proofs.Lists.{moved-one}
 use Rattle.group_eval.specs.Evaluating.{item_values}
 use Rattle.group_eval.specs.Folding.{group_meaning}
 use Rattle.core_parts.specs.Placing.{AreAllPlaced}
@@ -23,7 +24,7 @@ loop-item-preserved c =
     let items = c.args.items.now in
     let i = c.loop-item.item-index in
     let item : Placed = c.item-item.result in
-    let split : drop i items ≡ item ∷ drop (i + 1) items = drop-step items i item c.loop-item-test.true c.item-item.is in
+    let split : drop i items ≡ item ∷ drop (i + 1) items = drop_item items i item c.loop-item-test.true c.item-item.is in
     record {
       values = λ scope all.
           let before = c.loop-item.invariant.values scope all in

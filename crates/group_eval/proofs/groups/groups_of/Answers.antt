@@ -2,7 +2,7 @@ use Rattle.std.proofs.Common.{◌≡◌, ◌∙◌, ◌+◌, [], List, ℕ, drop
 use Rattle.std.specs.BTreeMap.{is_at}
 use Rattle.std.specs.Map.{lookup}
 use Rattle.std.proofs.lemmas.List.{drop_all}
-use Rattle.core_parts.proofs.Lists.{drop-step}
+use Rattle.ldv_value.proofs.Places.{drop_item}
 use Rattle.lineage.specs.declared.answer.Pick.{Pick}
 use Rattle.sql_model.specs.KeyOrder.{values_order}
 use Rattle.group_eval.specs.Grouping.{own_picks, number_of, grouped_onto}
@@ -24,7 +24,7 @@ loop-pick-preserved c =
     let i = c.loop-pick.pick-index in (
       c.in_ok-add_pick.ensures.index,
       ap (λ (ms : List KeyedGroup). grouped_onto places ms (drop (i + 1) picks)) c.in_ok-add_pick.ensures.made
-          ∙ ap (grouped_onto places c.loop-pick.made.items) (sym (drop-step picks i c.pick-item.result c.loop-pick-test.true c.pick-item.is))
+          ∙ ap (grouped_onto places c.loop-pick.made.items) (sym (drop_item picks i c.pick-item.result c.loop-pick-test.true c.pick-item.is))
           ∙ c.loop-pick.invariant.1,
     )
 

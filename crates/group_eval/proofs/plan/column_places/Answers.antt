@@ -1,7 +1,8 @@
 use Rattle.std.proofs.Common.{◌≡◌, ◌+◌, ◌++◌, ◌∷◌, List, ℕ, drop, take, ap, ◌∙◌, sym}
+use Rattle.ldv_value.proofs.Places.{drop_item}
 use Rattle.group_eval.specs.Types.{ColumnName}
 use Rattle.sql_model.specs.Scope.{places_in, place_of}
-use Rattle.core_parts.proofs.Lists.{drop-step, moved-one}
+use Rattle.core_parts.proofs.Lists.{moved-one}
 use Rattle.group_eval.proofs.plan.column_places.Goals as goal
 
 pub loop-column-preserved : goal.loop-column-preserved
@@ -9,7 +10,7 @@ loop-column-preserved c = λ scope more is.
     let columns = c.args.columns.now in
     let i = c.loop-column._column-index in
     let column = c._column-item.result in
-    let split : drop i columns ≡ column ∷ drop (i + 1) columns = drop-step columns i column c.loop-column-test.true c._column-item.is in
+    let split : drop i columns ≡ column ∷ drop (i + 1) columns = drop_item columns i column c.loop-column-test.true c._column-item.is in
     let rest : List ℕ = places_in scope (drop (i + 1) columns) in
     let before = c.loop-column.invariant scope more is in
     let here : drop c.loop-column.at c.args.places.now ≡ place_of scope column ∷ (rest ++ more) =

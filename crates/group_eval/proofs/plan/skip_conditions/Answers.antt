@@ -1,5 +1,5 @@
 use Rattle.std.proofs.Common.{drop}
-use Rattle.core_parts.proofs.Lists.{drop-step}
+use Rattle.ldv_value.proofs.Places.{drop_item}
 use Rattle.core_parts.proofs.Places.{item-passed}
 use Rattle.group_eval.specs.Types.{Expr}
 use Rattle.group_eval.proofs.plan.skip_conditions.Goals as goal
@@ -9,4 +9,4 @@ loop-condition-preserved c = λ scope more is.
     let all = c.args.conditions.now in
     let i = c.loop-condition.condition-index in
     item-passed scope (λ (e : Expr). e) all i c.condition-item.result (drop c.loop-condition.at c.args.places.now) (drop c.take_places.new.at c.args.places.now) more
-    (drop-step all i c.condition-item.result c.loop-condition-test.true c.condition-item.is) (c.loop-condition.invariant scope more is) c.in_ok-take_places.ensures.others
+    (drop_item all i c.condition-item.result c.loop-condition-test.true c.condition-item.is) (c.loop-condition.invariant scope more is) c.in_ok-take_places.ensures.others

@@ -1,20 +1,21 @@
 use Rattle.std.proofs.Common.{◌≡◌, List, refl, sym, subst, rules}
 use Rattle.std.specs.Prelude.{option_map, slice_get}
+use Rattle.std.proofs.lemmas.Option.{slice_get_past}
 use Rattle.proc_core.specs.declared.process.SlotProcess.{SlotProcess}
 use Rattle.proc_core.specs.inner.SlotStep.{IsKept, next_slot_instr, slot_effect}
 use Rattle.proc_core.proofs.Counts.{effect_counts, fewer_kept}
 use Rattle.proc_core.proofs.Growing.{grows_kept}
-use Rattle.proc_core.proofs.Machines.{get_none, none_core, none_told, next_core, next_told}
+use Rattle.proc_core.proofs.Machines.{none_core, none_told, next_core, next_told}
 use Rattle.proc_core.proofs.keep.execute_local.Goals as goal
 
 pub returns-then-past-clause-core : goal.returns-then-past-clause-core
 returns-then-past-clause-core g c = λ core is.
-    none_core c.args.machine.now c.args.who.number core (get_none c.args.machine.now.processes.items c.args.who.number (search rules)) is
+    none_core c.args.machine.now c.args.who.number core (slice_get_past c.args.machine.now.processes.items c.args.who.number (search rules)) is
 
 pub returns-then-past-clause-told : goal.returns-then-past-clause-told
 returns-then-past-clause-told g c = λ core is.
     none_told c.args.machine.now c.args.who.number c.args.who.step core g.T.Tracer.KEEPS (g.T.Tracer.events c.args.tracer.now)
-    (get_none c.args.machine.now.processes.items c.args.who.number (search rules)) is
+    (slice_get_past c.args.machine.now.processes.items c.args.who.number (search rules)) is
 
 pub returns-clause-core : goal.returns-clause-core
 returns-clause-core g c = λ core is.

@@ -1,5 +1,5 @@
 use Rattle.std.proofs.Common.{drop}
-use Rattle.core_parts.proofs.Lists.{drop-step}
+use Rattle.ldv_value.proofs.Places.{drop_item}
 use Rattle.core_parts.proofs.Places.{item-passed}
 use Rattle.query_eval.specs.Types.{Item}
 use Rattle.query_eval.proofs.conditions.skip_items.Goals as goal
@@ -9,4 +9,4 @@ loop-item-preserved c = λ scope more is.
     let all = c.args.items.now in
     let i = c.loop-item.item-index in
     item-passed scope (λ (x : Item). x.expr) all i c.item-item.result (drop c.loop-item.at c.args.places.now) (drop c.take_places.new.at c.args.places.now) more
-    (drop-step all i c.item-item.result c.loop-item-test.true c.item-item.is) (c.loop-item.invariant scope more is) c.in_ok-take_places.ensures.others
+    (drop_item all i c.item-item.result c.loop-item-test.true c.item-item.is) (c.loop-item.invariant scope more is) c.in_ok-take_places.ensures.others

@@ -1,10 +1,10 @@
 use Rattle.std.proofs.Common.{rules, ◌≡◌, ◌<◌, ◌+◌, ◌∷◌, [], ◌&&◌, Bool, ℕ, List, drop, get_or, length, subst, ap, sym, ◌∙◌, true, false, arith}
 use Rattle.std.proofs.lemmas.List.{drop_all}
+use Rattle.ldv_value.proofs.Places.{drop_item}
 use Rattle.core_parts.specs.Conditions.{meets}
 use Rattle.query_eval.specs.Types.{Value}
 use Rattle.core_parts.specs.Placing.{AreAllPlaced, IsPlaced}
 use Rattle.core_parts.specs.declared.placed.BoundExpr.{BoundExpr}
-use Rattle.core_parts.proofs.Lists.{drop-step}
 use Rattle.sql_model.specs.Meaning.{is_true, truth}
 use Rattle.sql_model.specs.Scope.{InScope, environment}
 use Rattle.query_eval.proofs.joining.is_met_all.Goals as goal
@@ -16,7 +16,7 @@ met-on : (scope : List InScope) (conds : List BoundExpr) (i : ℕ) (cond : Bound
     → (IsPlaced scope cond → met ≡ is_true (truth cond.expr (environment scope values)))
     → AreAllPlaced scope (drop (i + 1) conds) × ((met && meets scope (drop (i + 1) conds) values) ≡ all)
 met-on scope conds i cond values met all below is before tested =
-    let split : drop i conds ≡ cond ∷ drop (i + 1) conds = drop-step conds i cond below is in
+    let split : drop i conds ≡ cond ∷ drop (i + 1) conds = drop_item conds i cond below is in
     let placed : AreAllPlaced scope (cond ∷ drop (i + 1) conds) = subst (AreAllPlaced scope) split before.0 in (
       placed.1,
       ap (λ b. b && meets scope (drop (i + 1) conds) values) (tested placed.0)

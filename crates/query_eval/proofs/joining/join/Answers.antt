@@ -2,13 +2,13 @@ use Rattle.std.proofs.Common.{◌≡◌, ◌+◌, ◌∷◌, [], ◌∙◌, ap, 
 use Rattle.std.specs.Prelude.{filter}
 use Rattle.std.proofs.lemmas.List.{drop_all}
 use Rattle.std.proofs.lemmas.Result.{IfOk-weaker}
+use Rattle.ldv_value.proofs.Places.{drop_item}
 use Rattle.query_eval.specs.inner.Joining.{combos, tests, extensions_left, EachHas}
 use Rattle.core_parts.specs.Placing.{AreAllPlaced}
 use Rattle.query_eval.specs.Sourcing.{source_rows, SourcesAreWide}
 use Rattle.query_eval.specs.declared.source.Source.{Source}
 use Rattle.sql_model.specs.Scope.{InScope}
 use Rattle.query_eval.proofs.Levels.{first-step, last-step}
-use Rattle.core_parts.proofs.Lists.{drop-step}
 use Rattle.query_eval.proofs.joining.join.Goals as goal
 
 pub loop-source-init : goal.loop-source-init
@@ -31,7 +31,7 @@ loop-source-preserved c =
     let i = c.loop-source.source-index in
     let source = c.source-item.result in
     let walk = c.loop-source.walk in
-    let split : drop i sources ≡ source ∷ drop (i + 1) sources = drop-step sources i source c.loop-source-test.true c.source-item.is in
+    let split : drop i sources ≡ source ∷ drop (i + 1) sources = drop_item sources i source c.loop-source-test.true c.source-item.is in
     record {
       few = omega (arith, c.loop-source.invariant.few, c.in_ok-walk-2.ensures.width);
       same = λ scope all wide.

@@ -1,7 +1,7 @@
 use Rattle.table_store.specs.Histories.{last_next_number}
-use Rattle.table_store.specs.KeyIndex.{has_key}
 use Rattle.table_store.proofs.StandingRows.{slot-has}
 use Rattle.query_eval.proofs.key_lookup.slot_of_key.Goals as goal
+use Rattle.sql_model.specs.References.{has_key}
 
 pub returns-in-Some : goal.returns-in-Some
 returns-in-Some c =

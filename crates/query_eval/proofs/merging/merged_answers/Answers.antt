@@ -2,7 +2,7 @@ use Rattle.std.proofs.Common.{◌≡◌, ◌∙◌, ◌+◌, [], List, ℕ, drop
 use Rattle.std.specs.BTreeMap.{is_at}
 use Rattle.std.specs.Map.{lookup}
 use Rattle.std.proofs.lemmas.List.{drop_all}
-use Rattle.core_parts.proofs.Lists.{drop-step}
+use Rattle.ldv_value.proofs.Places.{drop_item}
 use Rattle.lineage.specs.declared.answer.Answer.{Answer}
 use Rattle.sql_model.specs.KeyOrder.{values_order}
 use Rattle.query_eval.specs.Merging.{place_of, merged_onto}
@@ -22,7 +22,7 @@ loop-answer-preserved c =
     let i = c.loop-answer.answer-index in (
       c.in_ok-add_answer.ensures.index,
       ap (λ (ms : List Answer). merged_onto ms (drop (i + 1) answers)) c.in_ok-add_answer.ensures.made
-          ∙ ap (merged_onto c.loop-answer.made.items) (sym (drop-step answers i c.answer-item.result c.loop-answer-test.true c.answer-item.is))
+          ∙ ap (merged_onto c.loop-answer.made.items) (sym (drop_item answers i c.answer-item.result c.loop-answer-test.true c.answer-item.is))
           ∙ c.loop-answer.invariant.1,
     )
 

@@ -1,9 +1,10 @@
 use Rattle.std.proofs.Common.{◌≡◌, ◌+◌, ◌++◌, ◌∷◌, List, drop, subst, ap, sym, ◌∙◌}
 use Rattle.ldv_value.specs.declared.value.Value.{Value}
+use Rattle.ldv_value.proofs.Places.{drop_item}
 use Rattle.core_parts.specs.Placing.{AreAllPlaced}
 use Rattle.query_eval.specs.Projecting.{values_over, meaning}
 use Rattle.core_parts.specs.declared.placed.BoundExpr.{BoundExpr}
-use Rattle.core_parts.proofs.Lists.{drop-step, moved-one}
+use Rattle.core_parts.proofs.Lists.{moved-one}
 use Rattle.query_eval.proofs.projection.row_values.Goals as goal
 
 pub loop-placed-preserved : goal.loop-placed-preserved
@@ -11,7 +12,7 @@ loop-placed-preserved c = λ scope all.
     let exprs = c.args.exprs.now in
     let i = c.loop-placed.placed-index in
     let row = c.args.row.now in
-    let split : drop i exprs ≡ c.placed-item.result ∷ drop (i + 1) exprs = drop-step exprs i c.placed-item.result c.loop-placed-test.true c.placed-item.is in
+    let split : drop i exprs ≡ c.placed-item.result ∷ drop (i + 1) exprs = drop_item exprs i c.placed-item.result c.loop-placed-test.true c.placed-item.is in
     let before = c.loop-placed.invariant scope all in
     let placed : AreAllPlaced scope (c.placed-item.result ∷ drop (i + 1) exprs) = subst (AreAllPlaced scope) split before.0 in (
       placed.1,

@@ -1,7 +1,7 @@
 use Rattle.std.proofs.Common.{◌≡◌, ◌∷◌, [], ◌+◌, ◌∙◌, ap, refl, subst, sym, arith, drop, List}
 use Rattle.std.specs.Prelude.{slice_get, is_some, IsTrue}
 use Rattle.std.proofs.lemmas.List.{drop_all}
-use Rattle.core_parts.proofs.Lists.{drop-step}
+use Rattle.ldv_value.proofs.Places.{drop_item}
 use Rattle.sql_engine.specs.inner.Answering.{AreUnited, AreRows}
 use Rattle.sql_engine.specs.Types.{Core}
 use Rattle.sql_engine.proofs.AnswerLaws.{all_rows, asked_cores, next_core, united_start, united_step, united_end}
@@ -20,7 +20,7 @@ core_rows-requires-in-loop-core c =
     let others = c.args.others.now in
     let i = c.loop-core.core-index in
     let item = c.core-item.result in
-    let split : drop i others ≡ item ∷ drop (i + 1) others = drop-step others i item c.loop-core-test.true c.core-item.is in
+    let split : drop i others ≡ item ∷ drop (i + 1) others = drop_item others i item c.loop-core-test.true c.core-item.is in
     ap is_some (next_core (cores_of c.args.checked.now.statement) others c.args.first.now item c.loop-core.place i (drop (i + 1) others) c.requires c.loop-core.invariant.0 split)
 
 pub loop-core-preserved : goal.loop-core-preserved
@@ -28,7 +28,7 @@ loop-core-preserved c =
     let others = c.args.others.now in
     let i = c.loop-core.core-index in
     let item = c.core-item.result in
-    let split : drop i others ≡ item ∷ drop (i + 1) others = drop-step others i item c.loop-core-test.true c.core-item.is in
+    let split : drop i others ≡ item ∷ drop (i + 1) others = drop_item others i item c.loop-core-test.true c.core-item.is in
     let at = next_core (cores_of c.args.checked.now.statement) others c.args.first.now item c.loop-core.place i (drop (i + 1) others) c.requires c.loop-core.invariant.0 split in (
       ap (λ n. n + 1) c.loop-core.invariant.0,
       λ query asked. united_step c.args.store.now c.args.keep (c.args.first.now ∷ others) (drop (i + 1) others) item c.loop-core.rows c.in_ok-more.more c.in_ok-rows-2.rows

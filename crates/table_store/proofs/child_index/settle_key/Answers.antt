@@ -1,9 +1,9 @@
 use Rattle.std.proofs.Common.{◌≡◌, ◌∙◌, ap, get_or, None}
 use Rattle.std.specs.Prelude.{find, if◌then◌else◌}
 use Rattle.std.specs.Option.{option_to_list}
+use Rattle.sql_model.specs.References.{has_key}
 use Rattle.table_store.specs.inner.ChildPairs.{pair_in}
 use Rattle.table_store.specs.Histories.{no_history, row_now}
-use Rattle.table_store.specs.KeyIndex.{has_key}
 use Rattle.table_store.proofs.ChildIndexLaws.{settled}
 use Rattle.table_store.proofs.child_index.settle_key.Goals as goal
 

@@ -1,7 +1,8 @@
 use Rattle.std.proofs.Common.{rules, ◌≡◌, ◌∙◌, ap, List, get_or, is_some, true, false, arith}
 use Rattle.std.specs.Option.{option_map}
+use Rattle.ldv_value.specs.Options.{first_some}
 use Rattle.sql_model.specs.References.{child_of, orphan_by, reference}
-use Rattle.table_store.specs.inner.Afterwards.{first_some, in_set}
+use Rattle.table_store.specs.inner.Afterwards.{in_set}
 use Rattle.table_store.specs.Histories.{table_now}
 use Rattle.table_store.specs.Referring.{child_stop}
 use Rattle.table_store.specs.Types.{Foreign, Schema}

@@ -1,5 +1,6 @@
 use Rattle.std.proofs.Common.{◌≡◌, None, take}
-use Rattle.table_store.specs.inner.Afterwards.{first_some, in_set}
+use Rattle.ldv_value.specs.Options.{first_some}
+use Rattle.table_store.specs.inner.Afterwards.{in_set}
 use Rattle.table_store.specs.Histories.{table_now}
 use Rattle.sql_model.specs.References.{child_of, orphan_by, reference}
 use Rattle.table_store.proofs.children.child_by_each.Given as goal

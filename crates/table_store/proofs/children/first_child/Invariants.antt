@@ -1,5 +1,6 @@
 use Rattle.std.proofs.Common.{◌≡◌, None, take}
-use Rattle.table_store.specs.inner.Afterwards.{first_some, in_set, orphan_in_table}
+use Rattle.ldv_value.specs.Options.{first_some}
+use Rattle.table_store.specs.inner.Afterwards.{in_set, orphan_in_table}
 use Rattle.table_store.specs.Stops.{is_among}
 use Rattle.table_store.proofs.children.first_child.Given as goal
 

@@ -3,12 +3,13 @@ use Rattle.std.specs.Prelude.{find, Err}
 use Rattle.std.proofs.lemmas.List.{take_all}
 use Rattle.sql_model.specs.Changes.{KeyClash, clash_or, clash_after, numbered_rows}
 use Rattle.sql_model.specs.Keys.{values_at}
+use Rattle.sql_model.specs.References.{has_key}
 use Rattle.table_store.specs.Types.{Value, TableRow}
 use Rattle.table_store.specs.inner.Claims.{claim_stop}
 use Rattle.table_store.specs.Histories.{rows_now}
 use Rattle.table_store.specs.inner.HighKeys.{high_in}
 use Rattle.table_store.specs.inner.IndexView.{held_in}
-use Rattle.table_store.specs.KeyIndex.{HeldKeys, AreHeld, has_key}
+use Rattle.table_store.specs.KeyIndex.{HeldKeys, AreHeld}
 use Rattle.table_store.specs.RowOrder.{AreInOrder}
 use Rattle.table_store.specs.Stops.{StopsAs}
 use Rattle.table_store.proofs.ClaimLaws.{left_clash, not_taken, claim_taken, held_front, clash_after-none}

@@ -3,11 +3,12 @@ use Rattle.std.specs.Prelude.{find}
 use Rattle.std.proofs.lemmas.List.{get_or_default}
 use Rattle.sql_model.specs.Changes.{numbered_rows}
 use Rattle.sql_model.specs.Keys.{key_at, values_at}
+use Rattle.sql_model.specs.References.{has_key}
 use Rattle.table_store.specs.Types.{RowKey}
 use Rattle.table_store.specs.Histories.{rows_now}
 use Rattle.table_store.specs.inner.HighKeys.{high_in}
 use Rattle.table_store.specs.inner.IndexView.{held_in}
-use Rattle.table_store.specs.KeyIndex.{HeldKeys, AreHeld, has_key}
+use Rattle.table_store.specs.KeyIndex.{HeldKeys, AreHeld}
 use Rattle.table_store.proofs.ClaimLaws.{none_from, put_kept, put_more}
 use Rattle.table_store.proofs.HighLaws.{both}
 use Rattle.table_store.proofs.claim.claim_one.Goals as goal

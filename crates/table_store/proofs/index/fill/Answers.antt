@@ -5,9 +5,10 @@ use Rattle.std.specs.Ordering.{int_cmp}
 use Rattle.std.proofs.lemmas.List.{take_all, take_more}
 use Rattle.sql_model.specs.KeyOrder.{key_order}
 use Rattle.sql_model.specs.Keys.{values_at, key_at}
+use Rattle.sql_model.specs.References.{has_key}
 use Rattle.table_store.specs.Types.{TableRow, RowKey}
 use Rattle.table_store.specs.inner.IndexView.{held_as}
-use Rattle.table_store.specs.KeyIndex.{AreHeld, HeldKeys, has_key, int_key, last_under}
+use Rattle.table_store.specs.KeyIndex.{AreHeld, HeldKeys, int_key, last_under}
 use Rattle.table_store.proofs.IndexLaws.{held_pushed, earlier_none}
 use Rattle.table_store.proofs.IndexViewLaws.{Ints, same_both}
 use Rattle.table_store.proofs.index.fill.Goals as goal

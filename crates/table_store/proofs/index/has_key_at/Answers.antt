@@ -2,9 +2,9 @@ use Rattle.std.proofs.Common.{◌∙◌, ap, ℕ, arith, Some, None}
 use Rattle.std.specs.Prelude.{if◌then◌else◌, find}
 use Rattle.std.specs.Option.{option_map, option_to_list}
 use Rattle.std.proofs.Common.{get_or}
+use Rattle.sql_model.specs.References.{has_key}
 use Rattle.table_store.specs.Types.{TableRow}
 use Rattle.table_store.specs.Histories.{no_history, row_now}
-use Rattle.table_store.specs.KeyIndex.{has_key}
 use Rattle.table_store.proofs.IndexLaws.{no_slot_has, row_in_slot, number_of_row}
 use Rattle.table_store.proofs.index.has_key_at.Goals as goal
 

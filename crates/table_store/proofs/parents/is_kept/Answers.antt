@@ -1,8 +1,8 @@
 use Rattle.std.proofs.Common.{◌≡◌, ◌∙◌, ap, sym, List, ℕ, true, false, Option, Some, None}
 use Rattle.std.specs.Prelude.{find, not, length}
 use Rattle.std.specs.List.{list_any}
+use Rattle.sql_model.specs.References.{has_key}
 use Rattle.table_store.specs.Histories.{table_now}
-use Rattle.table_store.specs.KeyIndex.{has_key}
 use Rattle.table_store.specs.Stops.{is_among}
 use Rattle.table_store.specs.Types.{Table, TableRow}
 use Rattle.table_store.proofs.PutLaws.{kept_none, kept_some}

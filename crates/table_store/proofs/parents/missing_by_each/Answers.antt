@@ -1,7 +1,8 @@
 use Rattle.std.proofs.Common.{rules, ◌≡◌, ◌∙◌, ap, List, get_or, is_some, true, false, arith}
 use Rattle.std.specs.List.{list_all}
 use Rattle.std.specs.Option.{option_map}
-use Rattle.table_store.specs.inner.Afterwards.{first_some, has_put, in_set, is_keyed, missing_put}
+use Rattle.ldv_value.specs.Options.{first_some}
+use Rattle.table_store.specs.inner.Afterwards.{has_put, in_set, is_keyed, missing_put}
 use Rattle.table_store.specs.Histories.{tables_now}
 use Rattle.table_store.specs.Referring.{parent_stop}
 use Rattle.table_store.specs.Types.{Foreign}

@@ -1,5 +1,6 @@
 use Rattle.std.proofs.Common.{◌≡◌, None, take}
-use Rattle.table_store.specs.inner.Afterwards.{first_some, has_put, in_set, missing_in_row}
+use Rattle.ldv_value.specs.Options.{first_some}
+use Rattle.table_store.specs.inner.Afterwards.{has_put, in_set, missing_in_row}
 use Rattle.table_store.specs.Histories.{tables_now}
 use Rattle.table_store.proofs.parents.missing_parent.Given as goal
 

@@ -1,9 +1,9 @@
 use Rattle.std.proofs.Common.{◌∙◌, ◌==◌, ◌&&◌, ap, sym, Some, None}
 use Rattle.std.specs.Prelude.{find, if◌then◌else◌}
 use Rattle.std.specs.Option.{option_map}
+use Rattle.sql_model.specs.References.{has_key}
 use Rattle.table_store.specs.Types.{RowKey, TableRow}
 use Rattle.table_store.specs.Histories.{rows_now}
-use Rattle.table_store.specs.KeyIndex.{has_key}
 use Rattle.table_store.proofs.rekey.keeps_key.Goals as goal
 
 pub returns : goal.returns

@@ -1,7 +1,7 @@
 use Rattle.std.proofs.Common.{◌∙◌, ◌<◌, ap, sym, ℕ, Some, Option, length}
 use Rattle.std.specs.Prelude.{find}
 use Rattle.std.specs.Option.{option_map}
-use Rattle.table_store.specs.KeyIndex.{has_key}
+use Rattle.sql_model.specs.References.{has_key}
 use Rattle.table_store.specs.Types.{Table, TableRow}
 use Rattle.table_store.proofs.NowLaws.{not_absent, given_now, now_at}
 use Rattle.table_store.proofs.store.Store.by_key.Goals as goal

@@ -5,6 +5,7 @@ use Rattle.sql_model.specs.Scope.{table_at}
 use Rattle.table_store.specs.Types.{Table}
 use Rattle.sql_model.specs.Changes.{numbered_rows}
 use Rattle.sql_model.specs.Tables.{is_valid_table}
+use Rattle.sql_model.proofs.UniqueKeys.{or_none}
 use Rattle.table_store.specs.Referring.{missing_stop}
 use Rattle.table_store.specs.Histories.{tables_now, TableHistory, table_with_rows, table_now}
 use Rattle.table_store.specs.Stops.{with_changed, with_inserted, have_shape, insert_stop}
@@ -12,7 +13,7 @@ use Rattle.table_store.specs.StoreView.{no_table}
 use Rattle.table_store.specs.declared.error.StoreStop.{StoreStop}
 use Rattle.table_store.specs.declared.error.StoreStop.TheVariants.{HasChild}
 use Rattle.table_store.proofs.LaterLaws.{later_is, whole_none, whole_stops, childless, same_error}
-use Rattle.table_store.proofs.FormedLaws.{or_none, inserted_valid}
+use Rattle.table_store.proofs.FormedLaws.{inserted_valid}
 use Rattle.table_store.proofs.StoreChangeLaws.{insert_is, valid_there, at_place, later_there, given_there, after_stored, after_is, after_now, after_kept, not_missing}
 use Rattle.table_store.proofs.TableChangeLaws.{inserted_now}
 use Rattle.table_store.proofs.store.Store.insert_all.Goals as goal

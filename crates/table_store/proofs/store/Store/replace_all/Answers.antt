@@ -2,6 +2,7 @@ use Rattle.std.proofs.Common.{List, ◌≡◌, ◌∙◌, ap, sym, Option, Some,
 use Rattle.sql_model.specs.Scope.{table_at}
 use Rattle.table_store.specs.Types.{Table, TableRow}
 use Rattle.sql_model.specs.Tables.{is_valid_table}
+use Rattle.sql_model.proofs.UniqueKeys.{or_none}
 use Rattle.table_store.specs.Referring.{is_of, missing_stop, orphan_stop}
 use Rattle.std.specs.Option.{option_or}
 use Rattle.table_store.specs.Histories.{tables_now, TableHistory, table_with_values, table_now}
@@ -9,7 +10,7 @@ use Rattle.table_store.specs.Stops.{with_changed, with_replaced, have_shape, val
 use Rattle.table_store.specs.StoreView.{no_table}
 use Rattle.table_store.specs.declared.error.StoreStop.{StoreStop}
 use Rattle.table_store.proofs.LaterLaws.{later_is, whole_none, whole_stops}
-use Rattle.table_store.proofs.FormedLaws.{or_none, replaced_valid}
+use Rattle.table_store.proofs.FormedLaws.{replaced_valid}
 use Rattle.table_store.proofs.StoreChangeLaws.{replace_is, valid_there, at_place, later_there, given_there, after_stored, after_is, after_now, after_kept, not_missing}
 use Rattle.table_store.proofs.store.Store.replace_all.Goals as goal
 

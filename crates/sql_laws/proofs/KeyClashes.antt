@@ -10,7 +10,7 @@ use Rattle.sql_model.proofs.UniqueKeys.{values_in, unique-fewer}
 use Rattle.sql_model.specs.Changes.{shares_key, clash_or, clash_after, clash_by}
 use Rattle.sql_model.specs.Keys.{same_values, values_at, repeats}
 use Rattle.sql_model.specs.Tables.{are_keys_unique}
-use Rattle.package_join.specs.Types.{TableRow, Value}
+use Rattle.sql_laws.specs.Types.{TableRow, Value}
 
 module _ (key : List ℕ) where
   abbrev keys : List TableRow → List (List Value)
