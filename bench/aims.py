@@ -1,12 +1,12 @@
 #!/usr/bin/env python3
 """What the benches aim at, and whether it is met.
 
-usage: aims.py BENCH LINE VALUE TALLY    the aim of a line of a bench, or a dash where it has none; it is noted
-                                         in the file TALLY whether the value is at most that
+usage: aims.py BENCH LINE VALUE TALLY    the aim of a line of a bench, or a dash where it has none; it is
+                                         noted in the file TALLY whether the value is at most that
        aims.py --count TALLY             how many of the aims that were noted are missed
 
-A value is a multiple of what the other program takes, but for `depends`, where it is microseconds an event and
-memory as a multiple of the bytes that are read. It counts with its two decimals.
+A value is a multiple of what the other program takes, but for `depends`, where it is microseconds an event
+and memory as a multiple of the bytes that are read. It counts with its two decimals.
 """
 import sys
 
@@ -18,8 +18,8 @@ AIMS = {
     ("run", "processes 65000"): 1.2,
     ("run", "processes 65000, seed 7"): 1.2,
     ("run", "report 100000"): 0.4,
-    # Those of engine.sh are of what is asked, without the load. Of joins, groups and ORDER BY they are 15 % less
-    # than what these took when statements were still copied.
+    # Those of engine.sh are of what is asked, without the load. Of joins, groups and ORDER BY they are 15 %
+    # less than what these took when statements were still copied.
     ("engine", "join2 1000000"): 1.68,
     ("engine", "join3 1000000"): 2.3,
     ("engine", "group10 1000000"): 1.79,

@@ -9,8 +9,8 @@ for it is the load. Beside it a child process loads the same rows into a databas
 the same statements and takes all their rows. Foreign keys are on in both. A case is refused where the two
 didn't find as many rows with the same sum, or didn't refuse as many statements.
 
-Seconds are the least and MiB the greatest of some runs. `load` is in `all` for both. The aim is of `asked`, as
-aims.py has it, and the last line says how many aims are missed.
+Seconds are the least and MiB the greatest of some runs. `load` is in `all` for both. The aim is of `asked`,
+as aims.py has it, and the last line says how many aims are missed.
 """
 import argparse
 import json

@@ -4,12 +4,13 @@ takes for values in no order.
 
     hard.py LDV FOLDER [--size 300000] [--runs 5] [--cases group,distinct,..]
 
-Values are in one of four forms: `usual`, each another one and in no order; `falling`, each less than the one
-before; `equal`, all the same; and of texts `last`, of 64 bytes that differ in the last six alone, where `usual`
-differs in the first six. A join over equal values isn't asked, as its answer has the square of the rows.
+Values are in one of four forms: `usual`, each another one and in no order; `falling`, each less than the
+one before; `equal`, all the same; and of texts `last`, of 64 bytes that differ in the last six alone, where
+`usual` differs in the first six. A join over equal values isn't asked, as its answer has the square of the
+rows.
 
-Seconds are the least of some runs, of a processor, without those of a run of the same tables whose script only
-ends. At most twice the usual time is aimed at; the last line says how many lines miss that.
+Seconds are the least of some runs, of a processor, without those of a run of the same tables whose script
+only ends. At most twice the usual time is aimed at; the last line says how many lines miss that.
 """
 import argparse
 import json
@@ -49,8 +50,8 @@ CASES = {
     'join': ('SELECT a.k FROM t a JOIN t b ON a.{c} = b.{c}', False),
     'update': ('UPDATE t SET {c} = {c}', True),
 }
-# Rows that are inserted one by one into an empty table, by the form of their keys: the script's first lines, the
-# statement's key and the next turn.
+# Rows that are inserted one by one into an empty table, by the form of their keys: the script's first lines,
+# the statement's key and the next turn.
 INSERTS = {
     'number usual': ('let i = 0', '', 'i', 'let i = i + 1', 'if i < {size} goto next'),
     'number falling': ('let i = {size}', '', 'i', 'let i = i - 1', 'if 0 < i goto next'),
@@ -126,7 +127,8 @@ def taken_by_inserts(given, kind, form):
 def show(given, case, kind, form, seconds, usual):
     of_usual = engine.ratio(seconds, usual)
     aimed = aims.noted('hard', f'{case} {kind} {form}', of_usual, os.path.join(given.folder, 'aims'))
-    print(f'{case:10s} {kind:8s} {form:8s} {given.size:8d} {seconds:9.3f} {of_usual:9.2f} {aimed:>6s}', flush=True)
+    print(f'{case:10s} {kind:8s} {form:8s} {given.size:8d} {seconds:9.3f} {of_usual:9.2f} {aimed:>6s}',
+          flush=True)
 
 
 def measure(given, case, kind, forms, take):
@@ -138,9 +140,10 @@ def measure(given, case, kind, forms, take):
 
 
 def measure_statements(given, case):
-    for kind, column, forms in (('number', 'v', BY_NUMBER), ('text', 's', BY_TEXT)):
+    columns = {'number': 'v', 'text': 's'}
+    for kind, forms in (('number', BY_NUMBER), ('text', BY_TEXT)):
         fitting = [form for form in forms if form != 'equal' or CASES[case][1]]
-        measure(given, case, kind, fitting, lambda _kind, form, column=column: taken(given, case, column, form))
+        measure(given, case, kind, fitting, lambda kind, form: taken(given, case, columns[kind], form))
 
 
 def measure_inserts(given):

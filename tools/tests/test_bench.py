@@ -176,8 +176,8 @@ class Aims(InFolder):
         self.assertEqual((status, err), (0, b""))
         rows = [line.split()[:3] for line in out.decode().splitlines()]
         forms = {"number": ["usual", "falling", "equal"], "text": ["usual", "falling", "equal", "last"]}
-        asked = [[case, kind, form] for case in ("group", "distinct", "union", "order", "join", "update", "insert")
-                 for kind, those in forms.items() for form in those
+        cases = ("group", "distinct", "union", "order", "join", "update", "insert")
+        asked = [[case, kind, form] for case in cases for kind, those in forms.items() for form in those
                  if form != "equal" or case not in ("join", "insert")]
         self.assertEqual(rows[1:-1], asked)
         self.assertEqual(rows[-1][:2], ["aims", "missed:"])
