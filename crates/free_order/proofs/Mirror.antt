@@ -32,7 +32,7 @@ use Rattle.sql_laws.proofs.ItemLists.{all_append}
 use Rattle.run_laws.proofs.Askers.{next_named}
 use Rattle.run_laws.proofs.LogEntries.{left_after, left_other}
 use Rattle.free_order.proofs.Boards.{Solo, Board, Use, use_of, Change, Still, Sets, Deed, Move, opens_unless, opens, reads, writes_where, room_for, writes, rest_of, copies_where, copies, removes_where, removes, tests, noting, plain, moved, child_name, spawns_script, script_in, spawns_file, spawns, waits_until, waits, asks_next, asks, stopping, taking, deed_of, deed_by, next_of, deed, free_for, is_free, born_count, applied, May, status_of}
-use Rattle.free_order.specs.Private.{spawned_by}
+use Rattle.run_model.specs.Acts.{spawned_by}
 use Rattle.free_order.proofs.Boards as boards
 use Rattle.free_order.proofs.ByName.{named, at_number, kids_of, dress, bare, solo_of, solos, board_of, files_after, bytes_after, touched_after, put_solo, named_set, named_one, named_found, IsBelow, KidsBelow, solo_more, kids_bound, lookup_kids, unbound_below, found_below, there_below, name_at, solos_set, solos_there}
 use Rattle.free_order.proofs.DeedFacts.{fine_at}

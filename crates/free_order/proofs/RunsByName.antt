@@ -19,7 +19,8 @@ use Rattle.run_model.proofs.NeverStuck.{Ordered, move_ordered, chosen_runs}
 use Rattle.run_laws.proofs.ProcessNames.{Grows, grows_itself, grows_trans, found_later, set_grows, names, names_set, Distinct, Named, named_later}
 use Rattle.run_laws.proofs.QuietSteps.{Quiets, quiet_quiets}
 use Rattle.run_laws.proofs.LogRuns.{replied_later}
-use Rattle.free_order.specs.Private.{spawned_by, spawned_in}
+use Rattle.run_model.specs.Acts.{spawned_by}
+use Rattle.free_order.specs.Private.{spawned_in}
 use Rattle.free_order.proofs.Boards.{Solo, Board, Use, Deed, deed, born_count, applied, May, Owner, Fits, Fit, Goes, Runs}
 use Rattle.free_order.proofs.ByName.{at_number, solo_of, board_of, name_at}
 use Rattle.free_order.proofs.Mirror.{use_in, uses_of, births_of, AllBelow, Mirrors, step_mirror, step_may}

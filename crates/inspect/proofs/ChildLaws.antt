@@ -7,12 +7,13 @@ use Rattle.std.proofs.lemmas.Option.{get_or_from_slice_get, slice_get_cases}
 use Rattle.inspect.specs.inner.ChildRoom.{HasRoom, HaveRoom, births, all_births}
 use Rattle.ldv_value.proofs.Booleans.{and-first, and-second}
 use Rattle.ldv_value.specs.Limits.{max_processes}
-use Rattle.run_model.specs.ValidTrace.{made_after, IsTrace, is_spawn}
-use Rattle.run_model.specs.declared.event.Act.TheVariants as acts
+use Rattle.run_model.specs.Acts.{is_spawn}
+use Rattle.run_model.specs.ValidTrace.{made_after, IsTrace}
+use Rattle.run_model.proofs.ActLaws.{made_spawned}
 use Rattle.trace_graph.specs.Building.{made_fits}
 use Rattle.trace_graph.proofs.TraceLaws.{trace_fits}
 use Rattle.inspect.specs.ProcessNames.{parent_of, child_of, with_child, named_after}
-use Rattle.inspect.specs.Types.{Act, Event, NamedProcess}
+use Rattle.inspect.specs.Types.{Event, NamedProcess}
 
 -- who has room for one child more than others need has room for them
 room_later : (more : ℕ) (ps : List NamedProcess) → HaveRoom (1 + more) ps → HaveRoom more ps
@@ -46,23 +47,6 @@ room_after e more ps room = room_if (is_spawn e.act) more ps e.process room
 
 -- ---- how many children the events of a trace make
 
-made_births : (made : ℕ) (act : Act) → made_after made act ≡ made + (if is_spawn act then 1 else 0)
-made_births made (acts.Started path) = omega arith
-made_births made (acts.Spawned path) = omega arith
-made_births made (acts.Unspawned path found) = omega arith
-made_births made (acts.OpenedRead path) = omega arith
-made_births made (acts.OpenedWrite path) = omega arith
-made_births made (acts.OpenedAppend path found) = omega arith
-made_births made (acts.OpenedNew path) = omega arith
-made_births made (acts.Unopened path found) = omega arith
-made_births made (acts.Read path) = omega arith
-made_births made (acts.Wrote path) = omega arith
-made_births made (acts.Removed path) = omega arith
-made_births made (acts.Tested path found) = omega arith
-made_births made (acts.Waited child) = omega arith
-made_births made (acts.Ended status) = omega arith
-made_births made (acts.Asked statement tables reads written) = omega arith
-
 births_among : (made : ℕ) (es : List Event) → made ≤ max_processes → made_fits made es ≡ true
     → made + all_births es ≤ max_processes
 births_among made [] below fits = omega (arith, below)
@@ -73,7 +57,7 @@ births_among made (e ∷ es) below fits =
     let rest : made_after made e.act + all_births es ≤ max_processes =
     births_among (made_after made e.act) es next
     (and-second (nat_le (made_after made e.act) max_processes) (made_fits (made_after made e.act) es) fits) in
-    omega (arith, rest, made_births made e.act)
+    omega (arith, rest, made_spawned made e.act)
 
 pub births_fit : (events : List Event) → IsTrace events → all_births events < 2 ^ 32
 births_fit events trace =

@@ -3,8 +3,8 @@
 use Rattle.std.specs.Prelude.{ℕ, ◌+◌, List, [], ◌∷◌, ◌++◌, if◌then◌else◌, Option}
 use Rattle.std.specs.Prelude.{Some, None, slice_get, slice_set}
 use Rattle.inspect.specs.Types.{Event, NamedProcess}
+use Rattle.run_model.specs.Acts.{is_spawn}
 use Rattle.run_model.specs.OutcomeText.{name_text}
-use Rattle.run_model.specs.ValidTrace.{is_spawn}
 
 -- the first process of a run, before it has children
 abbrev pub first_process : NamedProcess

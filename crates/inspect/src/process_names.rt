@@ -2,7 +2,7 @@
 
 ghost use Rattle.std.specs.Prelude.{◌≡◌, ◌<◌, ◌^◌, ◌∷◌, ◌++◌, [], length, reverse, Some};
 ghost use Rattle.std.specs.Prelude.{slice_get, slice_index_or, slice_set, IfOk, OnOk};
-ghost use Rattle.run_model.specs.ValidTrace.{IsTrace, is_spawn};
+ghost use Rattle.run_model.specs.ValidTrace.{IsTrace};
 ghost use Rattle.inspect.specs.inner.ChildRoom.{HaveRoom, all_births, births};
 ghost use Rattle.inspect.specs.ProcessNames.{first_process, name_in, named_after};
 ghost use Rattle.inspect.specs.ProcessNames.{processes_of, with_child};
@@ -11,7 +11,7 @@ ghost use Rattle.inspect.specs.inner.ProcessPlaces.{name_at, named_of, next_chil
 ghost use Rattle.inspect.specs.declared.process_names.Made.{Made};
 
 use ldv_value::Bytes;
-use run_model::{Act, Event, append_name};
+use run_model::{Event, append_name};
 use std::alloc::{AllocError, Global};
 use std::marker::Model;
 
@@ -85,38 +85,10 @@ fn with_event(processes: Processes, event: &Event) -> Result<Processes, AllocErr
     requires { HaveRoom (births event.now) processes }
     ensures { IfOk result (λ after. after ≡ named_after processes event.now) }
 {
-    if is_spawn(&event.act) {
+    if event.act.is_spawn() {
         with_child(processes, event.process)
     } else {
         Ok(processes)
-    }
-}
-
-// Whether a child was made.
-fn is_spawn(act: &Act) -> bool
-    ensures { result ≡ is_spawn act.now }
-{
-    match act {
-        Act::Started { path: _ } => false,
-        Act::Spawned { path: _ } => true,
-        Act::Unspawned { path: _, found: _ } => false,
-        Act::OpenedRead { path: _ } => false,
-        Act::OpenedWrite { path: _ } => false,
-        Act::OpenedAppend { path: _, found: _ } => false,
-        Act::OpenedNew { path: _ } => false,
-        Act::Unopened { path: _, found: _ } => false,
-        Act::Read { path: _ } => false,
-        Act::Wrote { path: _ } => false,
-        Act::Removed { path: _ } => false,
-        Act::Tested { path: _, found: _ } => false,
-        Act::Waited { child: _ } => false,
-        Act::Ended { status: _ } => false,
-        Act::Asked {
-            statement: _,
-            tables: _,
-            reads: _,
-            made: _,
-        } => false,
     }
 }
 

@@ -7,10 +7,11 @@ use Rattle.ldv_value.specs.Names.{path_test}
 use Rattle.std.specs.List.{list_all}
 use Rattle.ldv_value.proofs.Options.{same-some}
 use Rattle.ldv_value.proofs.Booleans.{and-parts, and-from, and-true, and-false}
+use Rattle.run_model.specs.Acts.{is_spawn}
 use Rattle.run_model.specs.declared.event.Act.{Act}
 use Rattle.run_model.specs.declared.event.Act.TheVariants as acts
 use Rattle.run_model.specs.declared.event.Event.{Event}
-use Rattle.run_model.specs.ValidTrace.{is_spawn}
+use Rattle.run_model.proofs.ActLaws.{made_spawned}
 use Rattle.package_layout.specs.Runs.{Run, steps_from, at_step, run_events, events_in, last_step, is_run}
 use Rattle.package_layout.specs.inner.RunTrace.{spawns_fit, made_by, run_rule, progress_by}
 use Rattle.package_layout.specs.inner.Trace.{Progress, act_rule, event_rule, made_after, is_asked, asked_after, progress_after, follows, at_start, starts_on, starts, trace_test, asked_among}
@@ -20,21 +21,7 @@ use Rattle.package_layout.proofs.RunFields.{unasked_run}
 -- ---- the same act once more
 
 made_once : (made : ℕ) (act : Act) → made_after made act ≡ made + made_by act 1
-made_once made (acts.Started path) = omega arith
-made_once made (acts.Spawned path) = omega arith
-made_once made (acts.Unspawned path found) = omega arith
-made_once made (acts.OpenedRead path) = omega arith
-made_once made (acts.OpenedWrite path) = omega arith
-made_once made (acts.OpenedAppend path found) = omega arith
-made_once made (acts.OpenedNew path) = omega arith
-made_once made (acts.Unopened path found) = omega arith
-made_once made (acts.Read path) = omega arith
-made_once made (acts.Wrote path) = omega arith
-made_once made (acts.Removed path) = omega arith
-made_once made (acts.Tested path found) = omega arith
-made_once made (acts.Waited child) = omega arith
-made_once made (acts.Ended status) = omega arith
-made_once made (acts.Asked statement tables reads written) = omega arith
+made_once made act = made_spawned made act
 
 -- so many processes are made by an act that is there so many times
 by_times : (made : ℕ) (spawned : Bool) (n : ℕ) → (made + cond spawned 1 0) + cond spawned n 0 ≡ made + cond spawned (suc n) 0

@@ -6,7 +6,7 @@ ghost use Rattle.std.specs.Option.{option_map};
 ghost use Rattle.std.specs.List.{list_all};
 ghost use Rattle.sql_model.specs.SqlNames.{sql_name_test};
 ghost use Rattle.ldv_value.specs.Sorted.{is_strictly_sorted, text_precedes};
-ghost use Rattle.run_model.specs.ValidTrace.{need_precedes, member_precedes, is_spawn as is_spawned};
+ghost use Rattle.run_model.specs.ValidTrace.{need_precedes, member_precedes};
 ghost use Rattle.package_layout.specs.Runs.{events_in, is_run};
 ghost use Rattle.package_layout.specs.inner.RunTrace.{made_by, progress_by, run_rule, spawns_fit};
 ghost use Rattle.package_layout.specs.inner.Trace.{act_rule, event_rule, asked_after};
@@ -117,7 +117,7 @@ fn is_valid_run(steps: u32, before: Progress, run: &Run) -> bool
 fn spawns_fit(made: u32, act: &Act, times: u32) -> bool
     ensures { result ≡ spawns_fit made act.now times }
 {
-    if is_spawned(act) {
+    if act.is_spawn() {
         u64::from(made) + u64::from(times) <= 65535
     } else {
         true
@@ -194,16 +194,7 @@ fn made_after(made: u32, act: &Act, times: u32) -> u32
     ensures after { result ≡ made + made_by act.now times }
     ensures made { result ≤ 65535 }
 {
-    if is_spawned(act) { made + times } else { made }
-}
-
-fn is_spawned(act: &Act) -> bool
-    ensures { result ≡ is_spawned act.now }
-{
-    match act {
-        Act::Spawned { path: _ } => true,
-        _ => false,
-    }
+    if act.is_spawn() { made + times } else { made }
 }
 
 fn asked_after(asked: u64, one_more: bool) -> u64

@@ -1,3 +1,4 @@
+pub mod ActLaws
 pub mod Equations
 pub mod Fronts
 pub mod KeyPlaces

@@ -1,3 +1,4 @@
+pub mod Acts
 pub mod Between
 pub mod Core
 pub mod Database

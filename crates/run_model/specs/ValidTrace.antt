@@ -1,12 +1,13 @@
 -- Valid traces: what the events of a run, one after another, meet.
 use Rattle.std.specs.Prelude.{ℕ, ◌+◌, List, [], ◌∷◌, Bool, true, false, ◌&&◌, ◌==◌, nat_lt, nat_le}
-use Rattle.std.specs.Prelude.{IsTrue, bytes_eq}
+use Rattle.std.specs.Prelude.{if◌then◌else◌, IsTrue, bytes_eq}
 use Rattle.std.specs.List.{list_all}
 use Rattle.ldv_value.specs.Limits.{max_processes}
 use Rattle.ldv_value.specs.Names.{path_test}
 use Rattle.ldv_value.specs.Sorted.{is_strictly_sorted, text_precedes}
 use Rattle.sql_model.specs.SqlNames.{sql_name_test}
 pub use Rattle.sql_model.specs.MemberOrder.{row_after_table, member_precedes, need_precedes}
+use Rattle.run_model.specs.Acts.{is_spawn}
 use Rattle.run_model.specs.declared.event.Act.TheVariants as acts
 use Rattle.run_model.specs.Types.{Act, Event}
 
@@ -46,21 +47,7 @@ event_rule steps before e =
     nat_le before.step e.step && nat_le e.step steps && nat_lt e.process before.made && act_rule before e.act
 
 abbrev pub made_after : ℕ → Act → ℕ
-made_after made (acts.Started path) = made
-made_after made (acts.Spawned path) = made + 1
-made_after made (acts.Unspawned path found) = made
-made_after made (acts.OpenedRead path) = made
-made_after made (acts.OpenedWrite path) = made
-made_after made (acts.OpenedAppend path found) = made
-made_after made (acts.OpenedNew path) = made
-made_after made (acts.Unopened path found) = made
-made_after made (acts.Read path) = made
-made_after made (acts.Wrote path) = made
-made_after made (acts.Removed path) = made
-made_after made (acts.Tested path found) = made
-made_after made (acts.Waited child) = made
-made_after made (acts.Ended status) = made
-made_after made (acts.Asked statement tables reads written) = made
+made_after made act = if is_spawn act then made + 1 else made
 
 abbrev pub is_asked : Act → Bool
 is_asked (acts.Started path) = false
@@ -78,24 +65,6 @@ is_asked (acts.Tested path found) = false
 is_asked (acts.Waited child) = false
 is_asked (acts.Ended status) = false
 is_asked (acts.Asked statement tables reads made) = true
-
--- whether a child was made
-abbrev pub is_spawn : Act → Bool
-is_spawn (acts.Started path) = false
-is_spawn (acts.Spawned path) = true
-is_spawn (acts.Unspawned path found) = false
-is_spawn (acts.OpenedRead path) = false
-is_spawn (acts.OpenedWrite path) = false
-is_spawn (acts.OpenedAppend path found) = false
-is_spawn (acts.OpenedNew path) = false
-is_spawn (acts.Unopened path found) = false
-is_spawn (acts.Read path) = false
-is_spawn (acts.Wrote path) = false
-is_spawn (acts.Removed path) = false
-is_spawn (acts.Tested path found) = false
-is_spawn (acts.Waited child) = false
-is_spawn (acts.Ended status) = false
-is_spawn (acts.Asked statement tables reads made) = false
 
 abbrev pub asked_after : ℕ → Bool → ℕ
 asked_after asked true = asked + 1

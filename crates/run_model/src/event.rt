@@ -1,5 +1,8 @@
 //! Events of a run.
 
+ghost use Rattle.std.specs.Prelude.{◌≡◌};
+ghost use Rattle.run_model.specs.Acts.{is_spawn};
+
 use ldv_value::{List, Names, Utf8};
 use sql_model::{Members, Needs};
 
@@ -75,6 +78,18 @@ pub enum Act {
         reads: Needs,
         made: Members,
     },
+}
+
+impl Act {
+    /// Whether a child was made.
+    pub fn is_spawn(&self) -> bool
+        ensures { result ≡ is_spawn self.now }
+    {
+        match self {
+            Act::Spawned { path: _ } => true,
+            _ => false,
+        }
+    }
 }
 
 /// An act of a process, by its creation number, at a step; step 0 is the start.

@@ -97,28 +97,7 @@ fn made_with(made: u32, act: &Act) -> u32
     requires { made_after made act.now ≤ max_processes }
     ensures { result ≡ made_after made act.now }
 {
-    match act {
-        Act::Started { path: _ } => made,
-        Act::Spawned { path: _ } => made + 1,
-        Act::Unspawned { path: _, found: _ } => made,
-        Act::OpenedRead { path: _ } => made,
-        Act::OpenedWrite { path: _ } => made,
-        Act::OpenedAppend { path: _, found: _ } => made,
-        Act::OpenedNew { path: _ } => made,
-        Act::Unopened { path: _, found: _ } => made,
-        Act::Read { path: _ } => made,
-        Act::Wrote { path: _ } => made,
-        Act::Removed { path: _ } => made,
-        Act::Tested { path: _, found: _ } => made,
-        Act::Waited { child: _ } => made,
-        Act::Ended { status: _ } => made,
-        Act::Asked {
-            statement: _,
-            tables: _,
-            reads: _,
-            made: _,
-        } => made,
-    }
+    if act.is_spawn() { made + 1 } else { made }
 }
 
 /// The nodes and edges of the events of a trace.

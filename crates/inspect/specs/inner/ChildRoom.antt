@@ -1,12 +1,12 @@
 -- The number of children of each process stays within its type while the processes of a trace are made.
-use Rattle.std.specs.Prelude.{ℕ, ◌+◌, ◌<◌, ◌^◌, List, [], ◌∷◌, if◌then◌else◌}
+use Rattle.std.specs.Prelude.{ℕ, ◌+◌, ◌<◌, ◌^◌, List, [], ◌∷◌}
 use Rattle.std.specs.List.{All}
-use Rattle.run_model.specs.ValidTrace.{is_spawn}
+use Rattle.run_model.specs.Acts.{spawned_by}
 use Rattle.inspect.specs.Types.{Event, NamedProcess}
 
 -- how many children an event makes, and events
 abbrev pub births : Event → ℕ
-births e = if is_spawn e.act then 1 else 0
+births e = spawned_by e.act
 
 abbrev pub all_births : List Event → ℕ
 all_births [] = 0

@@ -2,7 +2,7 @@
 use Rattle.std.specs.Prelude.{ℕ, ◌+◌, Bool, true, ◌&&◌, nat_le, if◌then◌else◌}
 use Rattle.ldv_value.specs.Limits.{max_processes}
 use Rattle.run_model.specs.declared.event.Act.{Act}
-use Rattle.run_model.specs.ValidTrace.{is_spawn}
+use Rattle.run_model.specs.Acts.{is_spawn}
 use Rattle.package_layout.specs.declared.run.Run.{Run}
 use Rattle.package_layout.specs.Runs.{last_step}
 use Rattle.package_layout.specs.inner.Trace.{Progress, event_rule, is_asked, asked_after}
