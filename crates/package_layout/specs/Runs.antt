@@ -8,6 +8,8 @@ use Rattle.std.specs.Int.{w32, to_be_bytes}
 use Rattle.run_model.specs.declared.event.Act.{Act}
 use Rattle.run_model.specs.declared.event.Act.TheVariants as acts
 use Rattle.run_model.specs.declared.event.Event.{Event}
+use Rattle.run_model.specs.Acts.{named_path}
+use Rattle.run_model.specs.Package.{or_empty}
 use Rattle.run_model.specs.ValidTrace.{is_asked}
 pub use Rattle.package_layout.specs.declared.run.Run.{Run}
 pub use Rattle.package_layout.specs.declared.run.Begun.{Begun}
@@ -40,21 +42,7 @@ act_kind (acts.Ended status) = 13
 act_kind (acts.Asked statement tables reads made) = 14
 
 abbrev pub act_path : Act → List ℕ
-act_path (acts.Started path) = path
-act_path (acts.Spawned path) = path
-act_path (acts.Unspawned path found) = path
-act_path (acts.OpenedRead path) = path
-act_path (acts.OpenedWrite path) = path
-act_path (acts.OpenedAppend path found) = path
-act_path (acts.OpenedNew path) = path
-act_path (acts.Unopened path found) = path
-act_path (acts.Read path) = path
-act_path (acts.Wrote path) = path
-act_path (acts.Removed path) = path
-act_path (acts.Tested path found) = path
-act_path (acts.Waited child) = []
-act_path (acts.Ended status) = []
-act_path (acts.Asked statement tables reads made) = []
+act_path act = or_empty (named_path act)
 
 abbrev pub act_number : Act → ℕ
 act_number (acts.Started path) = 0

@@ -36,27 +36,9 @@ fn act_kind(act: &Act) -> u8
 fn act_path(act: &Act) -> &[u8]
     ensures { result.now ≡ act_path act.now }
 {
-    match act {
-        Act::Started { path } => path.as_str().as_bytes(),
-        Act::Spawned { path } => path.as_str().as_bytes(),
-        Act::Unspawned { path, found: _ } => path.as_str().as_bytes(),
-        Act::OpenedRead { path } => path.as_str().as_bytes(),
-        Act::OpenedWrite { path } => path.as_str().as_bytes(),
-        Act::OpenedAppend { path, found: _ } => path.as_str().as_bytes(),
-        Act::OpenedNew { path } => path.as_str().as_bytes(),
-        Act::Unopened { path, found: _ } => path.as_str().as_bytes(),
-        Act::Read { path } => path.as_str().as_bytes(),
-        Act::Wrote { path } => path.as_str().as_bytes(),
-        Act::Removed { path } => path.as_str().as_bytes(),
-        Act::Tested { path, found: _ } => path.as_str().as_bytes(),
-        Act::Waited { child: _ } => &[],
-        Act::Ended { status: _ } => &[],
-        Act::Asked {
-            statement: _,
-            tables: _,
-            reads: _,
-            made: _,
-        } => &[],
+    match act.path() {
+        None => &[],
+        Some(path) => path.as_str().as_bytes(),
     }
 }
 

@@ -1,5 +1,5 @@
--- What an act says: whether it made a child.
-use Rattle.std.specs.Prelude.{ℕ, Bool, true, false, if◌then◌else◌}
+-- What an act says: whether it made a child, and the path that it names.
+use Rattle.std.specs.Prelude.{ℕ, List, Bool, true, false, if◌then◌else◌, Option, Some, None}
 use Rattle.run_model.specs.Types.{Act, Started, Spawned, Unspawned, OpenedRead, OpenedWrite, OpenedAppend}
 use Rattle.run_model.specs.Types.{OpenedNew, Unopened, Read, Wrote, Removed, Tested, Waited, Ended, Asked}
 
@@ -24,3 +24,21 @@ is_spawn (Asked statement tables reads made) = false
 -- how many children were made
 abbrev pub spawned_by : Act → ℕ
 spawned_by act = if is_spawn act then 1 else 0
+
+-- the path that an act names
+abbrev pub named_path : Act → Option (List ℕ)
+named_path (Started path) = Some path
+named_path (Spawned path) = Some path
+named_path (Unspawned path found) = Some path
+named_path (OpenedRead path) = Some path
+named_path (OpenedWrite path) = Some path
+named_path (OpenedAppend path found) = Some path
+named_path (OpenedNew path) = Some path
+named_path (Unopened path found) = Some path
+named_path (Read path) = Some path
+named_path (Wrote path) = Some path
+named_path (Removed path) = Some path
+named_path (Tested path found) = Some path
+named_path (Waited child) = None
+named_path (Ended status) = None
+named_path (Asked statement tables reads made) = None

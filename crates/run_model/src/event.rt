@@ -1,7 +1,7 @@
 //! Events of a run.
 
-ghost use Rattle.std.specs.Prelude.{◌≡◌};
-ghost use Rattle.run_model.specs.Acts.{is_spawn};
+ghost use Rattle.std.specs.Prelude.{◌≡◌, option_map};
+ghost use Rattle.run_model.specs.Acts.{is_spawn, named_path};
 
 use ldv_value::{List, Names, Utf8};
 use sql_model::{Members, Needs};
@@ -88,6 +88,34 @@ impl Act {
         match self {
             Act::Spawned { path: _ } => true,
             _ => false,
+        }
+    }
+
+    /// The path that it names, if it names one.
+    pub fn path(&self) -> Option<&Utf8>
+        ensures { option_map (λ path. path.now) result ≡ named_path self.now }
+    {
+        match self {
+            Act::Started { path } => Some(path),
+            Act::Spawned { path } => Some(path),
+            Act::Unspawned { path, found: _ } => Some(path),
+            Act::OpenedRead { path } => Some(path),
+            Act::OpenedWrite { path } => Some(path),
+            Act::OpenedAppend { path, found: _ } => Some(path),
+            Act::OpenedNew { path } => Some(path),
+            Act::Unopened { path, found: _ } => Some(path),
+            Act::Read { path } => Some(path),
+            Act::Wrote { path } => Some(path),
+            Act::Removed { path } => Some(path),
+            Act::Tested { path, found: _ } => Some(path),
+            Act::Waited { child: _ } => None,
+            Act::Ended { status: _ } => None,
+            Act::Asked {
+                statement: _,
+                tables: _,
+                reads: _,
+                made: _,
+            } => None,
         }
     }
 }
