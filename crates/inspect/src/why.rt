@@ -79,26 +79,13 @@ fn asks(act: &Act, statement: u32) -> bool
     ensures { result ≡ asks statement act.now }
 {
     match act {
-        Act::Started { path: _ } => false,
-        Act::Spawned { path: _ } => false,
-        Act::Unspawned { path: _, found: _ } => false,
-        Act::OpenedRead { path: _ } => false,
-        Act::OpenedWrite { path: _ } => false,
-        Act::OpenedAppend { path: _, found: _ } => false,
-        Act::OpenedNew { path: _ } => false,
-        Act::Unopened { path: _, found: _ } => false,
-        Act::Read { path: _ } => false,
-        Act::Wrote { path: _ } => false,
-        Act::Removed { path: _ } => false,
-        Act::Tested { path: _, found: _ } => false,
-        Act::Waited { child: _ } => false,
-        Act::Ended { status: _ } => false,
         Act::Asked {
             statement: asked,
             tables: _,
             reads: _,
             made: _,
         } => *asked == statement,
+        _ => false,
     }
 }
 
