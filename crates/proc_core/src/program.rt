@@ -1,7 +1,6 @@
 //! The program that a `spawn` finds at a path.
 
 ghost use Rattle.std.specs.Prelude.{◌≡◌, IfOk, IfSome};
-ghost use Rattle.script_code.specs.Resolved.{IsRead};
 ghost use Rattle.proc_core.specs.inner.SlotSpawn.{Runs, IsProgramRead, IsProgramOf, IsProgram};
 
 use crate::machine::{Codes, Machine};
