@@ -1,18 +1,18 @@
 //! One step of a process.
 
-ghost use Rattle.std.specs.Prelude.{◌≡◌, ℕ, ◌+◌, ◌<◌, ◌≤◌, ◌^◌, ◌++◌, Some, length, map, slice_get};
-ghost use Rattle.std.specs.Prelude.{IfOk, IfErr, OnOk, OnSome};
+ghost use Rattle.std.specs.Prelude.{◌≡◌, ℕ, ◌+◌, ◌<◌, ◌^◌, ◌++◌, Some, length, map, slice_get};
+ghost use Rattle.std.specs.Prelude.{IfOk, OnOk, OnSome};
 ghost use Rattle.run_model.specs.Core.{Core};
-ghost use Rattle.run_model.specs.Events.{event_at, events_of_step};
-ghost use Rattle.run_model.specs.State.{State};
-ghost use Rattle.run_model.specs.Step.{Ask, next_ask, ends_at, local_step, status_acts, step as next_step, took};
+ghost use Rattle.run_model.specs.Events.{event_at};
+ghost use Rattle.run_model.specs.Step.{Ask, next_ask, ends_at, local_step, status_acts, took};
 ghost use Rattle.proc_core.specs.inner.Counts.{CountsBelow};
+ghost use Rattle.proc_core.specs.inner.Moves.{Moves};
 ghost use Rattle.proc_core.specs.inner.SlotAsk.{slot_ask_at};
 ghost use Rattle.proc_core.specs.inner.SlotReady.{Grows};
 ghost use Rattle.proc_core.specs.inner.SlotSpawn.{slot_spawning_at};
 ghost use Rattle.proc_core.specs.inner.SlotStep.{HasRoom, IsKept, next_slot_instr, slot_status_in};
-ghost use Rattle.proc_core.specs.Stands.{IsCore, IsState, AppendsEvents};
-ghost use Rattle.proc_core.specs.Stops.{asker_held, IsStop, HasStopped};
+ghost use Rattle.proc_core.specs.Stands.{IsCore, AppendsEvents};
+ghost use Rattle.proc_core.specs.Stops.{asker_held, IsStop};
 ghost use Rattle.proc_core.specs.declared.ask.Statement.{Statement};
 ghost use Rattle.proc_core.specs.declared.process.SlotProcess.{SlotProcess};
 
@@ -216,16 +216,8 @@ fn answer_statement<D: Database, T: Tracer>(
     requires step { asker.step ≡ who.step }
     requires counted { CountsBelow who.step machine.old }
     requires later { D.latest db.old < who.step }
-    ensures state { OnOk result ((s : State D.Db) → IsState machine.old (D.seen db.old) s
-        → IsState machine.new (D.seen db.new) (next_step D.base who.number s).state) }
-    ensures told { OnOk result ((s : State D.Db) → IsState machine.old (D.seen db.old) s
-        → AppendsEvents T.KEEPS (T.events tracer.old) (T.events tracer.new)
-        (events_of_step who.step (next_step D.base who.number s))) }
-    ensures diverged { IfErr result (λ stop. (s : State D.Db) → IsState machine.old (D.seen db.old) s
-        → HasStopped stop (next_step D.base who.number s).state) }
-    ensures latest { OnOk result (D.latest db.new ≤ who.step) }
-    ensures grows { OnOk result (Grows machine.old who.number machine.new) }
-    ensures counted { OnOk result (CountsBelow (who.step + 1) machine.new) }
+    ensures { Moves D.base T.KEEPS who machine.old machine.new (D.seen db.old) (D.seen db.new)
+        (D.latest db.new) (T.events tracer.old) (T.events tracer.new) result }
 {
     match db.ask(&asker, &statement.text, &statement.params, tracer) {
         Ok(reply) => match take_on(machine, who, statement.cursor, reply, tracer) {
@@ -250,16 +242,8 @@ fn step_statement<D: Database, T: Tracer>(
     requires room { HasRoom (slice_get machine.old.processes.items who.number) }
     requires counted { CountsBelow who.step machine.old }
     requires later { D.latest db.old < who.step }
-    ensures state { OnOk result ((s : State D.Db) → IsState machine.old (D.seen db.old) s
-        → IsState machine.new (D.seen db.new) (next_step D.base who.number s).state) }
-    ensures told { OnOk result ((s : State D.Db) → IsState machine.old (D.seen db.old) s
-        → AppendsEvents T.KEEPS (T.events tracer.old) (T.events tracer.new)
-        (events_of_step who.step (next_step D.base who.number s))) }
-    ensures diverged { IfErr result (λ stop. (s : State D.Db) → IsState machine.old (D.seen db.old) s
-        → HasStopped stop (next_step D.base who.number s).state) }
-    ensures latest { OnOk result (D.latest db.new ≤ who.step) }
-    ensures grows { OnOk result (Grows machine.old who.number machine.new) }
-    ensures counted { OnOk result (CountsBelow (who.step + 1) machine.new) }
+    ensures { Moves D.base T.KEEPS who machine.old machine.new (D.seen db.old) (D.seen db.new)
+        (D.latest db.new) (T.events tracer.old) (T.events tracer.new) result }
 {
     match asker_of(machine, who) {
         Ok(asker) => answer_statement(machine, who, asker, statement, db, tracer),
@@ -279,16 +263,8 @@ fn move_by<D: Database, T: Tracer>(
     requires room { OnSome asked (HasRoom (slice_get machine.old.processes.items who.number)) }
     requires counted { CountsBelow who.step machine.old }
     requires later { D.latest db.old < who.step }
-    ensures state { OnOk result ((s : State D.Db) → IsState machine.old (D.seen db.old) s
-        → IsState machine.new (D.seen db.new) (next_step D.base who.number s).state) }
-    ensures told { OnOk result ((s : State D.Db) → IsState machine.old (D.seen db.old) s
-        → AppendsEvents T.KEEPS (T.events tracer.old) (T.events tracer.new)
-        (events_of_step who.step (next_step D.base who.number s))) }
-    ensures diverged { IfErr result (λ stop. (s : State D.Db) → IsState machine.old (D.seen db.old) s
-        → HasStopped stop (next_step D.base who.number s).state) }
-    ensures latest { OnOk result (D.latest db.new ≤ who.step) }
-    ensures grows { OnOk result (Grows machine.old who.number machine.new) }
-    ensures counted { OnOk result (CountsBelow (who.step + 1) machine.new) }
+    ensures { Moves D.base T.KEEPS who machine.old machine.new (D.seen db.old) (D.seen db.new)
+        (D.latest db.new) (T.events tracer.old) (T.events tracer.new) result }
 {
     match asked {
         None => match quiet_on(machine, who, tracer) {
@@ -308,16 +284,8 @@ pub(crate) fn move_on<D: Database, T: Tracer>(
 ) -> Result<(), Stopped>
     requires counted { CountsBelow who.step machine.old }
     requires later { D.latest db.old < who.step }
-    ensures state { OnOk result ((s : State D.Db) → IsState machine.old (D.seen db.old) s
-        → IsState machine.new (D.seen db.new) (next_step D.base who.number s).state) }
-    ensures told { OnOk result ((s : State D.Db) → IsState machine.old (D.seen db.old) s
-        → AppendsEvents T.KEEPS (T.events tracer.old) (T.events tracer.new)
-        (events_of_step who.step (next_step D.base who.number s))) }
-    ensures diverged { IfErr result (λ stop. (s : State D.Db) → IsState machine.old (D.seen db.old) s
-        → HasStopped stop (next_step D.base who.number s).state) }
-    ensures latest { OnOk result (D.latest db.new ≤ who.step) }
-    ensures grows { OnOk result (Grows machine.old who.number machine.new) }
-    ensures counted { OnOk result (CountsBelow (who.step + 1) machine.new) }
+    ensures { Moves D.base T.KEEPS who machine.old machine.new (D.seen db.old) (D.seen db.new)
+        (D.latest db.new) (T.events tracer.old) (T.events tracer.new) result }
 {
     if is_kept_at(machine, who.number) {
         match step_local(machine, who, tracer) {

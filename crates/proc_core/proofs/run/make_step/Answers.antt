@@ -31,6 +31,9 @@ returns-in-Ok-clause-told g c = λ s is.
     c.choose-number.ensures c.schedule.ensures.core c.schedule.ensures.ready c.schedule.ensures.parents
     _ g.T.Tracer.KEEPS (g.T.Tracer.events c.args.tracer.now) (g.T.Tracer.events c.move_on.new.tracer) c.in-Ok.ensures.told
 
+pub returns-in-Ok-clause-asked : goal.returns-in-Ok-clause-asked
+returns-in-Ok-clause-asked g c = c.in-Ok.ensures.latest
+
 pub returns-in-Ok-clause-counted : goal.returns-in-Ok-clause-counted
 returns-in-Ok-clause-counted g c =
     fewer_refreshed c.move_on.new.machine c.refresh.new.machine c.choose-number.result (c.args.steps + 1 + 1)
