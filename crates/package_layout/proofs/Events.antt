@@ -188,6 +188,7 @@ asked_law = then_law (to_be_bytes w32) IsU32 always (number_at w32) tail_spellin
 byte_law : IsField (to_be_bytes w8) (λ n. n < 256) always Uncounted (number_at w8)
 byte_law = number_law w8 256 wide8
 
+-- the byte of the format, as act_spelling has it, and not the kind of specs/Runs.antt, which is compared alone
 abbrev act_tag : Act → ℕ
 act_tag (acts.Started path) = 0
 act_tag (acts.Spawned path) = 1

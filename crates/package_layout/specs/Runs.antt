@@ -24,6 +24,8 @@ max_events = 20000001
 
 -- ---- the same act: its kind, its path and its number, which is a flag, a child or a status
 
+-- Kinds are compared with one another alone, so any distinct numbers would do. The format's byte for an act
+-- is in act_spelling: it stays as it is, whatever the kinds are.
 abbrev pub act_kind : Act → ℕ
 act_kind (acts.Started path) = 0
 act_kind (acts.Spawned path) = 1

@@ -6,6 +6,7 @@ ghost use Rattle.package_layout.specs.Runs.{act_kind, act_path, act_number, same
 
 use run_model::{Act, Event};
 
+// The kind of an act, by which two are compared. The format has a byte of its own for each.
 fn act_kind(act: &Act) -> u8
     ensures { result ≡ act_kind act.now }
 {
