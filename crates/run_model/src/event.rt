@@ -3,8 +3,9 @@
 ghost use Rattle.std.specs.Prelude.{◌≡◌, option_map};
 ghost use Rattle.run_model.specs.Acts.{is_spawn, named_path};
 
-use ldv_value::{List, Names, Utf8};
+use ldv_value::{CopyItem, List, Names, Utf8};
 use sql_model::{Members, Needs};
+use std::alloc::{AllocError, Global};
 
 /// What happened in a step. A `path` is that which an instruction named.
 #[derive(Drop)]
@@ -120,12 +121,66 @@ impl Act {
     }
 }
 
+impl CopyItem for Act {
+    fn copy_item(&self, _alloc: Global) -> Result<Self, AllocError> {
+        Ok(match self {
+            Act::Started { path } => Act::Started { path: path.copy()? },
+            Act::Spawned { path } => Act::Spawned { path: path.copy()? },
+            Act::Unspawned { path, found } => Act::Unspawned {
+                path: path.copy()?,
+                found: *found,
+            },
+            Act::OpenedRead { path } => Act::OpenedRead { path: path.copy()? },
+            Act::OpenedWrite { path } => Act::OpenedWrite { path: path.copy()? },
+            Act::OpenedAppend { path, found } => Act::OpenedAppend {
+                path: path.copy()?,
+                found: *found,
+            },
+            Act::OpenedNew { path } => Act::OpenedNew { path: path.copy()? },
+            Act::Unopened { path, found } => Act::Unopened {
+                path: path.copy()?,
+                found: *found,
+            },
+            Act::Read { path } => Act::Read { path: path.copy()? },
+            Act::Wrote { path } => Act::Wrote { path: path.copy()? },
+            Act::Removed { path } => Act::Removed { path: path.copy()? },
+            Act::Tested { path, found } => Act::Tested {
+                path: path.copy()?,
+                found: *found,
+            },
+            Act::Waited { child } => Act::Waited { child: *child },
+            Act::Ended { status } => Act::Ended { status: *status },
+            Act::Asked {
+                statement,
+                tables,
+                reads,
+                made,
+            } => Act::Asked {
+                statement: *statement,
+                tables: tables.copy()?,
+                reads: reads.copy()?,
+                made: made.copy()?,
+            },
+        })
+    }
+}
+
 /// An act of a process, by its creation number, at a step; step 0 is the start.
 #[derive(Drop)]
 pub struct Event {
     pub step: u32,
     pub process: u32,
     pub act: Act,
+}
+
+impl CopyItem for Event {
+    fn copy_item(&self, alloc: Global) -> Result<Self, AllocError> {
+        Ok(Event {
+            step: self.step,
+            process: self.process,
+            act: self.act.copy_item(alloc)?,
+        })
+    }
 }
 
 /// Events, in the order in which they happened.

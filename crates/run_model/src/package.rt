@@ -1,9 +1,12 @@
 //! Packages.
 
+ghost use Rattle.std.specs.Prelude.{◌≡◌, IfOk};
+
 use crate::event::Events;
 use crate::name::ProcName;
-use ldv_value::{Bytes, List, Utf8, Values, Words};
+use ldv_value::{Bytes, CopyItem, List, Utf8, Values, Words};
 use sql_model::{HasValues, NamedSchema, Reply, Rule, Schema};
+use std::alloc::{AllocError, Global};
 
 /// Whether a package has the rows that its run needed, or the recorded replies.
 #[derive(Clone, Copy, Debug, PartialEq, Eq)]
@@ -38,6 +41,24 @@ pub struct PackedFile {
     pub content: Option<Bytes>,
 }
 
+fn copy_content(content: &Option<Bytes>) -> Result<Option<Bytes>, AllocError>
+    ensures { IfOk result (λ copy. copy ≡ content.now) }
+{
+    match content {
+        None => Ok(None),
+        Some(bytes) => Ok(Some(bytes.copy()?)),
+    }
+}
+
+impl CopyItem for PackedFile {
+    fn copy_item(&self, _alloc: Global) -> Result<Self, AllocError> {
+        Ok(PackedFile {
+            path: self.path.copy()?,
+            content: copy_content(&self.content)?,
+        })
+    }
+}
+
 /// A needed table with the initial rows that some statement needed.
 #[derive(Drop)]
 pub struct PackedTable {
@@ -61,6 +82,17 @@ impl NamedSchema for PackedTable {
     }
 }
 
+impl CopyItem for PackedTable {
+    fn copy_item(&self, alloc: Global) -> Result<Self, AllocError> {
+        Ok(PackedTable {
+            name: self.name.copy()?,
+            schema: self.schema.copy_item(alloc)?,
+            next: self.next,
+            rows: self.rows.copy()?,
+        })
+    }
+}
+
 /// A needed initial row, with the first statement that needed it and the rule by which it did.
 #[derive(Drop)]
 pub struct PackedRow {
@@ -78,11 +110,31 @@ impl HasValues for PackedRow {
     }
 }
 
+impl CopyItem for PackedRow {
+    fn copy_item(&self, _alloc: Global) -> Result<Self, AllocError> {
+        Ok(PackedRow {
+            number: self.number,
+            statement: self.statement,
+            rule: self.rule,
+            values: self.values.copy()?,
+        })
+    }
+}
+
 /// The recorded questions and replies of a process, in order.
 #[derive(Drop)]
 pub struct Log {
     pub process: ProcName,
     pub entries: Entries,
+}
+
+impl CopyItem for Log {
+    fn copy_item(&self, alloc: Global) -> Result<Self, AllocError> {
+        Ok(Log {
+            process: self.process.copy_item(alloc)?,
+            entries: self.entries.copy()?,
+        })
+    }
 }
 
 /// A recorded question and its reply.
@@ -91,6 +143,16 @@ pub struct Entry {
     pub text: Utf8,
     pub params: Values,
     pub reply: Reply,
+}
+
+impl CopyItem for Entry {
+    fn copy_item(&self, alloc: Global) -> Result<Self, AllocError> {
+        Ok(Entry {
+            text: self.text.copy()?,
+            params: self.params.copy()?,
+            reply: self.reply.copy_item(alloc)?,
+        })
+    }
 }
 
 /// Needed files.
