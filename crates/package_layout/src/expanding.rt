@@ -1,16 +1,15 @@
 //! From runs of events to the events.
 
-ghost use Rattle.std.specs.Prelude.{◌≡◌, ◌++◌, ◌∷◌, [], true, false, IfOk, OnOk};
+ghost use Rattle.std.specs.Prelude.{◌≡◌, ◌++◌, ◌∷◌, [], true, IfOk, OnOk};
 ghost use Rattle.std.specs.List.{list_all};
-ghost use Rattle.run_model.specs.ValidTrace.{is_asked};
 ghost use Rattle.package_layout.specs.RunPackages.{expanded_package};
 ghost use Rattle.package_layout.specs.Runs.{at_step, are_runs, events_in, is_run, run_events};
 
 use crate::run::{Run, Runs};
 use crate::run_package::RunPackage;
 use crate::run_tests::count_events;
-use ldv_value::List;
-use run_model::{Act, Event, Events, Package};
+use ldv_value::{CopyItem, List};
+use run_model::{Event, Events, Package};
 use std::alloc::{AllocError, Global};
 
 /// The package with all events that its runs stand for.
@@ -61,10 +60,11 @@ fn expand_front(run: &Run, to: &mut Events) -> Result<u32, AllocError>
     requires { is_run run.now ≡ true }
     ensures { IfOk result (λ at. to.new ++ at_step run.now.first at ∷ [] ≡ to.old ++ run_events run.now) }
 {
+    let alloc = to.allocator();
     let mut at = run.first.step;
     let mut left = run.count;
     while left > 1 {
-        let act = copy_act(&run.first.act)?;
+        let act = run.first.act.copy_item(alloc)?;
         to.push(Event {
             step: at,
             process: run.first.process,
@@ -74,45 +74,4 @@ fn expand_front(run: &Run, to: &mut Events) -> Result<u32, AllocError>
         left -= 1;
     }
     Ok(at)
-}
-
-// A copy of an act that is no question.
-fn copy_act(act: &Act) -> Result<Act, AllocError>
-    requires { is_asked act.now ≡ false }
-    ensures { IfOk result (λ copy. copy ≡ act.now) }
-{
-    Ok(match act {
-        Act::Started { path } => Act::Started { path: path.copy()? },
-        Act::Spawned { path } => Act::Spawned { path: path.copy()? },
-        Act::Unspawned { path, found } => Act::Unspawned {
-            path: path.copy()?,
-            found: *found,
-        },
-        Act::OpenedRead { path } => Act::OpenedRead { path: path.copy()? },
-        Act::OpenedWrite { path } => Act::OpenedWrite { path: path.copy()? },
-        Act::OpenedAppend { path, found } => Act::OpenedAppend {
-            path: path.copy()?,
-            found: *found,
-        },
-        Act::OpenedNew { path } => Act::OpenedNew { path: path.copy()? },
-        Act::Unopened { path, found } => Act::Unopened {
-            path: path.copy()?,
-            found: *found,
-        },
-        Act::Read { path } => Act::Read { path: path.copy()? },
-        Act::Wrote { path } => Act::Wrote { path: path.copy()? },
-        Act::Removed { path } => Act::Removed { path: path.copy()? },
-        Act::Tested { path, found } => Act::Tested {
-            path: path.copy()?,
-            found: *found,
-        },
-        Act::Waited { child } => Act::Waited { child: *child },
-        Act::Ended { status } => Act::Ended { status: *status },
-        Act::Asked {
-            statement: _,
-            tables: _,
-            reads: _,
-            made: _,
-        } => unreachable!(),
-    })
 }

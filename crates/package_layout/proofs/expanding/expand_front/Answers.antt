@@ -2,7 +2,7 @@ use Rattle.std.proofs.Common.{rules, ◌++◌, ◌+◌, ◌-◌, ◌<◌, ◌≤
 use Rattle.run_model.specs.declared.event.Event.{Event}
 use Rattle.package_layout.specs.declared.run.Run.{Run}
 use Rattle.package_layout.specs.Runs.{at_step, steps_from}
-use Rattle.package_layout.proofs.RunFields.{small_first, unasked_run, small_next, step_next, expand_next, expand_last}
+use Rattle.package_layout.proofs.RunFields.{small_first, small_next, step_next, expand_next, expand_last}
 use Rattle.package_layout.proofs.expanding.expand_front.Goals as goal
 use Rattle.package_layout.proofs.Runs.{run_some}
 
@@ -10,11 +10,6 @@ pub loop-left-init : goal.loop-left-init
 loop-left-init c =
     let r : Run = c.args.run.now in
     record { some = run_some r c.requires; within = omega (arith); small = small_first r c.requires; due = refl }
-
-pub copy_act-requires : goal.copy_act-requires
-copy_act-requires c =
-    let more : 1 < c.loop-left.left = search rules in
-    unasked_run c.args.run.now c.requires (omega (arith, more, c.loop-left.invariant.within))
 
 pub overflow_add-at : goal.overflow_add-at
 overflow_add-at c =
