@@ -8,9 +8,8 @@ ghost use Rattle.package_join.specs.Joined.{as_present, is_among, picked_file, p
 ghost use Rattle.package_join.specs.Joined.{run_package};
 ghost use Rattle.package_join.specs.inner.Picked.{file_by, need_for, reason_for, reason_if};
 
-use crate::copying::{copy_events, copy_file};
 use crate::joined::{Joined, JoinedRun, Reason, Reasons, Which};
-use ldv_value::{List, Names};
+use ldv_value::{CopyItem, List, Names};
 use run_model::{Mode, Package, PackedFile, PackedFiles, PackedTables};
 use slicer::{NameSet, Reasons as FirstReasons, add_all, has, note_need, pack_tables};
 use sql_model::{Member, Need, Tables};
@@ -43,7 +42,7 @@ pub(crate) fn picked_package(
         files: picked_files(alloc, run, files)?,
         tables: picked_tables(alloc, run, tables)?,
         logs: List::new(alloc),
-        events: copy_events(alloc, run.events.items())?,
+        events: run.events.copy()?,
     })
 }
 
@@ -80,12 +79,13 @@ fn files_by(
 {
     let mut picked = PackedFiles::new(alloc);
     for file in files {
-        picked.push_some(file_by(wholes, presents, file)?)?;
+        picked.push_some(file_by(alloc, wholes, presents, file)?)?;
     }
     Ok(picked)
 }
 
 fn file_by(
+    alloc: Global,
     wholes: &NameSet,
     presents: &NameSet,
     file: &PackedFile,
@@ -94,7 +94,7 @@ fn file_by(
         picked ≡ file_by (has_name wholes.now) (has_name presents.now) file.now) }
 {
     if has(wholes, &file.path) {
-        Ok(Some(copy_file(file)?))
+        Ok(Some(file.copy_item(alloc)?))
     } else if has(presents, &file.path) {
         Ok(Some(as_present(file)?))
     } else {

@@ -7,7 +7,6 @@ ghost use Rattle.package_join.specs.RunJoins.{whole_join};
 ghost use Rattle.package_join.specs.Worlds.{empty_if, joined_world, seen_by, world_by, world_file, world_of};
 
 use crate::choosing::name_set;
-use crate::copying::copy_files;
 use crate::joined::{Joined, JoinedRun, Which};
 use crate::run_joined::RunJoined;
 use ldv_value::{Bytes, File, Files, Utf8};
@@ -29,7 +28,7 @@ pub fn joined_world(alloc: Global, joined: &Joined, which: Which) -> Result<Worl
 fn world_of(alloc: Global, run: &JoinedRun, joined: &Joined) -> Result<World, AllocError>
     ensures { IfOk result (λ world. world ≡ world_of run.now joined.now) }
 {
-    let files = copy_files(alloc, joined.files.items())?;
+    let files = joined.files.copy()?;
     Ok(World {
         start: run.start.copy()?,
         seed: run.seed,
