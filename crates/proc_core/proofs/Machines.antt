@@ -22,7 +22,7 @@ use Rattle.proc_core.specs.declared.machine.Machine.{Machine}
 use Rattle.proc_core.specs.declared.process.SlotProcess.{SlotProcess}
 use Rattle.proc_core.specs.inner.Slots.{Holds, child_at, slot_ended, slot_with_variable}
 use Rattle.proc_core.specs.inner.SlotFiles.{SlotEffect}
-use Rattle.proc_core.specs.inner.SlotStep.{slotted_at, next_slot_instr, slot_status_in, slot_wait_until, slot_wait_for, slot_effect, IsKept}
+use Rattle.proc_core.specs.inner.SlotStep.{slotted_at, next_slot_instr, slot_status_in, slot_wait_until, slot_wait_for, slot_effect, IsLocal}
 use Rattle.proc_core.specs.Stands.{IsProcess, AreProcesses, IsCore, AppendsEvents}
 use Rattle.proc_core.proofs.Holding.{holds_ended, holds_went_on, holds_variable, child_same}
 use Rattle.proc_core.proofs.ReplySame.{close_same, fetch_same, count_same, status_same as reply_status_same}
@@ -153,39 +153,39 @@ module _ (s : Scope) (index : ℕ) (script : List Instr) (number : ℕ) (codes :
       ∙ ap (λ (o : Option ℕ). slot_wait_until o k (slot_of s.variables to) r c.files) (status_same codes rs c.processes k are))
       h
 
-  effect_same : (i : Instr) → IsScope s → HasAll s i → IsKept (Some (slot_instr s i)) → Holds s index script r p
+  effect_same : (i : Instr) → IsScope s → HasAll s i → IsLocal (Some (slot_instr s i)) → Holds s index script r p
       → slice_get c.processes number ≡ Some p → AreProcesses codes rs c.processes → EffectSame (Some (slot_instr s i)) (Some i)
-  effect_same (instr.Let to value) scope has kept h at are = let same = let_same s index script to value r p scope has.0 has.1 h in (same.0, same.1 number c, same.3)
-  effect_same (instr.Calc to op left right) scope has kept h at are = let same = calc_same s index script to op left right r p scope has.0 has.1 has.2 h in (same.0, same.1 number c, same.3)
-  effect_same (instr.Glue to left right) scope has kept h at are = let same = glue_same s index script to left right r p scope has.0 has.1 has.2 h in (same.0, same.1 number c, same.3)
-  effect_same (instr.ToInt to value) scope has kept h at are = let same = number_same s index script to value r p scope has.0 has.1 h in (same.0, same.1 number c, same.3)
-  effect_same (instr.Cut before after by) scope has kept h at are = let same = cut_same s index script before after by r p scope has.0 has.1 has.2 h in (same.0, same.1 number c, same.3)
-  effect_same (instr.Jump place) scope has kept h at are = let same = jump_same s index script place r p h in (same.0, same.1 number c, same.3)
-  effect_same (instr.JumpIf op left right place) scope has kept h at are = let same = jump_if_same s index script op left right place r p has.0 has.1 h in (same.0, same.1 number c, same.3)
-  effect_same (instr.Print operands) scope has kept h at are = let same = print_same s index script operands r p has h in (same.0, same.1 number c, same.3)
-  effect_same (instr.Exit status) scope has kept h at are = let same = exit_same s index script status r p has h in (same.0, same.1 number c, same.3)
-  effect_same (instr.OpenPath file mode path place) scope has kept h at are = let same = open_path_effect s index script file mode path place r p c.files scope has.0 has.1 h in ((open_path file mode (path_at path p) place p c.files).process, file_path same, same.process)
-  effect_same (instr.ReadLine to file place) scope has kept h at are = let same = read_line_effect s index script to file place r p c.files scope has.0 has.1 h in ((read_next (open_for allows_read file p) to file place p c.files).process, file_path same, same.process)
-  effect_same (instr.WriteLine file operands) scope has kept h at are = let same = write_line_effect s index script file operands r p c.files has.0 has.1 h in ((write_line file operands p c.files).process, file_path same, same.process)
-  effect_same (instr.CopyRest source target) scope has kept h at are = let same = copy_effect s index script source target r p c.files scope has.0 has.1 h in ((copy_rest source target p c.files).process, file_path same, same.process)
-  effect_same (instr.Close file) scope has kept h at are = (close file p, refl, close_same s index script file r p scope has h)
-  effect_same (instr.Remove path place) scope has kept h at are = let same = remove_effect s index script path place r p c.files has h in ((remove_path (path_at path p) place p c.files).process, file_path same, same.process)
-  effect_same (instr.Exists to path) scope has kept h at are = let same = exists_effect s index script to path r p c.files scope has.0 has.1 h in ((test_path to (path_at path p) p c.files).process, file_path same, same.process)
-  effect_same (instr.Spawn child path arguments place) scope has kept h at are = absurd kept
-  effect_same (instr.Wait to child) scope has kept h at are = wait_for_same (lookup child p.children) to child scope has.0 at are refl (child_same s index script child r p has.1 h) h
-  effect_same (instr.Sql cursor text params) scope has kept h at are = (with_exit_status wrong_kind p, refl, holds_ended s index script wrong_kind r p h)
-  effect_same (instr.Fetch cursor to place) scope has kept h at are = (fetch cursor to place p, refl, fetch_same s index script cursor to place r p scope has.0 has.1 h)
-  effect_same (instr.Count to cursor) scope has kept h at are = (count to cursor p, refl, count_same s index script to cursor r p scope has.0 has.1 h)
-  effect_same (instr.Status to cursor) scope has kept h at are = (status to cursor p, refl, reply_status_same s index script to cursor r p scope has.0 has.1 h)
+  effect_same (instr.Let to value) scope has local h at are = let same = let_same s index script to value r p scope has.0 has.1 h in (same.0, same.1 number c, same.3)
+  effect_same (instr.Calc to op left right) scope has local h at are = let same = calc_same s index script to op left right r p scope has.0 has.1 has.2 h in (same.0, same.1 number c, same.3)
+  effect_same (instr.Glue to left right) scope has local h at are = let same = glue_same s index script to left right r p scope has.0 has.1 has.2 h in (same.0, same.1 number c, same.3)
+  effect_same (instr.ToInt to value) scope has local h at are = let same = number_same s index script to value r p scope has.0 has.1 h in (same.0, same.1 number c, same.3)
+  effect_same (instr.Cut before after by) scope has local h at are = let same = cut_same s index script before after by r p scope has.0 has.1 has.2 h in (same.0, same.1 number c, same.3)
+  effect_same (instr.Jump place) scope has local h at are = let same = jump_same s index script place r p h in (same.0, same.1 number c, same.3)
+  effect_same (instr.JumpIf op left right place) scope has local h at are = let same = jump_if_same s index script op left right place r p has.0 has.1 h in (same.0, same.1 number c, same.3)
+  effect_same (instr.Print operands) scope has local h at are = let same = print_same s index script operands r p has h in (same.0, same.1 number c, same.3)
+  effect_same (instr.Exit status) scope has local h at are = let same = exit_same s index script status r p has h in (same.0, same.1 number c, same.3)
+  effect_same (instr.OpenPath file mode path place) scope has local h at are = let same = open_path_effect s index script file mode path place r p c.files scope has.0 has.1 h in ((open_path file mode (path_at path p) place p c.files).process, file_path same, same.process)
+  effect_same (instr.ReadLine to file place) scope has local h at are = let same = read_line_effect s index script to file place r p c.files scope has.0 has.1 h in ((read_next (open_for allows_read file p) to file place p c.files).process, file_path same, same.process)
+  effect_same (instr.WriteLine file operands) scope has local h at are = let same = write_line_effect s index script file operands r p c.files has.0 has.1 h in ((write_line file operands p c.files).process, file_path same, same.process)
+  effect_same (instr.CopyRest source target) scope has local h at are = let same = copy_effect s index script source target r p c.files scope has.0 has.1 h in ((copy_rest source target p c.files).process, file_path same, same.process)
+  effect_same (instr.Close file) scope has local h at are = (close file p, refl, close_same s index script file r p scope has h)
+  effect_same (instr.Remove path place) scope has local h at are = let same = remove_effect s index script path place r p c.files has h in ((remove_path (path_at path p) place p c.files).process, file_path same, same.process)
+  effect_same (instr.Exists to path) scope has local h at are = let same = exists_effect s index script to path r p c.files scope has.0 has.1 h in ((test_path to (path_at path p) p c.files).process, file_path same, same.process)
+  effect_same (instr.Spawn child path arguments place) scope has local h at are = absurd local
+  effect_same (instr.Wait to child) scope has local h at are = wait_for_same (lookup child p.children) to child scope has.0 at are refl (child_same s index script child r p has.1 h) h
+  effect_same (instr.Sql cursor text params) scope has local h at are = (with_exit_status wrong_kind p, refl, holds_ended s index script wrong_kind r p h)
+  effect_same (instr.Fetch cursor to place) scope has local h at are = (fetch cursor to place p, refl, fetch_same s index script cursor to place r p scope has.0 has.1 h)
+  effect_same (instr.Count to cursor) scope has local h at are = (count to cursor p, refl, count_same s index script to cursor r p scope has.0 has.1 h)
+  effect_same (instr.Status to cursor) scope has local h at are = (status to cursor p, refl, reply_status_same s index script to cursor r p scope has.0 has.1 h)
 
-  effect_at : (i : Option Instr) (o : Option SlotInstr) → AtSame s i o → IsScope s → IsKept o → Holds s index script r p
+  effect_at : (i : Option Instr) (o : Option SlotInstr) → AtSame s i o → IsScope s → IsLocal o → Holds s index script r p
       → slice_get c.processes number ≡ Some p → AreProcesses codes rs c.processes → EffectSame o i
-  effect_at None None at scope kept h there are = (with_exit_status 0 p, refl, holds_ended s index script 0 r p h)
-  effect_at None (Some o) at scope kept h there are = absurd at
-  effect_at (Some i) None at scope kept h there are = absurd at
-  effect_at (Some i) (Some o) at scope kept h there are =
+  effect_at None None at scope local h there are = (with_exit_status 0 p, refl, holds_ended s index script 0 r p h)
+  effect_at None (Some o) at scope local h there are = absurd at
+  effect_at (Some i) None at scope local h there are = absurd at
+  effect_at (Some i) (Some o) at scope local h there are =
       subst (λ (x : SlotInstr). EffectSame (Some x) (Some i)) (sym at.0)
-      (effect_same i scope at.1 (subst (λ (x : SlotInstr). IsKept (Some x)) at.0 kept) h there are)
+      (effect_same i scope at.1 (subst (λ (x : SlotInstr). IsLocal (Some x)) at.0 local) h there are)
 
 abbrev pub effect_of : Machine → SlotProcess → SlotEffect
 effect_of m r = slot_effect (next_slot_instr m.codes (Some r)) m.processes.items r m.tree
@@ -203,12 +203,12 @@ abbrev pub QuietSame : Machine → ℕ → SlotProcess → Core → Type 0
 QuietSame m number r c = QuietWith m number r c m.tree
 
 pub quiet_same : (m : Machine) (number : ℕ) (r : SlotProcess) (c : Core) → IsCore m c → slice_get m.processes.items number ≡ Some r
-    → IsKept (next_slot_instr m.codes (Some r)) → QuietSame m number r c
-quiet_same m number r c core is kept =
+    → IsLocal (next_slot_instr m.codes (Some r)) → QuietSame m number r c
+quiet_same m number r c core is local =
     let there = slot_process-at m.codes m.processes.items c.processes number r core.processes is in
     let p : Process = there.0 in
     let isp : IsProcess m.codes r p = there.2 in
-    let e = effect_at isp.2.scope isp.0 isp.1 number m.codes m.processes.items r p c (slice_get p.script p.place) (next_slot_instr m.codes (Some r)) (next_same m.codes r p isp) isp.4.scope kept isp.5 there.1 core.processes in
+    let e = effect_at isp.2.scope isp.0 isp.1 number m.codes m.processes.items r p c (slice_get p.script p.place) (next_slot_instr m.codes (Some r)) (next_same m.codes r p isp) isp.4.scope local isp.5 there.1 core.processes in
     let by_files : QuietWith m number r c c.files = (e.0, ap (λ (o : Option Process). local_step_of o number c) there.1 ∙ e.1, (isp.0, isp.1, isp.2, isp.3, isp.4, e.2)) in
     subst (QuietWith m number r c) (sym core.files) by_files
 
@@ -247,7 +247,7 @@ get_some (x ∷ xs) (suc n) within = get_some xs n (omega (arith, within))
 -- a step as the code takes it: o is the next instruction
 module _ (m : Machine) (number : ℕ) (o : Option SlotInstr) (c : Core) where
   abbrev pub IsNext : Type 0
-  IsNext = (number < length m.processes.items) × (o ≡ next_slot_instr m.codes (slice_get m.processes.items number)) × IsKept o
+  IsNext = (number < length m.processes.items) × (o ≡ next_slot_instr m.codes (slice_get m.processes.items number)) × IsLocal o
 
   abbrev taken : SlotProcess → SlotEffect
   taken r = slot_effect o m.processes.items r m.tree
@@ -256,7 +256,7 @@ module _ (m : Machine) (number : ℕ) (o : Option SlotInstr) (c : Core) where
   took_next r next at = next.1 ∙ ap (next_slot_instr m.codes) at
 
   next_quiet : (r : SlotProcess) → IsNext → slice_get m.processes.items number ≡ Some r → IsCore m c → QuietSame m number r c
-  next_quiet r next at core = quiet_same m number r c core at (subst IsKept (took_next r next at) next.2)
+  next_quiet r next at core = quiet_same m number r c core at (subst IsLocal (took_next r next at) next.2)
 
   next_effect : (r : SlotProcess) → IsNext → slice_get m.processes.items number ≡ Some r → taken r ≡ effect_of m r
   next_effect r next at = ap (λ (x : Option SlotInstr). slot_effect x m.processes.items r m.tree) (took_next r next at)

@@ -23,7 +23,7 @@ use Rattle.proc_core.specs.declared.process.SlotProcess.{SlotProcess}
 use Rattle.proc_core.specs.declared.spawn_request.Spawning.{Spawning}
 use Rattle.proc_core.specs.inner.Slots.{Holds, slot_ended, slot_went_to}
 use Rattle.proc_core.specs.inner.SlotSpawn.{slot_spawning, slot_spawning_in, slot_spawning_at, Runs, script_in, slot_parent, slot_with_new, IsElse, IsNoChild, HasChild}
-use Rattle.proc_core.specs.inner.SlotStep.{next_slot_instr, IsKept}
+use Rattle.proc_core.specs.inner.SlotStep.{next_slot_instr, IsLocal}
 use Rattle.proc_core.specs.Stands.{IsProcess, AreProcesses, IsCore, AppendsEvents}
 use Rattle.proc_core.proofs.Holding.{value_same, values_same, holds_ended, holds_went_to}
 use Rattle.proc_core.proofs.Machines.{AtSame, next_same, slot_process-at, replaced}
@@ -31,7 +31,7 @@ use Rattle.proc_core.proofs.SpawnSame.{as_many, holds_parent, spawned_core}
 
 -- ---- what isn't a `spawn`
 
-not_said : (o : Option SlotInstr) (r : SlotProcess) → slot_spawning o r ≡ None → IsKept o
+not_said : (o : Option SlotInstr) (r : SlotProcess) → slot_spawning o r ≡ None → IsLocal o
 not_said None r is = tt
 not_said (Some (Own o)) r is = tt
 not_said (Some (OnFiles f)) r is = tt
@@ -39,12 +39,12 @@ not_said (Some (Spawn child path arguments place)) r is = absurd cc
 not_said (Some (Wait to child)) r is = tt
 not_said (Some (Sql cursor text params)) r is = tt
 
-kept_by : (codes : List Code) (o : Option SlotProcess) → slot_spawning_in codes o ≡ None → IsKept (next_slot_instr codes o)
-kept_by codes None is = tt
-kept_by codes (Some r) is = not_said (next_slot_instr codes (Some r)) r is
+local_by : (codes : List Code) (o : Option SlotProcess) → slot_spawning_in codes o ≡ None → IsLocal (next_slot_instr codes o)
+local_by codes None is = tt
+local_by codes (Some r) is = not_said (next_slot_instr codes (Some r)) r is
 
-pub kept_at : (m : Machine) (number : ℕ) → slot_spawning_at m number ≡ None → IsKept (next_slot_instr m.codes (slice_get m.processes.items number))
-kept_at m number is = kept_by m.codes (slice_get m.processes.items number) is
+pub local_at : (m : Machine) (number : ℕ) → slot_spawning_at m number ≡ None → IsLocal (next_slot_instr m.codes (slice_get m.processes.items number))
+local_at m number is = local_by m.codes (slice_get m.processes.items number) is
 
 -- ---- what is
 

@@ -23,7 +23,7 @@ use Rattle.proc_core.specs.declared.error.Stopped.{Stopped}
 use Rattle.proc_core.specs.Running.{Stands, has_ended}
 use Rattle.proc_core.specs.inner.SlotAsk.{slot_ask, slot_ask_in, slot_ask_at}
 use Rattle.proc_core.specs.inner.SlotReady.{Grows, refreshed}
-use Rattle.proc_core.specs.inner.SlotStep.{IsKept, next_slot_instr, slot_is_kept}
+use Rattle.proc_core.specs.inner.SlotStep.{IsLocal, next_slot_instr, slot_is_local}
 use Rattle.proc_core.specs.Stands.{IsCore, IsState, AppendsEvents}
 use Rattle.proc_core.specs.Stops.{HasStopped}
 use Rattle.proc_core.proofs.Advances.{advanced, moved_step, scheduled_state}
@@ -40,15 +40,15 @@ asked_within m number t is = within_by m number t (slice_get m.processes.items n
 
 -- ---- a step that asks nothing and makes no process, by its instruction
 
-kept_by : (o : Option SlotInstr) → slot_is_kept o ≡ true → IsKept o
-kept_by None is = tt
-kept_by (Some (Own o)) is = tt
-kept_by (Some (OnFiles f)) is = tt
-kept_by (Some (Spawn child path arguments place)) is = absurd cc
-kept_by (Some (Wait to child)) is = tt
-kept_by (Some (Sql cursor text params)) is = tt
+local_by : (o : Option SlotInstr) → slot_is_local o ≡ true → IsLocal o
+local_by None is = tt
+local_by (Some (Own o)) is = tt
+local_by (Some (OnFiles f)) is = tt
+local_by (Some (Spawn child path arguments place)) is = absurd cc
+local_by (Some (Wait to child)) is = tt
+local_by (Some (Sql cursor text params)) is = tt
 
-asks_by : (o : Option SlotInstr) (r : SlotProcess) → slot_is_kept o ≡ true → slot_ask o r ≡ None
+asks_by : (o : Option SlotInstr) (r : SlotProcess) → slot_is_local o ≡ true → slot_ask o r ≡ None
 asks_by None r is = refl
 asks_by (Some (Own o)) r is = refl
 asks_by (Some (OnFiles f)) r is = refl
@@ -56,13 +56,13 @@ asks_by (Some (Spawn child path arguments place)) r is = refl
 asks_by (Some (Wait to child)) r is = refl
 asks_by (Some (Sql cursor text params)) r is = absurd cc
 
-asks_in : (codes : List Code) (o : Option SlotProcess) → slot_is_kept (next_slot_instr codes o) ≡ true → slot_ask_in codes o ≡ None
+asks_in : (codes : List Code) (o : Option SlotProcess) → slot_is_local (next_slot_instr codes o) ≡ true → slot_ask_in codes o ≡ None
 asks_in codes None is = refl
 asks_in codes (Some r) is = asks_by (next_slot_instr codes (Some r)) r is
 
-module _ (m : Machine) (number : ℕ) (b : Bool) (is : b ≡ slot_is_kept (next_slot_instr m.codes (slice_get m.processes.items number))) (so : b ≡ true) where
-  pub kept_next : IsKept (next_slot_instr m.codes (slice_get m.processes.items number))
-  kept_next = kept_by (next_slot_instr m.codes (slice_get m.processes.items number)) (sym is ∙ so)
+module _ (m : Machine) (number : ℕ) (b : Bool) (is : b ≡ slot_is_local (next_slot_instr m.codes (slice_get m.processes.items number))) (so : b ≡ true) where
+  pub local_next : IsLocal (next_slot_instr m.codes (slice_get m.processes.items number))
+  local_next = local_by (next_slot_instr m.codes (slice_get m.processes.items number)) (sym is ∙ so)
 
   pub nothing_asked_next : slot_ask_at m number ≡ None
   nothing_asked_next = asks_in m.codes (slice_get m.processes.items number) (sym is ∙ so)

@@ -18,7 +18,7 @@ ghost use Rattle.proc_core.specs.Stands.{IsCore, AppendsEvents};
 ghost use Rattle.proc_core.specs.declared.process.SlotProcess.{SlotProcess};
 
 use crate::computed::BAD_PATH;
-use crate::keep::end_at;
+use crate::local::end_at;
 use crate::machine::Machine;
 use crate::process::SlotProcess;
 use crate::program::{Program, program_at};

@@ -10,19 +10,19 @@ ghost use Rattle.proc_core.specs.inner.Moves.{Moves};
 ghost use Rattle.proc_core.specs.inner.SlotAsk.{slot_ask_at};
 ghost use Rattle.proc_core.specs.inner.SlotReady.{Grows};
 ghost use Rattle.proc_core.specs.inner.SlotSpawn.{slot_spawning_at};
-ghost use Rattle.proc_core.specs.inner.SlotStep.{HasRoom, IsKept, next_slot_instr, slot_status_in};
+ghost use Rattle.proc_core.specs.inner.SlotStep.{HasRoom, IsLocal, next_slot_instr, slot_status_in};
 ghost use Rattle.proc_core.specs.Stands.{IsCore, AppendsEvents};
 ghost use Rattle.proc_core.specs.Stops.{asker_held, IsStop};
 ghost use Rattle.proc_core.specs.declared.ask.Statement.{Statement};
 ghost use Rattle.proc_core.specs.declared.process.SlotProcess.{SlotProcess};
 
 use crate::ask::{Statement, statement_at, take_at};
-use crate::keep::{is_kept_at, execute_local, status_in};
-use crate::new_process::spawn;
+use crate::error::Stopped;
+use crate::local::{execute_local, is_local_at, status_in};
 use crate::machine::Machine;
+use crate::new_process::spawn;
 use crate::process::SlotProcess;
 use crate::spawn_request::{Spawning, spawning_at};
-use crate::error::Stopped;
 use crate::tell::{Who, tell_status};
 use run_model::{Asker, Database, ProcName, Stop, Tracer};
 use sql_model::Reply;
@@ -30,7 +30,7 @@ use std::alloc::AllocError;
 
 // Makes the step of a process that asks nothing and makes no process, and reports its end where it ends.
 fn step_local<T: Tracer>(machine: &mut Machine, who: Who, tracer: &mut T) -> Result<(), AllocError>
-    requires kept { IsKept (next_slot_instr machine.old.codes
+    requires local { IsLocal (next_slot_instr machine.old.codes
         (slice_get machine.old.processes.items who.number)) }
     requires counted { CountsBelow who.step machine.old }
     ensures core { OnOk result ((c : Core) → IsCore machine.old c
@@ -287,7 +287,7 @@ pub(crate) fn move_on<D: Database, T: Tracer>(
     ensures { Moves D.base T.KEEPS who machine.old machine.new (D.seen db.old) (D.seen db.new)
         (D.latest db.new) (T.events tracer.old) (T.events tracer.new) result }
 {
-    if is_kept_at(machine, who.number) {
+    if is_local_at(machine, who.number) {
         match step_local(machine, who, tracer) {
             Ok(()) => Ok(()),
             Err(AllocError) => Err(Stopped::NoMemory),

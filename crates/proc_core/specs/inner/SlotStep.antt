@@ -94,19 +94,19 @@ slot_effect (Some (Sql cursor text params)) all r st = record {
 }
 
 -- a step that makes no process
-abbrev pub IsKept : Option SlotInstr → Type 0
-IsKept None = Unit {0}
-IsKept (Some (Own o)) = Unit {0}
-IsKept (Some (OnFiles f)) = Unit {0}
-IsKept (Some (Spawn child path arguments place)) = ⊥
-IsKept (Some (Wait to child)) = Unit {0}
-IsKept (Some (Sql cursor text params)) = Unit {0}
+abbrev pub IsLocal : Option SlotInstr → Type 0
+IsLocal None = Unit {0}
+IsLocal (Some (Own o)) = Unit {0}
+IsLocal (Some (OnFiles f)) = Unit {0}
+IsLocal (Some (Spawn child path arguments place)) = ⊥
+IsLocal (Some (Wait to child)) = Unit {0}
+IsLocal (Some (Sql cursor text params)) = Unit {0}
 
 -- the same as a test, where it asks nothing either
-abbrev pub slot_is_kept : Option SlotInstr → Bool
-slot_is_kept None = true
-slot_is_kept (Some (Own o)) = true
-slot_is_kept (Some (OnFiles f)) = true
-slot_is_kept (Some (Spawn child path arguments place)) = false
-slot_is_kept (Some (Wait to child)) = true
-slot_is_kept (Some (Sql cursor text params)) = false
+abbrev pub slot_is_local : Option SlotInstr → Bool
+slot_is_local None = true
+slot_is_local (Some (Own o)) = true
+slot_is_local (Some (OnFiles f)) = true
+slot_is_local (Some (Spawn child path arguments place)) = false
+slot_is_local (Some (Wait to child)) = true
+slot_is_local (Some (Sql cursor text params)) = false

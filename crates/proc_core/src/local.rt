@@ -9,7 +9,7 @@ ghost use Rattle.run_model.specs.Step.{local_step};
 ghost use Rattle.proc_core.specs.inner.SlotOwn.{slot_own};
 ghost use Rattle.proc_core.specs.inner.Counts.{CountsBelow};
 ghost use Rattle.proc_core.specs.inner.SlotReady.{Grows};
-ghost use Rattle.proc_core.specs.inner.SlotStep.{HasRoom, IsKept, next_slot_instr, slot_effect, slot_is_kept};
+ghost use Rattle.proc_core.specs.inner.SlotStep.{HasRoom, IsLocal, next_slot_instr, slot_effect, slot_is_local};
 ghost use Rattle.ldv_value.specs.FileState.{FileState};
 ghost use Rattle.proc_core.specs.inner.Slots.{child_at, slot_ended};
 ghost use Rattle.proc_core.specs.inner.SlotFiles.{slot_on_files};
@@ -182,7 +182,7 @@ fn execute_local_instr<T: Tracer>(
 ) -> Result<(), AllocError>
     requires within { who.number < length processes.old.items }
     requires room { OnSome instr (HasRoom (slice_get processes.old.items who.number)) }
-    requires kept { IsKept (option_map (λ i. i.now) instr) }
+    requires local { IsLocal (option_map (λ i. i.now) instr) }
     ensures processes { OnOk result ((r : SlotProcess) → slice_get processes.old.items who.number ≡ Some r
         → processes.new.items ≡ slice_set processes.old.items who.number
         (slot_effect (option_map (λ i. i.now) instr.entry) processes.old.items r tree.old).process) }
@@ -225,8 +225,8 @@ fn execute_local_instr<T: Tracer>(
 
 // Whether a step asks nothing and makes no process, by its instruction.
 #[inline(always)]
-fn is_kept(instr: Option<&SlotInstr>) -> bool
-    ensures { result ≡ slot_is_kept (option_map (λ i. i.now) instr.entry) }
+fn is_local(instr: Option<&SlotInstr>) -> bool
+    ensures { result ≡ slot_is_local (option_map (λ i. i.now) instr.entry) }
 {
     match instr {
         Some(SlotInstr::Own(_)) => true,
@@ -253,11 +253,11 @@ fn is_kept(instr: Option<&SlotInstr>) -> bool
 
 /// Whether the next step of a process asks nothing and makes no process.
 #[inline(always)]
-pub(crate) fn is_kept_at(machine: &Machine, number: usize) -> bool
-    ensures { result ≡ slot_is_kept (next_slot_instr machine.now.codes
+pub(crate) fn is_local_at(machine: &Machine, number: usize) -> bool
+    ensures { result ≡ slot_is_local (next_slot_instr machine.now.codes
         (slice_get machine.now.processes.items number)) }
 {
-    is_kept(next_of(&machine.codes, &machine.processes, number))
+    is_local(next_of(&machine.codes, &machine.processes, number))
 }
 
 /// Makes the next step of a process, which asks nothing and makes no process.
@@ -266,7 +266,7 @@ pub(crate) fn execute_local<T: Tracer>(
     who: Who,
     tracer: &mut T,
 ) -> Result<(), AllocError>
-    requires kept { IsKept (next_slot_instr machine.old.codes
+    requires local { IsLocal (next_slot_instr machine.old.codes
         (slice_get machine.old.processes.items who.number)) }
     ensures core { OnOk result ((c : Core) → IsCore machine.old c
         → IsCore machine.new (local_step who.number c).core) }

@@ -2,11 +2,11 @@ use Rattle.std.proofs.Common.{◌≡◌, List, refl, sym, subst, rules}
 use Rattle.std.specs.Prelude.{option_map, slice_get}
 use Rattle.std.proofs.lemmas.Option.{slice_get_past}
 use Rattle.proc_core.specs.declared.process.SlotProcess.{SlotProcess}
-use Rattle.proc_core.specs.inner.SlotStep.{IsKept, next_slot_instr, slot_effect}
+use Rattle.proc_core.specs.inner.SlotStep.{IsLocal, next_slot_instr, slot_effect}
 use Rattle.proc_core.proofs.Counts.{effect_counts, fewer_kept}
 use Rattle.proc_core.proofs.Growing.{grows_kept}
 use Rattle.proc_core.proofs.Machines.{none_core, none_told, next_core, next_told}
-use Rattle.proc_core.proofs.keep.execute_local.Goals as goal
+use Rattle.proc_core.proofs.local.execute_local.Goals as goal
 
 pub returns-then-past-clause-core : goal.returns-then-past-clause-core
 returns-then-past-clause-core g c = λ core is.
@@ -22,7 +22,7 @@ returns-clause-core g c = λ core is.
     let instr = option_map (λ i. i.now) c.next_of-instr.result in
     let next : instr ≡ next_slot_instr c.args.machine.now.codes (slice_get c.args.machine.now.processes.items c.args.who.number) =
     subst (λ (rs : List SlotProcess). instr ≡ next_slot_instr c.args.machine.now.codes (slice_get rs c.args.who.number)) c.deref.ensures.value c.next_of-instr.ensures.next in
-    next_core c.args.machine.now c.args.who.number instr core _ (search rules, next, subst IsKept (sym next) c.requires.kept)
+    next_core c.args.machine.now c.args.who.number instr core _ (search rules, next, subst IsLocal (sym next) c.requires.local)
     c.in_ok-execute_local_instr.ensures.processes c.in_ok-execute_local_instr.ensures.files refl refl refl refl refl is
 
 pub returns-clause-told : goal.returns-clause-told
@@ -32,7 +32,7 @@ returns-clause-told g c = λ core is.
     subst (λ (rs : List SlotProcess). instr ≡ next_slot_instr c.args.machine.now.codes (slice_get rs c.args.who.number)) c.deref.ensures.value c.next_of-instr.ensures.next in
     next_told c.args.machine.now c.args.who.number instr core
     g.T.Tracer.KEEPS (g.T.Tracer.events c.args.tracer.now) (g.T.Tracer.events c.execute_local_instr.new.tracer) c.args.who.step
-    (search rules, next, subst IsKept (sym next) c.requires.kept) c.in_ok-execute_local_instr.ensures.told is
+    (search rules, next, subst IsLocal (sym next) c.requires.local) c.in_ok-execute_local_instr.ensures.told is
 
 pub returns-clause-grows : goal.returns-clause-grows
 returns-clause-grows g c =
