@@ -17,13 +17,13 @@ ghost use Rattle.proc_core.specs.Running.{Stands, has_ended};
 ghost use Rattle.proc_core.specs.Stands.{HasStartScript, IsStartScript, AppendsEvents};
 ghost use Rattle.proc_core.specs.Stops.{HasStopped, HasRunStopped};
 
+use crate::error::{RunStop, Stopped};
 use crate::machine::Machine;
 use crate::outcome::{outcome_from, outcome_of};
 use crate::ready::{has_ended, refresh};
 use crate::schedule::{choose, schedule};
 use crate::start::machine_at;
 use crate::step::move_on;
-use crate::error::{RunStop, Stopped};
 use crate::tell::{PathAct, Who, tell_path};
 use file_tree::Tree;
 use ldv_value::Words;

@@ -13,9 +13,9 @@ ghost use Rattle.proc_core.specs.inner.SlotStep.{HasRoom};
 ghost use Rattle.proc_core.specs.inner.Slots.{Holds, slot_with_child};
 ghost use Rattle.proc_core.specs.declared.process.SlotProcess.{SlotProcess};
 
-use crate::process_start::begin;
 use crate::machine::{Codes, Machine};
 use crate::process::SlotProcess;
+use crate::process_start::begin;
 use ldv_value::Values;
 use ready_set::ReadySet;
 use script_code::Code;

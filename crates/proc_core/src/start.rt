@@ -12,9 +12,9 @@ ghost use Rattle.proc_core.specs.inner.SlotReady.{IsReady};
 ghost use Rattle.proc_core.specs.inner.Slots.{Holds};
 ghost use Rattle.proc_core.specs.Stands.{IsCore};
 
-use crate::process_start::begin;
 use crate::machine::{Codes, Machine};
 use crate::process::SlotProcess;
+use crate::process_start::begin;
 use file_tree::Tree;
 use ldv_value::{Numbers, Parts, Utf8, Value, Values};
 use ready_set::ReadySet;
