@@ -1,239 +1,147 @@
-//! The step of a `spawn`: what is at its path, and what comes of that.
+//! A process before its first step: its slots, with the arguments in the variables that are named for them.
 
-ghost use Rattle.std.specs.Prelude.{◌≡◌, ◌+◌, ◌++◌, ◌∷◌, [], ◌<◌, Some, length, map, slice_get, slice_set};
-ghost use Rattle.std.specs.Prelude.{OnOk};
-ghost use Rattle.ldv_value.specs.Limits.{max_processes};
-ghost use Rattle.proc_core.specs.Types.{Spawned, Unspawned};
-ghost use Rattle.run_model.specs.Core.{Core};
-ghost use Rattle.run_model.specs.Events.{event_at};
-ghost use Rattle.run_model.specs.Step.{local_step};
-ghost use Rattle.run_model.specs.StepBase.{bad_path};
-ghost use Rattle.script_code.specs.declared.code.Code.{Code};
-ghost use Rattle.proc_core.specs.inner.Counts.{CountsBelow};
-ghost use Rattle.proc_core.specs.inner.SlotReady.{Grows};
-ghost use Rattle.proc_core.specs.inner.SlotSpawn.{HasChild, IsNoChild, slot_spawning_at};
-ghost use Rattle.proc_core.specs.inner.SlotStep.{HasRoom};
-ghost use Rattle.proc_core.specs.inner.Slots.{slot_ended, slot_went_to};
-ghost use Rattle.proc_core.specs.Stands.{IsCore, AppendsEvents};
-ghost use Rattle.proc_core.specs.declared.process.SlotProcess.{SlotProcess};
+ghost use Rattle.std.specs.Prelude.{◌≡◌, ◌+◌, ◌<◌, ◌∷◌, None, IfOk, OnOk, List as Items, drop, length, map};
+ghost use Rattle.std.specs.Prelude.{replicate};
+ghost use Rattle.ldv_value.specs.declared.value.Value.TheVariants.{Null};
+ghost use Rattle.proc_core.specs.Types.{Instr, Value};
+ghost use Rattle.run_model.specs.Core.{NameBinding, argument_name, arguments_from, argument_variables};
+ghost use Rattle.run_model.specs.Core.{new_process};
+ghost use Rattle.proc_core.specs.inner.Slots.{value_held, Holds};
 
-use crate::computed::BAD_PATH;
-use crate::local::end_at;
-use crate::machine::Machine;
-use crate::process::SlotProcess;
-use crate::program::{Program, program_at};
-use crate::spawn::make_child;
-use crate::spawn_request::Spawning;
-use crate::tell::{PathAct, Who, tell_path};
-use ldv_value::{Utf8, Values};
-use run_model::Tracer;
-use script_code::Code;
-use std::alloc::AllocError;
+use crate::file_slots::FileSlots;
+use crate::process::{SlotCursor, SlotProcess};
+use itoa::Buffer;
+use ldv_value::{Bytes, CopyItem, List, Parts, Utf8, Value, Values};
+use script_code::{Code, NameTable};
+use sql_model::Replies;
+use std::alloc::{AllocError, Global};
 
-// Ends a process whose `spawn` has no path.
-fn end_misused(machine: &mut Machine, number: usize)
-    requires { number < length machine.old.processes.items }
-    ensures left { (r : SlotProcess) → slice_get machine.old.processes.items number ≡ Some r
-        → machine.new.processes.items
-        ≡ slice_set machine.old.processes.items number (slot_ended bad_path r) }
-    ensures others { IsNoChild machine.old machine.new }
+// Slots of `count` variables that aren't set.
+fn unset_variables(alloc: Global, count: usize) -> Result<Values, AllocError>
+    ensures { IfOk result (λ slots. slots ≡ replicate count Null) }
 {
-    end_at(BAD_PATH, number, &mut machine.processes);
+    let mut slots = Vec::with_capacity(alloc, count)?;
+    for _slot in 0..count {
+        slots.push(Value::Null)?;
+    }
+    Ok(Values::of_vec(slots))
 }
 
-// Lets the process of a number go on at the place of a label.
-fn go_to_at(place: u32, number: usize, processes: &mut Vec<SlotProcess>)
-    requires { number < length processes.old.items }
-    ensures { (r : SlotProcess) → slice_get processes.old.items number ≡ Some r
-        → processes.new.items ≡ slice_set processes.old.items number (slot_went_to place r) }
+fn no_cursors(alloc: Global, count: usize) -> Result<List<Option<SlotCursor>>, AllocError>
+    ensures { IfOk result (λ slots. slots ≡ replicate count None) }
 {
-    let process = &mut processes[number];
-    process.go_to(place);
+    let mut slots = Vec::with_capacity(alloc, count)?;
+    for _slot in 0..count {
+        slots.push(None)?;
+    }
+    Ok(List::of_vec(slots))
 }
 
-// The same in a machine, of which all else stays.
-fn jump_at(machine: &mut Machine, place: u32, number: usize)
-    requires { number < length machine.old.processes.items }
-    ensures left { (r : SlotProcess) → slice_get machine.old.processes.items number ≡ Some r
-        → machine.new.processes.items
-        ≡ slice_set machine.old.processes.items number (slot_went_to place r) }
-    ensures others { IsNoChild machine.old machine.new }
+fn no_children(alloc: Global, count: usize) -> Result<List<Option<u32>>, AllocError>
+    ensures { IfOk result (λ slots. slots ≡ replicate count None) }
 {
-    go_to_at(place, number, &mut machine.processes);
+    let mut slots = Vec::with_capacity(alloc, count)?;
+    for _slot in 0..count {
+        slots.push(None)?;
+    }
+    Ok(List::of_vec(slots))
 }
 
-// Ends the step of a `spawn` that is refused: it is reported, and the process goes on at the label.
-fn refuse<T: Tracer>(
-    machine: &mut Machine,
-    who: Who,
-    path: &Utf8,
-    found: bool,
-    place: u32,
-    tracer: &mut T,
+// Sets the variable of a name, where the script has that name.
+fn bind_first(names: &NameTable, name: &Utf8, value: Value, slots: &mut Values)
+    ensures { (bs : Items (NameBinding Value)) → slots.old ≡ map (value_held bs) names.now
+        → slots.new ≡ map (value_held (record { name = name.now; bound = value } ∷ bs)) names.now }
+{
+    match names.find(name) {
+        None => {}
+        Some(slot) => {
+            if slot < slots.len() {
+                slots.replace(slot, value);
+            }
+        }
+    }
+}
+
+fn argument_name(alloc: Global, number: u64) -> Result<Utf8, AllocError>
+    ensures { IfOk result (λ name. name ≡ argument_name number) }
+{
+    let mut name = Utf8::new(alloc);
+    let mut buffer = Buffer::new();
+    name.push_str("arg")?;
+    name.push_str(buffer.format(number))?;
+    Ok(name)
+}
+
+// Sets the variable of the argument at a place, where the script has its name.
+fn bind_argument(
+    alloc: Global,
+    names: &NameTable,
+    arguments: &[Value],
+    place: usize,
+    slots: &mut Values,
 ) -> Result<(), AllocError>
-    requires { who.number < length machine.old.processes.items }
-    ensures left { OnOk result ((r : SlotProcess)
-        → slice_get machine.old.processes.items who.number ≡ Some r
-        → machine.new.processes.items
-        ≡ slice_set machine.old.processes.items who.number (slot_went_to place r)) }
-    ensures others { OnOk result (IsNoChild machine.old machine.new) }
-    ensures told { OnOk result (AppendsEvents T.KEEPS (T.events tracer.old) (T.events tracer.new)
-        (map (event_at who.step who.number) (Unspawned path.now found ∷ []))) }
+    requires { place < length arguments.now }
+    ensures { OnOk result (slots.old ≡ map (value_held (arguments_from (place + 1 + 1)
+        (drop (place + 1) arguments.now))) names.now
+        → slots.new ≡ map (value_held (arguments_from (place + 1) (drop place arguments.now))) names.now) }
 {
-    tell_path(who, PathAct::Unspawned(found), path, tracer)?;
-    jump_at(machine, place, who.number);
+    let name = argument_name(alloc, place as u64 + 1)?;
+    let value = arguments[place].copy_item(alloc)?;
+    bind_first(names, &name, value, slots);
     Ok(())
 }
 
-// Notes which process was made last from a path.
-fn note_runner(machine: &mut Machine, path: Utf8, number: usize) -> Result<(), AllocError>
-    ensures { OnOk result (machine.new ≡ record machine.old { runners = machine.new.runners }) }
+// Slots of variables, of which those of the arguments are set.
+fn bind_arguments(
+    alloc: Global,
+    names: &NameTable,
+    arguments: &[Value],
+) -> Result<Values, AllocError>
+    ensures { IfOk result (λ slots. slots ≡ map (value_held (arguments_from 1 arguments.now)) names.now) }
 {
-    machine.runners.insert(path.into_string(), number)?;
-    Ok(())
+    let mut slots = unset_variables(alloc, names.len())?;
+    let mut left = arguments.len();
+    while left > 0 {
+        left -= 1;
+        bind_argument(alloc, names, arguments, left, &mut slots)?;
+    }
+    Ok(slots)
 }
 
-// Adds a resolved script.
-fn add_code(machine: &mut Machine, code: Code) -> Result<(), AllocError>
-    ensures { OnOk result (machine.new
-        ≡ record machine.old { codes = machine.old.codes ++ code ∷ [] }) }
+// The slots of the variables of a process with these arguments: `argc` and `arg1`, `arg2` and so on are set.
+fn variables(alloc: Global, names: &NameTable, arguments: &[Value]) -> Result<Values, AllocError>
+    ensures { IfOk result (λ slots. slots ≡ map (value_held (argument_variables arguments.now)) names.now) }
 {
-    machine.codes.push(code)?;
-    Ok(())
+    let mut slots = bind_arguments(alloc, names, arguments)?;
+    let name = Utf8::of(alloc, "argc")?;
+    let count = arguments.len() as i64;
+    bind_first(names, &name, Value::Int(count), &mut slots);
+    Ok(slots)
 }
 
-// Makes a child that runs the resolved script at an index, and reports it.
-fn launch<T: Tracer>(
-    machine: &mut Machine,
-    who: Who,
-    slot: usize,
+/// A process that begins: its name, the index of its resolved script, and its arguments.
+pub(crate) fn new_process(
+    alloc: Global,
+    name: Parts,
     index: usize,
-    path: Utf8,
-    arguments: &Values,
-    tracer: &mut T,
-) -> Result<(), AllocError>
-    requires within { who.number < length machine.old.processes.items }
-    requires few { length machine.old.processes.items < max_processes }
-    requires held { index < length machine.old.codes }
-    requires room { HasRoom (slice_get machine.old.processes.items who.number) }
-    requires counted { CountsBelow who.step machine.old }
-    ensures made { OnOk result ((r : SlotProcess) (code : Code)
-        → slice_get machine.old.processes.items who.number ≡ Some r
-        → slice_get machine.old.codes index ≡ Some code
-        → HasChild machine.old who.number slot index code r arguments.now machine.new) }
-    ensures told { OnOk result (AppendsEvents T.KEEPS (T.events tracer.old) (T.events tracer.new)
-        (map (event_at who.step who.number) (Spawned path ∷ []))) }
+    code: &Code,
+    arguments: &[Value],
+) -> Result<SlotProcess, AllocError>
+    ensures { IfOk result (λ r. (script : Items Instr)
+        → Holds code.now.scope index script r (new_process name script arguments.now)) }
 {
-    tell_path(who, PathAct::Spawned, &path, tracer)?;
-    let number = machine.processes.len();
-    make_child(machine, who.number, slot, index, arguments)?;
-    note_runner(machine, path, number)?;
-    Ok(())
-}
-
-// Adds a resolved script, and makes a child that runs it.
-fn launch_new<T: Tracer>(
-    machine: &mut Machine,
-    who: Who,
-    slot: usize,
-    code: Code,
-    path: Utf8,
-    arguments: &Values,
-    tracer: &mut T,
-) -> Result<(), AllocError>
-    requires within { who.number < length machine.old.processes.items }
-    requires few { length machine.old.processes.items < max_processes }
-    requires room { HasRoom (slice_get machine.old.processes.items who.number) }
-    requires counted { CountsBelow who.step machine.old }
-    ensures made { OnOk result ((r : SlotProcess)
-        → slice_get machine.old.processes.items who.number ≡ Some r
-        → HasChild (record machine.old { codes = machine.old.codes ++ code ∷ [] }) who.number slot
-        (length machine.old.codes) code r arguments.now machine.new) }
-    ensures told { OnOk result (AppendsEvents T.KEEPS (T.events tracer.old) (T.events tracer.new)
-        (map (event_at who.step who.number) (Spawned path ∷ []))) }
-{
-    let index = machine.codes.len();
-    add_code(machine, code)?;
-    launch(machine, who, slot, index, path, arguments, tracer)?;
-    Ok(())
-}
-
-// Makes the step of a `spawn` of a path.
-fn spawn_path<T: Tracer>(
-    machine: &mut Machine,
-    who: Who,
-    child: usize,
-    path: Utf8,
-    arguments: Values,
-    place: u32,
-    tracer: &mut T,
-) -> Result<(), AllocError>
-    requires says { slot_spawning_at machine.old who.number
-        ≡ Some (record { child = child; path = Some path; arguments = arguments; place = place }) }
-    requires within { who.number < length machine.old.processes.items }
-    requires room { HasRoom (slice_get machine.old.processes.items who.number) }
-    requires counted { CountsBelow who.step machine.old }
-    ensures core { OnOk result ((c : Core) → IsCore machine.old c
-        → IsCore machine.new (local_step who.number c).core) }
-    ensures told { OnOk result ((c : Core) → IsCore machine.old c
-        → AppendsEvents T.KEEPS (T.events tracer.old)
-        (T.events tracer.new) (map (event_at who.step who.number)
-        (local_step who.number c).acts)) }
-    ensures grows { OnOk result (Grows machine.old who.number machine.new) }
-    ensures counted { OnOk result (CountsBelow (who.step + 1) machine.new) }
-{
-    match program_at(machine, &path)? {
-        Program::Absent => {
-            refuse(machine, who, &path, false, place, tracer)?;
-            Ok(())
-        }
-        Program::Refused => {
-            refuse(machine, who, &path, true, place, tracer)?;
-            Ok(())
-        }
-        Program::Known(index) => {
-            launch(machine, who, child, index, path, &arguments, tracer)?;
-            Ok(())
-        }
-        Program::New(code) => {
-            launch_new(machine, who, child, code, path, &arguments, tracer)?;
-            Ok(())
-        }
-    }
-}
-
-/// Makes the step of a `spawn`: a child is made, or the process goes on at the label, or it ends where the
-/// value isn't a path.
-pub(crate) fn spawn<T: Tracer>(
-    machine: &mut Machine,
-    who: Who,
-    spawning: Spawning,
-    tracer: &mut T,
-) -> Result<(), AllocError>
-    requires says { slot_spawning_at machine.old who.number ≡ Some spawning }
-    requires within { who.number < length machine.old.processes.items }
-    requires room { HasRoom (slice_get machine.old.processes.items who.number) }
-    requires counted { CountsBelow who.step machine.old }
-    ensures core { OnOk result ((c : Core) → IsCore machine.old c
-        → IsCore machine.new (local_step who.number c).core) }
-    ensures told { OnOk result ((c : Core) → IsCore machine.old c
-        → AppendsEvents T.KEEPS (T.events tracer.old)
-        (T.events tracer.new) (map (event_at who.step who.number)
-        (local_step who.number c).acts)) }
-    ensures grows { OnOk result (Grows machine.old who.number machine.new) }
-    ensures counted { OnOk result (CountsBelow (who.step + 1) machine.new) }
-{
-    let Spawning {
-        child,
-        path,
-        arguments,
-        place,
-    } = spawning;
-    match path {
-        None => {
-            end_misused(machine, who.number);
-            Ok(())
-        }
-        Some(path) => spawn_path(machine, who, child, path, arguments, place, tracer),
-    }
+    let scope = &code.scope;
+    Ok(SlotProcess {
+        name,
+        code: index,
+        place: 0,
+        variables: variables(alloc, &scope.variables, arguments)?,
+        files: FileSlots::closed_slots(alloc, scope.files.len())?,
+        cursors: no_cursors(alloc, scope.cursors.len())?,
+        children: no_children(alloc, scope.children.len())?,
+        spawned: 0,
+        printed: Bytes::new(alloc),
+        replies: Replies::new(alloc),
+        status: None,
+    })
 }

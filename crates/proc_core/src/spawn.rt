@@ -1,149 +1,239 @@
-//! How a `spawn` makes a child: the new process, and what its parent keeps of it.
+//! The step of a `spawn`: what is at its path, and what comes of that.
 
-ghost use Rattle.std.specs.Prelude.{◌≡◌, ◌+◌, ◌++◌, ◌∷◌, [], ◌<◌, ◌≤◌, ◌^◌, Some, true, length, slice_get};
-ghost use Rattle.std.specs.Prelude.{slice_set};
-ghost use Rattle.std.specs.Prelude.{IfOk, OnOk, List as Items};
+ghost use Rattle.std.specs.Prelude.{◌≡◌, ◌+◌, ◌++◌, ◌∷◌, [], ◌<◌, Some, length, map, slice_get, slice_set};
+ghost use Rattle.std.specs.Prelude.{OnOk};
 ghost use Rattle.ldv_value.specs.Limits.{max_processes};
-ghost use Rattle.proc_core.specs.Types.{Instr};
-ghost use Rattle.run_model.specs.Core.{new_process};
+ghost use Rattle.proc_core.specs.Types.{Spawned, Unspawned};
+ghost use Rattle.run_model.specs.Core.{Core};
+ghost use Rattle.run_model.specs.Events.{event_at};
+ghost use Rattle.run_model.specs.Step.{local_step};
+ghost use Rattle.run_model.specs.StepBase.{bad_path};
 ghost use Rattle.script_code.specs.declared.code.Code.{Code};
-ghost use Rattle.proc_core.specs.inner.Counts.{MaySpawn};
-ghost use Rattle.proc_core.specs.inner.SlotSpawn.{HasChild, slot_parent, slot_with_new};
+ghost use Rattle.proc_core.specs.inner.Counts.{CountsBelow};
+ghost use Rattle.proc_core.specs.inner.SlotReady.{Grows};
+ghost use Rattle.proc_core.specs.inner.SlotSpawn.{HasChild, IsNoChild, slot_spawning_at};
 ghost use Rattle.proc_core.specs.inner.SlotStep.{HasRoom};
-ghost use Rattle.proc_core.specs.inner.Slots.{Holds, slot_with_child};
+ghost use Rattle.proc_core.specs.inner.Slots.{slot_ended, slot_went_to};
+ghost use Rattle.proc_core.specs.Stands.{IsCore, AppendsEvents};
 ghost use Rattle.proc_core.specs.declared.process.SlotProcess.{SlotProcess};
 
-use crate::machine::{Codes, Machine};
+use crate::computed::BAD_PATH;
+use crate::local::end_at;
+use crate::machine::Machine;
+use crate::new_child::make_child;
 use crate::process::SlotProcess;
-use crate::process_start::begin;
-use ldv_value::Values;
-use ready_set::ReadySet;
+use crate::program::{Program, program_at};
+use crate::spawn_request::Spawning;
+use crate::tell::{PathAct, Who, tell_path};
+use ldv_value::{Utf8, Values};
+use run_model::Tracer;
 use script_code::Code;
-use std::alloc::{AllocError, Global};
+use std::alloc::AllocError;
 
-// Sets the child that a slot means.
-fn set_child(slot: usize, number: u32, process: &mut SlotProcess)
-    ensures { process.new ≡ slot_with_child slot number process.old }
+// Ends a process whose `spawn` has no path.
+fn end_misused(machine: &mut Machine, number: usize)
+    requires { number < length machine.old.processes.items }
+    ensures left { (r : SlotProcess) → slice_get machine.old.processes.items number ≡ Some r
+        → machine.new.processes.items
+        ≡ slice_set machine.old.processes.items number (slot_ended bad_path r) }
+    ensures others { IsNoChild machine.old machine.new }
 {
-    if slot < process.children.len() {
-        process.children.replace(slot, Some(number));
+    end_at(BAD_PATH, number, &mut machine.processes);
+}
+
+// Lets the process of a number go on at the place of a label.
+fn go_to_at(place: u32, number: usize, processes: &mut Vec<SlotProcess>)
+    requires { number < length processes.old.items }
+    ensures { (r : SlotProcess) → slice_get processes.old.items number ≡ Some r
+        → processes.new.items ≡ slice_set processes.old.items number (slot_went_to place r) }
+{
+    let process = &mut processes[number];
+    process.go_to(place);
+}
+
+// The same in a machine, of which all else stays.
+fn jump_at(machine: &mut Machine, place: u32, number: usize)
+    requires { number < length machine.old.processes.items }
+    ensures left { (r : SlotProcess) → slice_get machine.old.processes.items number ≡ Some r
+        → machine.new.processes.items
+        ≡ slice_set machine.old.processes.items number (slot_went_to place r) }
+    ensures others { IsNoChild machine.old machine.new }
+{
+    go_to_at(place, number, &mut machine.processes);
+}
+
+// Ends the step of a `spawn` that is refused: it is reported, and the process goes on at the label.
+fn refuse<T: Tracer>(
+    machine: &mut Machine,
+    who: Who,
+    path: &Utf8,
+    found: bool,
+    place: u32,
+    tracer: &mut T,
+) -> Result<(), AllocError>
+    requires { who.number < length machine.old.processes.items }
+    ensures left { OnOk result ((r : SlotProcess)
+        → slice_get machine.old.processes.items who.number ≡ Some r
+        → machine.new.processes.items
+        ≡ slice_set machine.old.processes.items who.number (slot_went_to place r)) }
+    ensures others { OnOk result (IsNoChild machine.old machine.new) }
+    ensures told { OnOk result (AppendsEvents T.KEEPS (T.events tracer.old) (T.events tracer.new)
+        (map (event_at who.step who.number) (Unspawned path.now found ∷ []))) }
+{
+    tell_path(who, PathAct::Unspawned(found), path, tracer)?;
+    jump_at(machine, place, who.number);
+    Ok(())
+}
+
+// Notes which process was made last from a path.
+fn note_runner(machine: &mut Machine, path: Utf8, number: usize) -> Result<(), AllocError>
+    ensures { OnOk result (machine.new ≡ record machine.old { runners = machine.new.runners }) }
+{
+    machine.runners.insert(path.into_string(), number)?;
+    Ok(())
+}
+
+// Adds a resolved script.
+fn add_code(machine: &mut Machine, code: Code) -> Result<(), AllocError>
+    ensures { OnOk result (machine.new
+        ≡ record machine.old { codes = machine.old.codes ++ code ∷ [] }) }
+{
+    machine.codes.push(code)?;
+    Ok(())
+}
+
+// Makes a child that runs the resolved script at an index, and reports it.
+fn launch<T: Tracer>(
+    machine: &mut Machine,
+    who: Who,
+    slot: usize,
+    index: usize,
+    path: Utf8,
+    arguments: &Values,
+    tracer: &mut T,
+) -> Result<(), AllocError>
+    requires within { who.number < length machine.old.processes.items }
+    requires few { length machine.old.processes.items < max_processes }
+    requires held { index < length machine.old.codes }
+    requires room { HasRoom (slice_get machine.old.processes.items who.number) }
+    requires counted { CountsBelow who.step machine.old }
+    ensures made { OnOk result ((r : SlotProcess) (code : Code)
+        → slice_get machine.old.processes.items who.number ≡ Some r
+        → slice_get machine.old.codes index ≡ Some code
+        → HasChild machine.old who.number slot index code r arguments.now machine.new) }
+    ensures told { OnOk result (AppendsEvents T.KEEPS (T.events tracer.old) (T.events tracer.new)
+        (map (event_at who.step who.number) (Spawned path ∷ []))) }
+{
+    tell_path(who, PathAct::Spawned, &path, tracer)?;
+    let number = machine.processes.len();
+    make_child(machine, who.number, slot, index, arguments)?;
+    note_runner(machine, path, number)?;
+    Ok(())
+}
+
+// Adds a resolved script, and makes a child that runs it.
+fn launch_new<T: Tracer>(
+    machine: &mut Machine,
+    who: Who,
+    slot: usize,
+    code: Code,
+    path: Utf8,
+    arguments: &Values,
+    tracer: &mut T,
+) -> Result<(), AllocError>
+    requires within { who.number < length machine.old.processes.items }
+    requires few { length machine.old.processes.items < max_processes }
+    requires room { HasRoom (slice_get machine.old.processes.items who.number) }
+    requires counted { CountsBelow who.step machine.old }
+    ensures made { OnOk result ((r : SlotProcess)
+        → slice_get machine.old.processes.items who.number ≡ Some r
+        → HasChild (record machine.old { codes = machine.old.codes ++ code ∷ [] }) who.number slot
+        (length machine.old.codes) code r arguments.now machine.new) }
+    ensures told { OnOk result (AppendsEvents T.KEEPS (T.events tracer.old) (T.events tracer.new)
+        (map (event_at who.step who.number) (Spawned path ∷ []))) }
+{
+    let index = machine.codes.len();
+    add_code(machine, code)?;
+    launch(machine, who, slot, index, path, arguments, tracer)?;
+    Ok(())
+}
+
+// Makes the step of a `spawn` of a path.
+fn spawn_path<T: Tracer>(
+    machine: &mut Machine,
+    who: Who,
+    child: usize,
+    path: Utf8,
+    arguments: Values,
+    place: u32,
+    tracer: &mut T,
+) -> Result<(), AllocError>
+    requires says { slot_spawning_at machine.old who.number
+        ≡ Some (record { child = child; path = Some path; arguments = arguments; place = place }) }
+    requires within { who.number < length machine.old.processes.items }
+    requires room { HasRoom (slice_get machine.old.processes.items who.number) }
+    requires counted { CountsBelow who.step machine.old }
+    ensures core { OnOk result ((c : Core) → IsCore machine.old c
+        → IsCore machine.new (local_step who.number c).core) }
+    ensures told { OnOk result ((c : Core) → IsCore machine.old c
+        → AppendsEvents T.KEEPS (T.events tracer.old)
+        (T.events tracer.new) (map (event_at who.step who.number)
+        (local_step who.number c).acts)) }
+    ensures grows { OnOk result (Grows machine.old who.number machine.new) }
+    ensures counted { OnOk result (CountsBelow (who.step + 1) machine.new) }
+{
+    match program_at(machine, &path)? {
+        Program::Absent => {
+            refuse(machine, who, &path, false, place, tracer)?;
+            Ok(())
+        }
+        Program::Refused => {
+            refuse(machine, who, &path, true, place, tracer)?;
+            Ok(())
+        }
+        Program::Known(index) => {
+            launch(machine, who, child, index, path, &arguments, tracer)?;
+            Ok(())
+        }
+        Program::New(code) => {
+            launch_new(machine, who, child, code, path, &arguments, tracer)?;
+            Ok(())
+        }
     }
 }
 
-// Makes a process the parent of the child of a creation number; it goes on at the next instruction.
-fn become_parent(number: u32, slot: usize, process: &mut SlotProcess)
-    requires room { process.old.place + 1 < 2 ^ 64 }
-    requires spawns { process.old.spawned + 1 < 2 ^ 32 }
-    ensures { process.new ≡ slot_parent number slot process.old }
-{
-    set_child(slot, number, process);
-    process.spawned += 1;
-    process.go_on();
-}
-
-// Makes the process of a number the parent of a child.
-fn parent_at(child: u32, slot: usize, number: usize, processes: &mut Vec<SlotProcess>)
-    requires within { number < length processes.old.items }
-    requires room { HasRoom (slice_get processes.old.items number) }
-    requires spawns { MaySpawn (slice_get processes.old.items number) }
-    ensures { (r : SlotProcess) → slice_get processes.old.items number ≡ Some r
-        → processes.new.items ≡ slice_set processes.old.items number (slot_parent child slot r) }
-{
-    let process = &mut processes[number];
-    become_parent(child, slot, process);
-}
-
-// Adds a child of a process.
-fn add_child(
-    child: SlotProcess,
-    slot: usize,
-    number: usize,
-    processes: &mut Vec<SlotProcess>,
-) -> Result<(), AllocError>
-    requires within { number < length processes.old.items }
-    requires few { length processes.old.items < max_processes }
-    requires room { HasRoom (slice_get processes.old.items number) }
-    requires spawns { MaySpawn (slice_get processes.old.items number) }
-    ensures { OnOk result ((r : SlotProcess) → slice_get processes.old.items number ≡ Some r
-        → processes.new.items ≡ slot_with_new number slot child r processes.old.items) }
-{
-    let made = processes.len() as u32;
-    parent_at(made, slot, number, processes);
-    processes.push(child)?;
-    Ok(())
-}
-
-// Adds a new process to those that may run.
-fn add_ready(ready: &mut ReadySet) -> Result<(), AllocError>
-    requires { length ready.old.flags < max_processes }
-    ensures { OnOk result (ready.new.flags ≡ ready.old.flags ++ true ∷ []) }
-{
-    ready.reserve()?;
-    ready.push(true);
-    Ok(())
-}
-
-// The next child of a process, which runs the resolved script at an index.
-fn new_child(
-    alloc: Global,
-    codes: &Codes,
-    parent: &SlotProcess,
-    index: usize,
-    arguments: &Values,
-) -> Result<SlotProcess, AllocError>
-    requires { index < length codes.now }
-    ensures { IfOk result (λ child. (code : Code) (script : Items Instr)
-        → slice_get codes.now index ≡ Some code
-        → Holds code.scope index script child
-        (new_process (parent.now.name ++ parent.now.spawned ∷ []) script arguments.now)) }
-{
-    let code = &codes.items()[index];
-    let mut name = parent.name.copy()?;
-    name.push(parent.spawned)?;
-    Ok(begin(alloc, name, index, code, arguments.items())?)
-}
-
-fn child_at(
-    machine: &Machine,
-    number: usize,
-    index: usize,
-    arguments: &Values,
-) -> Result<SlotProcess, AllocError>
-    requires within { number < length machine.now.processes.items }
-    requires held { index < length machine.now.codes }
-    ensures { IfOk result (λ child. (r : SlotProcess) (code : Code) (script : Items Instr)
-        → slice_get machine.now.processes.items number ≡ Some r
-        → slice_get machine.now.codes index ≡ Some code
-        → Holds code.scope index script child
-        (new_process (r.name ++ r.spawned ∷ []) script arguments.now)) }
-{
-    let parent = &machine.processes[number];
-    Ok(new_child(machine.alloc, &machine.codes, parent, index, arguments)?)
-}
-
-/// Makes a child of a process, which runs the resolved script at an index.
-pub(crate) fn make_child(
+/// Makes the step of a `spawn`: a child is made, or the process goes on at the label, or it ends where the
+/// value isn't a path.
+pub(crate) fn spawn<T: Tracer>(
     machine: &mut Machine,
-    number: usize,
-    slot: usize,
-    index: usize,
-    arguments: &Values,
+    who: Who,
+    spawning: Spawning,
+    tracer: &mut T,
 ) -> Result<(), AllocError>
-    requires within { number < length machine.old.processes.items }
-    requires few { length machine.old.processes.items < max_processes }
-    requires held { index < length machine.old.codes }
-    requires room { HasRoom (slice_get machine.old.processes.items number) }
-    requires spawns { MaySpawn (slice_get machine.old.processes.items number) }
-    requires flags { length machine.old.ready.flags ≤ length machine.old.processes.items }
-    ensures { OnOk result ((r : SlotProcess) (code : Code)
-        → slice_get machine.old.processes.items number ≡ Some r
-        → slice_get machine.old.codes index ≡ Some code
-        → HasChild machine.old number slot index code r arguments.now machine.new) }
+    requires says { slot_spawning_at machine.old who.number ≡ Some spawning }
+    requires within { who.number < length machine.old.processes.items }
+    requires room { HasRoom (slice_get machine.old.processes.items who.number) }
+    requires counted { CountsBelow who.step machine.old }
+    ensures core { OnOk result ((c : Core) → IsCore machine.old c
+        → IsCore machine.new (local_step who.number c).core) }
+    ensures told { OnOk result ((c : Core) → IsCore machine.old c
+        → AppendsEvents T.KEEPS (T.events tracer.old)
+        (T.events tracer.new) (map (event_at who.step who.number)
+        (local_step who.number c).acts)) }
+    ensures grows { OnOk result (Grows machine.old who.number machine.new) }
+    ensures counted { OnOk result (CountsBelow (who.step + 1) machine.new) }
 {
-    let child = child_at(machine, number, index, arguments)?;
-    let parent = number as u32;
-    add_ready(&mut machine.ready)?;
-    machine.parents.push(parent)?;
-    add_child(child, slot, number, &mut machine.processes)?;
-    Ok(())
+    let Spawning {
+        child,
+        path,
+        arguments,
+        place,
+    } = spawning;
+    match path {
+        None => {
+            end_misused(machine, who.number);
+            Ok(())
+        }
+        Some(path) => spawn_path(machine, who, child, path, arguments, place, tracer),
+    }
 }

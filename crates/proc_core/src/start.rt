@@ -13,8 +13,8 @@ ghost use Rattle.proc_core.specs.inner.Slots.{Holds};
 ghost use Rattle.proc_core.specs.Stands.{IsCore};
 
 use crate::machine::{Codes, Machine};
+use crate::new_process::new_process;
 use crate::process::SlotProcess;
-use crate::process_start::begin;
 use file_tree::Tree;
 use ldv_value::{Numbers, Parts, Utf8, Value, Values};
 use ready_set::ReadySet;
@@ -74,7 +74,7 @@ fn first_process(alloc: Global, code: &Code, words: &[Utf8]) -> Result<SlotProce
     let mut name = Parts::new(alloc);
     name.push(0)?;
     let arguments = arguments_of(alloc, words)?;
-    begin(alloc, name, 0, code, arguments.items())
+    new_process(alloc, name, 0, code, arguments.items())
 }
 
 /// The machine of the script at a path, with the other start words as its arguments.

@@ -1,6 +1,6 @@
 use Rattle.std.proofs.Common.{◌∙◌, slice_set}
 use Rattle.proc_core.proofs.Begins.{front_set, front_absent}
-use Rattle.proc_core.proofs.process_start.bind_first.Goals as goal
+use Rattle.proc_core.proofs.new_process.bind_first.Goals as goal
 
 pub returns-in-None : goal.returns-in-None
 returns-in-None c = λ bs is. is ∙ front_absent c.args.name.now c.args.value bs c.args.names.now c.in-None.ensures.found

@@ -1,7 +1,7 @@
 use Rattle.std.proofs.Common.{arith}
 use Rattle.proc_core.proofs.Counts.{may_spawn}
 use Rattle.proc_core.proofs.Growing.{child_again}
-use Rattle.proc_core.proofs.new_process.launch.Goals as goal
+use Rattle.proc_core.proofs.spawn.launch.Goals as goal
 
 pub returns-clause-made : goal.returns-clause-made
 returns-clause-made g c = λ r code at there.

@@ -2,7 +2,7 @@ use Rattle.std.proofs.Common.{ℕ, ap, ◌∙◌, arith}
 use Rattle.std.specs.Prelude.{replicate}
 use Rattle.proc_core.specs.Types.{Null}
 use Rattle.proc_core.proofs.Beginning.{none_yet}
-use Rattle.proc_core.proofs.process_start.bind_arguments.Goals as goal
+use Rattle.proc_core.proofs.new_process.bind_arguments.Goals as goal
 
 pub loop-left-init : goal.loop-left-init
 loop-left-init c = record {

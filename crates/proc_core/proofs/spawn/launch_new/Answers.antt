@@ -1,5 +1,5 @@
 use Rattle.proc_core.proofs.Launching.{counted_coded, launched_new}
-use Rattle.proc_core.proofs.new_process.launch_new.Goals as goal
+use Rattle.proc_core.proofs.spawn.launch_new.Goals as goal
 
 pub returns-clause-made : goal.returns-clause-made
 returns-clause-made g c =

@@ -3,7 +3,7 @@ use Rattle.run_model.specs.Core.{new_process}
 use Rattle.proc_core.specs.declared.process.SlotProcess.{SlotProcess}
 use Rattle.proc_core.specs.inner.Slots.{Holds}
 use Rattle.proc_core.proofs.AtNumber.{item_same}
-use Rattle.proc_core.proofs.spawn.child_at.Goals as goal
+use Rattle.proc_core.proofs.new_child.child_at.Goals as goal
 
 pub returns : goal.returns
 returns c = λ r code script at there.

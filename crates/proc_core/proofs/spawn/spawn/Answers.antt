@@ -5,7 +5,7 @@ use Rattle.proc_core.specs.inner.Slots.{slot_ended}
 use Rattle.proc_core.proofs.Counts.{fewer_idle}
 use Rattle.proc_core.proofs.Growing.{grows_no_child}
 use Rattle.proc_core.proofs.SpawnSteps.{bad_core, bad_acts, told_by, told_nothing}
-use Rattle.proc_core.proofs.new_process.spawn.Goals as goal
+use Rattle.proc_core.proofs.spawn.spawn.Goals as goal
 
 pub returns-in-None-clause-core : goal.returns-in-None-clause-core
 returns-in-None-clause-core g c = λ core is.

@@ -1,7 +1,7 @@
 use Rattle.std.proofs.Common.{ℕ, refl, ap, ◌∙◌, None}
 use Rattle.std.specs.Prelude.{replicate}
 use Rattle.proc_core.proofs.Beginning.{begun}
-use Rattle.proc_core.proofs.process_start.begin.Goals as goal
+use Rattle.proc_core.proofs.new_process.new_process.Goals as goal
 
 pub returns : goal.returns
 returns c = λ script.

@@ -1,5 +1,5 @@
 use Rattle.std.proofs.Common.{refl}
-use Rattle.proc_core.proofs.spawn.make_child.Goals as goal
+use Rattle.proc_core.proofs.new_child.make_child.Goals as goal
 
 pub returns : goal.returns
 returns c = λ r code at there. record {

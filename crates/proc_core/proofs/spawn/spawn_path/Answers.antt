@@ -5,7 +5,7 @@ use Rattle.proc_core.proofs.Counts.{fewer_idle, fewer_known, fewer_new}
 use Rattle.proc_core.proofs.Growing.{grows_no_child}
 use Rattle.proc_core.proofs.Launches.{known_core, known_acts, known_grows, new_core, new_acts, new_grows}
 use Rattle.proc_core.proofs.SpawnSteps.{absent_core, absent_acts, refused_core, refused_acts, told_by}
-use Rattle.proc_core.proofs.new_process.spawn_path.Goals as goal
+use Rattle.proc_core.proofs.spawn.spawn_path.Goals as goal
 
 pub returns-in_ok-refuse-in-Absent-clause-core : goal.returns-in_ok-refuse-in-Absent-clause-core
 returns-in_ok-refuse-in-Absent-clause-core g c = λ core is.
