@@ -11,9 +11,9 @@ use Rattle.script_code.specs.declared.code.Code.{Code}
 use Rattle.script_code.specs.Resolved.{IsCode}
 use Rattle.proc_core.specs.declared.machine.Machine.{Machine}
 use Rattle.proc_core.specs.declared.process.SlotProcess.{SlotProcess}
-use Rattle.proc_core.specs.declared.spawn_request.Spawning.{Spawning}
+use Rattle.proc_core.specs.declared.spawn_request.SpawnRequest.{SpawnRequest}
 use Rattle.proc_core.specs.inner.SlotReady.{Grows}
-use Rattle.proc_core.specs.inner.SlotSpawn.{slot_spawning_at, Runs, IsElse, HasChild}
+use Rattle.proc_core.specs.inner.SlotSpawn.{slot_request_at, Runs, IsElse, HasChild}
 use Rattle.proc_core.specs.Stands.{IsCore}
 use Rattle.proc_core.proofs.AskSame.{get_last}
 use Rattle.proc_core.proofs.Growing.{grows_made}
@@ -31,7 +31,7 @@ with_code m code = record m { codes = m.codes ++ code ∷ [] }
 else_same : (m : Machine) (code : Code) → IsElse m (with_code m code)
 else_same m code = record { tree = refl; seed = refl; last = refl; x = refl; asked = refl }
 
-module _ (m after : Machine) (number : ℕ) (sp : Spawning) (says : slot_spawning_at m number ≡ Some sp) (path : List ℕ) (at : sp.path ≡ Some path)
+module _ (m after : Machine) (number : ℕ) (sp : SpawnRequest) (says : slot_request_at m number ≡ Some sp) (path : List ℕ) (at : sp.path ≡ Some path)
     (bytes : List ℕ) (is : content_at m.tree path ≡ Some bytes) (room : nat_lt (length m.processes.items) max_processes ≡ true) where
   module _ (index : ℕ) (runs : Runs m.codes m.processes.items bytes index) where
     pub known_core : (c : Core) → IsCore m c

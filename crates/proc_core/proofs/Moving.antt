@@ -29,17 +29,17 @@ module _ (number : ℕ) (p : Process) (c : Core) where
   by_keeps : (q : Process) → Keeps Any p q → Moved c.processes number p (slice_set c.processes number q)
   by_keeps q keeps = inl (q, refl, keeps.children)
 
-  script_moved : (o : Option (List Instr)) (spawning : SpawnRequest) (path : List ℕ) → MovedTo (spawn_script o spawning path number p c).core
-  script_moved None spawning path = inl (_, refl, refl)
-  script_moved (Some script) spawning path = inr (spawning.child, script, spawning.arguments, refl)
+  script_moved : (o : Option (List Instr)) (request : SpawnRequest) (path : List ℕ) → MovedTo (spawn_script o request path number p c).core
+  script_moved None request path = inl (_, refl, refl)
+  script_moved (Some script) request path = inr (request.child, script, request.arguments, refl)
 
-  file_moved : (o : Option (List ℕ)) (spawning : SpawnRequest) (path : List ℕ) → MovedTo (spawn_file o spawning path number p c).core
-  file_moved None spawning path = inl (_, refl, refl)
-  file_moved (Some bytes) spawning path = script_moved (script_within c bytes) spawning path
+  file_moved : (o : Option (List ℕ)) (request : SpawnRequest) (path : List ℕ) → MovedTo (spawn_file o request path number p c).core
+  file_moved None request path = inl (_, refl, refl)
+  file_moved (Some bytes) request path = script_moved (script_within c bytes) request path
 
-  path_moved : (o : Option (List ℕ)) (spawning : SpawnRequest) → MovedTo (spawn_path o spawning number p c).core
-  path_moved None spawning = inl (_, refl, refl)
-  path_moved (Some path) spawning = file_moved (content_at c.files path) spawning path
+  path_moved : (o : Option (List ℕ)) (request : SpawnRequest) → MovedTo (spawn_path o request number p c).core
+  path_moved None request = inl (_, refl, refl)
+  path_moved (Some path) request = file_moved (content_at c.files path) request path
 
   until_moved : slice_get c.processes number ≡ Some p → (status : Option ℕ) (child : ℕ) (to : List ℕ) → MovedTo (wait_until status child to number p c).core
   until_moved at None child to = inl (p, sym (set_itself c.processes number p at), refl)

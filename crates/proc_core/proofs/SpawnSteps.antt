@@ -20,9 +20,9 @@ use Rattle.script_code.specs.declared.code.SlotInstr.TheVariants.{Own, OnFiles, 
 use Rattle.script_code.specs.Resolved.{slot_of, HasName, slot_instr, HasAll, IsCode}
 use Rattle.proc_core.specs.declared.machine.Machine.{Machine}
 use Rattle.proc_core.specs.declared.process.SlotProcess.{SlotProcess}
-use Rattle.proc_core.specs.declared.spawn_request.Spawning.{Spawning}
+use Rattle.proc_core.specs.declared.spawn_request.SpawnRequest.{SpawnRequest}
 use Rattle.proc_core.specs.inner.Slots.{Holds, slot_ended, slot_went_to}
-use Rattle.proc_core.specs.inner.SlotSpawn.{slot_spawning, slot_spawning_in, slot_spawning_at, Runs, script_in, slot_parent, slot_with_new, IsElse, IsNoChild, HasChild}
+use Rattle.proc_core.specs.inner.SlotSpawn.{slot_request, slot_request_in, slot_request_at, Runs, script_in, slot_parent, slot_with_new, IsElse, IsNoChild, HasChild}
 use Rattle.proc_core.specs.inner.SlotStep.{next_slot_instr, IsLocal}
 use Rattle.proc_core.specs.Stands.{IsProcess, AreProcesses, IsCore, AppendsEvents}
 use Rattle.proc_core.proofs.Holding.{value_same, values_same, holds_ended, holds_went_to}
@@ -31,7 +31,7 @@ use Rattle.proc_core.proofs.SpawnSame.{as_many, holds_parent, spawned_core}
 
 -- ---- what isn't a `spawn`
 
-not_said : (o : Option SlotInstr) (r : SlotProcess) → slot_spawning o r ≡ None → IsLocal o
+not_said : (o : Option SlotInstr) (r : SlotProcess) → slot_request o r ≡ None → IsLocal o
 not_said None r is = tt
 not_said (Some (Own o)) r is = tt
 not_said (Some (OnFiles f)) r is = tt
@@ -39,23 +39,23 @@ not_said (Some (Spawn child path arguments place)) r is = absurd cc
 not_said (Some (Wait to child)) r is = tt
 not_said (Some (Sql cursor text params)) r is = tt
 
-local_by : (codes : List Code) (o : Option SlotProcess) → slot_spawning_in codes o ≡ None → IsLocal (next_slot_instr codes o)
+local_by : (codes : List Code) (o : Option SlotProcess) → slot_request_in codes o ≡ None → IsLocal (next_slot_instr codes o)
 local_by codes None is = tt
 local_by codes (Some r) is = not_said (next_slot_instr codes (Some r)) r is
 
-pub local_at : (m : Machine) (number : ℕ) → slot_spawning_at m number ≡ None → IsLocal (next_slot_instr m.codes (slice_get m.processes.items number))
+pub local_at : (m : Machine) (number : ℕ) → slot_request_at m number ≡ None → IsLocal (next_slot_instr m.codes (slice_get m.processes.items number))
 local_at m number is = local_by m.codes (slice_get m.processes.items number) is
 
 -- ---- what is
 
-module _ (s : Scope) (index : ℕ) (script : List Instr) (r : SlotProcess) (p : Process) (sp : Spawning) (number : ℕ) (c : Core) where
+module _ (s : Scope) (index : ℕ) (script : List Instr) (r : SlotProcess) (p : Process) (sp : SpawnRequest) (number : ℕ) (c : Core) where
   -- an instruction does what the `spawn` says
   abbrev pub DoesSo : Option Instr → Type 0
   DoesSo i =
       (name : List ℕ) × (sp.child ≡ slot_of s.children name) × HasName s.children name
       × (execute_next i number p c ≡ spawn_path sp.path (record { child = name; arguments = sp.arguments; place = sp.place }) number p c)
 
-  does_so : (i : Instr) → HasAll s i → Holds s index script r p → slot_spawning (Some (slot_instr s i)) r ≡ Some sp → DoesSo (Some i)
+  does_so : (i : Instr) → HasAll s i → Holds s index script r p → slot_request (Some (slot_instr s i)) r ≡ Some sp → DoesSo (Some i)
   does_so (instr.Let to value) has h is = absurd cc
   does_so (instr.Calc to op left right) has h is = absurd cc
   does_so (instr.Glue to left right) has h is = absurd cc
@@ -73,17 +73,17 @@ module _ (s : Scope) (index : ℕ) (script : List Instr) (r : SlotProcess) (p : 
   does_so (instr.Remove path place) has h is = absurd cc
   does_so (instr.Exists to path) has h is = absurd cc
   does_so (instr.Spawn child path arguments place) has h is =
-      let says : slot_spawning (Some (slot_instr s (instr.Spawn child path arguments place))) r ≡ Some sp = is in
-      let build : Option (List ℕ) → List Value → Spawning = λ o vs. record { child = slot_of s.children child; path = o; arguments = vs; place = place } in
+      let says : slot_request (Some (slot_instr s (instr.Spawn child path arguments place))) r ≡ Some sp = is in
+      let build : Option (List ℕ) → List Value → SpawnRequest = λ o vs. record { child = slot_of s.children child; path = o; arguments = vs; place = place } in
       let at : build (path_at path p) (operand_values p arguments) ≡ sp =
       (λ i. build (path_in (sym (value_same s index script path r p has.1 h) i)) (sym (values_same s index script arguments r p has.2 h) i)) ∙ only_some _ _ says in (
         child,
-        ap (λ (x : Spawning). x.child) (sym at),
+        ap (λ (x : SpawnRequest). x.child) (sym at),
         has.0,
-        ap (λ (x : Spawning). spawn_path x.path (record { child = child; arguments = x.arguments; place = x.place }) number p c) at,
+        ap (λ (x : SpawnRequest). spawn_path x.path (record { child = child; arguments = x.arguments; place = x.place }) number p c) at,
       )
     where
-      only_some : (x y : Spawning) → Some x ≡ Some y → x ≡ y
+      only_some : (x y : SpawnRequest) → Some x ≡ Some y → x ≡ y
       only_some x y same = cc
   does_so (instr.Wait to child) has h is = absurd cc
   does_so (instr.Sql cursor text params) has h is = absurd cc
@@ -91,14 +91,14 @@ module _ (s : Scope) (index : ℕ) (script : List Instr) (r : SlotProcess) (p : 
   does_so (instr.Count to cursor) has h is = absurd cc
   does_so (instr.Status to cursor) has h is = absurd cc
 
-  does_at : (i : Option Instr) (o : Option SlotInstr) → AtSame s i o → Holds s index script r p → slot_spawning o r ≡ Some sp → DoesSo i
+  does_at : (i : Option Instr) (o : Option SlotInstr) → AtSame s i o → Holds s index script r p → slot_request o r ≡ Some sp → DoesSo i
   does_at None None at h is = absurd cc
   does_at None (Some o) at h is = absurd at
   does_at (Some i) None at h is = absurd at
-  does_at (Some i) (Some o) at h is = does_so i at.1 h (ap (λ (x : SlotInstr). slot_spawning (Some x) r) (sym at.0) ∙ is)
+  does_at (Some i) (Some o) at h is = does_so i at.1 h (ap (λ (x : SlotInstr). slot_request (Some x) r) (sym at.0) ∙ is)
 
 -- what a `spawn` does, where a process says it
-pub record SpawnsSo (m : Machine) (number : ℕ) (sp : Spawning) (c : Core) : Type 0 where
+pub record SpawnsSo (m : Machine) (number : ℕ) (sp : SpawnRequest) (c : Core) : Type 0 where
   pub held : SlotProcess
   pub process : Process
   pub stands : IsProcess m.codes held process
@@ -109,8 +109,8 @@ pub record SpawnsSo (m : Machine) (number : ℕ) (sp : Spawning) (c : Core) : Ty
   pub has : HasName stands.2.scope.children name
   pub does : local_step number c ≡ spawn_path sp.path (record { child = name; arguments = sp.arguments; place = sp.place }) number process c
 
-spawns_by : (m : Machine) (number : ℕ) (sp : Spawning) (c : Core) (o : Option SlotProcess) → slice_get m.processes.items number ≡ o → IsCore m c
-    → slot_spawning_in m.codes o ≡ Some sp → SpawnsSo m number sp c
+spawns_by : (m : Machine) (number : ℕ) (sp : SpawnRequest) (c : Core) (o : Option SlotProcess) → slice_get m.processes.items number ≡ o → IsCore m c
+    → slot_request_in m.codes o ≡ Some sp → SpawnsSo m number sp c
 spawns_by m number sp c None is core says = absurd cc
 spawns_by m number sp c (Some r) is core says =
     let there = slot_process-at m.codes m.processes.items c.processes number r core.processes is in
@@ -129,7 +129,7 @@ spawns_by m number sp c (Some r) is core says =
       does = ap (λ (q : Option Process). local_step_of q number c) there.1 ∙ so.3;
     }
 
-pub spawns_so : (m : Machine) (number : ℕ) (sp : Spawning) (c : Core) → IsCore m c → slot_spawning_at m number ≡ Some sp → SpawnsSo m number sp c
+pub spawns_so : (m : Machine) (number : ℕ) (sp : SpawnRequest) (c : Core) → IsCore m c → slot_request_at m number ≡ Some sp → SpawnsSo m number sp c
 spawns_so m number sp c core says = spawns_by m number sp c (slice_get m.processes.items number) refl core says
 
 -- ---- no child is made
@@ -156,7 +156,7 @@ module _ (m after : Machine) (number : ℕ) (c : Core) (core : IsCore m c) where
   went_process : (place : ℕ) (r : SlotProcess) (p : Process) → IsProcess m.codes r p → IsProcess m.codes (slot_went_to place r) (went_to place p)
   went_process place r p is = (is.0, is.1, is.2, is.3, is.4, holds_went_to is.2.scope is.0 is.1 place r p is.5)
 
-  module _ (sp : Spawning) (says : slot_spawning_at m number ≡ Some sp) where
+  module _ (sp : SpawnRequest) (says : slot_request_at m number ≡ Some sp) where
     abbrev so : SpawnsSo m number sp c
     so = spawns_so m number sp c core says
 

@@ -144,7 +144,7 @@ pub(crate) fn set_cursor(slot: usize, cursor: SlotCursor, process: &mut SlotProc
 }
 
 /// Gives the process of a number the reply to its statement.
-pub(crate) fn take_at(
+pub(crate) fn take_reply_at(
     cursor: usize,
     reply: Reply,
     number: usize,

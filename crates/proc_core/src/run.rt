@@ -23,7 +23,7 @@ use crate::outcome::{outcome_from, outcome_of};
 use crate::ready::{has_ended, refresh};
 use crate::schedule::{choose, schedule};
 use crate::start::machine_at;
-use crate::step::move_on;
+use crate::step::step_process;
 use crate::tell::{PathAct, Who, tell_path};
 use file_tree::Tree;
 use ldv_value::Words;
@@ -59,7 +59,7 @@ fn make_step<D: Database, T: Tracer>(
         step: steps + 1,
         number: number as usize,
     };
-    match move_on(machine, who, db, tracer) {
+    match step_process(machine, who, db, tracer) {
         Err(stop) => Err(stop),
         Ok(()) => {
             refresh(machine, number as usize);

@@ -11,7 +11,7 @@ ghost use Rattle.run_model.specs.StepBase.{bad_path};
 ghost use Rattle.script_code.specs.declared.code.Code.{Code};
 ghost use Rattle.proc_core.specs.inner.Counts.{CountsBelow};
 ghost use Rattle.proc_core.specs.inner.SlotReady.{Grows};
-ghost use Rattle.proc_core.specs.inner.SlotSpawn.{HasChild, IsNoChild, slot_spawning_at};
+ghost use Rattle.proc_core.specs.inner.SlotSpawn.{HasChild, IsNoChild, slot_request_at};
 ghost use Rattle.proc_core.specs.inner.SlotStep.{HasRoom};
 ghost use Rattle.proc_core.specs.inner.Slots.{slot_ended, slot_went_to};
 ghost use Rattle.proc_core.specs.Stands.{IsCore, AppendsEvents};
@@ -23,7 +23,7 @@ use crate::machine::Machine;
 use crate::new_child::make_child;
 use crate::process::SlotProcess;
 use crate::program::{Program, program_at};
-use crate::spawn_request::Spawning;
+use crate::spawn_request::SpawnRequest;
 use crate::tell::{PathAct, Who, tell_path};
 use ldv_value::{Utf8, Values};
 use run_model::Tracer;
@@ -168,7 +168,7 @@ fn spawn_path<T: Tracer>(
     place: u32,
     tracer: &mut T,
 ) -> Result<(), AllocError>
-    requires says { slot_spawning_at machine.old who.number
+    requires says { slot_request_at machine.old who.number
         ≡ Some (record { child = child; path = Some path; arguments = arguments; place = place }) }
     requires within { who.number < length machine.old.processes.items }
     requires room { HasRoom (slice_get machine.old.processes.items who.number) }
@@ -207,10 +207,10 @@ fn spawn_path<T: Tracer>(
 pub(crate) fn spawn<T: Tracer>(
     machine: &mut Machine,
     who: Who,
-    spawning: Spawning,
+    request: SpawnRequest,
     tracer: &mut T,
 ) -> Result<(), AllocError>
-    requires says { slot_spawning_at machine.old who.number ≡ Some spawning }
+    requires says { slot_request_at machine.old who.number ≡ Some request }
     requires within { who.number < length machine.old.processes.items }
     requires room { HasRoom (slice_get machine.old.processes.items who.number) }
     requires counted { CountsBelow who.step machine.old }
@@ -223,12 +223,12 @@ pub(crate) fn spawn<T: Tracer>(
     ensures grows { OnOk result (Grows machine.old who.number machine.new) }
     ensures counted { OnOk result (CountsBelow (who.step + 1) machine.new) }
 {
-    let Spawning {
+    let SpawnRequest {
         child,
         path,
         arguments,
         place,
-    } = spawning;
+    } = request;
     match path {
         None => {
             end_misused(machine, who.number);

@@ -2,7 +2,7 @@
 
 ghost use Rattle.std.specs.Prelude.{◌≡◌, ◌+◌, ◌<◌, ◌^◌, Some, IfOk, OnSome, length, slice_get};
 ghost use Rattle.std.specs.Option.{option_map};
-ghost use Rattle.proc_core.specs.inner.SlotSpawn.{slot_spawning, slot_spawning_in, slot_spawning_at};
+ghost use Rattle.proc_core.specs.inner.SlotSpawn.{slot_request, slot_request_in, slot_request_at};
 ghost use Rattle.proc_core.specs.inner.SlotStep.{HasRoom};
 
 use crate::ask::values_of;
@@ -16,21 +16,21 @@ use std::alloc::{AllocError, Global};
 /// What a `spawn` says: a slot for the child, the path, none where the value isn't one, the arguments, and
 /// the place of the label.
 #[derive(Drop)]
-pub(crate) struct Spawning {
+pub(crate) struct SpawnRequest {
     pub child: usize,
     pub path: Option<Utf8>,
     pub arguments: Values,
     pub place: u32,
 }
 
-fn spawning_by(
+fn request_of_instr(
     alloc: Global,
     instr: Option<&SlotInstr>,
     process: &SlotProcess,
-) -> Result<Option<Spawning>, AllocError>
+) -> Result<Option<SpawnRequest>, AllocError>
     requires { OnSome instr (process.now.place + 1 < 2 ^ 64) }
     ensures said { IfOk result (λ said. said
-        ≡ slot_spawning (option_map (λ i. i.now) instr.entry) process.now) }
+        ≡ slot_request (option_map (λ i. i.now) instr.entry) process.now) }
     ensures room { IfOk result (λ said. OnSome said (process.now.place + 1 < 2 ^ 64)) }
 {
     match instr {
@@ -41,7 +41,7 @@ fn spawning_by(
                 arguments,
                 place,
             },
-        ) => Ok(Some(Spawning {
+        ) => Ok(Some(SpawnRequest {
             child: *child,
             path: path_of(alloc, process, path)?,
             arguments: values_of(alloc, process, arguments)?,
@@ -61,26 +61,26 @@ fn spawning_by(
     }
 }
 
-fn spawning_in(
+fn request_of_process(
     alloc: Global,
     codes: &Codes,
     process: &SlotProcess,
-) -> Result<Option<Spawning>, AllocError>
-    ensures said { IfOk result (λ said. said ≡ slot_spawning_in codes.now (Some process.now)) }
+) -> Result<Option<SpawnRequest>, AllocError>
+    ensures said { IfOk result (λ said. said ≡ slot_request_in codes.now (Some process.now)) }
     ensures room { IfOk result (λ said. OnSome said (process.now.place + 1 < 2 ^ 64)) }
 {
-    spawning_by(alloc, next_in(codes, process), process)
+    request_of_instr(alloc, next_in(codes, process), process)
 }
 
 /// What the next step of a process says, where that is a `spawn`.
-pub(crate) fn spawning_at(machine: &Machine, number: usize) -> Result<Option<Spawning>, AllocError>
-    ensures said { IfOk result (λ said. said ≡ slot_spawning_at machine.now number) }
+pub(crate) fn request_at(machine: &Machine, number: usize) -> Result<Option<SpawnRequest>, AllocError>
+    ensures said { IfOk result (λ said. said ≡ slot_request_at machine.now number) }
     ensures within { IfOk result (λ said. OnSome said (number < length machine.now.processes.items)) }
     ensures room { IfOk result (λ said. OnSome said
         (HasRoom (slice_get machine.now.processes.items number))) }
 {
     match machine.processes.get(number) {
         None => Ok(None),
-        Some(process) => spawning_in(machine.alloc, &machine.codes, process),
+        Some(process) => request_of_process(machine.alloc, &machine.codes, process),
     }
 }

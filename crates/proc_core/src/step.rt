@@ -9,20 +9,20 @@ ghost use Rattle.proc_core.specs.inner.Counts.{CountsBelow};
 ghost use Rattle.proc_core.specs.inner.Moves.{Moves};
 ghost use Rattle.proc_core.specs.inner.SlotAsk.{slot_ask_at};
 ghost use Rattle.proc_core.specs.inner.SlotReady.{Grows};
-ghost use Rattle.proc_core.specs.inner.SlotSpawn.{slot_spawning_at};
+ghost use Rattle.proc_core.specs.inner.SlotSpawn.{slot_request_at};
 ghost use Rattle.proc_core.specs.inner.SlotStep.{HasRoom, IsLocal, next_slot_instr, slot_status_in};
 ghost use Rattle.proc_core.specs.Stands.{IsCore, AppendsEvents};
 ghost use Rattle.proc_core.specs.Stops.{asker_held, IsStop};
 ghost use Rattle.proc_core.specs.declared.ask.Statement.{Statement};
 ghost use Rattle.proc_core.specs.declared.process.SlotProcess.{SlotProcess};
 
-use crate::ask::{Statement, statement_at, take_at};
+use crate::ask::{Statement, statement_at, take_reply_at};
 use crate::error::Stopped;
 use crate::local::{execute_local, is_local_at, status_in};
 use crate::machine::Machine;
 use crate::process::SlotProcess;
 use crate::spawn::spawn;
-use crate::spawn_request::{Spawning, spawning_at};
+use crate::spawn_request::{SpawnRequest, request_at};
 use crate::tell::{Who, tell_status};
 use run_model::{Asker, Database, ProcName, Stop, Tracer};
 use sql_model::Reply;
@@ -48,13 +48,13 @@ fn step_local<T: Tracer>(machine: &mut Machine, who: Who, tracer: &mut T) -> Res
 }
 
 // Makes the step of a process that spawns, and reports its end where it ends.
-fn spawn_on<T: Tracer>(
+fn step_spawn<T: Tracer>(
     machine: &mut Machine,
     who: Who,
-    spawning: Spawning,
+    request: SpawnRequest,
     tracer: &mut T,
 ) -> Result<(), AllocError>
-    requires says { slot_spawning_at machine.old who.number ≡ Some spawning }
+    requires says { slot_request_at machine.old who.number ≡ Some request }
     requires within { who.number < length machine.old.processes.items }
     requires room { HasRoom (slice_get machine.old.processes.items who.number) }
     requires counted { CountsBelow who.step machine.old }
@@ -67,13 +67,17 @@ fn spawn_on<T: Tracer>(
     ensures grows { OnOk result (Grows machine.old who.number machine.new) }
     ensures counted { OnOk result (CountsBelow (who.step + 1) machine.new) }
 {
-    spawn(machine, who, spawning, tracer)?;
+    spawn(machine, who, request, tracer)?;
     tell_status(who, status_in(&machine.processes, who.number), tracer)?;
     Ok(())
 }
 
 // Makes the step of a process that asks nothing, and reports its end where it ends.
-fn quiet_on<T: Tracer>(machine: &mut Machine, who: Who, tracer: &mut T) -> Result<(), AllocError>
+fn step_spawn_or_local<T: Tracer>(
+    machine: &mut Machine,
+    who: Who,
+    tracer: &mut T,
+) -> Result<(), AllocError>
     requires { CountsBelow who.step machine.old }
     ensures core { OnOk result ((c : Core) → IsCore machine.old c
         → IsCore machine.new (local_step who.number c).core) }
@@ -84,14 +88,14 @@ fn quiet_on<T: Tracer>(machine: &mut Machine, who: Who, tracer: &mut T) -> Resul
     ensures grows { OnOk result (Grows machine.old who.number machine.new) }
     ensures counted { OnOk result (CountsBelow (who.step + 1) machine.new) }
 {
-    match spawning_at(machine, who.number)? {
+    match request_at(machine, who.number)? {
         None => step_local(machine, who, tracer),
-        Some(spawning) => spawn_on(machine, who, spawning, tracer),
+        Some(request) => step_spawn(machine, who, request, tracer),
     }
 }
 
 // Who asks: the process of a number.
-fn asker_of(machine: &Machine, who: Who) -> Result<Asker, AllocError>
+fn asker_at(machine: &Machine, who: Who) -> Result<Asker, AllocError>
     requires within { who.number < length machine.now.processes.items }
     ensures held { IfOk result (λ asker. (r : SlotProcess)
         → slice_get machine.now.processes.items who.number ≡ Some r
@@ -100,12 +104,12 @@ fn asker_of(machine: &Machine, who: Who) -> Result<Asker, AllocError>
 {
     match machine.processes.get(who.number) {
         None => unreachable!(),
-        Some(process) => asker_by(machine, process, who),
+        Some(process) => asker_of(machine, process, who),
     }
 }
 
 // Who asks: this process.
-fn asker_by(machine: &Machine, process: &SlotProcess, who: Who) -> Result<Asker, AllocError>
+fn asker_of(machine: &Machine, process: &SlotProcess, who: Who) -> Result<Asker, AllocError>
     ensures { IfOk result (λ asker. asker ≡ asker_held process.now who machine.now) }
 {
     Ok(Asker {
@@ -126,13 +130,13 @@ fn stop_without_reply(machine: &Machine, number: usize) -> Stopped
     ensures { (r : SlotProcess) → slice_get machine.now.processes.items number ≡ Some r
         → IsStop result r }
 {
-    match stop_of(machine, number) {
+    match divergence_at(machine, number) {
         Ok(stop) => stop,
         Err(AllocError) => Stopped::NoMemory,
     }
 }
 
-fn stop_of(machine: &Machine, number: usize) -> Result<Stopped, AllocError>
+fn divergence_at(machine: &Machine, number: usize) -> Result<Stopped, AllocError>
     requires within { number < length machine.now.processes.items }
     requires few { (r : SlotProcess) → slice_get machine.now.processes.items number ≡ Some r
         → length r.replies < 2 ^ 32 }
@@ -141,11 +145,11 @@ fn stop_of(machine: &Machine, number: usize) -> Result<Stopped, AllocError>
 {
     match machine.processes.get(number) {
         None => unreachable!(),
-        Some(process) => stop_by(process),
+        Some(process) => divergence_of(process),
     }
 }
 
-fn stop_by(process: &SlotProcess) -> Result<Stopped, AllocError>
+fn divergence_of(process: &SlotProcess) -> Result<Stopped, AllocError>
     requires { length process.now.replies < 2 ^ 32 }
     ensures { IfOk result (λ stop. IsStop stop process.now) }
 {
@@ -158,7 +162,7 @@ fn stop_by(process: &SlotProcess) -> Result<Stopped, AllocError>
 }
 
 // Gives the process of a number the reply to its statement, and counts the statement.
-fn take(machine: &mut Machine, number: usize, cursor: usize, reply: Reply) -> Result<(), AllocError>
+fn give_reply(machine: &mut Machine, number: usize, cursor: usize, reply: Reply) -> Result<(), AllocError>
     requires within { number < length machine.old.processes.items }
     requires counted { machine.old.asked + 1 < 2 ^ 32 }
     requires room { HasRoom (slice_get machine.old.processes.items number) }
@@ -169,13 +173,13 @@ fn take(machine: &mut Machine, number: usize, cursor: usize, reply: Reply) -> Re
     ensures counted { OnOk result ((n : ℕ) → CountsBelow n machine.old
         → CountsBelow (n + 1) machine.new) }
 {
-    take_at(cursor, reply, number, &mut machine.processes)?;
+    take_reply_at(cursor, reply, number, &mut machine.processes)?;
     machine.asked += 1;
     Ok(())
 }
 
 // Gives a process the reply to its statement, with what is reported after every step.
-fn take_on<T: Tracer>(
+fn give_reply_and_tell<T: Tracer>(
     machine: &mut Machine,
     who: Who,
     cursor: usize,
@@ -194,7 +198,7 @@ fn take_on<T: Tracer>(
     ensures grows { OnOk result (Grows machine.old who.number machine.new) }
     ensures counted { OnOk result (CountsBelow (who.step + 1) machine.new) }
 {
-    take(machine, who.number, cursor, reply)?;
+    give_reply(machine, who.number, cursor, reply)?;
     tell_status(who, status_in(&machine.processes, who.number), tracer)?;
     Ok(())
 }
@@ -220,7 +224,7 @@ fn answer_statement<D: Database, T: Tracer>(
         (D.latest db.new) (T.events tracer.old) (T.events tracer.new) result }
 {
     match db.ask(&asker, &statement.text, &statement.params, tracer) {
-        Ok(reply) => match take_on(machine, who, statement.cursor, reply, tracer) {
+        Ok(reply) => match give_reply_and_tell(machine, who, statement.cursor, reply, tracer) {
             Ok(()) => Ok(()),
             Err(AllocError) => Err(Stopped::NoMemory),
         },
@@ -245,14 +249,14 @@ fn step_statement<D: Database, T: Tracer>(
     ensures { Moves D.base T.KEEPS who machine.old machine.new (D.seen db.old) (D.seen db.new)
         (D.latest db.new) (T.events tracer.old) (T.events tracer.new) result }
 {
-    match asker_of(machine, who) {
+    match asker_at(machine, who) {
         Ok(asker) => answer_statement(machine, who, asker, statement, db, tracer),
         Err(AllocError) => Err(Stopped::NoMemory),
     }
 }
 
 // Makes the step of a process that asks this statement, or nothing.
-fn move_by<D: Database, T: Tracer>(
+fn step_unless_local<D: Database, T: Tracer>(
     machine: &mut Machine,
     who: Who,
     asked: Option<Statement>,
@@ -267,7 +271,7 @@ fn move_by<D: Database, T: Tracer>(
         (D.latest db.new) (T.events tracer.old) (T.events tracer.new) result }
 {
     match asked {
-        None => match quiet_on(machine, who, tracer) {
+        None => match step_spawn_or_local(machine, who, tracer) {
             Ok(()) => Ok(()),
             Err(AllocError) => Err(Stopped::NoMemory),
         },
@@ -276,7 +280,7 @@ fn move_by<D: Database, T: Tracer>(
 }
 
 /// Makes a step of a process. Most steps ask nothing and make no process, and are found first.
-pub(crate) fn move_on<D: Database, T: Tracer>(
+pub(crate) fn step_process<D: Database, T: Tracer>(
     machine: &mut Machine,
     who: Who,
     db: &mut D,
@@ -294,7 +298,7 @@ pub(crate) fn move_on<D: Database, T: Tracer>(
         }
     } else {
         match statement_at(machine, who.number) {
-            Ok(asked) => move_by(machine, who, asked, db, tracer),
+            Ok(asked) => step_unless_local(machine, who, asked, db, tracer),
             Err(AllocError) => Err(Stopped::NoMemory),
         }
     }

@@ -16,31 +16,31 @@ use Rattle.proc_core.specs.declared.machine.Machine.{Machine}
 use Rattle.proc_core.specs.declared.process.SlotProcess.{SlotProcess}
 use Rattle.proc_core.specs.declared.program.Program.{Program}
 use Rattle.proc_core.specs.declared.program.Program.TheVariants.{Absent, Refused, Known, New}
-use Rattle.proc_core.specs.declared.spawn_request.Spawning.{Spawning}
+use Rattle.proc_core.specs.declared.spawn_request.SpawnRequest.{SpawnRequest}
 use Rattle.proc_core.specs.inner.Slots.{Holds, slot_value, slot_values, slot_went_on, slot_with_child}
 use Rattle.proc_core.specs.inner.SlotStep.{next_slot_instr}
 
 -- ---- what a `spawn` says
 
-abbrev pub slot_spawning : Option SlotInstr → SlotProcess → Option Spawning
-slot_spawning None r = None
-slot_spawning (Some (Own o)) r = None
-slot_spawning (Some (OnFiles f)) r = None
-slot_spawning (Some (Spawn child path arguments place)) r = Some (record {
+abbrev pub slot_request : Option SlotInstr → SlotProcess → Option SpawnRequest
+slot_request None r = None
+slot_request (Some (Own o)) r = None
+slot_request (Some (OnFiles f)) r = None
+slot_request (Some (Spawn child path arguments place)) r = Some (record {
   child = child;
   path = path_in (slot_value r path);
   arguments = slot_values r arguments;
   place = place;
 })
-slot_spawning (Some (Wait to child)) r = None
-slot_spawning (Some (Sql cursor text params)) r = None
+slot_request (Some (Wait to child)) r = None
+slot_request (Some (Sql cursor text params)) r = None
 
-abbrev pub slot_spawning_in : List Code → Option SlotProcess → Option Spawning
-slot_spawning_in codes None = None
-slot_spawning_in codes (Some r) = slot_spawning (next_slot_instr codes (Some r)) r
+abbrev pub slot_request_in : List Code → Option SlotProcess → Option SpawnRequest
+slot_request_in codes None = None
+slot_request_in codes (Some r) = slot_request (next_slot_instr codes (Some r)) r
 
-abbrev pub slot_spawning_at : Machine → ℕ → Option Spawning
-slot_spawning_at m number = slot_spawning_in m.codes (slice_get m.processes.items number)
+abbrev pub slot_request_at : Machine → ℕ → Option SpawnRequest
+slot_request_at m number = slot_request_in m.codes (slice_get m.processes.items number)
 
 -- ---- what there is to run
 

@@ -3,24 +3,24 @@ use Rattle.proc_core.proofs.Counts.{fewer_of}
 use Rattle.proc_core.proofs.StepSame.{ask_state, ask_told, ask_stopped}
 use Rattle.proc_core.proofs.step.answer_statement.Goals as goal
 
-pub returns-in-Ok-take_on : goal.returns-in-Ok-take_on
-returns-in-Ok-take_on g c =
+pub returns-in-Ok-give_reply_and_tell : goal.returns-in-Ok-give_reply_and_tell
+returns-in-Ok-give_reply_and_tell g c =
     let latest : g.D.Database.latest c.ask.new.self ≤ c.args.who.step = omega (arith, c.requires.step, c.in-Ok.ensures.latest) in
     record {
       state = λ s is.
           ask_state g.D.Database.base c.args.machine.now c.args.who c.args.statement c.args.asker (g.D.Database.seen c.args.db.now) s
-          c.take_on.new.machine c.in-Ok.reply (g.D.Database.seen c.ask.new.self) c.in-Ok.ensures.reply.0 (c.requires.asks, c.requires.asker)
-          c.in-Ok.ensures.reply.1 c.in-Ok-take_on.ensures.core is;
+          c.give_reply_and_tell.new.machine c.in-Ok.reply (g.D.Database.seen c.ask.new.self) c.in-Ok.ensures.reply.0 (c.requires.asks, c.requires.asker)
+          c.in-Ok.ensures.reply.1 c.in-Ok-give_reply_and_tell.ensures.core is;
       told = λ s is.
           ask_told g.D.Database.base c.args.machine.now c.args.who c.args.statement c.args.asker (g.D.Database.seen c.args.db.now) s
-          c.take_on.new.machine c.in-Ok.reply (g.D.Database.seen c.ask.new.self) c.in-Ok.ensures.reply.0
-          g.T.Tracer.KEEPS (g.T.Tracer.events c.args.tracer.now) (g.T.Tracer.events c.ask.new.tracer) (g.T.Tracer.events c.take_on.new.tracer)
-          (c.requires.asks, c.requires.asker) c.in-Ok.ensures.reply.1 c.in-Ok-take_on.ensures.core c.in-Ok.ensures.reply.2
-          c.in-Ok-take_on.ensures.told is;
+          c.give_reply_and_tell.new.machine c.in-Ok.reply (g.D.Database.seen c.ask.new.self) c.in-Ok.ensures.reply.0
+          g.T.Tracer.KEEPS (g.T.Tracer.events c.args.tracer.now) (g.T.Tracer.events c.ask.new.tracer) (g.T.Tracer.events c.give_reply_and_tell.new.tracer)
+          (c.requires.asks, c.requires.asker) c.in-Ok.ensures.reply.1 c.in-Ok-give_reply_and_tell.ensures.core c.in-Ok.ensures.reply.2
+          c.in-Ok-give_reply_and_tell.ensures.told is;
       diverged = tt;
       latest = latest;
-      grows = c.in-Ok-take_on.ensures.grows;
-      counted = c.in-Ok-take_on.ensures.counted;
+      grows = c.in-Ok-give_reply_and_tell.ensures.grows;
+      counted = c.in-Ok-give_reply_and_tell.ensures.counted;
     }
 
 pub returns-in-Err-Diverged : goal.returns-in-Err-Diverged

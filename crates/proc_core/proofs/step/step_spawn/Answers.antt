@@ -5,7 +5,7 @@ use Rattle.run_model.specs.Step.{local_step, ends_at, status_acts}
 use Rattle.proc_core.specs.inner.SlotStep.{slot_status_in}
 use Rattle.proc_core.specs.Stands.{AppendsEvents}
 use Rattle.proc_core.proofs.Machines.{ends_same, told_more}
-use Rattle.proc_core.proofs.step.spawn_on.Goals as goal
+use Rattle.proc_core.proofs.step.step_spawn.Goals as goal
 
 pub returns-clause-told : goal.returns-clause-told
 returns-clause-told g c = λ core is.

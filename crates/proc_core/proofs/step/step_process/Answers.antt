@@ -1,7 +1,7 @@
 use Rattle.std.proofs.Common.{arith, ◌≤◌}
 use Rattle.proc_core.proofs.StepSame.{quiet_state, quiet_told}
 use Rattle.proc_core.proofs.Stepping.{local_next, nothing_asked_next}
-use Rattle.proc_core.proofs.step.move_on.Goals as goal
+use Rattle.proc_core.proofs.step.step_process.Goals as goal
 
 pub step_local-requires-clause-local : goal.step_local-requires-clause-local
 step_local-requires-clause-local g c =
