@@ -81,7 +81,7 @@ same_core a b c is core =
       processes = core.processes;
       seed = core.seed;
       last = core.last;
-      x = core.x;
+      generator = core.generator;
       asked = core.asked;
       going = core.going;
     })

@@ -229,7 +229,7 @@ asks_statement m number t c core some = some_by m number t c (slice_get m.proces
 -- the machine after the reply
 pub took_core : (m after : Machine) (number : ℕ) (t : Statement) (x : Reply) (c : Core) → IsCore m c → (is : Asks m number t c)
     → after.codes ≡ m.codes → after.processes.items ≡ slice_set m.processes.items number (slot_replied t.cursor x is.held)
-    → after.tree ≡ m.tree → after.seed ≡ m.seed → after.last ≡ m.last → after.x ≡ m.x → after.asked ≡ m.asked + 1
+    → after.tree ≡ m.tree → after.seed ≡ m.seed → after.last ≡ m.last → after.generator ≡ m.generator → after.asked ≡ m.asked + 1
     → IsCore after (took number is.what x c)
 took_core m after number t x c core is codes processes tree seed last xs asked =
     let all : AreProcesses m.codes (slice_set m.processes.items number (slot_replied t.cursor x is.held)) (slice_set c.processes number (process_with_reply is.what x is.process)) =
@@ -240,7 +240,7 @@ took_core m after number t x c core is codes processes tree seed last xs asked =
           (subst (λ (k : List Code). AreProcesses k (slice_set m.processes.items number (slot_replied t.cursor x is.held)) (slice_set c.processes number (process_with_reply is.what x is.process))) (sym codes) all);
       seed = seed ∙ core.seed;
       last = last ∙ core.last;
-      x = xs ∙ core.x;
+      generator = xs ∙ core.generator;
       asked = asked ∙ ap (λ (n : ℕ). n + 1) core.asked;
       going = core.going;
     } in

@@ -64,5 +64,5 @@ child_again m number slot index code r arguments a b is h =
       codes = h.codes;
       ready = h.ready;
       parents = h.parents;
-      others = record { tree = h.others.tree; seed = h.others.seed; last = h.others.last; x = h.others.x; asked = h.others.asked };
+      others = record { tree = h.others.tree; seed = h.others.seed; last = h.others.last; generator = h.others.generator; asked = h.others.asked };
     })

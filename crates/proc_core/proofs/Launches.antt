@@ -29,7 +29,7 @@ abbrev pub with_code : Machine → Code → Machine
 with_code m code = record m { codes = m.codes ++ code ∷ [] }
 
 else_same : (m : Machine) (code : Code) → IsElse m (with_code m code)
-else_same m code = record { tree = refl; seed = refl; last = refl; x = refl; asked = refl }
+else_same m code = record { tree = refl; seed = refl; last = refl; generator = refl; asked = refl }
 
 module _ (m after : Machine) (number : ℕ) (sp : SpawnRequest) (says : slot_request_at m number ≡ Some sp) (path : List ℕ) (at : sp.path ≡ Some path)
     (bytes : List ℕ) (is : content_at m.tree path ≡ Some bytes) (room : nat_lt (length m.processes.items) max_processes ≡ true) where

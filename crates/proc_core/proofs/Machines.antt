@@ -215,7 +215,7 @@ quiet_same m number r c core is local =
 -- the machine after the step
 pub kept_core : (m after : Machine) (number : ℕ) (r : SlotProcess) (c : Core) → IsCore m c → slice_get m.processes.items number ≡ Some r
     → QuietSame m number r c → after.codes ≡ m.codes → after.processes.items ≡ slice_set m.processes.items number (effect_of m r).process
-    → after.tree ≡ (effect_of m r).files → after.seed ≡ m.seed → after.last ≡ m.last → after.x ≡ m.x → after.asked ≡ m.asked
+    → after.tree ≡ (effect_of m r).files → after.seed ≡ m.seed → after.last ≡ m.last → after.generator ≡ m.generator → after.asked ≡ m.asked
     → IsCore after (local_step number c).core
 kept_core m after number r c core is same codes processes tree seed last x asked =
     let all : AreProcesses m.codes (slice_set m.processes.items number (effect_of m r).process) (slice_set c.processes number same.0) = replaced m.codes m.processes.items c.processes number (effect_of m r).process same.0 core.processes same.2 in
@@ -224,7 +224,7 @@ kept_core m after number r c core is same codes processes tree seed last x asked
       processes = subst (λ (l : List SlotProcess). AreProcesses after.codes l (slice_set c.processes number same.0)) (sym processes) (subst (λ (k : List Code). AreProcesses k (slice_set m.processes.items number (effect_of m r).process) (slice_set c.processes number same.0)) (sym codes) all);
       seed = seed ∙ core.seed;
       last = last ∙ core.last;
-      x = x ∙ core.x;
+      generator = x ∙ core.generator;
       asked = asked ∙ core.asked;
       going = core.going;
     } in
@@ -264,7 +264,7 @@ module _ (m : Machine) (number : ℕ) (o : Option SlotInstr) (c : Core) where
   pub next_core : (after : Machine) → IsNext
       → ((r : SlotProcess) → slice_get m.processes.items number ≡ Some r → after.processes.items ≡ slice_set m.processes.items number (slot_effect o m.processes.items r m.tree).process)
       → ((r : SlotProcess) → slice_get m.processes.items number ≡ Some r → after.tree ≡ (slot_effect o m.processes.items r m.tree).files)
-      → after.codes ≡ m.codes → after.seed ≡ m.seed → after.last ≡ m.last → after.x ≡ m.x → after.asked ≡ m.asked
+      → after.codes ≡ m.codes → after.seed ≡ m.seed → after.last ≡ m.last → after.generator ≡ m.generator → after.asked ≡ m.asked
       → IsCore m c → IsCore after (local_step number c).core
   next_core after next processes tree codes seed last x asked core =
       let there = get_some m.processes.items number next.0 in

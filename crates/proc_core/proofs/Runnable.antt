@@ -86,14 +86,14 @@ module _ (codes : List Code) where
 
 -- the process that the seed chooses
 pub chosen_same : (m : Machine) (numbers : List ℕ) (c : Core) → IsCore m c → numbers ≡ slot_runnable_from m.codes 0 m.processes.items m.processes.items
-    → pick_of m.seed m.last (moved_x m.seed m.x) numbers ≡ choose None c
+    → pick_of m.seed m.last (moved_x m.seed m.generator) numbers ≡ choose None c
 chosen_same m numbers c core is =
     let all : numbers ≡ runnable_processes c = is ∙ runnable_same m.codes 0 m.processes.items m.processes.items c.processes c.processes core.processes core.processes in
-    λ i. pick_of (core.seed i) (core.last i) (moved_x (core.seed i) (core.x i)) (all i)
+    λ i. pick_of (core.seed i) (core.last i) (moved_x (core.seed i) (core.generator i)) (all i)
 
 -- the same by the set of those that may run
 pub picked_same : (m : Machine) (c : Core) (n : ℕ) → IsCore m c → m.ready.flags ≡ runnable_flags c.processes
-    → n ≡ pick_of m.seed m.last (moved_x m.seed m.x) (numbers m.ready.flags) → n ≡ choose None c
+    → n ≡ pick_of m.seed m.last (moved_x m.seed m.generator) (numbers m.ready.flags) → n ≡ choose None c
 picked_same m c n core flags is =
     let all : numbers m.ready.flags ≡ runnable_processes c = ap numbers flags ∙ flags_runnable c in
-    is ∙ (λ i. pick_of (core.seed i) (core.last i) (moved_x (core.seed i) (core.x i)) (all i))
+    is ∙ (λ i. pick_of (core.seed i) (core.last i) (moved_x (core.seed i) (core.generator i)) (all i))

@@ -80,7 +80,7 @@ pub spawned_core : (m after : Machine) (number : ℕ) (name : List ℕ) (place :
     → IsProcess after.codes (slot_parent (length m.processes.items) (slot_of isp.2.scope.children name) r) (parent_of (length m.processes.items) name p)
     → IsProcess after.codes child (child_of p script arguments)
     → after.processes.items ≡ slot_with_new number (slot_of isp.2.scope.children name) child r m.processes.items
-    → after.tree ≡ m.tree → after.seed ≡ m.seed → after.last ≡ m.last → after.x ≡ m.x → after.asked ≡ m.asked
+    → after.tree ≡ m.tree → after.seed ≡ m.seed → after.last ≡ m.last → after.generator ≡ m.generator → after.asked ≡ m.asked
     → IsCore after (spawn_script (Some script) (record { child = name; arguments = arguments; place = place }) path number p c).core
 spawned_core m after number name place script arguments path r child p c isp core has are parent new items tree seed last x asked =
     let count : length m.processes.items ≡ length c.processes = as_many m.codes m.processes.items c.processes core.processes in
@@ -97,7 +97,7 @@ spawned_core m after number name place script arguments path r child p c isp cor
           (slice_set c.processes number (parent_of n name p) ++ child_of p script arguments ∷ [])) count made);
       seed = seed ∙ core.seed;
       last = last ∙ core.last;
-      x = x ∙ core.x;
+      generator = x ∙ core.generator;
       asked = asked ∙ core.asked;
       going = core.going;
     }

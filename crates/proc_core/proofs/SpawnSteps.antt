@@ -145,7 +145,7 @@ module _ (m after : Machine) (number : ℕ) (c : Core) (core : IsCore m c) where
         (replaced m.codes m.processes.items c.processes number r q core.processes is));
     seed = idle.others.seed ∙ core.seed;
     last = idle.others.last ∙ core.last;
-    x = idle.others.x ∙ core.x;
+    generator = idle.others.generator ∙ core.generator;
     asked = idle.others.asked ∙ core.asked;
     going = core.going;
   }
@@ -274,7 +274,7 @@ module _ (m after : Machine) (number : ℕ) (c : Core) (core : IsCore m c) where
           subst (λ (e : Effect). IsCore after e.core) (sym (made_does bytes script is room reads))
           (spawned_core m after number so.name sp.place script sp.arguments path so.held made.child so.process c isp core so.has all.0 all.1 all.2
           (made.items ∙ (λ i. slot_with_new number (so.slot i) made.child so.held (items i)))
-          (made.others.tree ∙ rest.tree) (made.others.seed ∙ rest.seed) (made.others.last ∙ rest.last) (made.others.x ∙ rest.x) (made.others.asked ∙ rest.asked))
+          (made.others.tree ∙ rest.tree) (made.others.seed ∙ rest.seed) (made.others.last ∙ rest.last) (made.others.generator ∙ rest.generator) (made.others.asked ∙ rest.asked))
 
   -- a script that a process runs
   pub runs_code : (bytes : List ℕ) (index : ℕ) → (runs : Runs m.codes m.processes.items bytes index)
@@ -292,7 +292,7 @@ module _ (m after : Machine) (number : ℕ) (c : Core) (core : IsCore m c) where
       one a b both = cc
 
 pub nothing_else : (m : Machine) → IsElse m m
-nothing_else m = record { tree = refl; seed = refl; last = refl; x = refl; asked = refl }
+nothing_else m = record { tree = refl; seed = refl; last = refl; generator = refl; asked = refl }
 
 -- what was told of a step
 pub told_by : (keeps : Bool) (old new : List Event) (step number : ℕ) (acts due : List Act) → acts ≡ due

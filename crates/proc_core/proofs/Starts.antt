@@ -24,7 +24,7 @@ module _ (m : Machine) (path : List ℕ) (words : List (List ℕ)) (seed : ℕ) 
 
   pub started_core : (code : Code) (r : SlotProcess) → m.codes ≡ code ∷ [] → m.processes.items ≡ r ∷ [] → IsCode code script
       → Holds code.scope 0 script r (new_process (0 ∷ []) script (map Text words)) → m.tree ≡ initial_files files → m.seed ≡ seed → m.last ≡ 0
-      → m.x ≡ seed → m.asked ≡ 0 → IsCore m (start_core (path ∷ words) seed files script)
+      → m.generator ≡ seed → m.asked ≡ 0 → IsCore m (start_core (path ∷ words) seed files script)
   started_core code r codes items coded held tree seeds last x asked =
       let all : AreProcesses (code ∷ []) (r ∷ []) (first ∷ []) = ((0, script, code, refl, coded, held), tt) in
       record {
@@ -33,7 +33,7 @@ module _ (m : Machine) (path : List ℕ) (words : List (List ℕ)) (seed : ℕ) 
             (subst (λ (k : List Code). AreProcesses k (r ∷ []) (first ∷ [])) (sym codes) all);
         seed = seeds;
         last = last;
-        x = x;
+        generator = x;
         asked = asked;
         going = refl;
       }

@@ -29,7 +29,7 @@ use Rattle.proc_core.proofs.Machines.{ends_same}
 pub take_core : (m after : Machine) (number cursor : ℕ) (x : Reply) (c : Core) (t : Statement) → IsCore m c → slot_ask_at m number ≡ Some t
     → t.cursor ≡ cursor → (a : Ask) → next_ask number c ≡ Some a → after.codes ≡ m.codes
     → ((r : SlotProcess) → slice_get m.processes.items number ≡ Some r → after.processes.items ≡ slice_set m.processes.items number (slot_replied cursor x r))
-    → after.tree ≡ m.tree → after.seed ≡ m.seed → after.last ≡ m.last → after.x ≡ m.x → after.asked ≡ m.asked + 1
+    → after.tree ≡ m.tree → after.seed ≡ m.seed → after.last ≡ m.last → after.generator ≡ m.generator → after.asked ≡ m.asked + 1
     → IsCore after (took number a x c)
 take_core m after number cursor x c t core says at a asks codes processes tree seed last xs asked =
     let is : Asks m number t c = asks_statement m number t c core says in

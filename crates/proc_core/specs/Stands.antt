@@ -29,7 +29,7 @@ pub record IsCore (m : Machine) (c : Core) : Type 0 where
   pub processes : AreProcesses m.codes m.processes.items c.processes
   pub seed : m.seed ≡ c.seed
   pub last : m.last ≡ c.last
-  pub x : m.x ≡ c.x
+  pub generator : m.generator ≡ c.x
   pub asked : m.asked ≡ c.asked
   pub going : c.diverged ≡ None
 

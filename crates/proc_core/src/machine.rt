@@ -26,7 +26,7 @@ pub(crate) struct Machine {
     /// The process that ran last.
     pub last: u32,
     /// The state of the generator of pseudorandom numbers.
-    pub x: u64,
+    pub generator: u64,
     /// How many statements were asked.
     pub asked: u32,
     /// Which processes may run.

@@ -170,7 +170,7 @@ pub(crate) fn outcome_from(machine: Machine) -> Result<Outcome, AllocError>
         tree,
         seed: _,
         last: _,
-        x: _,
+        generator: _,
         asked: _,
         ready: _,
         parents: _,

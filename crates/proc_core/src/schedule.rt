@@ -152,7 +152,7 @@ pub(crate) fn choose(machine: &Machine) -> u32
     ensures { (c : Core) → IsCore machine.now c → machine.now.ready.flags ≡ runnable_flags c.processes
         → result ≡ choose None c }
 {
-    let x = moved_x(machine.seed, machine.x);
+    let x = moved_x(machine.seed, machine.generator);
     pick(&machine.ready, machine.seed, machine.last, x)
 }
 
@@ -164,7 +164,7 @@ pub(crate) fn schedule(machine: &mut Machine, number: u32)
     ensures processes { machine.new.processes ≡ machine.old.processes }
     ensures asked { machine.new.asked ≡ machine.old.asked }
 {
-    let moved = moved_x(machine.seed, machine.x);
+    let moved = moved_x(machine.seed, machine.generator);
     machine.last = number;
-    machine.x = moved;
+    machine.generator = moved;
 }

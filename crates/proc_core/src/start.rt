@@ -109,7 +109,7 @@ pub(crate) fn machine_at(
         tree,
         seed,
         last: 0,
-        x: seed,
+        generator: seed,
         asked: 0,
         ready,
         parents,

@@ -96,7 +96,7 @@ pub record IsElse (m after : Machine) : Type 0 where
   pub tree : after.tree ≡ m.tree
   pub seed : after.seed ≡ m.seed
   pub last : after.last ≡ m.last
-  pub x : after.x ≡ m.x
+  pub generator : after.generator ≡ m.generator
   pub asked : after.asked ≡ m.asked
 
 -- no process was made

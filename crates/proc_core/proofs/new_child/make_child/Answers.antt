@@ -9,5 +9,5 @@ returns c = λ r code at there. record {
   codes = refl;
   ready = c.in_ok-add_ready.ensures;
   parents = c.in_ok-push.ensures.ok;
-  others = record { tree = refl; seed = refl; last = refl; x = refl; asked = refl };
+  others = record { tree = refl; seed = refl; last = refl; generator = refl; asked = refl };
 }

@@ -8,7 +8,7 @@ returns-clause-core c = λ core is. record {
   processes = is.processes;
   seed = is.seed;
   last = refl;
-  x = c.moved_x-moved.ensures ∙ (λ i. moved_x (is.seed i) (is.x i));
+  generator = c.moved_x-moved.ensures ∙ (λ i. moved_x (is.seed i) (is.generator i));
   asked = is.asked;
   going = is.going;
 }
