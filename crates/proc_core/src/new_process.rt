@@ -9,7 +9,7 @@ ghost use Rattle.run_model.specs.Core.{new_process};
 ghost use Rattle.proc_core.specs.inner.Slots.{value_held, Holds};
 
 use crate::file_slots::FileSlots;
-use crate::process::{SlotCursor, SlotProcess};
+use crate::process::SlotProcess;
 use itoa::Buffer;
 use ldv_value::{Bytes, CopyItem, List, Parts, Utf8, Value, Values};
 use script_code::{Code, NameTable};
@@ -27,17 +27,8 @@ fn unset_variables(alloc: Global, count: usize) -> Result<Values, AllocError>
     Ok(Values::of_vec(slots))
 }
 
-fn no_cursors(alloc: Global, count: usize) -> Result<List<Option<SlotCursor>>, AllocError>
-    ensures { IfOk result (λ slots. slots ≡ replicate count None) }
-{
-    let mut slots = Vec::with_capacity(alloc, count)?;
-    for _slot in 0..count {
-        slots.push(None)?;
-    }
-    Ok(List::of_vec(slots))
-}
-
-fn no_children(alloc: Global, count: usize) -> Result<List<Option<u32>>, AllocError>
+// `count` slots in which there is nothing.
+fn empty_slots<X: Drop>(alloc: Global, count: usize) -> Result<List<Option<X>>, AllocError>
     ensures { IfOk result (λ slots. slots ≡ replicate count None) }
 {
     let mut slots = Vec::with_capacity(alloc, count)?;
@@ -137,8 +128,8 @@ pub(crate) fn new_process(
         place: 0,
         variables: variables(alloc, &scope.variables, arguments)?,
         files: FileSlots::closed_slots(alloc, scope.files.len())?,
-        cursors: no_cursors(alloc, scope.cursors.len())?,
-        children: no_children(alloc, scope.children.len())?,
+        cursors: empty_slots(alloc, scope.cursors.len())?,
+        children: empty_slots(alloc, scope.children.len())?,
         spawned: 0,
         printed: Bytes::new(alloc),
         replies: Replies::new(alloc),

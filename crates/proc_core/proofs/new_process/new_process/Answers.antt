@@ -7,6 +7,6 @@ pub returns : goal.returns
 returns c = λ script.
     begun c.args.code.now.scope c.args.index script c.args.name c.args.arguments.now _ refl refl refl c.in_ok-variables.ensures
     (c.in_ok-closed_slots.ensures ∙ ap (λ (n : ℕ). replicate n None) c.len.ensures)
-    (c.in_ok-no_cursors.ensures ∙ ap (λ (n : ℕ). replicate n None) c.len-2.ensures)
-    (c.in_ok-no_children.ensures ∙ ap (λ (n : ℕ). replicate n None) c.len-3.ensures)
+    (c.in_ok-empty_slots.ensures ∙ ap (λ (n : ℕ). replicate n None) c.len-2.ensures)
+    (c.in_ok-empty_slots-2.ensures ∙ ap (λ (n : ℕ). replicate n None) c.len-3.ensures)
     refl c.new.ensures c.new-2.ensures refl
