@@ -4,6 +4,7 @@ ghost use Rattle.std.specs.Prelude.{◌≡◌, ◌+◌, ◌<◌, ◌≤◌, ℕ,
 ghost use Rattle.std.specs.Prelude.{slice_get};
 ghost use Rattle.std.specs.Prelude.{IfOk, IfErr, OnOk};
 ghost use Rattle.ldv_value.specs.FileState.{initial_files};
+ghost use Rattle.ldv_value.specs.Limits.{max_steps};
 ghost use Rattle.proc_core.specs.Types.{Instr, File};
 ghost use Rattle.run_model.specs.Core.{have_all_ended, is_over};
 ghost use Rattle.run_model.specs.Outcome.{outcome_of};
@@ -38,7 +39,7 @@ fn make_step<D: Database, T: Tracer>(
     steps: u32,
 ) -> Result<(), Stopped>
     requires going { has_ended machine.old ≡ false }
-    requires room { steps < 10000000 }
+    requires room { steps < max_steps }
     requires asked { D.latest db.old ≤ steps }
     requires counted { CountsBelow (steps + 1) machine.old }
     ensures state { OnOk result ((s : State D.Db)
@@ -141,7 +142,7 @@ impl<D: Database, T: Tracer> Run<D, T> {
     /// Makes one step of the process that the seed chooses.
     pub fn advance(self) -> Result<Run<D, T>, Stopped>
         requires going { has_ended self.machine ≡ false }
-        requires room { self.steps < 10000000 }
+        requires room { self.steps < max_steps }
         // The process that makes the step may run.
         ensures runs { (s : State D.Db) → Stands self.machine (D.seen self.db) s
             → MayRun (choose None s.core) s.core }
@@ -176,7 +177,7 @@ impl<D: Database, T: Tracer> Run<D, T> {
     /// Makes steps until all processes have ended, at most `budget`. `NotEnded`: after these they haven't.
     pub fn to_end(self, budget: u32) -> Result<Run<D, T>, RunStop>
         requires fresh { self.steps ≡ 0 }
-        requires few { budget ≤ 10000000 }
+        requires few { budget ≤ max_steps }
         ensures state { IfOk result (λ after. (s : State D.Db)
             → Stands self.machine (D.seen self.db) s
             → Stands after.machine (D.seen after.db) (state_after D.base budget [] s)) }
