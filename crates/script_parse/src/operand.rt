@@ -9,11 +9,8 @@ ghost use Rattle.script_parse.specs.Forms.{operands_of, operands_from_one, names
 use crate::line_error::LineError;
 use crate::script::{Operand, Operands};
 use crate::token::Token;
-use ldv_value::{Names, Utf8, Value, is_word};
+use ldv_value::{MAX_OPERANDS, Names, Utf8, Value, is_word};
 use std::alloc::Global;
-
-/// The most operands of a list, beside its first where it has to have one.
-const LIST_LIMIT: usize = 255;
 
 /// Whether a token is this word.
 pub(crate) fn token_is(token: &Token, word: &str) -> bool
@@ -108,7 +105,7 @@ fn all_names(alloc: Global, tokens: &[Token]) -> Result<Names, LineError>
 pub(crate) fn operands(alloc: Global, tokens: &[Token]) -> Result<Operands, LineError>
     ensures { GivesLine result (operands_of tokens.now) }
 {
-    if tokens.len() > LIST_LIMIT {
+    if tokens.len() > MAX_OPERANDS {
         return Err(LineError::Malformed);
     }
     all_operands(alloc, tokens)
@@ -121,7 +118,7 @@ pub(crate) fn operands_from_one(alloc: Global, tokens: &[Token]) -> Result<Opera
     match tokens {
         [] => Err(LineError::Malformed),
         [_, more @ ..] => {
-            if more.len() > LIST_LIMIT {
+            if more.len() > MAX_OPERANDS {
                 return Err(LineError::Malformed);
             }
             all_operands(alloc, tokens)
@@ -136,7 +133,7 @@ pub(crate) fn names_from_one(alloc: Global, tokens: &[Token]) -> Result<Names, L
     match tokens {
         [] => Err(LineError::Malformed),
         [_, more @ ..] => {
-            if more.len() > LIST_LIMIT {
+            if more.len() > MAX_OPERANDS {
                 return Err(LineError::Malformed);
             }
             all_names(alloc, tokens)
