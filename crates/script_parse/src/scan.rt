@@ -30,22 +30,22 @@ pub(crate) fn tokens(alloc: Global, line: &[u8]) -> Result<Tokens, LineError>
     ensures { GivesLine result (tokens_of line.now) }
 {
     let mut tokens = Tokens::new(alloc);
-    let mut place = LexState::Between;
+    let mut state = LexState::Between;
     for b in line {
-        let (next, token) = step(alloc, place, *b)?;
+        let (next, token) = step(alloc, state, *b)?;
         tokens.push_some(token)?;
-        place = next;
+        state = next;
     }
-    let token = finish(place)?;
+    let token = finish(state)?;
     tokens.push_some(token)?;
     Ok(tokens)
 }
 
 // The state after a byte, and the token that the byte ends, if it ends one.
-fn step(alloc: Global, place: LexState, b: u8) -> Result<(LexState, Option<Token>), LineError>
-    ensures { GivesLine result (step place b) }
+fn step(alloc: Global, state: LexState, b: u8) -> Result<(LexState, Option<Token>), LineError>
+    ensures { GivesLine result (step state b) }
 {
-    match place {
+    match state {
         LexState::Between => between(alloc, b),
         LexState::InWord(word) => in_word(word, b),
         LexState::InText(text) => in_text(text, b),
@@ -114,10 +114,10 @@ fn close_token(token: Token, b: u8) -> Result<(LexState, Option<Token>), LineErr
 }
 
 // The token that the end of the line ends, if it ends one.
-fn finish(place: LexState) -> Result<Option<Token>, LineError>
-    ensures { GivesLine result (finish place) }
+fn finish(state: LexState) -> Result<Option<Token>, LineError>
+    ensures { GivesLine result (finish state) }
 {
-    match place {
+    match state {
         LexState::Between => Ok(None),
         LexState::InWord(word) => {
             let token = word_token(word)?;
