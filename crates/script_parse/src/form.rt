@@ -12,7 +12,7 @@ use crate::keyword::find_keyword;
 use crate::line::Line;
 use crate::line_error::LineError;
 use crate::operand::is_name;
-use crate::scan::{blank, tokens};
+use crate::scan::{is_blank, tokens};
 use crate::token::Token;
 use ldv_value::Utf8;
 use std::alloc::Global;
@@ -50,7 +50,7 @@ fn is_comment(line: &[u8]) -> bool
 fn first_nonblank(line: &[u8]) -> Option<u8>
     ensures { result ≡ first_nonblank line.now }
 {
-    line.iter().copied().find(|b| !blank(*b))
+    line.iter().copied().find(|b| !is_blank(*b))
 }
 
 // What the tokens of a line say.

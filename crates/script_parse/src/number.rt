@@ -78,7 +78,7 @@ fn with_digit(number: u64, b: u8) -> Option<u64>
     requires { number ≤ 2 ^ 63 }
     ensures { result ≡ magnitude_from number (b ∷ []) }
 {
-    if !digit(b) || number > MAGNITUDE_LIMIT / 10 {
+    if !is_digit(b) || number > MAGNITUDE_LIMIT / 10 {
         return None;
     }
     let longer = 10 * number + (b - b'0') as u64;
@@ -89,7 +89,7 @@ fn with_digit(number: u64, b: u8) -> Option<u64>
     }
 }
 
-fn digit(b: u8) -> bool
+fn is_digit(b: u8) -> bool
     ensures { result ≡ is_digit b }
 {
     b'0' <= b && b <= b'9'

@@ -57,7 +57,7 @@ fn step(alloc: Global, state: LexState, b: u8) -> Result<(LexState, Option<Token
 fn between(alloc: Global, b: u8) -> Result<(LexState, Option<Token>), LineError>
     ensures { GivesLine result (step_between b) }
 {
-    if blank(b) {
+    if is_blank(b) {
         return Ok((LexState::Between, None));
     }
     let mut bytes = Bytes::new(alloc);
@@ -71,7 +71,7 @@ fn between(alloc: Global, b: u8) -> Result<(LexState, Option<Token>), LineError>
 fn in_word(mut word: Bytes, b: u8) -> Result<(LexState, Option<Token>), LineError>
     ensures { GivesLine result (step_in_word word b) }
 {
-    if blank(b) {
+    if is_blank(b) {
         let token = word_token(word)?;
         return Ok((LexState::Between, Some(token)));
     }
@@ -106,7 +106,7 @@ fn escape_byte(mut text: Bytes, b: u8) -> Result<(LexState, Option<Token>), Line
 fn close_token(token: Token, b: u8) -> Result<(LexState, Option<Token>), LineError>
     ensures { GivesLine result (step_closed token b) }
 {
-    if blank(b) {
+    if is_blank(b) {
         Ok((LexState::Between, Some(token)))
     } else {
         Err(LineError::Malformed)
@@ -143,7 +143,7 @@ fn escape(letter: u8) -> Option<u8>
 }
 
 /// Whether a byte separates tokens.
-pub(crate) fn blank(b: u8) -> bool
+pub(crate) fn is_blank(b: u8) -> bool
     ensures { result ≡ is_blank b }
 {
     b == b' ' || b == b'\t'
