@@ -26,7 +26,7 @@ use crate::file_slots::SlotFile;
 use crate::process::SlotProcess;
 use crate::tell::{PathAct, Who, tell_path};
 use crate::variables::{line_of, value_of};
-use file_tree::{AppendStop, Tree, TreeStop};
+use file_tree::{AppendStop, OpenStop, RemoveStop, Tree};
 use ldv_value::{Bytes, LineRead, OpenMode, Utf8, Value, is_path};
 use run_model::Tracer;
 use script_code::{FileInstr, SlotOperand, SlotOperands};
@@ -140,15 +140,15 @@ fn open_there<T: Tracer>(
             finish_open(found, slot, mode, path, process, who, tracer)?;
             Ok(())
         }
-        Err(TreeStop::Absent) => {
+        Err(OpenStop::Absent) => {
             refuse_open(found, &path, place, process, who, tracer)?;
             Ok(())
         }
-        Err(TreeStop::Taken) => {
+        Err(OpenStop::Taken) => {
             refuse_open(found, &path, place, process, who, tracer)?;
             Ok(())
         }
-        Err(TreeStop::NoMemory) => Err(AllocError),
+        Err(OpenStop::NoMemory) => Err(AllocError),
     }
 }
 
@@ -391,13 +391,12 @@ fn remove_path<T: Tracer>(
             process.go_on();
             Ok(())
         }
-        Err(TreeStop::Absent) => {
+        Err(RemoveStop::Absent) => {
             tell_path(who, PathAct::Tested(false), path, tracer)?;
             process.go_to(place);
             Ok(())
         }
-        Err(TreeStop::Taken) => unreachable!(),
-        Err(TreeStop::NoMemory) => Err(AllocError),
+        Err(RemoveStop::NoMemory) => Err(AllocError),
     }
 }
 
