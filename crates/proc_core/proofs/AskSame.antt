@@ -20,7 +20,7 @@ use Rattle.proc_core.specs.declared.machine.Machine.{Machine}
 use Rattle.proc_core.specs.declared.process.SlotCursor.{SlotCursor}
 use Rattle.proc_core.specs.declared.process.SlotProcess.{SlotProcess}
 use Rattle.proc_core.specs.inner.Slots.{bound_value, cursor_in, HasReply, HaveReplies, Holds}
-use Rattle.proc_core.specs.inner.SlotAsk.{statement_of, slot_ask, slot_ask_in, slot_ask_at, slot_replied, question_of}
+use Rattle.proc_core.specs.inner.SlotAsk.{text_statement, slot_ask, slot_ask_in, slot_ask_at, slot_replied, question_of}
 use Rattle.proc_core.specs.inner.SlotStep.{next_slot_instr}
 use Rattle.proc_core.specs.Stands.{IsProcess, AreProcesses, IsCore}
 use Rattle.proc_core.proofs.Holding.{value_same, values_same}
@@ -107,7 +107,7 @@ module _ (s : Scope) (index : ℕ) (script : List Instr) where
       (a.question ≡ question_of r t) × ((x : Reply) → Holds s index script (slot_replied t.cursor x r) (process_with_reply a x p))
 
   statement_same : (name : List ℕ) (text : Value) (params : List Value) (r : SlotProcess) (p : Process) → IsScope s → HasName s.cursors name
-      → Holds s index script r p → AskSame (statement_of (slot_of s.cursors name) text params) (ask name text params p) r p
+      → Holds s index script r p → AskSame (text_statement (slot_of s.cursors name) text params) (ask name text params p) r p
   statement_same name Null params r p scope has h = tt
   statement_same name (Int n) params r p scope has h = tt
   statement_same name (Text text) params r p scope has h = (
@@ -136,7 +136,7 @@ module _ (s : Scope) (index : ℕ) (script : List Instr) where
   asks_same (instr.Spawn child path arguments place) r p scope has h = tt
   asks_same (instr.Wait to child) r p scope has h = tt
   asks_same (instr.Sql cursor text params) r p scope has h =
-      subst (λ (v : Value × List Value). AskSame (statement_of (slot_of s.cursors cursor) v.0 v.1) (ask cursor (operand_value p text) (operand_values p params) p) r p)
+      subst (λ (v : Value × List Value). AskSame (text_statement (slot_of s.cursors cursor) v.0 v.1) (ask cursor (operand_value p text) (operand_values p params) p) r p)
       (λ j. (sym (value_same s index script text r p has.1 h) j, sym (values_same s index script params r p has.2 h) j))
       (statement_same cursor (operand_value p text) (operand_values p params) r p scope has.0 h)
   asks_same (instr.Fetch cursor to place) r p scope has h = tt

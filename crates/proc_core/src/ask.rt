@@ -4,7 +4,8 @@ ghost use Rattle.std.specs.Prelude.{◌≡◌, ◌+◌, ◌<◌, ◌^◌, Some, 
 ghost use Rattle.std.specs.Prelude.{IfOk, OnOk, OnSome};
 ghost use Rattle.std.specs.Option.{option_map};
 ghost use Rattle.proc_core.specs.inner.Slots.{slot_values, slot_with_cursor};
-ghost use Rattle.proc_core.specs.inner.SlotAsk.{statement_of, slot_ask, slot_ask_in, slot_ask_at, slot_replied};
+ghost use Rattle.proc_core.specs.inner.SlotAsk.{slot_ask, slot_ask_in, slot_ask_at, slot_replied};
+ghost use Rattle.proc_core.specs.inner.SlotAsk.{text_statement};
 ghost use Rattle.proc_core.specs.inner.SlotStep.{HasRoom};
 ghost use Rattle.proc_core.specs.declared.process.SlotProcess.{SlotProcess};
 
@@ -41,8 +42,8 @@ pub(crate) fn values_of(
 }
 
 // The statement, where the value of its text is a text.
-fn statement_of(cursor: usize, text: Value, params: Values) -> Option<Statement>
-    ensures { result ≡ statement_of cursor text params }
+fn text_statement(cursor: usize, text: Value, params: Values) -> Option<Statement>
+    ensures { result ≡ text_statement cursor text params }
 {
     match text {
         Value::Null => None,
@@ -75,7 +76,7 @@ fn statement_of_instr(
         ) => {
             let text = value_of(alloc, process, text)?;
             let params = values_of(alloc, process, params)?;
-            Ok(statement_of(*cursor, text, params))
+            Ok(text_statement(*cursor, text, params))
         }
         Some(SlotInstr::Own(_)) => Ok(None),
         Some(SlotInstr::OnFiles(_)) => Ok(None),

@@ -15,10 +15,10 @@ use Rattle.proc_core.specs.inner.Slots.{slot_value, slot_values, slot_went_on}
 use Rattle.proc_core.specs.inner.SlotStep.{next_slot_instr}
 
 -- what isn't a text isn't asked
-abbrev pub statement_of : ℕ → Value → List Value → Option Statement
-statement_of cursor Null params = None
-statement_of cursor (Int n) params = None
-statement_of cursor (Text text) params = Some (record { cursor = cursor; text = text; params = params })
+abbrev pub text_statement : ℕ → Value → List Value → Option Statement
+text_statement cursor Null params = None
+text_statement cursor (Int n) params = None
+text_statement cursor (Text text) params = Some (record { cursor = cursor; text = text; params = params })
 
 abbrev pub slot_ask : Option SlotInstr → SlotProcess → Option Statement
 slot_ask None r = None
@@ -26,7 +26,7 @@ slot_ask (Some (Own o)) r = None
 slot_ask (Some (OnFiles f)) r = None
 slot_ask (Some (Spawn child path arguments place)) r = None
 slot_ask (Some (Wait to child)) r = None
-slot_ask (Some (Sql cursor text params)) r = statement_of cursor (slot_value r text) (slot_values r params)
+slot_ask (Some (Sql cursor text params)) r = text_statement cursor (slot_value r text) (slot_values r params)
 
 abbrev pub slot_ask_in : List Code → Option SlotProcess → Option Statement
 slot_ask_in codes None = None
