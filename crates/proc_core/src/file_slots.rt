@@ -76,7 +76,7 @@ impl SlotFile {
 /// Open files by slot. Contracts see a list.
 #[derive(Drop)]
 pub(crate) struct FileSlots {
-    held: Vec<Option<SlotFile>>,
+    slots: Vec<Option<SlotFile>>,
 }
 
 impl Model for FileSlots {
@@ -85,7 +85,7 @@ impl Model for FileSlots {
 
     ghost Value = { Items (Option OpenFile) };
 
-    ghost view = { λ a. a.held.items };
+    ghost view = { λ a. a.slots.items };
 }
 
 impl FileSlots {
@@ -93,18 +93,18 @@ impl FileSlots {
     pub(crate) fn closed_slots(alloc: Global, count: usize) -> Result<FileSlots, AllocError>
         ensures { IfOk result (λ slots. slots ≡ replicate count None) }
     {
-        let mut held = Vec::with_capacity(alloc, count)?;
+        let mut slots = Vec::with_capacity(alloc, count)?;
         for _slot in 0..count {
-            held.push(None)?;
+            slots.push(None)?;
         }
-        Ok(FileSlots { held })
+        Ok(FileSlots { slots })
     }
 
     /// The open file in a slot.
     pub(crate) fn get(&self, slot: usize) -> Option<&SlotFile>
         ensures { option_map (λ file. file.now) result ≡ flatten_option (slice_get self.now slot) }
     {
-        match self.held.get(slot) {
+        match self.slots.get(slot) {
             None => None,
             Some(None) => None,
             Some(Some(file)) => Some(file),
@@ -115,8 +115,8 @@ impl FileSlots {
     pub(crate) fn set(&mut self, slot: usize, file: Option<SlotFile>)
         ensures { self.new ≡ slice_set self.old slot file }
     {
-        if slot < self.held.len() {
-            self.held[slot] = file;
+        if slot < self.slots.len() {
+            self.slots[slot] = file;
         }
     }
 
@@ -125,8 +125,8 @@ impl FileSlots {
         ensures { (file : OpenFile) → flatten_option (slice_get self.old slot) ≡ Some file
             → self.new ≡ slice_set self.old slot (Some (record file { place = place })) }
     {
-        if slot < self.held.len() {
-            if let Some(file) = &mut self.held[slot] {
+        if slot < self.slots.len() {
+            if let Some(file) = &mut self.slots[slot] {
                 file.move_to(place);
             }
         }
