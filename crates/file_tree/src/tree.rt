@@ -14,9 +14,9 @@ ghost use Rattle.ldv_value.specs.FileState.{after_append, after_copy, copy_end, 
 ghost use Rattle.file_tree.specs.Views.{files_from, stop_of};
 
 use crate::contents::Contents;
+use crate::error::{AppendStop, OpenStop, RemoveStop};
 use crate::line::read_at;
 use crate::marks::Marks;
-use crate::error::{AppendStop, OpenStop, RemoveStop};
 use ldv_value::{Bytes, FILE_LIMIT, File, Files, LineRead, OpenMode, Paths};
 use std::alloc::{AllocError, Global};
 use std::marker::Model;
