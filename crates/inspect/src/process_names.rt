@@ -6,7 +6,8 @@ ghost use Rattle.run_model.specs.ValidTrace.{IsTrace};
 ghost use Rattle.inspect.specs.inner.ChildRoom.{HaveRoom, all_births, births};
 ghost use Rattle.inspect.specs.ProcessNames.{first_process, name_in, named_after};
 ghost use Rattle.inspect.specs.ProcessNames.{processes_of, with_child};
-ghost use Rattle.inspect.specs.inner.ProcessPlaces.{ComeAfter, MayAllGrow, MayGrow, made_of_first, made_with_child, made_with};
+ghost use Rattle.inspect.specs.inner.ProcessPlaces.{ComeAfter, MayAllGrow, MayGrow, made_of_first};
+ghost use Rattle.inspect.specs.inner.ProcessPlaces.{made_with_child, made_with};
 ghost use Rattle.inspect.specs.inner.ProcessPlaces.{name_at, named_of, next_child};
 ghost use Rattle.inspect.specs.declared.process_names.Made.{Made};
 

@@ -5,7 +5,8 @@ ghost use Rattle.std.specs.Option.{SomeIff};
 ghost use Rattle.std.specs.Prelude.{◌≡◌, ◌++◌, ℤ, FitsSigned, IfOk, OnOk};
 ghost use Rattle.ldv_value.specs.Shown.{value_text};
 ghost use Rattle.run_model.specs.StepBase.{number_within};
-ghost use Rattle.run_model.specs.StepVariables.{calculation, concatenation, text_within, to_number, result_of};
+ghost use Rattle.run_model.specs.StepVariables.{calculation, concatenation, text_within, to_number};
+ghost use Rattle.run_model.specs.StepVariables.{result_of};
 ghost use Rattle.run_model.specs.StepVariables.{number_or_misuse};
 ghost use Rattle.proc_core.specs.inner.Slots.{computation_of};
 

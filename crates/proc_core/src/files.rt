@@ -12,11 +12,14 @@ ghost use Rattle.run_model.specs.StepFiles.{number_of_test};
 ghost use Rattle.run_model.specs.StepVariables.{printed_line};
 ghost use Rattle.proc_core.specs.Types.{Unopened};
 ghost use Rattle.proc_core.specs.inner.Acts.{path_act};
-ghost use Rattle.proc_core.specs.inner.Slots.{slot_value, slot_values, slot_went_to, slot_went_on, slot_with_file};
+ghost use Rattle.proc_core.specs.inner.Slots.{slot_value, slot_values, slot_went_to, slot_went_on};
+ghost use Rattle.proc_core.specs.inner.Slots.{slot_with_file};
 ghost use Rattle.proc_core.specs.inner.Slots.{open_at};
 ghost use Rattle.proc_core.specs.inner.SlotFiles.{Leaves, slot_open_path, slot_open_found, slot_open_for};
-ghost use Rattle.proc_core.specs.inner.SlotFiles.{slot_take_line, IsReadBy, read_acts, slot_read_next, slot_remove};
-ghost use Rattle.proc_core.specs.inner.SlotFiles.{LeavesAppended, slot_write_text, slot_on_or_ended, slot_remove_found};
+ghost use Rattle.proc_core.specs.inner.SlotFiles.{slot_take_line, IsReadBy, read_acts, slot_read_next};
+ghost use Rattle.proc_core.specs.inner.SlotFiles.{slot_remove};
+ghost use Rattle.proc_core.specs.inner.SlotFiles.{LeavesAppended, slot_write_text, slot_on_or_ended};
+ghost use Rattle.proc_core.specs.inner.SlotFiles.{slot_remove_found};
 ghost use Rattle.proc_core.specs.inner.SlotFiles.{slot_exists, slot_on_files};
 ghost use Rattle.proc_core.specs.Stands.{AppendsEvents};
 

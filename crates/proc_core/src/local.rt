@@ -9,11 +9,13 @@ ghost use Rattle.run_model.specs.Step.{local_step};
 ghost use Rattle.proc_core.specs.inner.SlotOwn.{slot_own};
 ghost use Rattle.proc_core.specs.inner.Counts.{CountsBelow};
 ghost use Rattle.proc_core.specs.inner.SlotReady.{Grows};
-ghost use Rattle.proc_core.specs.inner.SlotStep.{HasRoom, IsLocal, next_slot_instr, slot_effect, slot_is_local};
+ghost use Rattle.proc_core.specs.inner.SlotStep.{HasRoom, IsLocal, next_slot_instr, slot_effect};
+ghost use Rattle.proc_core.specs.inner.SlotStep.{slot_is_local};
 ghost use Rattle.ldv_value.specs.FileState.{FileState};
 ghost use Rattle.proc_core.specs.inner.Slots.{child_at, slot_ended};
 ghost use Rattle.proc_core.specs.inner.SlotFiles.{slot_on_files};
-ghost use Rattle.proc_core.specs.inner.SlotStep.{slot_child_status, slot_status_in, slot_wait_for, slot_wait_with};
+ghost use Rattle.proc_core.specs.inner.SlotStep.{slot_child_status, slot_status_in, slot_wait_for};
+ghost use Rattle.proc_core.specs.inner.SlotStep.{slot_wait_with};
 ghost use Rattle.proc_core.specs.Stands.{IsCore, AppendsEvents};
 ghost use Rattle.proc_core.specs.declared.process.SlotProcess.{SlotProcess};
 

@@ -7,7 +7,8 @@ ghost use Rattle.run_model.specs.StepBase.{number_within};
 ghost use Rattle.run_model.specs.StepReplies.{row_count, status_value, count_in, code_in, rows_in};
 ghost use Rattle.proc_core.specs.inner.Slots.{computation_of, cursor_of, cursor_at};
 ghost use Rattle.proc_core.specs.inner.SlotReplies.{slot_close, slot_fetch, slot_fetch_from, slot_take_row};
-ghost use Rattle.proc_core.specs.inner.SlotReplies.{slot_next_row, slot_with_values, slot_one_more, slot_count};
+ghost use Rattle.proc_core.specs.inner.SlotReplies.{slot_next_row, slot_with_values, slot_one_more};
+ghost use Rattle.proc_core.specs.inner.SlotReplies.{slot_count};
 ghost use Rattle.proc_core.specs.inner.SlotReplies.{slot_status};
 
 use crate::ask::set_cursor;

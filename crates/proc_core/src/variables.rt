@@ -7,10 +7,12 @@ ghost use Rattle.ldv_value.specs.Order.{order, meets};
 ghost use Rattle.ldv_value.specs.Shown.{value_text};
 ghost use Rattle.sql_model.specs.Meaning.{or_null};
 ghost use Rattle.proc_core.specs.Types.{Int};
-ghost use Rattle.run_model.specs.StepVariables.{calculation, concatenation, to_number, printed_line, exit_status};
+ghost use Rattle.run_model.specs.StepVariables.{calculation, concatenation, to_number, printed_line};
+ghost use Rattle.run_model.specs.StepVariables.{exit_status};
 ghost use Rattle.proc_core.specs.inner.Slots.{slot_value, slot_values, slot_assign, computation_of};
 ghost use Rattle.proc_core.specs.inner.SlotVariables.{slot_let, slot_calculate, slot_glue, slot_let_number};
-ghost use Rattle.proc_core.specs.inner.SlotVariables.{slot_jump_if, slot_jump_where, slot_print, slot_print_line};
+ghost use Rattle.proc_core.specs.inner.SlotVariables.{slot_jump_if, slot_jump_where, slot_print};
+ghost use Rattle.proc_core.specs.inner.SlotVariables.{slot_print_line};
 ghost use Rattle.proc_core.specs.inner.SlotVariables.{slot_exit};
 
 use crate::computed::{Computed, TOO_LONG, WRONG_KIND, calculate_values, concatenate, to_number};

@@ -13,7 +13,8 @@ use Rattle.run_model.specs.StepFiles.{copy_rest, close, remove_path, test_path}
 use Rattle.run_model.specs.StepProcesses.{spawn, wait}
 use Rattle.run_model.specs.StepReplies.{fetch, count, status}
 use Rattle.run_model.specs.StepVariables.{let_value, calculate, glue, let_number, cut, jump_if}
-pub use Rattle.run_model.specs.StepBase.{operand_value, operand_values, with_exit_status, went_on, went_to, wrong_kind}
+pub use Rattle.run_model.specs.StepBase.{operand_value, operand_values, with_exit_status, went_on}
+pub use Rattle.run_model.specs.StepBase.{went_to, wrong_kind}
 pub use Rattle.run_model.specs.StepBase.{Effect, own}
 pub use Rattle.run_model.specs.StepReplies.{Ask, ask, entry_of, process_with_reply}
 pub use Rattle.run_model.specs.StepVariables.{printed_line, print_line, print, exit_status, exit}

@@ -6,7 +6,8 @@
 use Rattle.std.specs.Prelude.{ℕ, pos, List, [], ◌∷◌, length, Bool, true, false, ◌&&◌, if◌then◌else◌}
 use Rattle.std.specs.Prelude.{Option, Some, None, option_and_then}
 use Rattle.std.specs.Str.{is_utf8}
-use Rattle.ldv_value.specs.FileState.{FileState, is_there, FileRefusal, open_refusal, after_open, after_remove}
+use Rattle.ldv_value.specs.FileState.{FileState, is_there, FileRefusal, open_refusal, after_open}
+use Rattle.ldv_value.specs.FileState.{after_remove}
 use Rattle.ldv_value.specs.FileState.{has_room, rest_at, after_append, after_copy, copy_end, read_line}
 use Rattle.ldv_value.specs.Names.{path_test}
 use Rattle.ldv_value.specs.declared.file.OpenMode.TheVariants as modes
@@ -15,7 +16,8 @@ use Rattle.ldv_value.specs.declared.line.LineRead.TheVariants as lines
 use Rattle.run_model.specs.Types.{OpenMode, Value, Null, Int, Text, Operand, Act, OpenedRead, OpenedWrite}
 use Rattle.run_model.specs.Types.{OpenedAppend, OpenedNew, Unopened, Read, Wrote, Removed, Tested}
 use Rattle.run_model.specs.Core.{lookup, bind, unbind, OpenFile, Process}
-use Rattle.run_model.specs.StepBase.{operand_value, operand_values, with_exit_status, went_on, went_to, with_variable}
+use Rattle.run_model.specs.StepBase.{operand_value, operand_values, with_exit_status, went_on, went_to}
+use Rattle.run_model.specs.StepBase.{with_variable}
 use Rattle.run_model.specs.StepBase.{wrong_kind, too_long_status, bad_path, not_utf8, FileEffect}
 use Rattle.run_model.specs.StepVariables.{printed_line}
 

@@ -6,7 +6,8 @@ use Rattle.ldv_value.specs.Limits.{max_processes}
 use Rattle.script_parse.specs.Script.{script_of}
 use Rattle.run_model.specs.Types.{Value, Int, Operand, Instr, Spawned, Unspawned, Waited}
 use Rattle.run_model.specs.Core.{lookup, bind, Process, new_process, Core}
-use Rattle.run_model.specs.StepBase.{operand_values, with_exit_status, went_on, went_to, with_variable, wrong_kind}
+use Rattle.run_model.specs.StepBase.{operand_values, with_exit_status, went_on, went_to, with_variable}
+use Rattle.run_model.specs.StepBase.{wrong_kind}
 use Rattle.run_model.specs.StepBase.{bad_path, Effect, own, process_effect}
 use Rattle.run_model.specs.StepFiles.{path_at}
 

@@ -5,7 +5,8 @@ use Rattle.sql_model.specs.Codes.{code_of}
 use Rattle.run_model.specs.Types.{Value, Null, Int, Text, Reply, Rows, Changed, Refused, Entry}
 use Rattle.run_model.specs.Core.{lookup, bind, Cursor, Process}
 use Rattle.run_model.specs.Database.{Question}
-use Rattle.run_model.specs.StepBase.{with_exit_status, went_on, went_to, with_variable, wrong_kind, Computation, Yields}
+use Rattle.run_model.specs.StepBase.{with_exit_status, went_on, went_to, with_variable, wrong_kind}
+use Rattle.run_model.specs.StepBase.{Computation, Yields}
 use Rattle.run_model.specs.StepBase.{Misused, number_within, assign}
 
 -- ---- `sql c v v*`: c means the reply to the statement of a text, with the other values as parameters

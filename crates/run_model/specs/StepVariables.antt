@@ -10,8 +10,10 @@ use Rattle.script_parse.specs.Number.{number_of}
 use Rattle.sql_model.specs.Meaning.{is_null}
 use Rattle.run_model.specs.Types.{Value, Null, Int, Text, Operand, Variable, CalcOp, Add, Subtract, Multiply}
 use Rattle.run_model.specs.Core.{Process}
-use Rattle.run_model.specs.StepBase.{operand_value, operand_values, with_exit_status, went_on, went_to, with_variable}
-use Rattle.run_model.specs.StepBase.{wrong_kind, too_long_status, Computation, Yields, Misused, number_within, assign}
+use Rattle.run_model.specs.StepBase.{operand_value, operand_values, with_exit_status, went_on, went_to}
+use Rattle.run_model.specs.StepBase.{with_variable}
+use Rattle.run_model.specs.StepBase.{wrong_kind, too_long_status, Computation, Yields, Misused}
+use Rattle.run_model.specs.StepBase.{number_within, assign}
 
 -- ---- `let x = v`: the variable gets the value
 

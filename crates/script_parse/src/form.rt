@@ -4,7 +4,8 @@ ghost use Rattle.std.specs.Prelude.{◌≡◌};
 ghost use Rattle.std.specs.Option.{option_map};
 ghost use Rattle.std.specs.Str.{is_utf8};
 ghost use Rattle.script_parse.specs.inner.Gives.{GivesLine};
-ghost use Rattle.script_parse.specs.Lines.{before_colon, label_in, line_of_word, form_of, first_nonblank, is_comment};
+ghost use Rattle.script_parse.specs.Lines.{before_colon, label_in, line_of_word, form_of, first_nonblank};
+ghost use Rattle.script_parse.specs.Lines.{is_comment};
 ghost use Rattle.script_parse.specs.Lines.{line_of};
 
 use crate::forms::instruction;

@@ -2,7 +2,8 @@
 
 ghost use Rattle.std.specs.Prelude.{◌≡◌, ◌<◌, IfSome, length, position, codes};
 ghost use Rattle.script_parse.specs.inner.Gives.{GivesLine, GivesLineBy};
-ghost use Rattle.script_parse.specs.Forms.{is_word, sign_in, comparison_in, mode_in, instr_of_sign, let_value};
+ghost use Rattle.script_parse.specs.Forms.{is_word, sign_in, comparison_in, mode_in, instr_of_sign};
+ghost use Rattle.script_parse.specs.Forms.{let_value};
 ghost use Rattle.script_parse.specs.Forms.{let_of, cut_of, goto_of, if_of, print_of, exit_of, write_of};
 ghost use Rattle.script_parse.specs.Forms.{copy_of, close_of, exists_of, wait_of, sql_of, count_of};
 ghost use Rattle.script_parse.specs.Forms.{status_of, last_label, else_of, open_of, readline_of, remove_of};

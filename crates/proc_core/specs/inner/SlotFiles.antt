@@ -2,7 +2,8 @@
 -- is in `StepFiles` of `run_model`.
 use Rattle.std.specs.Prelude.{◌≡◌, ℕ, pos, List, [], ◌∷◌, length, Bool, true, false}
 use Rattle.std.specs.Prelude.{Option, Some, None, option_and_then}
-use Rattle.ldv_value.specs.FileState.{FileState, is_there, FileRefusal, open_refusal, after_open, after_remove}
+use Rattle.ldv_value.specs.FileState.{FileState, is_there, FileRefusal, open_refusal, after_open}
+use Rattle.ldv_value.specs.FileState.{after_remove}
 use Rattle.ldv_value.specs.FileState.{has_room}
 use Rattle.ldv_value.specs.FileState.{rest_at, after_append, after_copy, copy_end, read_line}
 use Rattle.ldv_value.specs.declared.file.OpenMode.{OpenMode}
@@ -17,7 +18,8 @@ use Rattle.run_model.specs.StepVariables.{printed_line}
 use Rattle.script_code.specs.declared.code.FileInstr.{FileInstr}
 use Rattle.script_code.specs.declared.code.FileInstr.TheVariants as on_files
 use Rattle.proc_core.specs.declared.process.SlotProcess.{SlotProcess}
-use Rattle.proc_core.specs.inner.Slots.{open_at, slot_value, slot_values, slot_ended, slot_went_on, slot_went_to}
+use Rattle.proc_core.specs.inner.Slots.{open_at, slot_value, slot_values, slot_ended, slot_went_on}
+use Rattle.proc_core.specs.inner.Slots.{slot_went_to}
 use Rattle.proc_core.specs.inner.Slots.{slot_with_variable, slot_with_file}
 
 -- the process and the files after a step, and what it did

@@ -4,7 +4,8 @@ use Rattle.script_code.specs.declared.code.OwnInstr.TheVariants as own
 use Rattle.proc_core.specs.declared.process.SlotProcess.{SlotProcess}
 use Rattle.proc_core.specs.inner.Slots.{slot_went_to}
 use Rattle.proc_core.specs.inner.SlotReplies.{slot_close, slot_fetch, slot_count, slot_status}
-use Rattle.proc_core.specs.inner.SlotVariables.{slot_let, slot_calculate, slot_glue, slot_let_number, slot_cut}
+use Rattle.proc_core.specs.inner.SlotVariables.{slot_let, slot_calculate, slot_glue, slot_let_number}
+use Rattle.proc_core.specs.inner.SlotVariables.{slot_cut}
 use Rattle.proc_core.specs.inner.SlotVariables.{slot_jump_if, slot_print, slot_exit}
 
 abbrev pub slot_own : OwnInstr → SlotProcess → SlotProcess
