@@ -45,7 +45,7 @@ module _ (n : ℕ) (p : Package) (script : List Instr) (is : start_script (own_w
   has_stopped_so never NotEnded going =
       let both = or-parts (is_some core.diverged) (have_all_ended core) going in
       comes None None (going_none both.1) (is_some-false core.diverged both.0)
-  has_stopped_so never (run_stop.Divergence process index) stopped =
+  has_stopped_so never (run_stop.Diverged process index) stopped =
       comes None (Some (record { process = process.parts; index = index }))
       (going_none (diverged_going log_base n (log_start p script) refl never _ stopped)) stopped
   has_stopped_so never NoMemory stopped = tt

@@ -38,7 +38,7 @@ IsDueOfLogs budget p outcome divergence =
 -- a run that hasn't ended has diverged, or neither
 abbrev pub Stops : ℕ → Package → RunStop → Type 0
 Stops budget p NotEnded = IsDueOfLogs budget p None None
-Stops budget p (run_stop.Divergence process index) =
+Stops budget p (run_stop.Diverged process index) =
     IsDueOfLogs budget p None (Some (record { process = process.parts; index = index }))
 Stops budget p NoMemory = Unit {0}
 
