@@ -12,7 +12,8 @@ use Rattle.script_parse.specs.declared.script.Script.{Script}
 use Rattle.script_parse.specs.declared.token.Token.TheVariants.{Word}
 use Rattle.script_parse.specs.declared.scan.LexState.TheVariants.{Between}
 use Rattle.script_parse.specs.declared.line.Line.{Line}
-use Rattle.script_parse.specs.declared.line.Line.TheVariants.{Quiet, Label, Plain, Jumping}
+use Rattle.script_parse.specs.declared.line.Line.TheVariants as parsed
+use Rattle.script_parse.specs.declared.line.Line.TheVariants.{Label, Plain, Jumping}
 use Rattle.script_parse.specs.declared.line.Entry.{Entry}
 use Rattle.script_parse.specs.declared.line.Definition.{Definition}
 use Rattle.script_parse.specs.declared.parse.ScriptStop.{ScriptStop}
@@ -42,7 +43,7 @@ label_sound : (l line : List ℕ) → line_of line ≡ Some (Label l) → Define
 label_sound l line h = line_sound Anywhere (λ q. Some (define 1 0)) (λ q d e. tt) line (Label l) h 1 (Names l) (refl, refl)
 
 form_sound : (line : List ℕ) (s : Line) → line_of line ≡ Some s → HasAForm line
-form_sound line Quiet h = (Blank, (line_sound Anywhere (λ q. Some (define 1 0)) (λ q d e. tt) line Quiet h 1 Blank refl).1)
+form_sound line parsed.Blank h = (Blank, (line_sound Anywhere (λ q. Some (define 1 0)) (λ q d e. tt) line parsed.Blank h 1 Blank refl).1)
 form_sound line (Label l) h = (Names l, (label_sound l line h).1)
 form_sound line (Plain i) h = (Does i, (line_sound Anywhere (λ q. Some (define 1 0)) (λ q d e. tt) line (Plain i) h 1 (Does i) refl).1)
 form_sound line (Jumping i l) h =
@@ -50,13 +51,13 @@ form_sound line (Jumping i l) h =
 
 uses_sound : (l line : List ℕ) (i : Instr) → line_of line ≡ Some (Jumping i l) → Uses l line
 uses_sound l line i h =
-    let text = only_if-some (is_utf8 line) (cond (is_comment line) (Some Quiet) (tokens_of line >>= form_of)) (Jumping i l) h in
+    let text = only_if-some (is_utf8 line) (cond (is_comment line) (Some parsed.Blank) (tokens_of line >>= form_of)) (Jumping i l) h in
     elim (cases_Bool (is_comment line)) [
       | inl comment ↦
-          let quiet : Some Quiet ≡ Some (Jumping i l) = sym (ap (λ b. cond b (Some Quiet) (tokens_of line >>= form_of)) comment) ∙ text.1 in
+          let quiet : Some parsed.Blank ≡ Some (Jumping i l) = sym (ap (λ b. cond b (Some parsed.Blank) (tokens_of line >>= form_of)) comment) ∙ text.1 in
           absurd cc
       | inr other ↦
-          let said : (tokens_of line >>= form_of) ≡ Some (Jumping i l) = sym (ap (λ b. cond b (Some Quiet) (tokens_of line >>= form_of)) other) ∙ text.1 in
+          let said : (tokens_of line >>= form_of) ≡ Some (Jumping i l) = sym (ap (λ b. cond b (Some parsed.Blank) (tokens_of line >>= form_of)) other) ∙ text.1 in
           let r = bind-some (tokens_of line) form_of (Jumping i l) said in
           let form = forms_sound r.0 (Jumping i l) r.2 in
           (r.0, i, 0, tokens_sound line Between r.0 r.1, form.1, form.2, form.0, form.3)
@@ -70,7 +71,7 @@ uses_read l line u (ts, i, place, are, form, name, some, e) = (
 )
 
 not_text : (line : List ℕ) → ¬ IsUtf8 line → line_of line ≡ None
-not_text line h = ap (λ b. only_if b (cond (is_comment line) (Some Quiet) (tokens_of line >>= form_of))) (not-utf8 line h)
+not_text line h = ap (λ b. only_if b (cond (is_comment line) (Some parsed.Blank) (tokens_of line >>= form_of))) (not-utf8 line h)
 
 no_form : (line : List ℕ) → ¬ HasAForm line → line_of line ≡ None
 no_form line h = elim (cases-option (line_of line)) [
@@ -99,7 +100,7 @@ Adds m n o es l = ((o ≡ Some (Label l)) × (definition_of (labels_from m (entr
 
 adds : (m n : ℕ) (o : Option Line) (es : List Entry) (l : List ℕ) → Adds m n o es l
 adds m n None es l = inr (λ h. cc, m + 0, refl)
-adds m n (Some Quiet) es l = inr (λ h. cc, m, refl)
+adds m n (Some parsed.Blank) es l = inr (λ h. cc, m, refl)
 adds m n (Some (Label x)) es l = elim (cases_Bool (is_text x l)) [
   | inl hit ↦ inl (ap (λ y. Some (Label y)) (text_is x l hit), ap (λ b. cond b (Some (define n m)) (definition_of (labels_from (m + 0) es) l)) hit)
   | inr miss ↦
@@ -194,7 +195,7 @@ second_label front line back l h miss = elim (decided front l) [
 
 said_bad : (front : List (List ℕ)) (line : List ℕ) (back : List (List ℕ)) (s : Line) → line_of line ≡ Some s
     → resolve_line (places (front ++ line ∷ back)) (1 + length front) (Some s) ≡ None → IsBadLine front line back
-said_bad front line back Quiet h bad = absurd cc
+said_bad front line back parsed.Blank h bad = absurd cc
 said_bad front line back (Label l) h bad =
     let miss = not_kept (is_first (1 + length front) (places (front ++ line ∷ back) l)) bad in
     inr (inr (inl (l, label_sound l line h, second_label front line back l h miss)))
@@ -256,7 +257,7 @@ entry_goes look e es (Some i) h =
 
 goes : (look : List ℕ → Option Definition) (n : ℕ) (o : Option Line) (es : List Entry) → Goes look n (resolve_line look n o) (entry_of n o ++ es) es
 goes look n None es = inl (refl, refl, refl)
-goes look n (Some Quiet) es = inr (λ no. cc, refl, λ h. h, λ h. h)
+goes look n (Some parsed.Blank) es = inr (λ no. cc, refl, λ h. h, λ h. h)
 goes look n (Some (Label l)) es = entry_goes look (record { number = n; line = Some (Label l) }) es (resolve_line look n (Some (Label l))) refl
 goes look n (Some (Plain i)) es = entry_goes look (record { number = n; line = Some (Plain i) }) es (resolve_line look n (Some (Plain i))) refl
 goes look n (Some (Jumping i l)) es = entry_goes look (record { number = n; line = Some (Jumping i l) }) es (resolve_line look n (Some (Jumping i l))) refl

@@ -19,7 +19,7 @@ use Rattle.script_parse.specs.declared.keyword.Keyword.TheVariants.{Let, Cut, Go
 use Rattle.script_parse.specs.declared.keyword.Sign.{Sign}
 use Rattle.script_parse.specs.declared.keyword.Sign.TheVariants.{Plus, Minus, Times, Join}
 use Rattle.script_parse.specs.declared.line.Line.{Line}
-use Rattle.script_parse.specs.declared.line.Line.TheVariants.{Quiet, Label, Plain, Jumping}
+use Rattle.script_parse.specs.declared.line.Line.TheVariants.{Blank, Label, Plain, Jumping}
 use Rattle.ldv_value.specs.Options.{◌>>=◌, only_if}
 use Rattle.script_parse.specs.Names.{is_text, name_test}
 use Rattle.script_parse.specs.Keywords.{keyword_text, sign_text, comparison_text, mode_text, keywords, signs, comparisons, modes, keyword_of, sign_of, comparison_of, mode_of}
@@ -33,7 +33,7 @@ use Rattle.ldv_value.proofs.Booleans.{not-false}
 
 -- what a line is, before labels have places
 abbrev pub IsForm : Line → List Token → Type 0
-IsForm Quiet ts = ts ≡ []
+IsForm Blank ts = ts ≡ []
 IsForm (Label l) ts = IsName l × (ts ≡ Word (l ++ codes ":") ∷ [])
 IsForm (Plain i) ts = (place_of i ≡ None) × HasForm i × (ts ≡ tokens_for i [])
 IsForm (Jumping i l) ts = (place_of i ≡ Some 0) × HasForm i × IsName l × (ts ≡ tokens_for i l)
@@ -450,7 +450,7 @@ worded_sound w (t ∷ ts) line h =
     subst (λ (x : List ℕ). IsForm line (Word x ∷ t ∷ ts)) (sym is) (instruction_sound s0.0 (t ∷ ts) line s0.2)
 
 pub forms_sound : (ts : List Token) (line : Line) → form_of ts ≡ Some line → IsForm line ts
-forms_sound [] line h = let e : Quiet ≡ line = cc (h) in subst (λ (l : Line). IsForm l []) e refl
+forms_sound [] line h = let e : Blank ≡ line = cc (h) in subst (λ (l : Line). IsForm l []) e refl
 forms_sound (t ∷ ts) line h =
     let s0 = bind-some (word_of t) (λ w. line_of_word w ts) line h in
     subst (λ (x : Token). IsForm line (x ∷ ts)) (sym (word_sound t s0.0 s0.1)) (worded_sound s0.0 ts line s0.2)

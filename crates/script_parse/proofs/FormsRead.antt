@@ -18,7 +18,7 @@ use Rattle.script_parse.specs.declared.token.Token.TheVariants.{Word}
 use Rattle.script_parse.specs.declared.keyword.Sign.{Sign}
 use Rattle.script_parse.specs.declared.keyword.Sign.TheVariants.{Plus, Minus, Times, Join}
 use Rattle.script_parse.specs.declared.line.Line.{Line}
-use Rattle.script_parse.specs.declared.line.Line.TheVariants.{Quiet, Label, Plain, Jumping}
+use Rattle.script_parse.specs.declared.line.Line.TheVariants.{Blank, Label, Plain, Jumping}
 use Rattle.ldv_value.specs.Options.{◌>>=◌, only_if}
 use Rattle.script_parse.specs.Names.{is_text, name_test}
 use Rattle.script_parse.specs.Keywords.{sign_text, comparison_text, mode_text}
@@ -330,7 +330,7 @@ jumping_complete (instr.Count x c) l p h ok = cc
 jumping_complete (instr.Status x c) l p h ok = cc
 
 pub forms_complete : (line : Line) (ts : List Token) → IsForm line ts → form_of ts ≡ Some line
-forms_complete Quiet ts h = ap form_of h
+forms_complete Blank ts h = ap form_of h
 forms_complete (Label l) ts h =
     ap form_of h.1 ∙ ap (λ o. o >>= λ front. (name_in front >>= λ name. Some (Label name))) (colon_found l)
     ∙ ap (λ o. o >>= λ name. Some (Label name)) (name_made l h.0)

@@ -6,7 +6,8 @@ use Rattle.std.proofs.lemmas.Bool.{cases_Bool, eqb-true, false≢true}
 use Rattle.std.proofs.lemmas.Slice.Eq.{bytes_eq-Decides}
 use Rattle.script_parse.specs.declared.script.Instr.{Instr}
 use Rattle.script_parse.specs.declared.line.Line.{Line}
-use Rattle.script_parse.specs.declared.line.Line.TheVariants.{Quiet, Label, Plain, Jumping}
+use Rattle.script_parse.specs.declared.line.Line.TheVariants as parsed
+use Rattle.script_parse.specs.declared.line.Line.TheVariants.{Label, Plain, Jumping}
 use Rattle.script_parse.specs.declared.line.Entry.{Entry}
 use Rattle.script_parse.specs.declared.line.Definition.{Definition}
 use Rattle.ldv_value.specs.Options.{◌>>=◌, only_if}
@@ -21,7 +22,7 @@ use Rattle.ldv_value.proofs.Booleans.{not-so}
 
 -- what a line that isn't bad is, where look finds the labels
 abbrev pub Fits : (List ℕ → Option Definition) → ℕ → Line → Kind → Type 0
-Fits look n Quiet k = k ≡ Blank
+Fits look n parsed.Blank k = k ≡ Blank
 Fits look n (Label l) k = (is_first n (look l) ≡ true) × (k ≡ Names l)
 Fits look n (Plain i) k = k ≡ Does i
 Fits look n (Jumping i l) k = (d : Definition) × (look l ≡ Some d) × (k ≡ Does (with_place d.place i))
@@ -46,7 +47,7 @@ steps_front (Does i) ks = refl
 
 one_sound : (look : List ℕ → Option Definition) (n : ℕ) (s : Line) (rest : List Entry) (is : List Instr) → instructions_of look (entry_of n (Some s) ++ rest) ≡ Some is
     → (k : Kind) × (more : List Instr) × Fits look n s k × (instructions_of look rest ≡ Some more) × (is ≡ front k ++ more)
-one_sound look n Quiet rest is h = (Blank, is, refl, h, refl)
+one_sound look n parsed.Blank rest is h = (Blank, is, refl, h, refl)
 one_sound look n (Label l) rest is h =
     let a = bind-some (only_if (is_first n (look l)) (Some None)) (λ i. instructions_of look rest >>= λ is. Some (option_to_list i ++ is)) is h in
     let first = only_if-some (is_first n (look l)) (Some None) a.0 a.1 in
@@ -81,7 +82,7 @@ reads_sound look n (l ∷ ls) is h = elim (cases-option (line_of l)) [
 
 one_complete : (look : List ℕ → Option Definition) (n : ℕ) (s : Line) (k : Kind) (rest : List Entry) (more : List Instr) → Fits look n s k → instructions_of look rest ≡ Some more
     → instructions_of look (entry_of n (Some s) ++ rest) ≡ Some (front k ++ more)
-one_complete look n Quiet k rest more fits h = h ∙ ap (λ k. Some (front k ++ more)) (sym fits)
+one_complete look n parsed.Blank k rest more fits h = h ∙ ap (λ k. Some (front k ++ more)) (sym fits)
 one_complete look n (Label l) k rest more fits h =
     ap (λ b. only_if b (Some None) >>= λ i. instructions_of look rest >>= λ is. Some (option_to_list i ++ is)) fits.0
     ∙ ap (λ o. o >>= λ is. Some is) h ∙ ap (λ k. Some (front k ++ more)) (sym fits.1)
@@ -108,7 +109,7 @@ labelled m n (Does i ∷ ks) = labelled (m + 1) (n + 1) ks
 
 one_label : (look : List ℕ → Option Definition) (m n : ℕ) (s : Line) (k : Kind) (rest : List Entry) (ks : List Kind) → Fits look n s k
     → ((m : ℕ) → labels_from m rest ≡ labelled m (n + 1) ks) → labels_from m (entry_of n (Some s) ++ rest) ≡ labelled m n (k ∷ ks)
-one_label look m n Quiet k rest ks fits h = h m ∙ ap (λ k. labelled m n (k ∷ ks)) (sym fits)
+one_label look m n parsed.Blank k rest ks fits h = h m ∙ ap (λ k. labelled m n (k ∷ ks)) (sym fits)
 one_label look m n (Label l) k rest ks fits h =
     let it : Labelled = record { name = l; definition = record { line = n; place = m } } in
     ap (λ j. it ∷ labels_from j rest) (add-zero m) ∙ ap (λ ls. it ∷ ls) (h m) ∙ ap (λ k. labelled m n (k ∷ ks)) (sym fits.1)
@@ -149,7 +150,7 @@ first_same (Some d) a b h k = sym (eqb-true d.line a h) ∙ eqb-true d.line b k
 
 later_one : (look : List ℕ → Option Definition) (l : List ℕ) (n m : ℕ) (s : Line) (k : Kind) (ks : List Kind) → is_first n (look l) ≡ true → n < m → Fits look m s k
     → AllByRecursion (λ other. l ≢ other) (labels ks) → AllByRecursion (λ other. l ≢ other) (labels (k ∷ ks))
-later_one look l n m Quiet k ks first less fits rest = subst (λ k. AllByRecursion (λ other. l ≢ other) (labels (k ∷ ks))) (sym fits) rest
+later_one look l n m parsed.Blank k ks first less fits rest = subst (λ k. AllByRecursion (λ other. l ≢ other) (labels (k ∷ ks))) (sym fits) rest
 later_one look l n m (Label x) k ks first less fits rest =
     let differ : l ≢ x = λ e. absurd (omega (arith, first_same (look x) n m (ap (λ y. is_first n (look y)) (sym e) ∙ first) fits.0)) in
     subst (λ k. AllByRecursion (λ other. l ≢ other) (labels (k ∷ ks))) (sym fits.1) (differ, rest)
@@ -164,7 +165,7 @@ later_differ look l n m (x ∷ ls) (k ∷ ks) first less (s, said, fits, more) =
     later_one look l n m s k ks first less fits (later_differ look l n (m + 1) ls ks first (omega arith) more)
 
 differ_one : (look : List ℕ → Option Definition) (n : ℕ) (s : Line) (k : Kind) (ls : List (List ℕ)) (ks : List Kind) → Fits look n s k → ReadsLines look (n + 1) ls ks → AllDiffer (labels ks) → AllDiffer (labels (k ∷ ks))
-differ_one look n Quiet k ls ks fits more rest = subst (λ k. AllDiffer (labels (k ∷ ks))) (sym fits) rest
+differ_one look n parsed.Blank k ls ks fits more rest = subst (λ k. AllDiffer (labels (k ∷ ks))) (sym fits) rest
 differ_one look n (Label x) k ls ks fits more rest = subst (λ k. AllDiffer (labels (k ∷ ks))) (sym fits.1) (later_differ look x n (n + 1) ls ks fits.0 (omega arith) more, rest)
 differ_one look n (Plain i) k ls ks fits more rest = subst (λ k. AllDiffer (labels (k ∷ ks))) (sym fits) rest
 differ_one look n (Jumping i x) k ls ks (d, found, is) more rest = subst (λ k. AllDiffer (labels (k ∷ ks))) (sym is) rest

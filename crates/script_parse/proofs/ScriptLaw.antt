@@ -11,7 +11,8 @@ use Rattle.script_parse.specs.declared.token.Token.{Token}
 use Rattle.script_parse.specs.declared.token.Token.TheVariants.{Word, Number, Quoted}
 use Rattle.script_parse.specs.declared.scan.LexState.TheVariants.{Between}
 use Rattle.script_parse.specs.declared.line.Line.{Line}
-use Rattle.script_parse.specs.declared.line.Line.TheVariants.{Quiet, Label, Plain, Jumping}
+use Rattle.script_parse.specs.declared.line.Line.TheVariants as parsed
+use Rattle.script_parse.specs.declared.line.Line.TheVariants.{Label, Plain, Jumping}
 use Rattle.script_parse.specs.declared.line.Definition.{Definition}
 use Rattle.ldv_value.specs.Options.{◌>>=◌, only_if}
 use Rattle.script_parse.specs.Names.{name_test}
@@ -206,7 +207,7 @@ begins (instr.Fetch c xs q) l = refl
 
 said_sound : (At : List ℕ → ℕ → Type 0) (look : List ℕ → Option Definition) → ((l : List ℕ) (d : Definition) → look l ≡ Some d → At l d.place)
     → (line : List ℕ) (ts : List Token) → AreTokens line ts → (s : Line) → IsForm s ts → (n : ℕ) (k : Kind) → Fits look n s k → IsKind At line k
-said_sound At look at line ts are Quiet form n k fits = subst (IsKind At line) (sym fits) (inl (subst (AreTokens line) form are))
+said_sound At look at line ts are parsed.Blank form n k fits = subst (IsKind At line) (sym fits) (inl (subst (AreTokens line) form are))
 said_sound At look at line ts are (Label l) form n k fits = subst (IsKind At line) (sym fits.1) (form.0, subst (AreTokens line) form.1 are)
 said_sound At look at line ts are (Plain i) form n k fits =
     subst (IsKind At line) (sym fits) (ts, are, (form.1, subst (IsAtPlace At i ts) (sym form.0) form.2))
@@ -224,16 +225,16 @@ said_sound At look at line ts are (Jumping i l) form n k (d, found, is) =
 pub line_sound : (At : List ℕ → ℕ → Type 0) (look : List ℕ → Option Definition) → ((l : List ℕ) (d : Definition) → look l ≡ Some d → At l d.place)
     → (line : List ℕ) (s : Line) → line_of line ≡ Some s → (n : ℕ) (k : Kind) → Fits look n s k → IsLine At line k
 line_sound At look at line s h n k fits =
-    let text = only_if-some (is_utf8 line) (cond (is_comment line) (Some Quiet) (tokens_of line >>= form_of)) s h in (
+    let text = only_if-some (is_utf8 line) (cond (is_comment line) (Some parsed.Blank) (tokens_of line >>= form_of)) s h in (
       IsUtf8-from_is_utf8 line text.0,
       elim (cases_Bool (is_comment line)) [
         | inl comment ↦
-            let quiet : Some Quiet ≡ Some s = sym (ap (λ b. cond b (Some Quiet) (tokens_of line >>= form_of)) comment) ∙ text.1 in
-            let e : Quiet ≡ s = cc (quiet) in
-            let blank : Fits look n Quiet k = subst (λ s. Fits look n s k) (sym e) fits in
+            let quiet : Some parsed.Blank ≡ Some s = sym (ap (λ b. cond b (Some parsed.Blank) (tokens_of line >>= form_of)) comment) ∙ text.1 in
+            let e : parsed.Blank ≡ s = cc (quiet) in
+            let blank : Fits look n parsed.Blank k = subst (λ s. Fits look n s k) (sym e) fits in
             subst (IsKind At line) (sym blank) (inr (comment_sound line comment))
         | inr other ↦
-            let said : (tokens_of line >>= form_of) ≡ Some s = sym (ap (λ b. cond b (Some Quiet) (tokens_of line >>= form_of)) other) ∙ text.1 in
+            let said : (tokens_of line >>= form_of) ≡ Some s = sym (ap (λ b. cond b (Some parsed.Blank) (tokens_of line >>= form_of)) other) ∙ text.1 in
             let r = bind-some (tokens_of line) form_of s said in
             said_sound At look at line r.0 (tokens_sound line Between r.0 r.1) s (forms_sound r.0 s r.2) n k fits
       ],
@@ -261,15 +262,15 @@ script_sound bytes is h =
 
 -- what a line of the grammar says
 abbrev pub Says : (List ℕ → ℕ → Type 0) → Line → Kind → Type 0
-Says At Quiet k = k ≡ Blank
+Says At parsed.Blank k = k ≡ Blank
 Says At (Label l) k = k ≡ Names l
 Says At (Plain i) k = k ≡ Does i
 Says At (Jumping i l) k = (p : ℕ) × At l p × (k ≡ Does (with_place p i))
 
 pub made_line : (line : List ℕ) (ts : List Token) (s : Line) → IsUtf8 line → AreTokens line ts → is_comment line ≡ false → IsForm s ts → line_of line ≡ Some s
 made_line line ts s u are other form =
-    ap (λ b. only_if b (cond (is_comment line) (Some Quiet) (tokens_of line >>= form_of))) (is_utf8-from_IsUtf8 line u)
-    ∙ ap (λ b. cond b (Some Quiet) (tokens_of line >>= form_of)) other
+    ap (λ b. only_if b (cond (is_comment line) (Some parsed.Blank) (tokens_of line >>= form_of))) (is_utf8-from_IsUtf8 line u)
+    ∙ ap (λ b. cond b (Some parsed.Blank) (tokens_of line >>= form_of)) other
     ∙ ap (λ o. o >>= form_of) (tokens_complete ts line u are) ∙ forms_complete s ts form
 
 placed_line : (At : List ℕ → ℕ → Type 0) (line : List ℕ) (ts : List Token) (i : Instr) (o : Option ℕ) → place_of i ≡ o → IsUtf8 line → AreTokens line ts → HasForm i → IsAtPlace At i ts o
@@ -285,12 +286,12 @@ placed_line At line ts i (Some p) some u are form (l, name, at, e) =
     )
 
 pub line_complete : (At : List ℕ → ℕ → Type 0) (line : List ℕ) (k : Kind) → IsLine At line k → (s : Line) × (line_of line ≡ Some s) × Says At s k
-line_complete At line Blank (u, inl blanks) = (Quiet, made_line line [] Quiet u blanks (only_blanks line blanks) refl, refl)
+line_complete At line Blank (u, inl blanks) = (parsed.Blank, made_line line [] parsed.Blank u blanks (only_blanks line blanks) refl, refl)
 line_complete At line Blank (u, inr (blanks, rest, are, e)) =
     let comment : is_comment line ≡ true = ap is_comment e ∙ blanks_before blanks (35 ∷ rest) are in (
-      Quiet,
-      ap (λ b. only_if b (cond (is_comment line) (Some Quiet) (tokens_of line >>= form_of))) (is_utf8-from_IsUtf8 line u)
-          ∙ ap (λ b. cond b (Some Quiet) (tokens_of line >>= form_of)) comment,
+      parsed.Blank,
+      ap (λ b. only_if b (cond (is_comment line) (Some parsed.Blank) (tokens_of line >>= form_of))) (is_utf8-from_IsUtf8 line u)
+          ∙ ap (λ b. cond b (Some parsed.Blank) (tokens_of line >>= form_of)) comment,
       refl,
     )
 line_complete At line (Names l) (u, (name, are)) =
@@ -299,7 +300,7 @@ line_complete At line (Does i) (u, (ts, are, (form, at))) = placed_line At line 
 
 fits_of : (all : List Kind) → AllDiffer (labels all) → (before : List Kind) (k : Kind) (after : List Kind) → all ≡ before ++ k ∷ after
     → (s : Line) → Says (IsAt all) s k → Fits (definition_of (labelled 0 1 all)) (1 + length before) s k
-fits_of all differ before k after e Quiet says = says
+fits_of all differ before k after e parsed.Blank says = says
 fits_of all differ before k after e (Label l) says =
     let e2 : all ≡ before ++ Names l ∷ after = e ∙ ap (λ k. before ++ k ∷ after) says in
     let found : definition_of (labelled 0 1 all) l ≡ Some (define (1 + length before) (0 + length (steps before))) =

@@ -4,7 +4,7 @@ use Rattle.std.specs.Prelude.{Some, None, find}
 use Rattle.std.specs.Str.{is_utf8}
 use Rattle.script_parse.specs.declared.token.Token.{Token}
 use Rattle.script_parse.specs.declared.line.Line.{Line}
-use Rattle.script_parse.specs.declared.line.Line.TheVariants.{Quiet, Label}
+use Rattle.script_parse.specs.declared.line.Line.TheVariants.{Blank, Label}
 use Rattle.ldv_value.specs.Options.{only_if, ◌>>=◌}
 use Rattle.script_parse.specs.Forms.{word_of, name_in, instruction_of}
 use Rattle.script_parse.specs.Keywords.{keyword_of}
@@ -46,7 +46,7 @@ line_of_word w (t ∷ ts) = keyword_of w >>= λ k. instruction_of k (t ∷ ts)
 
 -- from the tokens of a line
 abbrev pub form_of : List Token → Option Line
-form_of [] = Some Quiet
+form_of [] = Some Blank
 form_of (t ∷ ts) = word_of t >>= λ w. line_of_word w ts
 
 -- the first byte that is no blank
@@ -62,4 +62,4 @@ is_comment line = is_comment_start (first_nonblank line)
 
 -- what a line says; `None` where it is bad in itself
 abbrev pub line_of : List ℕ → Option Line
-line_of line = only_if (is_utf8 line) (if is_comment line then Some Quiet else (tokens_of line >>= form_of))
+line_of line = only_if (is_utf8 line) (if is_comment line then Some Blank else (tokens_of line >>= form_of))

@@ -4,7 +4,7 @@ use Rattle.std.specs.Prelude.{Some, None, is_some, option_to_list, Result, Ok, E
 use Rattle.script_parse.specs.declared.script.Instr.{Instr}
 use Rattle.script_parse.specs.declared.script.Instr.TheVariants as instr
 use Rattle.script_parse.specs.declared.line.Line.{Line as Said}
-use Rattle.script_parse.specs.declared.line.Line.TheVariants.{Quiet, Label, Plain, Jumping}
+use Rattle.script_parse.specs.declared.line.Line.TheVariants.{Blank, Label, Plain, Jumping}
 use Rattle.script_parse.specs.declared.line.Entry.{Entry}
 use Rattle.script_parse.specs.declared.line.Definition.{Definition}
 use Rattle.script_parse.specs.declared.parse.ScriptStop.{ScriptStop}
@@ -16,7 +16,7 @@ use Rattle.script_parse.specs.Names.{is_text}
 -- a line with its number; none where it is empty or a comment
 abbrev pub entry_of : ℕ → Option Said → List Entry
 entry_of n None = record { number = n; line = None } ∷ []
-entry_of n (Some Quiet) = []
+entry_of n (Some Blank) = []
 entry_of n (Some (Label l)) = record { number = n; line = Some (Label l) } ∷ []
 entry_of n (Some (Plain i)) = record { number = n; line = Some (Plain i) } ∷ []
 entry_of n (Some (Jumping i l)) = record { number = n; line = Some (Jumping i l) } ∷ []
@@ -37,7 +37,7 @@ pub record LabelDefinition : Type 0 where
 -- the label that a line defines, with n instructions before it
 abbrev pub labels_in : ℕ → ℕ → Option Said → List LabelDefinition
 labels_in number n None = []
-labels_in number n (Some Quiet) = []
+labels_in number n (Some Blank) = []
 labels_in number n (Some (Label l)) = record { name = l; definition = record { line = number; place = n } }
     ∷ []
 labels_in number n (Some (Plain i)) = []
@@ -45,7 +45,7 @@ labels_in number n (Some (Jumping i l)) = []
 
 abbrev pub instructions_in : Option Said → ℕ
 instructions_in None = 0
-instructions_in (Some Quiet) = 0
+instructions_in (Some Blank) = 0
 instructions_in (Some (Label l)) = 0
 instructions_in (Some (Plain i)) = 1
 instructions_in (Some (Jumping i l)) = 1
@@ -93,7 +93,7 @@ is_first number (Some d) = d.line == number
 -- itself, an earlier line defines its label, or no line defines the label that it uses.
 abbrev pub resolve_line : (List ℕ → Option Definition) → ℕ → Option Said → Option (Option Instr)
 resolve_line look number None = None
-resolve_line look number (Some Quiet) = Some None
+resolve_line look number (Some Blank) = Some None
 resolve_line look number (Some (Label l)) = only_if (is_first number (look l)) (Some None)
 resolve_line look number (Some (Plain i)) = Some (Some i)
 resolve_line look number (Some (Jumping i l)) = look l >>= λ d. Some (Some (with_place d.place i))

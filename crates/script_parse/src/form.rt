@@ -26,7 +26,7 @@ pub(crate) fn read_line(alloc: Global, line: &[u8]) -> Result<Line, LineError>
         return Err(LineError::Malformed);
     }
     if is_comment(line) {
-        return Ok(Line::Quiet);
+        return Ok(Line::Blank);
     }
     let tokens = tokens(alloc, line)?;
     form(alloc, tokens.items())
@@ -59,7 +59,7 @@ fn form(alloc: Global, tokens: &[Token]) -> Result<Line, LineError>
     ensures { GivesLine result (form_of tokens.now) }
 {
     match tokens {
-        [] => Ok(Line::Quiet),
+        [] => Ok(Line::Blank),
         [first, rest @ ..] => match first {
             Token::Word(word) => line_of_word(alloc, word.as_str(), rest),
             Token::Number(_) => Err(LineError::Malformed),

@@ -34,7 +34,7 @@ fn is_instruction(line: &Option<Line>) -> bool
 {
     match line {
         None => false,
-        Some(Line::Quiet) => false,
+        Some(Line::Blank) => false,
         Some(Line::Label(_)) => false,
         Some(Line::Plain(_)) => true,
         Some(Line::Jumping(_, _)) => true,
@@ -55,7 +55,7 @@ fn add_label(
 {
     match &entry.line {
         None => Ok(()),
-        Some(Line::Quiet) => Ok(()),
+        Some(Line::Blank) => Ok(()),
         Some(Line::Label(name)) => define(
             alloc,
             labels,

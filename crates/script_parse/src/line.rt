@@ -7,7 +7,7 @@ use ldv_value::{List, Utf8};
 #[derive(Drop)]
 pub(crate) enum Line {
     /// Nothing: it is empty or a comment.
-    Quiet,
+    Blank,
     /// A label.
     Label(Utf8),
     /// An instruction that names no label.

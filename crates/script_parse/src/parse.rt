@@ -112,7 +112,7 @@ fn resolve(labels: &Labels, entry: Entry) -> Result<Option<Instr>, LineError>
     let Entry { number, line } = entry;
     match line {
         None => Err(LineError::Malformed),
-        Some(Line::Quiet) => Ok(None),
+        Some(Line::Blank) => Ok(None),
         Some(Line::Label(name)) => {
             if !is_first(labels, number, &name) {
                 return Err(LineError::Malformed);

@@ -32,7 +32,7 @@ fn add(alloc: Global, entries: &mut Entries, number: u64, line: &[u8]) -> Result
     ensures { OnOk result (entries.new ≡ entries.old ++ entry_of number (line_of line.now)) }
 {
     match read_line(alloc, line) {
-        Ok(Line::Quiet) => Ok(()),
+        Ok(Line::Blank) => Ok(()),
         Ok(Line::Label(name)) => entries.push(Entry {
             number,
             line: Some(Line::Label(name)),
