@@ -1,12 +1,12 @@
 //! One step of a process.
 
-ghost use Rattle.std.specs.Prelude.{◌≡◌, ℕ, ◌+◌, ◌<◌, ◌^◌, ◌++◌, Some, length, map, slice_get};
+ghost use Rattle.std.specs.Prelude.{◌≡◌, ℕ, ◌+◌, ◌<◌, ◌^◌, Some, length, map, slice_get};
 ghost use Rattle.std.specs.Prelude.{IfOk, OnOk, OnSome};
 ghost use Rattle.run_model.specs.Core.{Core};
 ghost use Rattle.run_model.specs.Events.{event_at};
-ghost use Rattle.run_model.specs.Step.{Ask, next_ask, ends_at, local_step, status_acts, took};
+ghost use Rattle.run_model.specs.Step.{Ask, next_ask, status_acts, took};
 ghost use Rattle.proc_core.specs.inner.Counts.{CountsBelow};
-ghost use Rattle.proc_core.specs.inner.Moves.{Moves};
+ghost use Rattle.proc_core.specs.inner.Moves.{Moves, MovesLocally};
 ghost use Rattle.proc_core.specs.inner.SlotAsk.{slot_ask_at};
 ghost use Rattle.proc_core.specs.inner.SlotReady.{Grows};
 ghost use Rattle.proc_core.specs.inner.SlotSpawn.{slot_request_at};
@@ -33,14 +33,8 @@ fn step_local<T: Tracer>(machine: &mut Machine, who: Who, tracer: &mut T) -> Res
     requires local { IsLocal (next_slot_instr machine.old.codes
         (slice_get machine.old.processes.items who.number)) }
     requires counted { CountsBelow who.step machine.old }
-    ensures core { OnOk result ((c : Core) → IsCore machine.old c
-        → IsCore machine.new (local_step who.number c).core) }
-    ensures told { OnOk result ((c : Core) → IsCore machine.old c
-        → AppendsEvents T.KEEPS (T.events tracer.old)
-        (T.events tracer.new) (map (event_at who.step who.number)
-        ((local_step who.number c).acts ++ ends_at who.number (local_step who.number c).core))) }
-    ensures grows { OnOk result (Grows machine.old who.number machine.new) }
-    ensures counted { OnOk result (CountsBelow (who.step + 1) machine.new) }
+    ensures { MovesLocally T.KEEPS who machine.old machine.new (T.events tracer.old) (T.events tracer.new)
+        result }
 {
     execute_local(machine, who, tracer)?;
     tell_status(who, status_in(&machine.processes, who.number), tracer)?;
@@ -58,14 +52,8 @@ fn step_spawn<T: Tracer>(
     requires within { who.number < length machine.old.processes.items }
     requires room { HasRoom (slice_get machine.old.processes.items who.number) }
     requires counted { CountsBelow who.step machine.old }
-    ensures core { OnOk result ((c : Core) → IsCore machine.old c
-        → IsCore machine.new (local_step who.number c).core) }
-    ensures told { OnOk result ((c : Core) → IsCore machine.old c
-        → AppendsEvents T.KEEPS (T.events tracer.old)
-        (T.events tracer.new) (map (event_at who.step who.number)
-        ((local_step who.number c).acts ++ ends_at who.number (local_step who.number c).core))) }
-    ensures grows { OnOk result (Grows machine.old who.number machine.new) }
-    ensures counted { OnOk result (CountsBelow (who.step + 1) machine.new) }
+    ensures { MovesLocally T.KEEPS who machine.old machine.new (T.events tracer.old) (T.events tracer.new)
+        result }
 {
     spawn(machine, who, request, tracer)?;
     tell_status(who, status_in(&machine.processes, who.number), tracer)?;
@@ -79,14 +67,8 @@ fn step_spawn_or_local<T: Tracer>(
     tracer: &mut T,
 ) -> Result<(), AllocError>
     requires { CountsBelow who.step machine.old }
-    ensures core { OnOk result ((c : Core) → IsCore machine.old c
-        → IsCore machine.new (local_step who.number c).core) }
-    ensures told { OnOk result ((c : Core) → IsCore machine.old c
-        → AppendsEvents T.KEEPS (T.events tracer.old)
-        (T.events tracer.new) (map (event_at who.step who.number)
-        ((local_step who.number c).acts ++ ends_at who.number (local_step who.number c).core))) }
-    ensures grows { OnOk result (Grows machine.old who.number machine.new) }
-    ensures counted { OnOk result (CountsBelow (who.step + 1) machine.new) }
+    ensures { MovesLocally T.KEEPS who machine.old machine.new (T.events tracer.old) (T.events tracer.new)
+        result }
 {
     match request_at(machine, who.number)? {
         None => step_local(machine, who, tracer),

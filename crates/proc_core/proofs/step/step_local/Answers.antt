@@ -8,18 +8,20 @@ use Rattle.proc_core.proofs.Counts.{fewer_next}
 use Rattle.proc_core.proofs.Machines.{ends_same, told_more}
 use Rattle.proc_core.proofs.step.step_local.Goals as goal
 
-pub returns-clause-told : goal.returns-clause-told
-returns-clause-told g c = λ core is.
+pub returns : goal.returns
+returns g c =
     let who = c.args.who in
     let mid = g.T.Tracer.events c.execute_local.new.tracer in
     let new = g.T.Tracer.events c.tell_status.new.tracer in
     let status : c.status_in.result ≡ slot_status_in c.execute_local.new.machine.processes.items c.args.who.number = search rules in
-    told_more g.T.Tracer.KEEPS (g.T.Tracer.events c.args.tracer.now) mid new who.step who.number (local_step who.number core).acts
-    (ends_at who.number (local_step who.number core).core) (c.in_ok-execute_local.ensures.told core is)
-    (subst (λ (acts : List Act). AppendsEvents g.T.Tracer.KEEPS mid new (map (event_at who.step who.number) acts))
-    (ap status_acts status ∙ ends_same c.execute_local.new.machine who.number (local_step who.number core).core (c.in_ok-execute_local.ensures.core core is))
-    c.in_ok-tell_status.ensures)
-
-pub returns-clause-counted : goal.returns-clause-counted
-returns-clause-counted g c =
-    fewer_next c.execute_local.new.machine c.args.who.step (c.in_ok-execute_local.ensures.counted c.args.who.step c.requires.counted)
+    record {
+      core = c.in_ok-execute_local.ensures.core;
+      told = λ core is.
+          told_more g.T.Tracer.KEEPS (g.T.Tracer.events c.args.tracer.now) mid new who.step who.number (local_step who.number core).acts
+          (ends_at who.number (local_step who.number core).core) (c.in_ok-execute_local.ensures.told core is)
+          (subst (λ (acts : List Act). AppendsEvents g.T.Tracer.KEEPS mid new (map (event_at who.step who.number) acts))
+          (ap status_acts status ∙ ends_same c.execute_local.new.machine who.number (local_step who.number core).core (c.in_ok-execute_local.ensures.core core is))
+          c.in_ok-tell_status.ensures);
+      grows = c.in_ok-execute_local.ensures.grows;
+      counted = fewer_next c.execute_local.new.machine c.args.who.step (c.in_ok-execute_local.ensures.counted c.args.who.step c.requires.counted);
+    }
