@@ -165,6 +165,27 @@ fn run_over<D: Database>(rt: &impl Abort, alloc: Global, db: D) -> Result<(D, Ev
     }
 }
 
+// How many processes the outcome of the run has: of a copy first, and then of the run's own parts.
+fn processes_twice(rt: &impl Abort, alloc: Global) -> Result<(usize, usize), AllocError> {
+    let world = world_of_text(rt, alloc, WORLD);
+    let log = reply_log(rt, alloc)?;
+    let begun = begin(alloc, world, log)?;
+    match begun.to_end(BUDGET) {
+        Ok(ended) => {
+            let copy = ended.outcome()?;
+            let own = ended.into_outcome()?;
+            Ok((copy.processes.len(), own.processes.len()))
+        }
+        Err(_) => panic!(rt; "no end"),
+    }
+}
+
+#[test]
+fn outcome_leaves_the_run(rt: HostRuntime) -> Result<(), Fail> {
+    assert_eq!(rt; processes_twice(&rt, rt.alloc())?, (2, 2));
+    Ok(())
+}
+
 // A line of a question: its step, its process, its number, and how many tables, rows and versions it has.
 fn add_question(text: &mut String, event: &Event) -> Result<(), AllocError> {
     match &event.act {
