@@ -10,7 +10,7 @@ use Rattle.run_model.specs.Core.{lookup, Process, Core, new_process}
 use Rattle.run_model.specs.Schedule.{still_runs, waits_for, is_waiting, is_runnable, runnable_from, runnable_processes}
 use Rattle.ready_set.specs.Ready.{numbers_from, numbers}
 use Rattle.proc_core.specs.inner.Flags.{runnable_flags, awaited_by, awaited_child}
-use Rattle.proc_core.specs.FlagsLaw.{IsAt, OthersPass, GoesOn, Ends, EndsUnder, Wakes, Spawns, NewRuns}
+use Rattle.proc_core.specs.FlagsLaw.{IsAt, OthersPass, GoesOn, EndsUnawaited, EndsUnder, Wakes, Spawns, NewRuns}
 
 -- ---- the list
 
@@ -207,7 +207,7 @@ runnable-goes_on ps number p q is same = replaced ps number p q is (λ k r apart
       | inr apart ↦ ap still_runs (get-set_other ps number j q apart)
     ]
 
-pub ends : Ends
+pub ends : EndsUnawaited
 ends ps number status p q is end others = ended ps number p q is status end others
 
 pub ends_under : EndsUnder

@@ -23,8 +23,8 @@ GoesOn = (processes : List Process) (number : ℕ) (p q : Process)
     ≡ slice_set (runnable_flags processes) number (is_runnable (slice_set processes number q) q)
 
 -- a process ends, and none waits for it
-abbrev pub Ends : Type 0
-Ends = (processes : List Process) (number status : ℕ) (p q : Process)
+abbrev pub EndsUnawaited : Type 0
+EndsUnawaited = (processes : List Process) (number status : ℕ) (p q : Process)
     → IsAt number p processes → q.status ≡ Some status
     → OthersPass (λ r k. awaited_child r ≢ Some number) number processes
     → runnable_flags (slice_set processes number q) ≡ slice_set (runnable_flags processes) number false
@@ -62,7 +62,7 @@ pub record FlagsLaw : Type 0 where
   -- the sorted list of the numbers whose flags are set is that of the runnable processes
   pub runs : (c : Core) → numbers (runnable_flags c.processes) ≡ runnable_processes c
   pub goes_on : GoesOn
-  pub ends : Ends
+  pub ends : EndsUnawaited
   pub ends_under : EndsUnder
   pub wakes : Wakes
   pub spawns : Spawns
