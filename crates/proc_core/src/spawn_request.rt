@@ -73,7 +73,10 @@ fn request_of_process(
 }
 
 /// What the next step of a process says, where that is a `spawn`.
-pub(crate) fn request_at(machine: &Machine, number: usize) -> Result<Option<SpawnRequest>, AllocError>
+pub(crate) fn request_at(
+    machine: &Machine,
+    number: usize,
+) -> Result<Option<SpawnRequest>, AllocError>
     ensures said { IfOk result (λ said. said ≡ slot_request_at machine.now number) }
     ensures within { IfOk result (λ said. OnSome said (number < length machine.now.processes.items)) }
     ensures room { IfOk result (λ said. OnSome said

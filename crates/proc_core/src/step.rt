@@ -144,7 +144,12 @@ fn divergence_of(process: &SlotProcess) -> Result<Stopped, AllocError>
 }
 
 // Gives the process of a number the reply to its statement, and counts the statement.
-fn give_reply(machine: &mut Machine, number: usize, cursor: usize, reply: Reply) -> Result<(), AllocError>
+fn give_reply(
+    machine: &mut Machine,
+    number: usize,
+    cursor: usize,
+    reply: Reply,
+) -> Result<(), AllocError>
     requires within { number < length machine.old.processes.items }
     requires counted { machine.old.asked + 1 < 2 ^ 32 }
     requires room { HasRoom (slice_get machine.old.processes.items number) }
