@@ -1,4 +1,4 @@
-//! `join`: from two packages to what they are joined to.
+//! `join`: from two packages to what they are joined to. No list of their events is made.
 
 ghost use Rattle.std.specs.Prelude.{◌≡◌, ◌≤◌, length, map, string_bytes, IfOk, IfSome, MatchOption, None, Some};
 ghost use Rattle.std.specs.Int.{w32};
@@ -6,7 +6,10 @@ ghost use Rattle.std.specs.Option.{option_map};
 ghost use Rattle.ldv_value.specs.Limits.{input_limit};
 ghost use Rattle.package_join.specs.Joined.{joined_of};
 ghost use Rattle.package_join.specs.Layout.{joined_spelling};
+ghost use Rattle.package_join.specs.RunJoins.{whole_join};
 ghost use Rattle.package_layout.specs.Fields.{number_at, sized_at};
+ghost use Rattle.package_layout.specs.RunPackages.{expanded_package};
+ghost use Rattle.package_layout.specs.Runs.{IsCut};
 ghost use Rattle.package_layout.specs.Valid.{reading};
 ghost use Rattle.run_model.specs.declared.package.Mode.TheVariants.{Included};
 ghost use Rattle.ldv_top.specs.Due.{response_due, due_spelling};
@@ -18,9 +21,9 @@ ghost use Rattle.ldv_top.specs.WordsOfJoins.{join_of};
 use crate::command::Command;
 use crate::response::Response;
 use ldv_value::Bytes;
-use package_join::{JoinStop, Joined, join_owned, spell_joined};
-use package_layout::{Cursor, DamageKind, PackageStop, SpellStop, read_package};
-use run_model::{Mode, Package};
+use package_join::{JoinStop, RunJoined, join_runs, spell_cuts};
+use package_layout::{Cursor, DamageKind, PackageStop, RunPackage, SpellStop, read_runs};
+use run_model::Mode;
 use std::alloc::{AllocError, Global};
 
 /// The command that the words after `join` are.
@@ -85,18 +88,19 @@ pub(crate) fn join_response(alloc: Global, input: Bytes) -> Result<Response, All
 fn inputs_response(alloc: Global, first: &[u8], second: &[u8]) -> Result<Response, AllocError>
     ensures { IfOk result (λ response. response_due response ≡ joined_inputs first.now second.now) }
 {
-    match read_package(alloc, first) {
+    match read_runs(alloc, first) {
         Ok(a) => second_response(alloc, a, second),
         Err(PackageStop::Damaged(kind)) => Ok(Response::Damaged(kind)),
         Err(PackageStop::NoMemory) => Err(AllocError),
     }
 }
 
-fn second_response(alloc: Global, a: Package, second: &[u8]) -> Result<Response, AllocError>
+fn second_response(alloc: Global, a: RunPackage, second: &[u8]) -> Result<Response, AllocError>
+    requires { IsCut a.runs }
     ensures { IfOk result (λ response. response_due response
-        ≡ due_of_reading (joined_packages a) (reading second.now)) }
+        ≡ due_of_reading (joined_packages (expanded_package a)) (reading second.now)) }
 {
-    match read_package(alloc, second) {
+    match read_runs(alloc, second) {
         Ok(b) => packages_response(alloc, a, b),
         Err(PackageStop::Damaged(kind)) => Ok(Response::Damaged(kind)),
         Err(PackageStop::NoMemory) => Err(AllocError),
@@ -104,11 +108,14 @@ fn second_response(alloc: Global, a: Package, second: &[u8]) -> Result<Response,
 }
 
 // Both have to have the needed rows.
-fn packages_response(alloc: Global, a: Package, b: Package) -> Result<Response, AllocError>
-    ensures { IfOk result (λ response. response_due response ≡ joined_packages a b) }
+fn packages_response(alloc: Global, a: RunPackage, b: RunPackage) -> Result<Response, AllocError>
+    requires first { IsCut a.runs }
+    requires second { IsCut b.runs }
+    ensures { IfOk result (λ response. response_due response
+        ≡ joined_packages (expanded_package a) (expanded_package b)) }
 {
-    match a.mode {
-        Mode::Included => match b.mode {
+    match a.bare.mode {
+        Mode::Included => match b.bare.mode {
             Mode::Included => joined_response(alloc, a, b),
             Mode::Excluded => Ok(Response::NoSuch),
         },
@@ -116,10 +123,13 @@ fn packages_response(alloc: Global, a: Package, b: Package) -> Result<Response, 
     }
 }
 
-fn joined_response(alloc: Global, a: Package, b: Package) -> Result<Response, AllocError>
-    ensures { IfOk result (λ response. response_due response ≡ due_join_bytes (joined_of a b)) }
+fn joined_response(alloc: Global, a: RunPackage, b: RunPackage) -> Result<Response, AllocError>
+    requires first { IsCut a.runs }
+    requires second { IsCut b.runs }
+    ensures { IfOk result (λ response. response_due response
+        ≡ due_join_bytes (joined_of (expanded_package a) (expanded_package b))) }
 {
-    match join_owned(alloc, a, b) {
+    match join_runs(alloc, a, b) {
         Ok(joined) => spelled_response(alloc, &joined),
         Err(JoinStop::Clash(clash)) => Ok(Response::Clash(clash)),
         Err(JoinStop::NoMemory) => Err(AllocError),
@@ -127,10 +137,13 @@ fn joined_response(alloc: Global, a: Package, b: Package) -> Result<Response, Al
 }
 
 #[tactic(auto, using(crate::proofs::RecordLaws::spelling_ends))]
-fn spelled_response(alloc: Global, joined: &Joined) -> Result<Response, AllocError>
-    ensures { IfOk result (λ response. response_due response ≡ due_spelling (joined_spelling joined.now)) }
+fn spelled_response(alloc: Global, joined: &RunJoined) -> Result<Response, AllocError>
+    requires first { IsCut joined.now.first.runs }
+    requires second { IsCut joined.now.second.runs }
+    ensures { IfOk result (λ response. response_due response
+        ≡ due_spelling (joined_spelling (whole_join joined.now))) }
 {
-    match spell_joined(alloc, joined) {
+    match spell_cuts(alloc, joined) {
         Ok(bytes) => Ok(Response::Written(bytes)),
         Err(SpellStop::TooLong) => Ok(Response::PackageTooLong),
         Err(SpellStop::NoMemory) => Err(AllocError),

@@ -8,7 +8,8 @@ ghost use Rattle.package_join.specs.Layout.{common_tables_spelling, joined_secti
 ghost use Rattle.package_join.specs.Layout.{numbers_spelling, run_spelling};
 ghost use Rattle.package_join.specs.Rooms.{TypedBareRun, TypedCommonRow, TypedCommonTable, IsTypedJoined};
 ghost use Rattle.package_join.specs.Rooms.{TypedJoinedRun, TypedNeeds, TypedRunNumbers};
-ghost use Rattle.package_join.specs.RunJoins.{both_cuts_spelling, cut_run_spelling, cut_sections};
+ghost use Rattle.package_join.specs.RunJoins.{both_cuts_spelling, cut_run_spelling, cut_sections, whole_join};
+ghost use Rattle.package_layout.specs.Runs.{IsCut};
 
 use crate::joined::{Joined, JoinedRun, Reason};
 use crate::run_joined::{CutRun, RunJoined};
@@ -164,4 +165,14 @@ pub(crate) fn encode_cut_joined(joined: &RunJoined, to: &mut Bytes) -> Result<()
     encode_list(Width::Four, &joined.files, to)?;
     encode_common_tables(&joined.tables, to)?;
     encode_both_cuts(joined, to)
+}
+
+/// The same where the runs are those of their events: the bytes are those of the joined package with its
+/// events.
+pub(crate) fn encode_cuts(joined: &RunJoined, to: &mut Bytes) -> Result<(), AllocError>
+    requires first { IsCut joined.now.first.runs }
+    requires second { IsCut joined.now.second.runs }
+    ensures { OnOk result (to.new ≡ to.old ++ joined_sections (whole_join joined.now)) }
+{
+    encode_cut_joined(joined, to)
 }

@@ -26,9 +26,9 @@ mod worlds;
 
 pub use choosing::run_of;
 pub use joined::{Clash, ClashKind, Joined, JoinedRun, Reason, Reasons, Which};
-pub use joins::{JoinStop, join, join_owned};
+pub use joins::{JoinStop, join, join_owned, join_runs};
 pub use law::{join_law, joined_round_trip_law, joined_runs_law, pick_law};
 pub use reading::{read_cuts, read_joined};
 pub use run_joined::{CutRun, RunJoined};
-pub use spelling::spell_joined;
+pub use spelling::{spell_cuts, spell_joined};
 pub use worlds::{joined_world, world_owned};
