@@ -7,10 +7,10 @@ ghost use Rattle.package_join.specs.Joined.{clash_at, clash_if, file_clash, file
 ghost use Rattle.package_join.specs.Joined.{keys_clash, rows_clash, table_clash, table_cmp};
 ghost use Rattle.package_join.specs.Merging.{first_clash};
 
+use crate::differences::{contents_differ, tables_differ, values_differ};
 use crate::joined::{Clash, ClashKind};
 use crate::key_clash::second_row;
 use crate::merging::Mergeable;
-use crate::same::{contents_differ, tables_differ, values_differ};
 use ldv_value::Utf8;
 use run_model::PackedFile;
 use sql_model::{Table, TableRow};

@@ -8,6 +8,7 @@ mod choosing;
 mod clash;
 mod copying;
 mod decoding;
+mod differences;
 mod encoding;
 mod joined;
 mod joins;
@@ -20,7 +21,6 @@ mod parts;
 mod queue;
 mod reading;
 mod run_joined;
-mod same;
 mod spelling;
 mod worlds;
 

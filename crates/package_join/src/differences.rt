@@ -1,10 +1,10 @@
 //! Whether two contents of a file, two tables or two rows differ.
 
-ghost use Rattle.std.specs.Prelude.{◌≡◌, not};
+ghost use Rattle.std.specs.Prelude.{◌≡◌, Bool, not};
 ghost use Rattle.std.specs.Cmp.Lexicographic.{pointwise};
 ghost use Rattle.sql_model.specs.Keys.{same_values};
 ghost use Rattle.package_join.specs.Joined.{tables_differ};
-ghost use Rattle.package_join.specs.Same.{contents_differ, same_column, same_foreign, same_keys, same_schema};
+ghost use Rattle.package_join.specs.Same.{contents_differ, same_keys, same_schema};
 
 use ldv_value::{Bytes, Values};
 use sql_model::{Column, Foreign, Schema, Table, compare_values};
@@ -39,39 +39,46 @@ pub(crate) fn values_differ(a: &Values, b: &Values) -> bool
 fn same_schema(a: &Schema, b: &Schema) -> bool
     ensures { result ≡ same_schema a.now b.now }
 {
-    same_columns(a.columns.items(), b.columns.items()) && same_keys(a, b)
-}
-
-fn same_columns(a: &[Column], b: &[Column]) -> bool
-    ensures { result ≡ pointwise same_column a.now b.now }
-{
-    let mut left = a;
-    let mut right = b;
-    loop {
-        match left {
-            [] => return right.is_empty(),
-            [first, rest @ ..] => match right {
-                [] => return false,
-                [second, more @ ..] => {
-                    if !same_column(first, second) {
-                        return false;
-                    }
-                    left = rest;
-                    right = more;
-                }
-            },
-        }
-    }
+    are_same(a.columns.items(), b.columns.items()) && same_keys(a, b)
 }
 
 fn same_keys(a: &Schema, b: &Schema) -> bool
     ensures { result ≡ same_keys a.now b.now }
 {
-    a.key.items() == b.key.items() && same_foreigns(a.foreign.items(), b.foreign.items())
+    a.key.items() == b.key.items() && are_same(a.foreign.items(), b.foreign.items())
 }
 
-fn same_foreigns(a: &[Foreign], b: &[Foreign]) -> bool
-    ensures { result ≡ pointwise same_foreign a.now b.now }
+// An item that is compared with another.
+trait SameAs {
+    ghost same: { Self → Self → Bool };
+
+    fn same_as(&self, other: &Self) -> bool
+        ensures { result ≡ same self.now other.now };
+}
+
+impl SameAs for Column {
+    ghost use Rattle.package_join.specs.Same.{same_column};
+
+    ghost same = { same_column };
+
+    fn same_as(&self, other: &Column) -> bool {
+        self.name.is_same(&other.name) && self.text == other.text && self.not_null == other.not_null
+    }
+}
+
+impl SameAs for Foreign {
+    ghost use Rattle.package_join.specs.Same.{same_foreign};
+
+    ghost same = { same_foreign };
+
+    fn same_as(&self, other: &Foreign) -> bool {
+        self.columns.items() == other.columns.items() && self.parent.is_same(&other.parent)
+    }
+}
+
+// Whether both have as many items, and each is the same as that in its place.
+fn are_same<X: SameAs>(a: &[X], b: &[X]) -> bool
+    ensures { result ≡ pointwise X.same a.now b.now }
 {
     let mut left = a;
     let mut right = b;
@@ -81,7 +88,7 @@ fn same_foreigns(a: &[Foreign], b: &[Foreign]) -> bool
             [first, rest @ ..] => match right {
                 [] => return false,
                 [second, more @ ..] => {
-                    if !same_foreign(first, second) {
+                    if !first.same_as(second) {
                         return false;
                     }
                     left = rest;
@@ -90,16 +97,4 @@ fn same_foreigns(a: &[Foreign], b: &[Foreign]) -> bool
             },
         }
     }
-}
-
-fn same_foreign(a: &Foreign, b: &Foreign) -> bool
-    ensures { result ≡ same_foreign a.now b.now }
-{
-    a.columns.items() == b.columns.items() && a.parent.is_same(&b.parent)
-}
-
-fn same_column(a: &Column, b: &Column) -> bool
-    ensures { result ≡ same_column a.now b.now }
-{
-    a.name.is_same(&b.name) && a.text == b.text && a.not_null == b.not_null
 }
