@@ -1,5 +1,5 @@
-use Rattle.world_json.proofs.JsonText.{json_some, json_none}
-use Rattle.world_json.proofs.parse.read_json.Goals as goal
+use Rattle.json_bytes.proofs.JsonText.{json_some, json_none}
+use Rattle.json_bytes.proofs.reading.read_json.Goals as goal
 
 pub returns-in-Ok-clause-ok : goal.returns-in-Ok-clause-ok
 returns-in-Ok-clause-ok c = json_some _ _ c.in-Ok.ensures.ok.0 c.in-Ok.ensures.ok.1
