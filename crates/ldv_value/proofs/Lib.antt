@@ -11,5 +11,6 @@ pub mod SameBytes
 pub mod Scanning
 pub mod SortedMaps
 pub mod TextOrders
+pub mod TextTests
 pub mod Utf8Parts
 pub mod ValidFiles
