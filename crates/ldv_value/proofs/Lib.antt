@@ -2,6 +2,7 @@ pub mod Booleans
 pub mod Cases
 pub mod FileLaws
 pub mod FileLists
+pub mod FirstItems
 pub mod ItemLists
 pub mod Lists
 pub mod Options

@@ -1,6 +1,5 @@
 -- The events of runs are of their types and have room where the runs have, and the other way round: runs as a field of a package.
-use Rattle.std.proofs.Common.{◌≡◌, ℕ, zero, suc, ◌+◌, ◌-◌, ◌*◌, ◌^◌, ◌<◌, ◌≤◌, Bool, true, false, cond, not, List, [], ◌∷◌, ◌++◌, length, map, Some, None, refl, sym, ap, subst, ◌∙◌, append_assoc, arith, inl, inr, ◌&&◌, suc-mul, get_or, take, drop}
-use Rattle.std.proofs.Math.Seq.{take-length}
+use Rattle.std.proofs.Common.{◌≡◌, ℕ, zero, suc, ◌+◌, ◌-◌, ◌*◌, ◌^◌, ◌<◌, ◌≤◌, Bool, true, false, cond, not, List, [], ◌∷◌, ◌++◌, length, map, Some, None, refl, sym, ap, subst, ◌∙◌, append_assoc, arith, inl, inr, ◌&&◌, suc-mul}
 use Rattle.std.specs.Prelude.{◌==◌, nat_le}
 use Rattle.std.specs.List.{flat_map, list_all, AllByRecursion}
 use Rattle.std.proofs.lemmas.Bool.{not-true, leb-true, le-leb, eqb-true, ne_eqb}
@@ -240,15 +239,6 @@ due_next to new all b left e es is off wrote due =
     subst (λ (rs : List Run). to ++ flat_map run_spelling rs ≡ all) (ap (runs_from b) is ∙ step) due in
     ap (λ (l : List ℕ). l ++ flat_map run_spelling (runs_from (run_of_one e) es)) wrote
     ∙ append_assoc to (run_spelling b.run) (flat_map run_spelling (runs_from (run_of_one e) es)) ∙ was
-
--- a list whose first item is x; same is the list, as a slice of it names it
-pub head_of : {X : Type 0} (rest same : List X) (x : X) → 1 ≤ length rest → x ≡ get_or rest 0 x → same ≡ rest
-    → rest ≡ x ∷ take (length same - 1) (drop 1 rest)
-head_of [] same x some first is = absurd (omega (arith, some))
-head_of (y ∷ ys) same x some first is =
-    let size : length same - 1 ≡ length ys = omega (arith, ap length is) in
-    let all : take (length ys) ys ≡ ys = take-length ys in
-    λ j. sym first j ∷ (sym all ∙ ap (λ (n : ℕ). take n ys) (sym size)) j
 
 -- those that are left are good exactly where all are, if the first one is
 pub good_next : (left : List Run) (r : Run) (rs : List Run) (all : Bool) → left ≡ r ∷ rs → is_run r ≡ true → stops_before r rs ≡ true
