@@ -2,9 +2,9 @@
 
 use crate::codec::{Decode, Encode, decode_items, encode_items, encode_list};
 use crate::cursor::Cursor;
+use crate::decode_by::{DecodeBy, decode_rows};
 use crate::decode_error::DecodeError;
 use crate::number::decode_u32;
-use crate::rows::{DecodeRow, decode_rows};
 use crate::table::{decode_schema, encode_schema};
 use crate::text::{decode_text, encode_text};
 use crate::version::Version;
@@ -26,12 +26,12 @@ impl Encode for TableRow {
     }
 }
 
-impl DecodeRow for TableRow {
+impl DecodeBy<usize> for TableRow {
     ghost use Rattle.package_layout.specs.CommonTables.{common_row_at};
 
     ghost reading = { common_row_at };
 
-    fn decode_row(
+    fn decode_by(
         alloc: Global,
         columns: usize,
         cursor: &mut Cursor,

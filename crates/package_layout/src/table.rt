@@ -12,9 +12,9 @@ ghost use Rattle.package_layout.specs.Typed.{TypedForeign, TypedSchema, TypedTab
 
 use crate::codec::{Decode, Encode, decode_items, decode_list, encode_items, encode_list};
 use crate::cursor::Cursor;
+use crate::decode_by::{DecodeBy, decode_list_by, decode_rows};
 use crate::decode_error::DecodeError;
-use crate::number::{decode_u8, decode_u16, decode_u32, encode_count, encode_u8, encode_u32};
-use crate::rows::{DecodeRow, decode_rows};
+use crate::number::{decode_u8, decode_u32, encode_count, encode_u8, encode_u32};
 use crate::text::{decode_text, encode_text};
 use crate::version::Version;
 use crate::width::Width;
@@ -149,12 +149,12 @@ pub fn decode_reason(cursor: &mut Cursor) -> Result<(u32, Rule), DecodeError>
     Ok((statement, rule))
 }
 
-impl DecodeRow for PackedRow {
+impl DecodeBy<usize> for PackedRow {
     ghost use Rattle.package_layout.specs.Reading.{row_at};
 
     ghost reading = { row_at };
 
-    fn decode_row(
+    fn decode_by(
         alloc: Global,
         columns: usize,
         cursor: &mut Cursor,
@@ -304,23 +304,27 @@ fn encode_table(version: Version, table: &PackedTable, to: &mut Bytes) -> Result
     encode_list(Width::Four, &table.rows, to)
 }
 
-fn decode_table(
-    alloc: Global,
-    version: Version,
-    cursor: &mut Cursor,
-) -> Result<PackedTable, DecodeError>
-    ensures { Decodes result cursor.new (table_at version cursor.old) }
-{
-    let name = decode_text(alloc, cursor)?;
-    let schema = decode_schema(alloc, version, cursor)?;
-    let next = decode_u32(cursor)?;
-    let rows = decode_rows(alloc, &schema.columns, cursor)?;
-    Ok(PackedTable {
-        name,
-        schema,
-        next,
-        rows,
-    })
+impl DecodeBy<Version> for PackedTable {
+    ghost use Rattle.package_layout.specs.Reading.{table_at};
+
+    ghost reading = { table_at };
+
+    fn decode_by(
+        alloc: Global,
+        version: Version,
+        cursor: &mut Cursor,
+    ) -> Result<PackedTable, DecodeError> {
+        let name = decode_text(alloc, cursor)?;
+        let schema = decode_schema(alloc, version, cursor)?;
+        let next = decode_u32(cursor)?;
+        let rows = decode_rows(alloc, &schema.columns, cursor)?;
+        Ok(PackedTable {
+            name,
+            schema,
+            next,
+            rows,
+        })
+    }
 }
 
 /// Appends tables: their number and the tables.
@@ -358,22 +362,5 @@ pub(crate) fn decode_tables(
 ) -> Result<PackedTables, DecodeError>
     ensures { Decodes result cursor.new (list_at w16 (table_at version) cursor.old) }
 {
-    let count = decode_u16(cursor)?;
-    decode_some_tables(alloc, version, count, cursor)
-}
-
-fn decode_some_tables(
-    alloc: Global,
-    version: Version,
-    count: u16,
-    cursor: &mut Cursor,
-) -> Result<PackedTables, DecodeError>
-    ensures { Decodes result cursor.new (items_at (table_at version) count cursor.old) }
-{
-    let mut tables = List::new(alloc);
-    for _turn in 0..count {
-        let table = decode_table(alloc, version, cursor)?;
-        tables.push(table)?;
-    }
-    Ok(tables)
+    decode_list_by(alloc, Width::Two, version, cursor)
 }
