@@ -1,6 +1,6 @@
 //! `join`: from two packages to what they are joined to. No list of their events is made.
 
-ghost use Rattle.std.specs.Prelude.{◌≡◌, ◌≤◌, length, map, string_bytes, IfOk, IfSome, MatchOption, None, Some};
+ghost use Rattle.std.specs.Prelude.{◌≡◌, ◌≤◌, length, map, string_bytes, IfOk, IfSome, MatchOption, None, Ok, Some};
 ghost use Rattle.std.specs.Int.{w32};
 ghost use Rattle.std.specs.Option.{option_map};
 ghost use Rattle.ldv_value.specs.Limits.{input_limit};
@@ -13,8 +13,8 @@ ghost use Rattle.package_layout.specs.Runs.{IsCut};
 ghost use Rattle.package_layout.specs.Valid.{reading};
 ghost use Rattle.run_model.specs.declared.package.Mode.TheVariants.{Included};
 ghost use Rattle.ldv_top.specs.Due.{response_due, due_spelling};
-ghost use Rattle.ldv_top.specs.DueOfJoins.{due_join, due_join_bytes, joined_inputs, joined_packages, pair_in};
-ghost use Rattle.ldv_top.specs.DueParts.{due_of_reading};
+ghost use Rattle.ldv_top.specs.DueOfJoins.{PairReadsAs, both_read, due_join, due_join_bytes, joined_packages};
+ghost use Rattle.ldv_top.specs.DueOfJoins.{pair_in, pair_reading};
 ghost use Rattle.ldv_top.specs.Words.{IsBounded};
 ghost use Rattle.ldv_top.specs.WordsOfJoins.{join_of};
 
@@ -74,36 +74,60 @@ fn pair_in<'a>(input: &'a [u8]) -> Option<(&'a [u8], &'a [u8])>
     }
 }
 
-/// The response of `join` to an input.
+/// The response of `join` to an input, which isn't kept while the packages are joined.
 pub(crate) fn join_response(alloc: Global, input: Bytes) -> Result<Response, AllocError>
     requires short { length input ≤ input_limit }
     ensures { IfOk result (λ response. response_due response ≡ due_join input) }
 {
-    match pair_in(input.as_slice()) {
-        Some((first, second)) => inputs_response(alloc, first, second),
-        None => Ok(Response::Damaged(DamageKind::Form)),
+    match read_pair(alloc, input) {
+        Ok((a, b)) => packages_response(alloc, a, b),
+        Err(PackageStop::Damaged(kind)) => Ok(Response::Damaged(kind)),
+        Err(PackageStop::NoMemory) => Err(AllocError),
     }
 }
 
-fn inputs_response(alloc: Global, first: &[u8], second: &[u8]) -> Result<Response, AllocError>
-    ensures { IfOk result (λ response. response_due response ≡ joined_inputs first.now second.now) }
+// Both packages that the input is made of. The call drops it.
+fn read_pair(alloc: Global, input: Bytes) -> Result<(RunPackage, RunPackage), PackageStop>
+    ensures due { PairReadsAs result (pair_reading (pair_in input)) }
+    ensures first_cut { IfOk result (λ pair. IsCut pair.0.runs) }
+    ensures second_cut { IfOk result (λ pair. IsCut pair.1.runs) }
+{
+    match pair_in(input.as_slice()) {
+        Some((first, second)) => read_both(alloc, first, second),
+        None => Err(PackageStop::Damaged(DamageKind::Form)),
+    }
+}
+
+fn read_both(
+    alloc: Global,
+    first: &[u8],
+    second: &[u8],
+) -> Result<(RunPackage, RunPackage), PackageStop>
+    ensures due { PairReadsAs result (both_read (reading first.now) (reading second.now)) }
+    ensures first_cut { IfOk result (λ pair. IsCut pair.0.runs) }
+    ensures second_cut { IfOk result (λ pair. IsCut pair.1.runs) }
 {
     match read_runs(alloc, first) {
-        Ok(a) => second_response(alloc, a, second),
-        Err(PackageStop::Damaged(kind)) => Ok(Response::Damaged(kind)),
-        Err(PackageStop::NoMemory) => Err(AllocError),
+        Ok(a) => read_second(alloc, a, second),
+        Err(PackageStop::Damaged(kind)) => Err(PackageStop::Damaged(kind)),
+        Err(PackageStop::NoMemory) => Err(PackageStop::NoMemory),
     }
 }
 
-fn second_response(alloc: Global, a: RunPackage, second: &[u8]) -> Result<Response, AllocError>
+fn read_second(
+    alloc: Global,
+    a: RunPackage,
+    second: &[u8],
+) -> Result<(RunPackage, RunPackage), PackageStop>
     requires { IsCut a.runs }
-    ensures { IfOk result (λ response. response_due response
-        ≡ due_of_reading (joined_packages (expanded_package a)) (reading second.now)) }
+    ensures due { PairReadsAs result (both_read (Ok (expanded_package a)) (reading second.now)) }
+    ensures first_cut { IfOk result (λ pair. IsCut pair.0.runs) }
+    ensures second_cut { IfOk result (λ pair. IsCut pair.1.runs) }
 {
     match read_runs(alloc, second) {
-        Ok(b) => packages_response(alloc, a, b),
-        Err(PackageStop::Damaged(kind)) => Ok(Response::Damaged(kind)),
-        Err(PackageStop::NoMemory) => Err(AllocError),
+        Ok(b) => Ok((a, b)),
+        Err(PackageStop::Damaged(kind)) => Err(PackageStop::Damaged(kind)),
+        Err(PackageStop::NoMemory) => Err(PackageStop::NoMemory),
     }
 }
 
