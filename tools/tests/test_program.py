@@ -254,6 +254,12 @@ class Script(InFolder):
         self.assertIn(b"none is no program", err)
 
 
+def with_digest(body):
+    """The bytes of some hex digits, followed by their digest."""
+    data = bytes.fromhex(body)
+    return data + hashlib.sha256(data).digest()
+
+
 def within_64_mib():
     """Lets this process have 64 MiB of addresses."""
     resource.setrlimit(resource.RLIMIT_AS, (64 << 20, 64 << 20))
@@ -394,9 +400,9 @@ class Program(InFolder):
     def test_memory_of_runs(self):
         """A few bytes that stand for more events than a package may have are refused within 64 MiB, so before
         an event is made of them. Of as many as may be, only a report on events makes them."""
-        head = ("4c44565041434b32 01 0001 000000046d61696e 0000000000000000 00989680 00000001 "
-                "000000046d61696e 01 00000000"
-                "0000 00000000 00000002 00000000 00000000 00 000000046d61696e 00000001 00000000")
+        files = "00000001 000000046d61696e 01 00000000"
+        head = f"4c44565041434b32 01 0001 000000046d61696e 0000000000000000 00989680 {files} 0000 00000000"
+        first = "00000002 00000000 00000000 00 000000046d61696e 00000001 00000000"
         # The steps, from byte 27 on, are 00989680 here, and a script of no line has one.
         answers = {"replay": (0, b"outcome 1 0\nprocess 0 0 0 0\n\n", b""),
                    "audit": (0, b"unsound 28\n", b""),
@@ -404,11 +410,18 @@ class Program(InFolder):
                    "table t 0": (10, b"", b"ldv: no such item\n"),
                    "inspect why t 0": (11, b"", b"ldv: out of memory\n")}
         refused = (8, b"", b"ldv: damaged: form\n")
+        # What it is joined to with itself: the file once, and each run with the one path that it needs whole.
+        shared = f"4c44564a4f494e31 {files} 0000"
+        needs = "00000001 000000046d61696e 00000000 0000 00000000"
         for count in (20_000_000, 20_000_001, 2 ** 32 - 1):
-            data = bytes.fromhex(head + "00000001 00000000 08 00000001 66" + f"{count:08x} 00000000")
-            data += hashlib.sha256(data).digest()
-            for words, answer in [*answers.items(), ("migrate", (0, data, b""))]:
-                done = subprocess.run([support.PROGRAM, *words.split()], input=data, capture_output=True,
+            trace = f"{first} 00000001 00000000 08 00000001 66 {count:08x} 00000000"
+            data = with_digest(f"{head} {trace}")
+            run = f"0001 000000046d61696e 0000000000000000 00989680 {needs} {trace}"
+            twice = (len(data).to_bytes(4, "big") + data) * 2
+            for words, answer, given in [*((words, answer, data) for words, answer in answers.items()),
+                                         ("migrate", (0, data, b""), data),
+                                         ("join", (0, with_digest(f"{shared} {run} {run}"), b""), twice)]:
+                done = subprocess.run([support.PROGRAM, *words.split()], input=given, capture_output=True,
                                       preexec_fn=within_64_mib, check=False)
                 self.assertEqual((done.returncode, done.stdout, done.stderr),
                                  answer if count == 20_000_000 else refused, (count, words))

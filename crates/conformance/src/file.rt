@@ -3,7 +3,8 @@
 ghost use Rattle.std.specs.Prelude.{◌≢◌, [], IsErr, IfOk};
 
 use crate::case::{Case, CaseFault, read_case};
-use serde_json::{Category, Value};
+use json_bytes::{JsonStop, read_json};
+use serde_json::Value;
 use std::alloc::{AllocError, Global};
 use std::io::ErrorKind;
 use std::{fmt, io};
@@ -26,6 +27,15 @@ pub(crate) enum FileFault {
 impl From<AllocError> for FileFault {
     fn from(_refused: AllocError) -> FileFault {
         FileFault::NoMemory
+    }
+}
+
+impl From<JsonStop> for FileFault {
+    fn from(stop: JsonStop) -> FileFault {
+        match stop {
+            JsonStop::NotJson => FileFault::NotJson,
+            JsonStop::NoMemory => FileFault::NoMemory,
+        }
     }
 }
 
@@ -70,16 +80,6 @@ fn read_cases(alloc: Global, bytes: &[u8]) -> Result<Vec<Case>, FileFault>
         return Err(FileFault::NoCase);
     }
     Ok(cases)
-}
-
-fn read_json(alloc: Global, bytes: &[u8]) -> Result<Value, FileFault> {
-    match Value::from_slice(alloc, bytes) {
-        Ok(value) => Ok(value),
-        Err(error) => match error.classify() {
-            Category::Memory => Err(FileFault::NoMemory),
-            _ => Err(FileFault::NotJson),
-        },
-    }
 }
 
 fn read_items(alloc: Global, items: Vec<Value>) -> Result<Vec<Case>, FileFault> {

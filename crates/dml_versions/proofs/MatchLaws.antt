@@ -18,8 +18,9 @@ use Rattle.sql_model.proofs.NewNumbers.{row_precedes}
 use Rattle.table_store.specs.Histories.{history_at, rows_now, last_next_number}
 use Rattle.table_store.specs.RowOrder.{AreInOrder}
 use Rattle.table_store.specs.Stops.{with_changed}
+use Rattle.ldv_value.proofs.ItemLists.{all_filter}
 use Rattle.dml_versions.proofs.NumberLaws.{AreSorted}
-use Rattle.dml_versions.proofs.StandingLaws.{IsStanding, version-is, all-stand, all-filter}
+use Rattle.dml_versions.proofs.StandingLaws.{IsStanding, version-is, all-stand}
 use Rattle.dml_versions.specs.Finding.{found_row, version_of}
 use Rattle.dml_versions.specs.Needing.{need_found, updated_member}
 use Rattle.dml_versions.specs.Types.{L, Table, TableRow, StoreHistory, TableHistory}
@@ -70,7 +71,7 @@ module _ (store : StoreHistory) (name : List ℕ) (table : TableHistory) (found 
   AllStand rows = AllByRecursion (λ row. IsStanding table.slots row.number) rows
 
   pub matched-stand : (test : TableRow → Bool) → AllStand (filter test (rows_now table.slots))
-  matched-stand test = all-filter (λ (row : TableRow). IsStanding table.slots row.number) test (rows_now table.slots) (all-stand table.slots (last_next_number table.nexts) order)
+  matched-stand test = all_filter (λ (row : TableRow). IsStanding table.slots row.number) test (rows_now table.slots) (all-stand table.slots (last_next_number table.nexts) order)
 
   module _ (t : Table) (named : t.name ≡ name) (rows : List TableRow) (stand : AllStand rows) where
     version_at : (row : TableRow) → IsStanding table.slots row.number → version_of table.slots row.number ≡ versions_now store t.name row.number

@@ -1,6 +1,6 @@
 -- Rows that stand, by their numbers.
 use Rattle.std.proofs.Common.{◌≡◌, ◌==◌, ℕ, ◌<◌, inl, inr, Bool, true, false, List, [], ◌∷◌, length, get_or, refl, ap, sym, ◌∙◌, subst, Option, Some, None, is_some}
-use Rattle.std.specs.Prelude.{filter, unwrap_or, ◌-◌, if◌then◌else◌}
+use Rattle.std.specs.Prelude.{unwrap_or, ◌-◌, if◌then◌else◌}
 use Rattle.std.specs.List.{list_any, AllByRecursion}
 use Rattle.ldv_value.proofs.Cases.{cases-bool}
 use Rattle.ldv_value.proofs.Lists.{all-weaker}
@@ -71,11 +71,3 @@ module _ (slots : List RowHistory) (next : ℕ) (order : AreInOrder slots next) 
         | inl hit ↦ subst (λ (n : ℕ). IsStanding slots n) (nat_eq-true row.number number hit) all.0
         | inr miss ↦ among rows all.1 (rw miss at there)
       ]
-
--- what holds of all rows holds of those that pass a test
-pub all-filter : {X : Type 0} (P : X → Type 0) (test : X → Bool) (xs : List X) → AllByRecursion P xs → AllByRecursion P (filter test xs)
-all-filter P test [] all = tt
-all-filter P test (x ∷ xs) all = elim (cases-bool (test x)) [
-  | inl hit ↦ rw hit (all.0, all-filter P test xs all.1)
-  | inr miss ↦ rw miss (all-filter P test xs all.1)
-]

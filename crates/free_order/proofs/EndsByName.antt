@@ -16,7 +16,7 @@ use Rattle.run_model.specs.Core.{Process, Core}
 use Rattle.run_model.specs.LogDatabase.{LogDatabase}
 use Rattle.run_model.specs.Outcome.{insert_by_name, by_name, outcome_of_process, outcome_of}
 use Rattle.run_model.specs.State.{State}
-use Rattle.sql_laws.proofs.ItemLists.{all_of_map}
+use Rattle.ldv_value.proofs.ItemLists.{all_of_map}
 use Rattle.run_laws.proofs.ProcessNames.{name_of, names, Distinct}
 use Rattle.run_laws.proofs.SortedNames.{goes_first, sorted_all, names_sorted, Apart}
 use Rattle.free_order.proofs.Boards.{Solo, Board}

@@ -28,7 +28,7 @@ use Rattle.run_model.specs.StepReplies.{ask, row_count, status_value}
 use Rattle.run_model.specs.StepVariables.{calculation, concatenation, to_number, printed_line, exit_status}
 use Rattle.run_laws.proofs.ProcessNames.{name_of, names, names_set, Distinct, Named, child_named}
 use Rattle.run_laws.proofs.ProcessPlaces.{set_there, set_other, set_length, found_all, set_all}
-use Rattle.sql_laws.proofs.ItemLists.{all_append}
+use Rattle.ldv_value.proofs.ItemLists.{all_append}
 use Rattle.run_laws.proofs.Askers.{next_named}
 use Rattle.run_laws.proofs.LogEntries.{left_after, left_other}
 use Rattle.free_order.proofs.Boards.{Solo, Board, Use, use_of, Change, Still, Sets, Deed, Move, opens_unless, opens, reads, writes_where, room_for, writes, rest_of, copies_where, copies, removes_where, removes, tests, noting, plain, moved, child_name, spawns_script, script_in, spawns_file, spawns, waits_until, waits, asks_next, asks, stopping, taking, deed_of, deed_by, next_of, deed, free_for, is_free, born_count, applied, May, status_of}

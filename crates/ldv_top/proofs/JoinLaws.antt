@@ -29,7 +29,7 @@ use Rattle.ldv_top.specs.Due.{due_world}
 use Rattle.ldv_top.specs.DueOfJoins.{due_join_bytes, pair_in}
 use Rattle.ldv_top.specs.TwoRuns.{AnyJoinedLaw, AreTwo, PairLaw, TwoRunsLaw, included_of, its_due, its_steps, two_joined}
 use Rattle.ldv_top.proofs.HeadlineLaw.{same_due}
-use Rattle.ldv_top.proofs.JoinResponses.{both_found, first_due, pair_due, run_due, second_due}
+use Rattle.ldv_top.proofs.JoinResponses.{both_found, pair_due, pair_read, run_due}
 use Rattle.ldv_top.proofs.ReadBack.{ReadAgain, ShortCounted, read_back}
 
 -- ---- the input of both
@@ -99,9 +99,7 @@ module _ (again : ReadAgain) (counted : ShortCounted) (valid : ValidPackageLaw) 
       let first : reading (spelling a) ≡ Ok a = package_read n v two.first_valid two.first_bounded two.first_ends pair.first_short in
       let second : reading (spelling b) ≡ Ok b = package_read m w two.second_valid two.second_bounded two.second_ends pair.second_short in
       let found : pair_in input ≡ Some (spelling a, spelling b) = ap pair_in pair.same ∙ two_read (spelling a) (spelling b) pair.first_short pair.second_short in
-      sym (pair_due input (spelling a) (spelling b) pair.short (sym found))
-      ∙ sym (first_due a (spelling a) (spelling b) first)
-      ∙ sym (second_due a b (spelling b) second)
+      sym (pair_due input a b pair.short (pair_read input (spelling a) (spelling b) a b found first second))
       ∙ ap due_join_bytes (joined_two n m v w two).joined
 
   pub two_runs_law : TwoRunsLaw

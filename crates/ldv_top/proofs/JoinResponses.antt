@@ -5,7 +5,6 @@ use Rattle.std.specs.Int.{w32}
 use Rattle.ldv_value.specs.Limits.{input_limit}
 use Rattle.run_model.specs.declared.package.Package.{Package}
 use Rattle.package_layout.specs.declared.damage.DamageKind.{DamageKind}
-use Rattle.package_layout.specs.declared.damage.DamageKind.TheVariants.{Form}
 use Rattle.package_layout.specs.Fields.{DecodeResult, ◌>>=◌, bytes_at, number_at, sized_at}
 use Rattle.package_layout.specs.Valid.{reading}
 use Rattle.package_join.specs.declared.joined.Joined.{Joined}
@@ -14,8 +13,8 @@ use Rattle.package_join.specs.Valid.{joined_reading}
 use Rattle.package_join.specs.Worlds.{joined_world}
 use Rattle.ldv_top.specs.declared.exit.Exit.TheVariants.{Damaged}
 use Rattle.ldv_top.specs.Due.{due_replay_run, due_world, replayed_run}
-use Rattle.ldv_top.specs.DueOfJoins.{due_join, joined_inputs, joined_packages, joined_pair, pair_in}
-use Rattle.ldv_top.specs.DueParts.{due_of_reading, due_refusal}
+use Rattle.ldv_top.specs.DueOfJoins.{both_read, due_join, due_of_pair, joined_packages, pair_in, pair_reading}
+use Rattle.ldv_top.specs.DueParts.{due_refusal}
 use Rattle.ldv_top.proofs.RecordLaws.{not_too_long}
 
 -- ---- the two of the input
@@ -72,24 +71,13 @@ pub ruleset pairs = (no_first, no_second, both_found, bytes_left)
 
 -- ---- what is due
 
-pub pair_due : (input first second : List ℕ) → length input ≤ input_limit → Some (first, second) ≡ pair_in input → joined_inputs first second ≡ due_join input
-pair_due input first second short is = rw (not_too_long input short) (ap joined_pair is)
+pub pair_due : (input : List ℕ) (a b : Package) → length input ≤ input_limit → pair_reading (pair_in input) ≡ Ok (a, b)
+    → joined_packages a b ≡ due_join input
+pair_due input a b short is = rw (not_too_long input short) (sym (ap due_of_pair is))
 
-pub no_pair_due : (input : List ℕ) → length input ≤ input_limit → None ≡ pair_in input → due_refusal (Damaged Form) ≡ due_join input
-no_pair_due input short is = rw (not_too_long input short) (ap joined_pair is)
-
-pub first_due : (a : Package) (first second : List ℕ) → reading first ≡ Ok a → due_of_reading (joined_packages a) (reading second) ≡ joined_inputs first second
-first_due a first second is = sym (ap (due_of_reading (λ (p : Package). due_of_reading (joined_packages p) (reading second))) is)
-
-pub first_damaged : (kind : DamageKind) (first second : List ℕ) → reading first ≡ Err kind → due_refusal (Damaged kind) ≡ joined_inputs first second
-first_damaged kind first second is = sym (ap (due_of_reading (λ (p : Package). due_of_reading (joined_packages p) (reading second))) is)
-
-pub second_due : (a b : Package) (second : List ℕ) → reading second ≡ Ok b → joined_packages a b ≡ due_of_reading (joined_packages a) (reading second)
-second_due a b second is = sym (ap (due_of_reading (joined_packages a)) is)
-
-pub second_damaged : (a : Package) (kind : DamageKind) (second : List ℕ) → reading second ≡ Err kind
-    → due_refusal (Damaged kind) ≡ due_of_reading (joined_packages a) (reading second)
-second_damaged a kind second is = sym (ap (due_of_reading (joined_packages a)) is)
+pub pair_read : (input first second : List ℕ) (a b : Package) → pair_in input ≡ Some (first, second) → reading first ≡ Ok a → reading second ≡ Ok b
+    → pair_reading (pair_in input) ≡ Ok (a, b)
+pair_read input first second a b found one two = ap pair_reading found ∙ (λ i. both_read (one i) (two i))
 
 pub run_due : (which : Which) (budget : ℕ) (j : Joined) (input : List ℕ) → length input ≤ input_limit → joined_reading input ≡ Ok j
     → due_world budget (joined_world which j) ≡ due_replay_run which budget input

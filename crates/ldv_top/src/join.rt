@@ -1,26 +1,29 @@
-//! `join`: from two packages to what they are joined to.
+//! `join`: from two packages to what they are joined to. No list of their events is made.
 
-ghost use Rattle.std.specs.Prelude.{◌≡◌, ◌≤◌, length, map, string_bytes, IfOk, IfSome, MatchOption, None, Some};
+ghost use Rattle.std.specs.Prelude.{◌≡◌, ◌≤◌, length, map, string_bytes, IfOk, IfSome, MatchOption, None, Ok, Some};
 ghost use Rattle.std.specs.Int.{w32};
 ghost use Rattle.std.specs.Option.{option_map};
 ghost use Rattle.ldv_value.specs.Limits.{input_limit};
 ghost use Rattle.package_join.specs.Joined.{joined_of};
 ghost use Rattle.package_join.specs.Layout.{joined_spelling};
+ghost use Rattle.package_join.specs.RunJoins.{whole_join};
 ghost use Rattle.package_layout.specs.Fields.{number_at, sized_at};
+ghost use Rattle.package_layout.specs.RunPackages.{expanded_package};
+ghost use Rattle.package_layout.specs.Runs.{IsCut};
 ghost use Rattle.package_layout.specs.Valid.{reading};
 ghost use Rattle.run_model.specs.declared.package.Mode.TheVariants.{Included};
 ghost use Rattle.ldv_top.specs.Due.{response_due, due_spelling};
-ghost use Rattle.ldv_top.specs.DueOfJoins.{due_join, due_join_bytes, joined_inputs, joined_packages, pair_in};
-ghost use Rattle.ldv_top.specs.DueParts.{due_of_reading};
+ghost use Rattle.ldv_top.specs.DueOfJoins.{PairReadsAs, both_read, due_join, due_join_bytes, joined_packages};
+ghost use Rattle.ldv_top.specs.DueOfJoins.{pair_in, pair_reading};
 ghost use Rattle.ldv_top.specs.Words.{IsBounded};
 ghost use Rattle.ldv_top.specs.WordsOfJoins.{join_of};
 
 use crate::command::Command;
 use crate::response::Response;
 use ldv_value::Bytes;
-use package_join::{JoinStop, Joined, join_owned, spell_joined};
-use package_layout::{Cursor, DamageKind, PackageStop, SpellStop, read_package};
-use run_model::{Mode, Package};
+use package_join::{JoinStop, RunJoined, join_runs, spell_cuts};
+use package_layout::{Cursor, DamageKind, PackageStop, RunPackage, SpellStop, read_runs};
+use run_model::Mode;
 use std::alloc::{AllocError, Global};
 
 /// The command that the words after `join` are.
@@ -71,44 +74,72 @@ fn pair_in<'a>(input: &'a [u8]) -> Option<(&'a [u8], &'a [u8])>
     }
 }
 
-/// The response of `join` to an input.
+/// The response of `join` to an input, which isn't kept while the packages are joined.
 pub(crate) fn join_response(alloc: Global, input: Bytes) -> Result<Response, AllocError>
     requires short { length input ≤ input_limit }
     ensures { IfOk result (λ response. response_due response ≡ due_join input) }
 {
+    match read_pair(alloc, input) {
+        Ok((a, b)) => packages_response(alloc, a, b),
+        Err(PackageStop::Damaged(kind)) => Ok(Response::Damaged(kind)),
+        Err(PackageStop::NoMemory) => Err(AllocError),
+    }
+}
+
+// Both packages that the input is made of. The call drops it.
+fn read_pair(alloc: Global, input: Bytes) -> Result<(RunPackage, RunPackage), PackageStop>
+    ensures due { PairReadsAs result (pair_reading (pair_in input)) }
+    ensures first_cut { IfOk result (λ pair. IsCut pair.0.runs) }
+    ensures second_cut { IfOk result (λ pair. IsCut pair.1.runs) }
+{
     match pair_in(input.as_slice()) {
-        Some((first, second)) => inputs_response(alloc, first, second),
-        None => Ok(Response::Damaged(DamageKind::Form)),
+        Some((first, second)) => read_both(alloc, first, second),
+        None => Err(PackageStop::Damaged(DamageKind::Form)),
     }
 }
 
-fn inputs_response(alloc: Global, first: &[u8], second: &[u8]) -> Result<Response, AllocError>
-    ensures { IfOk result (λ response. response_due response ≡ joined_inputs first.now second.now) }
+fn read_both(
+    alloc: Global,
+    first: &[u8],
+    second: &[u8],
+) -> Result<(RunPackage, RunPackage), PackageStop>
+    ensures due { PairReadsAs result (both_read (reading first.now) (reading second.now)) }
+    ensures first_cut { IfOk result (λ pair. IsCut pair.0.runs) }
+    ensures second_cut { IfOk result (λ pair. IsCut pair.1.runs) }
 {
-    match read_package(alloc, first) {
-        Ok(a) => second_response(alloc, a, second),
-        Err(PackageStop::Damaged(kind)) => Ok(Response::Damaged(kind)),
-        Err(PackageStop::NoMemory) => Err(AllocError),
+    match read_runs(alloc, first) {
+        Ok(a) => read_second(alloc, a, second),
+        Err(PackageStop::Damaged(kind)) => Err(PackageStop::Damaged(kind)),
+        Err(PackageStop::NoMemory) => Err(PackageStop::NoMemory),
     }
 }
 
-fn second_response(alloc: Global, a: Package, second: &[u8]) -> Result<Response, AllocError>
-    ensures { IfOk result (λ response. response_due response
-        ≡ due_of_reading (joined_packages a) (reading second.now)) }
+fn read_second(
+    alloc: Global,
+    a: RunPackage,
+    second: &[u8],
+) -> Result<(RunPackage, RunPackage), PackageStop>
+    requires { IsCut a.runs }
+    ensures due { PairReadsAs result (both_read (Ok (expanded_package a)) (reading second.now)) }
+    ensures first_cut { IfOk result (λ pair. IsCut pair.0.runs) }
+    ensures second_cut { IfOk result (λ pair. IsCut pair.1.runs) }
 {
-    match read_package(alloc, second) {
-        Ok(b) => packages_response(alloc, a, b),
-        Err(PackageStop::Damaged(kind)) => Ok(Response::Damaged(kind)),
-        Err(PackageStop::NoMemory) => Err(AllocError),
+    match read_runs(alloc, second) {
+        Ok(b) => Ok((a, b)),
+        Err(PackageStop::Damaged(kind)) => Err(PackageStop::Damaged(kind)),
+        Err(PackageStop::NoMemory) => Err(PackageStop::NoMemory),
     }
 }
 
 // Both have to have the needed rows.
-fn packages_response(alloc: Global, a: Package, b: Package) -> Result<Response, AllocError>
-    ensures { IfOk result (λ response. response_due response ≡ joined_packages a b) }
+fn packages_response(alloc: Global, a: RunPackage, b: RunPackage) -> Result<Response, AllocError>
+    requires first { IsCut a.runs }
+    requires second { IsCut b.runs }
+    ensures { IfOk result (λ response. response_due response
+        ≡ joined_packages (expanded_package a) (expanded_package b)) }
 {
-    match a.mode {
-        Mode::Included => match b.mode {
+    match a.bare.mode {
+        Mode::Included => match b.bare.mode {
             Mode::Included => joined_response(alloc, a, b),
             Mode::Excluded => Ok(Response::NoSuch),
         },
@@ -116,10 +147,13 @@ fn packages_response(alloc: Global, a: Package, b: Package) -> Result<Response, 
     }
 }
 
-fn joined_response(alloc: Global, a: Package, b: Package) -> Result<Response, AllocError>
-    ensures { IfOk result (λ response. response_due response ≡ due_join_bytes (joined_of a b)) }
+fn joined_response(alloc: Global, a: RunPackage, b: RunPackage) -> Result<Response, AllocError>
+    requires first { IsCut a.runs }
+    requires second { IsCut b.runs }
+    ensures { IfOk result (λ response. response_due response
+        ≡ due_join_bytes (joined_of (expanded_package a) (expanded_package b))) }
 {
-    match join_owned(alloc, a, b) {
+    match join_runs(alloc, a, b) {
         Ok(joined) => spelled_response(alloc, &joined),
         Err(JoinStop::Clash(clash)) => Ok(Response::Clash(clash)),
         Err(JoinStop::NoMemory) => Err(AllocError),
@@ -127,10 +161,13 @@ fn joined_response(alloc: Global, a: Package, b: Package) -> Result<Response, Al
 }
 
 #[tactic(auto, using(crate::proofs::RecordLaws::spelling_ends))]
-fn spelled_response(alloc: Global, joined: &Joined) -> Result<Response, AllocError>
-    ensures { IfOk result (λ response. response_due response ≡ due_spelling (joined_spelling joined.now)) }
+fn spelled_response(alloc: Global, joined: &RunJoined) -> Result<Response, AllocError>
+    requires first { IsCut joined.now.first.runs }
+    requires second { IsCut joined.now.second.runs }
+    ensures { IfOk result (λ response. response_due response
+        ≡ due_spelling (joined_spelling (whole_join joined.now))) }
 {
-    match spell_joined(alloc, joined) {
+    match spell_cuts(alloc, joined) {
         Ok(bytes) => Ok(Response::Written(bytes)),
         Err(SpellStop::TooLong) => Ok(Response::PackageTooLong),
         Err(SpellStop::NoMemory) => Err(AllocError),

@@ -2,6 +2,8 @@ pub mod Booleans
 pub mod Cases
 pub mod FileLaws
 pub mod FileLists
+pub mod FirstItems
+pub mod ItemLists
 pub mod Lists
 pub mod Options
 pub mod Orderings
@@ -10,5 +12,6 @@ pub mod SameBytes
 pub mod Scanning
 pub mod SortedMaps
 pub mod TextOrders
+pub mod TextTests
 pub mod Utf8Parts
 pub mod ValidFiles

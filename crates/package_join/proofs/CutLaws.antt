@@ -1,6 +1,6 @@
 -- A joined package that is read with its traces as runs is the one that is read.
 use Rattle.std.proofs.Common.{◌≡◌, ℕ, Bool, true, false, cond, List, ◌++◌, length, Option, Some, None, Result, Ok, Err, refl, sym, ap, subst, ◌∙◌, ◌&&◌}
-use Rattle.std.specs.Prelude.{◌==◌, bytes_eq}
+use Rattle.std.specs.Prelude.{◌==◌, bytes_eq, IfOk}
 use Rattle.std.specs.Option.{option_map}
 use Rattle.std.specs.Int.{w32}
 use Rattle.ldv_value.proofs.Booleans.{and-parts}
@@ -12,7 +12,7 @@ use Rattle.package_layout.specs.Fields.{DecodeResult, ◌>>=◌, both_at, list_a
 use Rattle.package_layout.specs.RunPackages.{expanded_package, run_rules}
 use Rattle.package_layout.specs.declared.version.Version.TheVariants.{Two}
 use Rattle.package_layout.specs.declared.run.Run.{Run}
-use Rattle.package_layout.specs.Runs.{are_runs, events_in, events_of_runs, run_spelling, runs_at, runs_of}
+use Rattle.package_layout.specs.Runs.{IsCut, are_runs, events_in, events_of_runs, run_spelling, runs_at, runs_of}
 use Rattle.package_layout.specs.Runs.{run_at as trace_run_at}
 use Rattle.package_layout.specs.Valid.{valid_test}
 use Rattle.package_layout.specs.Whole.{has_room}
@@ -25,10 +25,12 @@ use Rattle.package_join.specs.declared.joined.Joined.{Joined}
 use Rattle.package_join.specs.declared.joined.JoinedRun.{JoinedRun}
 use Rattle.package_join.specs.declared.joined.Which.TheVariants.{First, Second}
 use Rattle.package_join.specs.declared.run_joined.CutRun.{CutRun}
+use Rattle.package_join.specs.declared.joins.JoinStop.{JoinStop}
+use Rattle.package_join.specs.declared.joins.JoinStop.TheVariants as join_stops
 use Rattle.package_join.specs.declared.run_joined.RunJoined.{RunJoined}
 use Rattle.package_join.specs.Joined.{clash_of, joined_of, put_together, unless_clash}
 use Rattle.package_join.specs.Layout.{bare_run_at, bare_run_spelling, run_at, common_files_at, common_tables_at, common_files_spelling, common_tables_spelling, all_of_joined, joined_sections, with_trace}
-use Rattle.package_join.specs.RunJoins.{whole_run, whole_join, cut_run_at, cut_joined_of, cut_sections, picked_runs, with_runs, if_rejoined, join_of_packages, cut_anew, cut_spelled_so, cuts_in}
+use Rattle.package_join.specs.RunJoins.{whole_run, whole_join, cut_run_at, cut_joined_of, cut_sections, picked_runs, with_runs, if_rejoined, join_of_packages, cut_anew, cut_spelled_so, cuts_in, CutsJoinAs, JoinsWithRuns}
 use Rattle.package_join.specs.Rooms.{joined_room}
 use Rattle.package_join.specs.Valid.{if_joined, joined_anew, if_spelling_is, joined_in}
 use Rattle.package_join.proofs.LayoutLaws.{all_took, ended}
@@ -202,14 +204,17 @@ abbrev cut_found_as : List ℕ → Option RunJoined → Option RunJoined
 cut_found_as bytes o = o >>= cut_spelled_so bytes
 
 -- both traces are spelled as their runs
-cut_is : (r : RunJoined) → are_runs r.first.runs ≡ true → are_runs r.second.runs ≡ true → joined_sections (whole_join r) ≡ cut_sections r
-cut_is r h k =
-    let one : runs_of (events_in r.first.runs) ≡ r.first.runs = sym (is_cut r.first.runs h) in
-    let two : runs_of (events_in r.second.runs) ≡ r.second.runs = sym (is_cut r.second.runs k) in
+pub cuts_spelled : (r : RunJoined) → IsCut r.first.runs → IsCut r.second.runs → cut_sections r ≡ joined_sections (whole_join r)
+cuts_spelled r first second =
+    let one : r.first.runs ≡ runs_of (events_in r.first.runs) = first in
+    let two : r.second.runs ≡ runs_of (events_in r.second.runs) = second in
     λ i. common_files_spelling r.files
     ++ (common_tables_spelling r.tables
     ++ ((bare_run_spelling r.first.bare ++ list_spelling w32 run_spelling (one i))
     ++ (bare_run_spelling r.second.bare ++ list_spelling w32 run_spelling (two i))))
+
+cut_is : (r : RunJoined) → are_runs r.first.runs ≡ true → are_runs r.second.runs ≡ true → joined_sections (whole_join r) ≡ cut_sections r
+cut_is r h k = sym (cuts_spelled r (is_cut r.first.runs h) (is_cut r.second.runs k))
 
 if_out : (b : Bool) (r : RunJoined) → cond b (Some (whole_join r)) None ≡ option_map whole_join (cond b (Some r) None)
 if_out true r = refl
@@ -304,3 +309,30 @@ cuts_are_runs bytes q e =
     let its = has_runs a.runs b.runs (joined_of a.bare b.bare) p three.1 in
     subst (λ (q : RunJoined). (are_runs q.first.runs ≡ true) × (are_runs q.second.runs ≡ true)) same
     (ap are_runs its.0 ∙ first, ap are_runs its.1 ∙ second)
+
+-- ---- packages that are joined with their runs
+
+pub cuts_joined : (a b : RunPackage) (result : Result RunJoined JoinStop) → JoinsWithRuns a.runs b.runs result (joined_of a.bare b.bare)
+    → CutsJoinAs result (joined_of (expanded_package a) (expanded_package b))
+cuts_joined a b result is = by (clash_of a.bare b.bare) result is
+  where
+    by : (o : Option Clash) (given : Result RunJoined JoinStop) → JoinsWithRuns a.runs b.runs given (unless_clash o (put_together a.bare b.bare))
+        → CutsJoinAs given (unless_clash o (put_together (expanded_package a) (expanded_package b)))
+    by None (Ok r) is =
+        let same : with_runs a.runs b.runs (put_together a.bare b.bare) ≡ r = same-some (with_runs a.runs b.runs (put_together a.bare b.bare)) r is in
+        λ i. Ok (whole_join (same i))
+    by (Some clash) (Ok r) is = absurd cc
+    by None (Err (join_stops.Clash clash)) is = absurd cc
+    by (Some found) (Err (join_stops.Clash clash)) is = is
+    by o (Err join_stops.NoMemory) is = tt
+
+-- the runs stay those of their events
+pub first_stays : (first second : List Run) (due : Result Joined Clash) (result : Result RunJoined JoinStop) → IsCut first
+    → JoinsWithRuns first second result due → IfOk result (λ r. IsCut r.first.runs)
+first_stays first second due (Ok r) cut is = let its = has_runs first second due r is in subst IsCut (sym its.0) cut
+first_stays first second due (Err stop) cut is = tt
+
+pub second_stays : (first second : List Run) (due : Result Joined Clash) (result : Result RunJoined JoinStop) → IsCut second
+    → JoinsWithRuns first second result due → IfOk result (λ r. IsCut r.second.runs)
+second_stays first second due (Ok r) cut is = let its = has_runs first second due r is in subst IsCut (sym its.1) cut
+second_stays first second due (Err stop) cut is = tt

@@ -5,10 +5,11 @@ use Rattle.std.specs.Ordering.{nat_cmp}
 use Rattle.std.specs.Cmp.Lexicographic.{slice_cmp}
 use Rattle.std.specs.Str.{IsUtf8}
 use Rattle.std.proofs.lemmas.Cmp.{nat_cmp_total, nat_list_cmp_total}
+use Rattle.ldv_value.proofs.ItemLists.{all_append}
 use Rattle.run_model.specs.Between.{IsIn}
 use Rattle.run_model.specs.Package.{own_row, own_table}
 use Rattle.run_model.specs.TypedPackage.{IsTyped, TypedFile, TypedRow, TypedTable}
-use Rattle.package_layout.proofs.RunFields.{all_appended, all_mapped}
+use Rattle.package_layout.proofs.RunFields.{all_mapped}
 use Rattle.package_join.specs.Types.{Package, PackedFile, PackedTable, Table, TableRow}
 use Rattle.package_join.specs.Joined.{both_files, both_rows, both_tables, merged_files, merged_rows, merged_tables, own_tables, path_unless, presents_of, put_together, row_reason, run_in, table_reasons, whole_path, wholes_of}
 use Rattle.package_join.specs.Rooms.{TypedCommonRow, TypedCommonTable, IsTypedJoined, TypedJoinedRun, TypedReason, TypedTexts}
@@ -45,7 +46,7 @@ presents_typed (f ∷ fs) typed = by f.content (presents_typed fs typed.1)
 reasons_typed : (tables : List PackedTable) → AllByRecursion TypedTable tables → AllByRecursion TypedReason (flat_map table_reasons tables)
 reasons_typed [] typed = tt
 reasons_typed (t ∷ ts) typed =
-    all_appended TypedReason (table_reasons t) (flat_map table_reasons ts)
+    all_append TypedReason (table_reasons t) (flat_map table_reasons ts)
     (all_mapped TypedRow TypedReason (row_reason t.name) (λ row r. (typed.0.0, (r.0, r.1.0))) t.rows typed.0.1.1.1) (reasons_typed ts typed.1)
 
 run_typed : (p : Package) → IsTyped p → TypedJoinedRun (run_in p)

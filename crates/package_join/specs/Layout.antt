@@ -3,15 +3,16 @@
 use Rattle.std.specs.Prelude.{ℕ, List, [], ◌++◌, codes, length, Option, Some, None, ◌==◌, if◌then◌else◌}
 use Rattle.std.specs.Int.{w16, w32, w64, to_be_bytes}
 use Rattle.sha2.specs.Sha256.{sha256}
+pub use Rattle.package_layout.specs.CommonTables.{common_row_spelling, common_rows_spelling}
+pub use Rattle.package_layout.specs.CommonTables.{common_table_spelling, common_row_at, common_rows_at}
+pub use Rattle.package_layout.specs.CommonTables.{common_table_at}
 use Rattle.package_layout.specs.Events.{names_spelling, names_at}
-use Rattle.package_layout.specs.Fields.{DecodeResult, ◌>>=◌, then_at, both_at, made_at, number_at, list_at, text_at}
+use Rattle.package_layout.specs.Fields.{DecodeResult, ◌>>=◌, both_at, made_at, number_at, list_at, text_at}
 use Rattle.package_layout.specs.Fields.{text_spelling, list_spelling}
-use Rattle.package_layout.specs.Reading.{file_at, schema_at, cells_at, reason_at}
+use Rattle.package_layout.specs.Reading.{file_at, reason_at}
 use Rattle.package_layout.specs.Runs.{runs_spelling, runs_at}
-use Rattle.package_layout.specs.Spelling.{file_spelling, schema_spelling, number_spelling, cells_spelling}
-use Rattle.package_layout.specs.Spelling.{reason_spelling}
-use Rattle.package_layout.specs.declared.version.Version.TheVariants.{Two}
-use Rattle.package_join.specs.Types.{Event, PackedFile, Table, TableRow}
+use Rattle.package_layout.specs.Spelling.{file_spelling, reason_spelling}
+use Rattle.package_join.specs.Types.{Event, PackedFile, Table}
 use Rattle.package_join.specs.declared.joined.Joined.{Joined}
 use Rattle.package_join.specs.declared.joined.JoinedRun.{JoinedRun}
 use Rattle.package_join.specs.declared.joined.Reason.{Reason}
@@ -19,17 +20,6 @@ use Rattle.package_join.specs.declared.joined.Reason.{Reason}
 -- ---- spelling
 
 -- which run needs a row, and why, stands at the run
-abbrev pub common_row_spelling : TableRow → List ℕ
-common_row_spelling row = number_spelling row.number ++ cells_spelling row.values
-
-abbrev pub common_rows_spelling : List TableRow → List ℕ
-common_rows_spelling = list_spelling w32 common_row_spelling
-
-abbrev pub common_table_spelling : Table → List ℕ
-common_table_spelling table =
-    text_spelling table.name
-    ++ (schema_spelling Two table.schema ++ (to_be_bytes w32 table.next ++ common_rows_spelling table.rows))
-
 abbrev pub named_reason_spelling : Reason → List ℕ
 named_reason_spelling reason =
     text_spelling reason.table ++ (to_be_bytes w32 reason.row ++ reason_spelling reason.statement reason.rule)
@@ -80,19 +70,6 @@ abbrev pub joined_spelling : Joined → List ℕ
 joined_spelling j = joined_body j ++ sha256 (joined_body j)
 
 -- ---- reading
-
-abbrev pub common_row_at : ℕ → List ℕ → DecodeResult TableRow
-common_row_at columns =
-    made_at (λ r. Some (record { number = r.0; values = r.1 })) (both_at (number_at w32) (cells_at columns))
-
-abbrev pub common_rows_at : ℕ → List ℕ → DecodeResult (List TableRow)
-common_rows_at columns = list_at w32 (common_row_at columns)
-
-abbrev pub common_table_at : List ℕ → DecodeResult Table
-common_table_at =
-    made_at (λ t. Some (record { name = t.0; schema = t.1.0; next = t.1.1.0; rows = t.1.1.1 }))
-    (both_at text_at
-    (then_at (schema_at Two) (λ s. both_at (number_at w32) (common_rows_at (length s.columns)))))
 
 abbrev pub named_reason_at : List ℕ → DecodeResult Reason
 named_reason_at =

@@ -6,7 +6,8 @@ use Rattle.std.specs.Str.{IsUtf8}
 use Rattle.package_layout.specs.Counts.{IsCountable, CountedList, CountedValue, CountedSchema, CountedFile}
 use Rattle.package_layout.specs.Room.{fits_u16_count, schema_room}
 use Rattle.package_layout.specs.Runs.{CountedRun, runs_of, trace_room}
-use Rattle.package_layout.specs.Typed.{IsU32, TypedValues, TypedSchema, TypedFile, TypedEvent}
+pub use Rattle.package_layout.specs.CommonTables.{TypedCommonRow, TypedCommonTable}
+use Rattle.package_layout.specs.Typed.{IsU32, TypedFile, TypedEvent}
 use Rattle.package_layout.specs.declared.version.Version.TheVariants.{Two}
 use Rattle.package_join.specs.Types.{Table, TableRow}
 use Rattle.package_join.specs.declared.joined.Joined.{Joined}
@@ -14,13 +15,6 @@ use Rattle.package_join.specs.declared.joined.JoinedRun.{JoinedRun}
 use Rattle.package_join.specs.declared.joined.Reason.{Reason}
 
 -- ---- in memory
-
-abbrev pub TypedCommonRow : TableRow → Type 0
-TypedCommonRow row = IsU32 row.number × TypedValues row.values
-
-abbrev pub TypedCommonTable : Table → Type 0
-TypedCommonTable t = IsUtf8 t.name
-    × (TypedSchema t.schema × (IsU32 t.next × AllByRecursion TypedCommonRow t.rows))
 
 abbrev pub TypedReason : Reason → Type 0
 TypedReason r = IsUtf8 r.table × (IsU32 r.row × IsU32 r.statement)

@@ -1,4 +1,4 @@
--- Joined packages whose traces are kept as runs, and how they are read: no list of events is made.
+-- Joined packages whose traces are kept as runs, and how they are read and made: no list of events is made.
 use Rattle.std.specs.Prelude.{◌≡◌, ℕ, List, ◌++◌, length, ◌&&◌, ◌==◌, bytes_eq, Option, Some, None}
 use Rattle.std.specs.Prelude.{Result, Ok, Err, if◌then◌else◌}
 use Rattle.std.specs.Int.{w32}
@@ -18,6 +18,8 @@ use Rattle.package_join.specs.declared.joined.Joined.{Joined}
 use Rattle.package_join.specs.declared.joined.JoinedRun.{JoinedRun}
 use Rattle.package_join.specs.declared.joined.Which.{Which}
 use Rattle.package_join.specs.declared.joined.Which.TheVariants.{First, Second}
+use Rattle.package_join.specs.declared.joins.JoinStop.{JoinStop}
+use Rattle.package_join.specs.declared.joins.JoinStop.TheVariants as join_stops
 use Rattle.package_join.specs.declared.run_joined.CutRun.{CutRun}
 use Rattle.package_join.specs.declared.run_joined.RunJoined.{RunJoined}
 use Rattle.package_join.specs.Joined.{joined_of, picked_package}
@@ -122,3 +124,15 @@ abbrev pub CutsReadAs : Result RunJoined PackageStop → Result Joined DamageKin
 CutsReadAs (Ok r) due = due ≡ Ok (whole_join r)
 CutsReadAs (Err (Damaged kind)) due = due ≡ Err kind
 CutsReadAs (Err NoMemory) due = Unit {0}
+
+-- the same of two packages that are joined, whose traces are kept as runs
+abbrev pub CutsJoinAs : Result RunJoined JoinStop → Result Joined Clash → Type 0
+CutsJoinAs (Ok r) due = due ≡ Ok (whole_join r)
+CutsJoinAs (Err (join_stops.Clash clash)) due = due ≡ Err clash
+CutsJoinAs (Err join_stops.NoMemory) due = Unit {0}
+
+-- what is due of the packages without their traces, with the runs of both
+abbrev pub JoinsWithRuns : List Run → List Run → Result RunJoined JoinStop → Result Joined Clash → Type 0
+JoinsWithRuns first second (Ok r) due = if_rejoined first second due ≡ Some r
+JoinsWithRuns first second (Err (join_stops.Clash clash)) due = due ≡ Err clash
+JoinsWithRuns first second (Err join_stops.NoMemory) due = Unit {0}

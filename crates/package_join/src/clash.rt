@@ -1,15 +1,16 @@
 //! In what two packages differ.
 
-ghost use Rattle.std.specs.Prelude.{◌≡◌, IfOk};
+ghost use Rattle.std.specs.Prelude.{◌≡◌, IfOk, Option};
 ghost use Rattle.ldv_value.specs.Options.{first_some as first_of};
+ghost use Rattle.package_join.specs.declared.joined.Clash.{Clash as TheClash};
 ghost use Rattle.package_join.specs.Joined.{clash_at, clash_if, file_clash, file_cmp};
-ghost use Rattle.package_join.specs.Joined.{keys_clash, row_clash, row_cmp, rows_clash, table_clash, table_cmp};
+ghost use Rattle.package_join.specs.Joined.{keys_clash, rows_clash, table_clash, table_cmp};
 ghost use Rattle.package_join.specs.Merging.{first_clash};
 
+use crate::differences::{contents_differ, tables_differ, values_differ};
 use crate::joined::{Clash, ClashKind};
 use crate::key_clash::second_row;
 use crate::merging::Mergeable;
-use crate::same::{contents_differ, tables_differ, values_differ};
 use ldv_value::Utf8;
 use run_model::PackedFile;
 use sql_model::{Table, TableRow};
@@ -35,32 +36,109 @@ fn clash_if(
     }
 }
 
-fn file_clash(a: &PackedFile, b: &PackedFile) -> Result<Option<Clash>, AllocError>
-    ensures { IfOk result (λ clash. clash ≡ file_clash a.now b.now) }
-{
-    clash_if(
-        contents_differ(&a.content, &b.content),
-        ClashKind::File,
-        &a.path,
-        0,
-    )
+// A way to compare two items of one key.
+trait ClashTest<X> {
+    ghost differ: { Self → X → X → Option TheClash };
+
+    // In what the two differ.
+    fn clash_of(&self, a: &X, b: &X) -> Result<Option<Clash>, AllocError>
+        ensures { IfOk result (λ clash. clash ≡ differ self.now a.now b.now) };
 }
 
-fn table_clash(a: &Table, b: &Table) -> Result<Option<Clash>, AllocError>
-    ensures { IfOk result (λ clash. clash ≡ table_clash a.now b.now) }
-{
-    clash_if(tables_differ(a, b), ClashKind::Table, &a.name, 0)
+// Files that are whole have the same bytes.
+#[derive(Drop)]
+struct Contents;
+
+impl ClashTest<PackedFile> for Contents {
+    ghost use Rattle.package_join.specs.Joined.{file_clash};
+
+    ghost differ = { λ _. file_clash };
+
+    fn clash_of(&self, a: &PackedFile, b: &PackedFile) -> Result<Option<Clash>, AllocError> {
+        clash_if(
+            contents_differ(&a.content, &b.content),
+            ClashKind::File,
+            &a.path,
+            0,
+        )
+    }
 }
 
-fn row_clash(table: &Utf8, a: &TableRow, b: &TableRow) -> Result<Option<Clash>, AllocError>
-    ensures { IfOk result (λ clash. clash ≡ row_clash table.now a.now b.now) }
+// Tables have the same schemas and next numbers.
+#[derive(Drop)]
+struct Schemas;
+
+impl ClashTest<Table> for Schemas {
+    ghost use Rattle.package_join.specs.Joined.{table_clash};
+
+    ghost differ = { λ _. table_clash };
+
+    fn clash_of(&self, a: &Table, b: &Table) -> Result<Option<Clash>, AllocError> {
+        clash_if(tables_differ(a, b), ClashKind::Table, &a.name, 0)
+    }
+}
+
+// Tables have the same rows, as far as both have them.
+#[derive(Drop)]
+struct Rows;
+
+impl ClashTest<Table> for Rows {
+    ghost use Rattle.package_join.specs.Joined.{rows_clash};
+
+    ghost differ = { λ _. rows_clash };
+
+    fn clash_of(&self, a: &Table, b: &Table) -> Result<Option<Clash>, AllocError> {
+        first_clash(&a.name, a.rows.items(), b.rows.items())
+    }
+}
+
+// Rows of the table of this name have the same values.
+impl ClashTest<TableRow> for Utf8 {
+    ghost use Rattle.package_join.specs.Joined.{row_clash};
+
+    ghost differ = { row_clash };
+
+    fn clash_of(&self, a: &TableRow, b: &TableRow) -> Result<Option<Clash>, AllocError> {
+        clash_if(
+            values_differ(&a.values, &b.values),
+            ClashKind::Row,
+            self,
+            a.number,
+        )
+    }
+}
+
+// The first clash of two items of one key. Both lists are sorted.
+fn first_clash<X: Mergeable, T: ClashTest<X>>(
+    test: &T,
+    first: &[X],
+    second: &[X],
+) -> Result<Option<Clash>, AllocError>
+    ensures { IfOk result (λ clash.
+        clash ≡ first_clash X.key_cmp (T.differ test.now) first.now second.now) }
 {
-    clash_if(
-        values_differ(&a.values, &b.values),
-        ClashKind::Row,
-        table,
-        a.number,
-    )
+    let mut left = first;
+    let mut right = second;
+    loop {
+        match left {
+            [] => return Ok(None),
+            [x, xs @ ..] => match right {
+                [] => left = xs,
+                [y, ys @ ..] => match x.compare(y) {
+                    Ordering::Less => left = xs,
+                    Ordering::Equal => {
+                        let clash = test.clash_of(x, y)?;
+                        if clash.is_some() {
+                            return Ok(clash);
+                        }
+                        left = xs;
+                        right = ys;
+                    }
+                    Ordering::Greater => right = ys,
+                },
+            },
+        }
+    }
 }
 
 /// The first file that both have whole, with different bytes. The files are sorted.
@@ -70,122 +148,21 @@ pub(crate) fn files_clash(
 ) -> Result<Option<Clash>, AllocError>
     ensures { IfOk result (λ clash. clash ≡ first_clash file_cmp file_clash first.now second.now) }
 {
-    let mut left = first;
-    let mut right = second;
-    loop {
-        match left {
-            [] => return Ok(None),
-            [x, xs @ ..] => match right {
-                [] => left = xs,
-                [y, ys @ ..] => match x.compare(y) {
-                    Ordering::Less => left = xs,
-                    Ordering::Equal => {
-                        let clash = file_clash(x, y)?;
-                        if clash.is_some() {
-                            return Ok(clash);
-                        }
-                        left = xs;
-                        right = ys;
-                    }
-                    Ordering::Greater => right = ys,
-                },
-            },
-        }
-    }
+    first_clash(&Contents, first, second)
 }
 
 /// The first table that both have with different schemas or next numbers. The tables are sorted.
 pub(crate) fn schemas_clash(first: &[Table], second: &[Table]) -> Result<Option<Clash>, AllocError>
     ensures { IfOk result (λ clash. clash ≡ first_clash table_cmp table_clash first.now second.now) }
 {
-    let mut left = first;
-    let mut right = second;
-    loop {
-        match left {
-            [] => return Ok(None),
-            [x, xs @ ..] => match right {
-                [] => left = xs,
-                [y, ys @ ..] => match x.compare(y) {
-                    Ordering::Less => left = xs,
-                    Ordering::Equal => {
-                        let clash = table_clash(x, y)?;
-                        if clash.is_some() {
-                            return Ok(clash);
-                        }
-                        left = xs;
-                        right = ys;
-                    }
-                    Ordering::Greater => right = ys,
-                },
-            },
-        }
-    }
+    first_clash(&Schemas, first, second)
 }
 
 /// The first row that both have with different values. Tables and rows are sorted.
 pub(crate) fn values_clash(first: &[Table], second: &[Table]) -> Result<Option<Clash>, AllocError>
     ensures { IfOk result (λ clash. clash ≡ first_clash table_cmp rows_clash first.now second.now) }
 {
-    let mut left = first;
-    let mut right = second;
-    loop {
-        match left {
-            [] => return Ok(None),
-            [x, xs @ ..] => match right {
-                [] => left = xs,
-                [y, ys @ ..] => match x.compare(y) {
-                    Ordering::Less => left = xs,
-                    Ordering::Equal => {
-                        let clash = rows_clash(x, y)?;
-                        if clash.is_some() {
-                            return Ok(clash);
-                        }
-                        left = xs;
-                        right = ys;
-                    }
-                    Ordering::Greater => right = ys,
-                },
-            },
-        }
-    }
-}
-
-fn rows_clash(a: &Table, b: &Table) -> Result<Option<Clash>, AllocError>
-    ensures { IfOk result (λ clash. clash ≡ rows_clash a.now b.now) }
-{
-    rows_of_both(&a.name, a.rows.items(), b.rows.items())
-}
-
-fn rows_of_both(
-    table: &Utf8,
-    first: &[TableRow],
-    second: &[TableRow],
-) -> Result<Option<Clash>, AllocError>
-    ensures { IfOk result (λ clash.
-        clash ≡ first_clash row_cmp (row_clash table.now) first.now second.now) }
-{
-    let mut left = first;
-    let mut right = second;
-    loop {
-        match left {
-            [] => return Ok(None),
-            [x, xs @ ..] => match right {
-                [] => left = xs,
-                [y, ys @ ..] => match x.compare(y) {
-                    Ordering::Less => left = xs,
-                    Ordering::Equal => {
-                        let clash = row_clash(table, x, y)?;
-                        if clash.is_some() {
-                            return Ok(clash);
-                        }
-                        left = xs;
-                        right = ys;
-                    }
-                    Ordering::Greater => right = ys,
-                },
-            },
-        }
-    }
+    first_clash(&Rows, first, second)
 }
 
 /// The first table in which a row has the key of an earlier one.

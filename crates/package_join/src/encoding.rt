@@ -1,78 +1,21 @@
 //! The parts of a joined package, from values to bytes.
 
 ghost use Rattle.std.specs.Prelude.{◌≡◌, ◌++◌, OnOk};
-ghost use Rattle.std.specs.List.{flat_map, AllByRecursion};
-ghost use Rattle.package_join.specs.Layout.{bare_run_spelling, both_runs_spelling, common_row_spelling};
-ghost use Rattle.package_join.specs.Layout.{common_rows_spelling, common_table_spelling};
-ghost use Rattle.package_join.specs.Layout.{common_tables_spelling, joined_sections, needs_spelling};
-ghost use Rattle.package_join.specs.Layout.{numbers_spelling, run_spelling};
-ghost use Rattle.package_join.specs.Rooms.{TypedBareRun, TypedCommonRow, TypedCommonTable, IsTypedJoined};
+ghost use Rattle.std.specs.List.{AllByRecursion};
+ghost use Rattle.package_join.specs.Layout.{bare_run_spelling, both_runs_spelling, joined_sections};
+ghost use Rattle.package_join.specs.Layout.{needs_spelling, numbers_spelling, run_spelling};
+ghost use Rattle.package_join.specs.Rooms.{TypedBareRun, TypedCommonTable, IsTypedJoined};
 ghost use Rattle.package_join.specs.Rooms.{TypedJoinedRun, TypedNeeds, TypedRunNumbers};
-ghost use Rattle.package_join.specs.RunJoins.{both_cuts_spelling, cut_run_spelling, cut_sections};
+ghost use Rattle.package_join.specs.RunJoins.{both_cuts_spelling, cut_run_spelling, cut_sections, whole_join};
+ghost use Rattle.package_layout.specs.Runs.{IsCut};
 
 use crate::joined::{Joined, JoinedRun, Reason};
 use crate::run_joined::{CutRun, RunJoined};
 use ldv_value::Bytes;
 use package_layout::{
-    Encode, Version, Width, encode_count, encode_items, encode_list, encode_reason, encode_schema,
-    encode_text, encode_trace, encode_u32, encode_u64,
+    Encode, Width, encode_list, encode_reason, encode_text, encode_trace, encode_u32, encode_u64,
 };
-use sql_model::{Table, TableRow, TableRows, Tables};
 use std::alloc::AllocError;
-
-fn encode_common_row(row: &TableRow, to: &mut Bytes) -> Result<(), AllocError>
-    ensures bytes { OnOk result (to.new ≡ to.old ++ common_row_spelling row.now) }
-    ensures typed { OnOk result (TypedCommonRow row.now) }
-{
-    row.number.encode(to)?;
-    encode_items(&row.values, to)
-}
-
-fn encode_common_rows(rows: &TableRows, to: &mut Bytes) -> Result<(), AllocError>
-    ensures bytes { OnOk result (to.new ≡ to.old ++ common_rows_spelling rows.now) }
-    ensures typed { OnOk result (AllByRecursion TypedCommonRow rows.now) }
-{
-    encode_count(Width::Four, rows.len(), to)?;
-    encode_each_row(rows, to)
-}
-
-fn encode_each_row(rows: &TableRows, to: &mut Bytes) -> Result<(), AllocError>
-    ensures bytes { OnOk result (to.new ≡ to.old ++ flat_map common_row_spelling rows.now) }
-    ensures typed { OnOk result (AllByRecursion TypedCommonRow rows.now) }
-{
-    for row in rows.items() {
-        encode_common_row(row, to)?;
-    }
-    Ok(())
-}
-
-fn encode_common_table(table: &Table, to: &mut Bytes) -> Result<(), AllocError>
-    ensures bytes { OnOk result (to.new ≡ to.old ++ common_table_spelling table.now) }
-    ensures typed { OnOk result (TypedCommonTable table.now) }
-{
-    encode_text(&table.name, to)?;
-    encode_schema(Version::Two, &table.schema, to)?;
-    table.next.encode(to)?;
-    encode_common_rows(&table.rows, to)
-}
-
-fn encode_common_tables(tables: &Tables, to: &mut Bytes) -> Result<(), AllocError>
-    ensures bytes { OnOk result (to.new ≡ to.old ++ common_tables_spelling tables.now) }
-    ensures typed { OnOk result (AllByRecursion TypedCommonTable tables.now) }
-{
-    encode_count(Width::Two, tables.len(), to)?;
-    encode_each_table(tables, to)
-}
-
-fn encode_each_table(tables: &Tables, to: &mut Bytes) -> Result<(), AllocError>
-    ensures bytes { OnOk result (to.new ≡ to.old ++ flat_map common_table_spelling tables.now) }
-    ensures typed { OnOk result (AllByRecursion TypedCommonTable tables.now) }
-{
-    for table in tables.items() {
-        encode_common_table(table, to)?;
-    }
-    Ok(())
-}
 
 impl Encode for Reason {
     ghost use Rattle.package_join.specs.Layout.{named_reason_spelling};
@@ -138,7 +81,7 @@ pub(crate) fn encode_joined(joined: &Joined, to: &mut Bytes) -> Result<(), Alloc
     ensures typed { OnOk result (IsTypedJoined joined.now) }
 {
     encode_list(Width::Four, &joined.files, to)?;
-    encode_common_tables(&joined.tables, to)?;
+    encode_list(Width::Two, &joined.tables, to)?;
     encode_both_runs(joined, to)
 }
 
@@ -162,6 +105,16 @@ pub(crate) fn encode_cut_joined(joined: &RunJoined, to: &mut Bytes) -> Result<()
     ensures typed { OnOk result (AllByRecursion TypedCommonTable joined.now.tables) }
 {
     encode_list(Width::Four, &joined.files, to)?;
-    encode_common_tables(&joined.tables, to)?;
+    encode_list(Width::Two, &joined.tables, to)?;
     encode_both_cuts(joined, to)
+}
+
+/// The same where the runs are those of their events: the bytes are those of the joined package with its
+/// events.
+pub(crate) fn encode_cuts(joined: &RunJoined, to: &mut Bytes) -> Result<(), AllocError>
+    requires first { IsCut joined.now.first.runs }
+    requires second { IsCut joined.now.second.runs }
+    ensures { OnOk result (to.new ≡ to.old ++ joined_sections (whole_join joined.now)) }
+{
+    encode_cut_joined(joined, to)
 }

@@ -1,10 +1,13 @@
 //! Two packages, joined.
 
 ghost use Rattle.std.specs.Prelude.{◌≡◌, IfOk};
+ghost use Rattle.package_layout.specs.RunPackages.{expanded_package};
+ghost use Rattle.package_layout.specs.Runs.{IsCut};
 ghost use Rattle.package_layout.specs.Valid.{IsValidPackage};
 ghost use Rattle.run_model.specs.declared.package.Mode.{Mode};
 ghost use Rattle.package_join.specs.Joined.{joined_of};
 ghost use Rattle.package_join.specs.Parts.{JoinsAs, early_clash, joined_after, joined_parts, join_of_parts};
+ghost use Rattle.package_join.specs.RunJoins.{CutsJoinAs, JoinsWithRuns};
 ghost use Rattle.package_join.specs.Valid.{IsValidJoined};
 
 use crate::clash::{files_clash, schemas_clash, taken_key, values_clash};
@@ -12,6 +15,8 @@ use crate::copying::copy_package;
 use crate::joined::{Clash, Joined};
 use crate::merging::merge_lists;
 use crate::parts::{Parts, parts_of};
+use crate::run_joined::{RunJoined, with_runs};
+use package_layout::RunPackage;
 use run_model::Package;
 use std::alloc::{AllocError, Global};
 
@@ -59,6 +64,34 @@ pub fn join_owned(alloc: Global, a: Package, b: Package) -> Result<Joined, JoinS
     let first = parts_of(alloc, a)?;
     let second = parts_of(alloc, b)?;
     join_parts(alloc, first, second)
+}
+
+/// The same of packages whose traces are kept as runs, which are those of their events. No list of events is
+/// made: it takes memory by the files, tables, rows and runs of both, and none by the number of events.
+pub fn join_runs(alloc: Global, a: RunPackage, b: RunPackage) -> Result<RunJoined, JoinStop>
+    requires first { IsCut a.runs }
+    requires second { IsCut b.runs }
+    ensures joined { CutsJoinAs result (joined_of (expanded_package a) (expanded_package b)) }
+    // The runs stay those of their events.
+    ensures first_cut { IfOk result (λ joined. IsCut joined.first.runs) }
+    ensures second_cut { IfOk result (λ joined. IsCut joined.second.runs) }
+{
+    join_with_runs(alloc, a, b)
+}
+
+/// What the packages without their traces are joined to, with the runs of both.
+pub(crate) fn join_with_runs(
+    alloc: Global,
+    a: RunPackage,
+    b: RunPackage,
+) -> Result<RunJoined, JoinStop>
+    ensures { JoinsWithRuns a.runs b.runs result (joined_of a.bare b.bare) }
+{
+    match join_owned(alloc, a.bare, b.bare) {
+        Ok(joined) => Ok(with_runs(a.runs, b.runs, joined)),
+        Err(JoinStop::Clash(clash)) => Err(JoinStop::Clash(clash)),
+        Err(JoinStop::NoMemory) => Err(JoinStop::NoMemory),
+    }
 }
 
 fn join_parts(alloc: Global, first: Parts, second: Parts) -> Result<Joined, JoinStop>

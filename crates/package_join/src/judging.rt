@@ -6,16 +6,15 @@ ghost use Rattle.package_layout.specs.Fields.{Makes};
 ghost use Rattle.package_join.specs.Rooms.{TypedCommonTable};
 ghost use Rattle.package_join.specs.declared.joined.Which.TheVariants.{First, Second};
 ghost use Rattle.package_join.specs.RunJoins.{cut_anew, cut_spelled_so, cuts_in, picked_run, picked_runs};
-ghost use Rattle.package_join.specs.RunJoins.{join_of_packages, join_of_valid_packages, with_runs};
+ghost use Rattle.package_join.specs.RunJoins.{join_of_packages, join_of_valid_packages};
 
 use crate::choosing::picked_package;
 use crate::decoding::decode_all;
 use crate::encoding::encode_cut_joined;
-use crate::joined::Joined;
-use crate::joins::{JoinStop, join_owned};
+use crate::joins::{JoinStop, join_with_runs};
 use crate::run_joined::{CutRun, RunJoined};
 use ldv_value::Bytes;
-use package_layout::{DecodeError, RunPackage, Runs, Version, is_valid_package};
+use package_layout::{DecodeError, RunPackage, Version, is_valid_package};
 use run_model::PackedFiles;
 use sql_model::Tables;
 use std::alloc::{AllocError, Global};
@@ -56,34 +55,11 @@ fn picked_pair(alloc: Global, joined: RunJoined) -> Result<Pair, AllocError>
     })
 }
 
-fn with_runs(first: Runs, second: Runs, joined: Joined) -> RunJoined
-    ensures { result ≡ with_runs first second joined }
-{
-    let Joined {
-        files,
-        tables,
-        first: one,
-        second: two,
-    } = joined;
-    RunJoined {
-        files,
-        tables,
-        first: CutRun {
-            bare: one,
-            runs: first,
-        },
-        second: CutRun {
-            bare: two,
-            runs: second,
-        },
-    }
-}
-
 fn join_of_packages(alloc: Global, a: RunPackage, b: RunPackage) -> Result<RunJoined, DecodeError>
     ensures { Makes result (join_of_packages a b) }
 {
-    match join_owned(alloc, a.bare, b.bare) {
-        Ok(joined) => Ok(with_runs(a.runs, b.runs, joined)),
+    match join_with_runs(alloc, a, b) {
+        Ok(joined) => Ok(joined),
         Err(JoinStop::Clash(_)) => Err(DecodeError::Malformed),
         Err(JoinStop::NoMemory) => Err(DecodeError::NoMemory),
     }

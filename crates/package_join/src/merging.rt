@@ -35,7 +35,8 @@ pub(crate) fn merge_lists<X: Mergeable>(
 ) -> Result<List<X>, AllocError>
     ensures { IfOk result (λ made. made ≡ merged X.key_cmp X.both first second) }
 {
-    let mut made = List::new(alloc);
+    // Room for the longer list at once: it grows where items are in one list alone.
+    let mut made = List::with_capacity(alloc, first.len().max(second.len()))?;
     let mut xs = Queue::of(first);
     let mut ys = Queue::of(second);
     let mut left = xs.take();

@@ -106,10 +106,19 @@ fn names_of(alloc: Global, tables: &PackedTables) -> Result<Names, AllocError>
     Ok(names)
 }
 
+// How many rows the tables have in all. It says no more than for how many there is to be room.
+fn row_count(tables: &PackedTables) -> usize {
+    let mut count: usize = 0;
+    for table in tables.items() {
+        count = count.saturating_add(table.rows.len());
+    }
+    count
+}
+
 fn reasons_of(alloc: Global, tables: &PackedTables) -> Result<Reasons, AllocError>
     ensures { IfOk result (λ reasons. reasons ≡ flat_map table_reasons tables.now) }
 {
-    let mut reasons = List::new(alloc);
+    let mut reasons = List::with_capacity(alloc, row_count(tables))?;
     for table in tables.items() {
         add_reasons(&table.name, &table.rows, &mut reasons)?;
     }

@@ -1,6 +1,9 @@
 //! Joined packages whose traces are kept as runs of events.
 
-use crate::joined::JoinedRun;
+ghost use Rattle.std.specs.Prelude.{◌≡◌};
+ghost use Rattle.package_join.specs.RunJoins.{with_runs};
+
+use crate::joined::{Joined, JoinedRun};
 use package_layout::Runs;
 use run_model::PackedFiles;
 use sql_model::Tables;
@@ -22,4 +25,28 @@ pub struct RunJoined {
     pub tables: Tables,
     pub first: CutRun,
     pub second: CutRun,
+}
+
+/// A joined package with the runs of both traces. Nothing is copied.
+pub(crate) fn with_runs(first: Runs, second: Runs, joined: Joined) -> RunJoined
+    ensures { result ≡ with_runs first second joined }
+{
+    let Joined {
+        files,
+        tables,
+        first: one,
+        second: two,
+    } = joined;
+    RunJoined {
+        files,
+        tables,
+        first: CutRun {
+            bare: one,
+            runs: first,
+        },
+        second: CutRun {
+            bare: two,
+            runs: second,
+        },
+    }
 }

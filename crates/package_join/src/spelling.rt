@@ -4,9 +4,12 @@ ghost use Rattle.std.specs.Prelude.{◌≡◌, ◌≤◌, ◌<◌, IfOk, OnOk, I
 ghost use Rattle.ldv_value.specs.Limits.{input_limit};
 ghost use Rattle.package_join.specs.Layout.{joined_body, joined_magic, joined_spelling};
 ghost use Rattle.package_join.specs.Rooms.{IsTypedJoined};
+ghost use Rattle.package_join.specs.RunJoins.{whole_join};
+ghost use Rattle.package_layout.specs.Runs.{IsCut};
 
-use crate::encoding::encode_joined;
+use crate::encoding::{encode_cuts, encode_joined};
 use crate::joined::Joined;
+use crate::run_joined::RunJoined;
 use ldv_value::Bytes;
 use package_layout::{SpellStop, append_digest};
 use std::alloc::{AllocError, Global};
@@ -31,11 +34,34 @@ pub fn spell_joined(alloc: Global, joined: &Joined) -> Result<Bytes, SpellStop>
     append_digest(body)
 }
 
+/// The same of one whose traces are kept as runs, which are those of their events. No list of events is made.
+pub fn spell_cuts(alloc: Global, joined: &RunJoined) -> Result<Bytes, SpellStop>
+    requires first { IsCut joined.now.first.runs }
+    requires second { IsCut joined.now.second.runs }
+    ensures bytes { IfOk result (λ bytes. bytes ≡ joined_spelling (whole_join joined.now)) }
+    ensures within { IfOk result (λ bytes. length bytes ≤ input_limit) }
+    ensures too_long { IsErrOf result SpellStop.TooLong →
+        input_limit < length (joined_spelling (whole_join joined.now)) }
+{
+    let body = body_of_cuts(alloc, joined)?;
+    append_digest(body)
+}
+
 fn body_of(alloc: Global, joined: &Joined) -> Result<Bytes, AllocError>
     ensures bytes { IfOk result (λ bytes. bytes ≡ joined_body joined.now) }
     ensures typed { OnOk result (IsTypedJoined joined.now) }
 {
     let mut bytes = Bytes::of_slice(alloc, joined_magic())?;
     encode_joined(joined, &mut bytes)?;
+    Ok(bytes)
+}
+
+fn body_of_cuts(alloc: Global, joined: &RunJoined) -> Result<Bytes, AllocError>
+    requires first { IsCut joined.now.first.runs }
+    requires second { IsCut joined.now.second.runs }
+    ensures { IfOk result (λ bytes. bytes ≡ joined_body (whole_join joined.now)) }
+{
+    let mut bytes = Bytes::of_slice(alloc, joined_magic())?;
+    encode_cuts(joined, &mut bytes)?;
     Ok(bytes)
 }

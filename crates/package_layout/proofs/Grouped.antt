@@ -5,6 +5,7 @@ use Rattle.std.specs.List.{flat_map, list_all, AllByRecursion}
 use Rattle.std.specs.Str.{IsUtf8}
 use Rattle.std.specs.Int.{w16, w32}
 use Rattle.ldv_value.proofs.Booleans.{and-parts, and-from}
+use Rattle.ldv_value.proofs.ItemLists.{all_append}
 use Rattle.ldv_value.proofs.Options.{same-some}
 use Rattle.sql_model.specs.SqlNames.{sql_name_test}
 use Rattle.package_layout.specs.declared.group.Group.{Group}
@@ -51,10 +52,6 @@ module _ {X P : Type 0} (table_of : X → List ℕ) (part_of : X → P) (place :
     (table_is : (t : List ℕ) (p : P) → table_of (place t p) ≡ t) (part_is : (t : List ℕ) (p : P) → part_of (place t p) ≡ p) where
   abbrev pub TypedItem : X → Type 0
   TypedItem x = IsUtf8 (table_of x) × good (part_of x)
-
-  all_append : (Q : X → Type 0) (xs ys : List X) → AllByRecursion Q xs → AllByRecursion Q ys → AllByRecursion Q (xs ++ ys)
-  all_append Q [] ys h k = k
-  all_append Q (x ∷ xs) ys h k = (h.0, all_append Q xs ys h.1 k)
 
   parts_typed : (t : List ℕ) (ps : List P) → IsUtf8 t → AllByRecursion good ps → AllByRecursion TypedItem (map (place t) ps)
   parts_typed t [] u h = tt

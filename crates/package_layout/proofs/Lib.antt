@@ -14,7 +14,6 @@ pub mod RunTraces
 pub mod Runs
 pub mod Tables
 pub mod Tags
-pub mod Texts
 pub mod Values
 pub mod Versions
 pub mod Whole

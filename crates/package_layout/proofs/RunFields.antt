@@ -1,11 +1,11 @@
 -- The events of runs are of their types and have room where the runs have, and the other way round: runs as a field of a package.
-use Rattle.std.proofs.Common.{◌≡◌, ℕ, zero, suc, ◌+◌, ◌-◌, ◌*◌, ◌^◌, ◌<◌, ◌≤◌, Bool, true, false, cond, not, List, [], ◌∷◌, ◌++◌, length, map, Some, None, refl, sym, ap, subst, ◌∙◌, append_assoc, arith, inl, inr, ◌&&◌, suc-mul, get_or, take, drop}
-use Rattle.std.proofs.Math.Seq.{take-length}
+use Rattle.std.proofs.Common.{◌≡◌, ℕ, zero, suc, ◌+◌, ◌-◌, ◌*◌, ◌^◌, ◌<◌, ◌≤◌, Bool, true, false, cond, not, List, [], ◌∷◌, ◌++◌, length, map, Some, None, refl, sym, ap, subst, ◌∙◌, append_assoc, arith, inl, inr, ◌&&◌, suc-mul}
 use Rattle.std.specs.Prelude.{◌==◌, nat_le}
 use Rattle.std.specs.List.{flat_map, list_all, AllByRecursion}
 use Rattle.std.proofs.lemmas.Bool.{not-true, leb-true, le-leb, eqb-true, ne_eqb}
 use Rattle.std.proofs.lemmas.List.{length-append}
 use Rattle.ldv_value.proofs.Booleans.{and-parts, and-from}
+use Rattle.ldv_value.proofs.ItemLists.{all_append, all_front, all_back}
 use Rattle.ldv_value.proofs.Options.{same-some}
 use Rattle.run_model.specs.declared.event.Act.TheVariants as acts
 use Rattle.run_model.specs.declared.event.Event.{Event}
@@ -36,14 +36,6 @@ pub all_mapped : {X Y : Type 0} (P : X → Type 0) (Q : Y → Type 0) (f : X →
 all_mapped P Q f h [] all = tt
 all_mapped P Q f h (x ∷ xs) all = (h x all.0, all_mapped P Q f h xs all.1)
 
-pub all_appended : {X : Type 0} (P : X → Type 0) (xs ys : List X) → AllByRecursion P xs → AllByRecursion P ys → AllByRecursion P (xs ++ ys)
-all_appended P [] ys h k = k
-all_appended P (x ∷ xs) ys h k = (h.0, all_appended P xs ys h.1 k)
-
-all_front : {X : Type 0} (P : X → Type 0) (xs ys : List X) → AllByRecursion P (xs ++ ys) → AllByRecursion P xs × AllByRecursion P ys
-all_front P [] ys h = (tt, h)
-all_front P (x ∷ xs) ys h = let more = all_front P xs ys h.1 in ((h.0, more.0), more.1)
-
 -- the events of a run are typed where it is
 run_typed : (r : Run) → is_run r ≡ true → TypedRun r → AllByRecursion TypedEvent (run_events r)
 run_typed r h typed = by r.count refl
@@ -59,7 +51,7 @@ events_typed : (rs : List Run) → list_all is_run rs ≡ true → AllByRecursio
 events_typed [] good typed = tt
 events_typed (r ∷ rs) good typed =
     let goods = and-parts (is_run r) (list_all is_run rs) good in
-    all_appended TypedEvent (run_events r) (events_in rs) (run_typed r goods.0 typed.0) (events_typed rs goods.1 typed.1)
+    all_append TypedEvent (run_events r) (events_in rs) (run_typed r goods.0 typed.0) (events_typed rs goods.1 typed.1)
 
 -- its stride is un more than its last step
 small_stride : (r : Run) → is_run r ≡ true → r.stride < 2 ^ 32
@@ -89,8 +81,9 @@ typed_runs : (rs : List Run) → list_all is_run rs ≡ true → total rs < 2 ^ 
 typed_runs [] good few typed = tt
 typed_runs (r ∷ rs) good few typed =
     let goods = and-parts (is_run r) (list_all is_run rs) good in
-    let both = all_front TypedEvent (run_events r) (events_in rs) typed in
-    (typed_run r goods.0 (omega (arith, few)) both.0, typed_runs rs goods.1 (omega (arith, few)) both.1)
+    let first : AllByRecursion TypedEvent (run_events r) = all_front TypedEvent (run_events r) (events_in rs) typed in
+    let rest : AllByRecursion TypedEvent (events_in rs) = all_back TypedEvent (run_events r) (events_in rs) typed in
+    (typed_run r goods.0 (omega (arith, few)) first, typed_runs rs goods.1 (omega (arith, few)) rest)
 
 -- the format has room for the events of a run where it has for its first
 same_room : (first : Event) (steps : List ℕ) → event_room first ≡ true → list_all event_room (map (at_step first) steps) ≡ true
@@ -220,13 +213,13 @@ stands_next all b left e es s is small first = record {
   begun = single_begun e;
   shape = inl (refl, refl);
   typed = λ h.
-      s.typed (all_appended TypedEvent (run_events b.run) left (begun_typed all b left s small first) (subst (AllByRecursion TypedEvent) (sym is) h));
+      s.typed (all_append TypedEvent (run_events b.run) left (begun_typed all b left s small first) (subst (AllByRecursion TypedEvent) (sym is) h));
 }
 
 pub stands_last : (all : List Event) (b : Begun) (left : List Event) → IsCutSoFar all b left → left ≡ []
     → b.last < 2 ^ 32 → TypedEvent b.run.first → AllByRecursion TypedEvent all
 stands_last all b left s is small first =
-    s.typed (all_appended TypedEvent (run_events b.run) left (begun_typed all b left s small first) (subst (AllByRecursion TypedEvent) (sym is) tt))
+    s.typed (all_append TypedEvent (run_events b.run) left (begun_typed all b left s small first) (subst (AllByRecursion TypedEvent) (sym is) tt))
 
 -- what is due stays due, where the run that has begun grows, and where it is written
 abbrev pub Due : List ℕ → Begun → List Event → List ℕ → Type 0
@@ -246,15 +239,6 @@ due_next to new all b left e es is off wrote due =
     subst (λ (rs : List Run). to ++ flat_map run_spelling rs ≡ all) (ap (runs_from b) is ∙ step) due in
     ap (λ (l : List ℕ). l ++ flat_map run_spelling (runs_from (run_of_one e) es)) wrote
     ∙ append_assoc to (run_spelling b.run) (flat_map run_spelling (runs_from (run_of_one e) es)) ∙ was
-
--- a list whose first item is x; same is the list, as a slice of it names it
-pub head_of : {X : Type 0} (rest same : List X) (x : X) → 1 ≤ length rest → x ≡ get_or rest 0 x → same ≡ rest
-    → rest ≡ x ∷ take (length same - 1) (drop 1 rest)
-head_of [] same x some first is = absurd (omega (arith, some))
-head_of (y ∷ ys) same x some first is =
-    let size : length same - 1 ≡ length ys = omega (arith, ap length is) in
-    let all : take (length ys) ys ≡ ys = take-length ys in
-    λ j. sym first j ∷ (sym all ∙ ap (λ (n : ℕ). take n ys) (sym size)) j
 
 -- those that are left are good exactly where all are, if the first one is
 pub good_next : (left : List Run) (r : Run) (rs : List Run) (all : Bool) → left ≡ r ∷ rs → is_run r ≡ true → stops_before r rs ≡ true

@@ -1,3 +1,4 @@
+pub mod CommonTables
 pub mod Counted
 pub mod Counts
 pub mod Events

@@ -37,7 +37,7 @@ pub trait Decode: Drop {
 }
 
 /// Appends items.
-pub fn encode_items<X: Encode>(items: &Listed<X>, to: &mut Bytes) -> Result<(), AllocError>
+pub(crate) fn encode_items<X: Encode>(items: &Listed<X>, to: &mut Bytes) -> Result<(), AllocError>
     ensures bytes { OnOk result (to.new ≡ to.old ++ flat_map X.spelling items.now) }
     ensures typed { OnOk result (AllByRecursion X.typed items.now) }
 {
@@ -74,7 +74,7 @@ pub fn decode_list<X: Decode>(
 }
 
 /// Decodes the given number of items.
-pub fn decode_items<X: Decode>(
+pub(crate) fn decode_items<X: Decode>(
     alloc: Global,
     count: usize,
     cursor: &mut Cursor,

@@ -5,9 +5,11 @@
 #![tactic(auto)]
 
 mod codec;
+mod common_table;
 mod cursor;
 mod cutting;
 mod damage;
+mod decode_by;
 mod decode_error;
 mod digest;
 mod event;
@@ -36,7 +38,7 @@ mod version;
 mod width;
 mod writing;
 
-pub use codec::{Decode, Encode, decode_items, decode_list, encode_items, encode_list};
+pub use codec::{Decode, Encode, decode_list, encode_list};
 pub use cursor::Cursor;
 pub use damage::DamageKind;
 pub use decode_error::DecodeError;
@@ -44,11 +46,11 @@ pub use digest::{has_digest, middle};
 pub use expanding::events_in;
 pub use law::{round_trip_law, runs_law};
 pub use layout::{PackageStop, SpellStop, read_package, read_runs};
-pub use number::{decode_u16, decode_u32, decode_u64, encode_count, encode_u32, encode_u64};
+pub use number::{decode_u32, decode_u64, encode_u32, encode_u64};
 pub use run::{Run, Runs};
 pub use run_package::RunPackage;
 pub use spelling::{append_digest, spell, spell_as, spell_runs};
-pub use table::{decode_reason, decode_schema, encode_reason, encode_schema};
+pub use table::{decode_reason, encode_reason};
 pub use text::{decode_text, encode_text};
 pub use validity::is_valid_package;
 pub use version::{Version, first_eight, version_of};

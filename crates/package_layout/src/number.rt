@@ -22,7 +22,7 @@ pub(crate) fn decode_u8(cursor: &mut Cursor) -> Result<u8, DecodeError>
 }
 
 /// A number of two bytes.
-pub fn decode_u16(cursor: &mut Cursor) -> Result<u16, DecodeError>
+pub(crate) fn decode_u16(cursor: &mut Cursor) -> Result<u16, DecodeError>
     ensures { Decodes result cursor.new (number_at w16 cursor.old) }
 {
     match cursor.next(2) {
@@ -99,7 +99,7 @@ pub(crate) fn decode_count(width: Width, cursor: &mut Cursor) -> Result<u32, Dec
 
 /// Appends a count in a field of the given width. Where it is too large for the field, its last bytes are
 /// written. In a valid package only one of four bytes can be, and such a package is too long.
-pub fn encode_count(width: Width, count: usize, to: &mut Bytes) -> Result<(), AllocError>
+pub(crate) fn encode_count(width: Width, count: usize, to: &mut Bytes) -> Result<(), AllocError>
     ensures { OnOk result (to.new ≡ to.old ++ to_be_bytes (of_count width) count) }
 {
     let bytes = (count as u64).to_be_bytes();

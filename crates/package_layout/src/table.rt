@@ -1,25 +1,26 @@
 //! Tables of a package.
 
-ghost use Rattle.std.specs.Prelude.{◌≡◌, ◌++◌, length, OnOk};
+ghost use Rattle.std.specs.Prelude.{◌≡◌, ◌++◌, OnOk};
 ghost use Rattle.std.specs.Int.{w8, w16};
 ghost use Rattle.std.specs.List.{flat_map, AllByRecursion};
 ghost use Rattle.package_layout.specs.Fields.{Decodes, Makes, number_at, items_at, list_at, list_spelling};
 ghost use Rattle.package_layout.specs.Reading.{kind_of, kind_at, rule_of, rule_at, reason_at, places_at};
-ghost use Rattle.package_layout.specs.Reading.{foreigns_at, row_at, rows_at, schema_at, table_at};
+ghost use Rattle.package_layout.specs.Reading.{foreigns_at, schema_at, table_at};
 ghost use Rattle.package_layout.specs.Spelling.{kind_number, rule_number, reason_spelling, places_spelling};
 ghost use Rattle.package_layout.specs.Spelling.{foreigns_spelling, schema_spelling, table_spelling};
 ghost use Rattle.package_layout.specs.Typed.{TypedForeign, TypedSchema, TypedTable};
 
 use crate::codec::{Decode, Encode, decode_items, decode_list, encode_items, encode_list};
 use crate::cursor::Cursor;
+use crate::decode_by::{DecodeBy, decode_list_by, decode_rows};
 use crate::decode_error::DecodeError;
-use crate::number::{decode_u8, decode_u16, decode_u32, encode_count, encode_u8, encode_u32};
+use crate::number::{decode_u8, decode_u32, encode_count, encode_u8, encode_u32};
 use crate::text::{decode_text, encode_text};
 use crate::version::Version;
 use crate::width::Width;
 use ldv_value::{Bytes, List, Places};
-use run_model::{PackedRow, PackedRows, PackedTable, PackedTables};
-use sql_model::{Column, Columns, Foreign, Foreigns, Rule, Schema};
+use run_model::{PackedRow, PackedTable, PackedTables};
+use sql_model::{Column, Foreign, Foreigns, Rule, Schema};
 use std::alloc::{AllocError, Global};
 
 impl Encode for Column {
@@ -148,45 +149,26 @@ pub fn decode_reason(cursor: &mut Cursor) -> Result<(u32, Rule), DecodeError>
     Ok((statement, rule))
 }
 
-fn decode_row(alloc: Global, columns: usize, cursor: &mut Cursor) -> Result<PackedRow, DecodeError>
-    ensures { Decodes result cursor.new (row_at columns cursor.old) }
-{
-    let number = decode_u32(cursor)?;
-    let (statement, rule) = decode_reason(cursor)?;
-    let values = decode_items(alloc, columns, cursor)?;
-    Ok(PackedRow {
-        number,
-        statement,
-        rule,
-        values,
-    })
-}
+impl DecodeBy<usize> for PackedRow {
+    ghost use Rattle.package_layout.specs.Reading.{row_at};
 
-fn decode_rows(
-    alloc: Global,
-    columns: &Columns,
-    cursor: &mut Cursor,
-) -> Result<PackedRows, DecodeError>
-    ensures { Decodes result cursor.new (rows_at (length columns.now) cursor.old) }
-{
-    let count = decode_u32(cursor)?;
-    decode_some_rows(alloc, columns.len(), count, cursor)
-}
+    ghost reading = { row_at };
 
-fn decode_some_rows(
-    alloc: Global,
-    columns: usize,
-    count: u32,
-    cursor: &mut Cursor,
-) -> Result<PackedRows, DecodeError>
-    ensures { Decodes result cursor.new (items_at (row_at columns) count cursor.old) }
-{
-    let mut rows = List::new(alloc);
-    for _turn in 0..count {
-        let row = decode_row(alloc, columns, cursor)?;
-        rows.push(row)?;
+    fn decode_by(
+        alloc: Global,
+        columns: usize,
+        cursor: &mut Cursor,
+    ) -> Result<PackedRow, DecodeError> {
+        let number = decode_u32(cursor)?;
+        let (statement, rule) = decode_reason(cursor)?;
+        let values = decode_items(alloc, columns, cursor)?;
+        Ok(PackedRow {
+            number,
+            statement,
+            rule,
+            values,
+        })
     }
-    Ok(rows)
 }
 
 // The places of a key are below 64, so each has one byte.
@@ -281,7 +263,11 @@ fn decode_places(alloc: Global, count: u8, cursor: &mut Cursor) -> Result<Places
 }
 
 /// Appends the columns, the key and the foreign keys of a table. The first version has no foreign keys.
-pub fn encode_schema(version: Version, schema: &Schema, to: &mut Bytes) -> Result<(), AllocError>
+pub(crate) fn encode_schema(
+    version: Version,
+    schema: &Schema,
+    to: &mut Bytes,
+) -> Result<(), AllocError>
     ensures bytes { OnOk result (to.new ≡ to.old ++ schema_spelling version schema.now) }
     ensures typed { OnOk result (TypedSchema schema.now) }
 {
@@ -291,7 +277,7 @@ pub fn encode_schema(version: Version, schema: &Schema, to: &mut Bytes) -> Resul
 }
 
 /// Reads the columns, the key and the foreign keys of a table. The first version has no foreign keys.
-pub fn decode_schema(
+pub(crate) fn decode_schema(
     alloc: Global,
     version: Version,
     cursor: &mut Cursor,
@@ -318,23 +304,27 @@ fn encode_table(version: Version, table: &PackedTable, to: &mut Bytes) -> Result
     encode_list(Width::Four, &table.rows, to)
 }
 
-fn decode_table(
-    alloc: Global,
-    version: Version,
-    cursor: &mut Cursor,
-) -> Result<PackedTable, DecodeError>
-    ensures { Decodes result cursor.new (table_at version cursor.old) }
-{
-    let name = decode_text(alloc, cursor)?;
-    let schema = decode_schema(alloc, version, cursor)?;
-    let next = decode_u32(cursor)?;
-    let rows = decode_rows(alloc, &schema.columns, cursor)?;
-    Ok(PackedTable {
-        name,
-        schema,
-        next,
-        rows,
-    })
+impl DecodeBy<Version> for PackedTable {
+    ghost use Rattle.package_layout.specs.Reading.{table_at};
+
+    ghost reading = { table_at };
+
+    fn decode_by(
+        alloc: Global,
+        version: Version,
+        cursor: &mut Cursor,
+    ) -> Result<PackedTable, DecodeError> {
+        let name = decode_text(alloc, cursor)?;
+        let schema = decode_schema(alloc, version, cursor)?;
+        let next = decode_u32(cursor)?;
+        let rows = decode_rows(alloc, &schema.columns, cursor)?;
+        Ok(PackedTable {
+            name,
+            schema,
+            next,
+            rows,
+        })
+    }
 }
 
 /// Appends tables: their number and the tables.
@@ -372,22 +362,5 @@ pub(crate) fn decode_tables(
 ) -> Result<PackedTables, DecodeError>
     ensures { Decodes result cursor.new (list_at w16 (table_at version) cursor.old) }
 {
-    let count = decode_u16(cursor)?;
-    decode_some_tables(alloc, version, count, cursor)
-}
-
-fn decode_some_tables(
-    alloc: Global,
-    version: Version,
-    count: u16,
-    cursor: &mut Cursor,
-) -> Result<PackedTables, DecodeError>
-    ensures { Decodes result cursor.new (items_at (table_at version) count cursor.old) }
-{
-    let mut tables = List::new(alloc);
-    for _turn in 0..count {
-        let table = decode_table(alloc, version, cursor)?;
-        tables.push(table)?;
-    }
-    Ok(tables)
+    decode_list_by(alloc, Width::Two, version, cursor)
 }

@@ -34,7 +34,7 @@ pub fn decode_text(alloc: Global, cursor: &mut Cursor) -> Result<Utf8, DecodeErr
     }
 }
 
-#[tactic(auto, using(crate::proofs::Texts::is_text, crate::proofs::Texts::no_text))]
+#[tactic(auto, using(ldv_value::proofs::TextTests::is_text, ldv_value::proofs::TextTests::no_text))]
 fn utf8_of(alloc: Global, front: &[u8]) -> Result<Utf8, DecodeError>
     ensures { Makes result (text_of front.now) }
 {

@@ -8,6 +8,7 @@ use Rattle.std.proofs.Math.Seq.{take-append_seam, drop-append-add}
 use Rattle.std.proofs.lemmas.Bool.{and_parts, and_from, le-leb, lt-ltb, ne_eqb}
 use Rattle.std.proofs.lemmas.Fmt.{decimal_by_steps}
 use Rattle.std.proofs.lemmas.List.{length-append}
+use Rattle.ldv_value.proofs.TextTests.{is_text}
 use Rattle.ldv_value.specs.Names.{is_word_start, is_word_byte, word_test}
 use Rattle.ldv_value.proofs.Booleans.{not-true}
 use Rattle.ldv_value.specs.Texts.{text_of}
@@ -15,7 +16,6 @@ use Rattle.sql_model.specs.SqlNames.{is_reserved, sql_name_test}
 use Rattle.prov_export.specs.Types.{Member, Path, Process, Row, Ask, Reply}
 use Rattle.prov_export.specs.Ids.{member_id, with_digit, with_digits, number_in, is_slash, cut_at, parts_at_slash}
 use Rattle.prov_export.specs.Ids.{version_from, version_in, row_of, row_from, row_in}
-use Rattle.prov_export.proofs.IdTexts.{text_made}
 use Rattle.prov_export.proofs.Written.{IdLaw}
 
 -- ---- numbers
@@ -136,10 +136,10 @@ row_back m named row version utf8 =
     let rest : List ℕ = decimal m.row ++ 47 ∷ decimal m.version in
     ap (option_and_then row_from) (parts_back m.table rest (name_plain m.table word))
     ∙ ap (option_and_then (λ (v : ℕ × ℕ). option_map (λ (t : List ℕ). row_of t v) (text_of m.table))) (version_back m.row m.version row version)
-    ∙ ap (option_map (λ (t : List ℕ). row_of t (m.row, m.version))) (text_made m.table utf8)
+    ∙ ap (option_map (λ (t : List ℕ). row_of t (m.row, m.version))) (is_text m.table utf8)
 
 pub id_law : IdLaw
-id_law (Path path) named = ap (option_map Path) (text_made path named.1)
+id_law (Path path) named = ap (option_map Path) (is_text path named.1)
 id_law (Process process) named = ap (option_map Process) (number_back process named)
 id_law (Row member) named = row_back member named.0 named.1 named.2 named.3
 id_law (Ask statement) named = ap (option_map Ask) (number_back statement named)

@@ -14,7 +14,6 @@ pub mod NoFloats
 pub mod Each
 pub mod NameMaps
 pub mod Kept
-pub mod JsonText
 pub mod Dependence
 pub mod TypedTraces
 pub mod Lengths

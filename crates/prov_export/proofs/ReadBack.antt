@@ -10,7 +10,8 @@ use Rattle.trace_graph.specs.Graph.{Parts}
 use Rattle.trace_graph.specs.WellFormed.{is_well_formed, IsWellFormed}
 use Rattle.prov_export.specs.Document.{document, prov_text}
 use Rattle.prov_export.specs.Laws.{IsTypedGraph, RoundTripLaw, ReadingLaw, UniqueLaw}
-use Rattle.prov_export.specs.Reading.{json_of, parts_in, written_as, kept_as, prov_reading}
+use Rattle.json_bytes.specs.Reading.{json_of}
+use Rattle.prov_export.specs.Reading.{parts_in, written_as, kept_as, prov_reading}
 use Rattle.prov_export.proofs.Documents.{taken_out}
 use Rattle.prov_export.proofs.PlainDocuments.{document_plain, document_shallow}
 use Rattle.prov_export.proofs.Texts.{text_law}

@@ -2,12 +2,11 @@
 use Rattle.std.specs.Prelude.{ℕ, zero, suc, ◌+◌, List, [], ◌∷◌, Bool, false, ◌&&◌, ◌==◌, nat_le, bytes_eq}
 use Rattle.std.specs.Prelude.{if◌then◌else◌, Option, Some, None, option_and_then, codes}
 use Rattle.std.specs.Option.{option_or}
-use Rattle.std.specs.Str.{is_utf8}
 use Rattle.ldv_value.specs.Options.{◌>>=◌}
 use Rattle.serde_json.specs.Data.{Data, Members, no_members, member}
 use Rattle.serde_json.specs.Events.{members_len}
 use Rattle.serde_json.specs.Find.{get, get_member, as_object, as_number, as_str, as_u64}
-use Rattle.serde_json.specs.Read.{read}
+use Rattle.json_bytes.specs.Reading.{json_of}
 use Rattle.trace_graph.specs.Graph.{Parts}
 use Rattle.trace_graph.specs.WellFormed.{is_well_formed}
 use Rattle.prov_export.specs.Types.{Node, Edge, Relation, Used, Generated, Derived, Informed}
@@ -143,10 +142,6 @@ parts_with o = do
 
 abbrev pub parts_in : Data → Option Parts
 parts_in d = objects_of d >>= parts_with
-
--- the JSON value of UTF-8 bytes
-abbrev pub json_of : List ℕ → Option Data
-json_of bytes = if is_utf8 bytes then read bytes else None
 
 -- what is taken out of the bytes of a document
 abbrev pub taken_from : List ℕ → Option Parts

@@ -63,7 +63,7 @@ fn with_digit(number: u32, byte: u8) -> Option<u32>
     }
 }
 
-#[tactic(auto, using(crate::proofs::IdTexts::text_made, crate::proofs::IdTexts::text_refused))]
+#[tactic(auto, using(ldv_value::proofs::TextTests::is_text, ldv_value::proofs::TextTests::no_text))]
 fn text_in(alloc: Global, bytes: &[u8]) -> Result<Utf8, ProvStop>
     ensures { Gives Stops result (text_in bytes.now) }
 {

@@ -1,6 +1,6 @@
 //! The graph of a document.
 
-ghost use Rattle.std.specs.Prelude.{◌≡◌, IfOk, Some, None, bytes_eq};
+ghost use Rattle.std.specs.Prelude.{◌≡◌, IfOk, bytes_eq};
 ghost use Rattle.ldv_value.specs.Gives.{Gives};
 ghost use Rattle.serde_json.specs.View.{view};
 ghost use Rattle.trace_graph.specs.Graph.{Parts};
@@ -8,8 +8,7 @@ ghost use Rattle.trace_graph.specs.WellFormed.{IsWellFormed, is_well_formed};
 ghost use Rattle.prov_export.specs.Document.{prov_text};
 ghost use Rattle.prov_export.specs.Laws.{IsTypedGraph};
 ghost use Rattle.prov_export.specs.inner.ObjectRefs.{objects_seen};
-ghost use Rattle.prov_export.specs.Reading.{json_of, parts_with, parts_in, taken_from, kept_as};
-ghost use Rattle.prov_export.specs.Reading.{prov_reading};
+ghost use Rattle.prov_export.specs.Reading.{kept_as, parts_in, parts_with, prov_reading, taken_from};
 ghost use Rattle.prov_export.specs.Stopping.{Stops};
 
 use crate::edge_reading::edges_in;
@@ -17,7 +16,8 @@ use crate::node_reading::nodes_in;
 use crate::objects::{ObjectRefs, objects_of};
 use crate::error::ProvStop;
 use crate::writing::write_prov;
-use serde_json::{Category, Value};
+use json_bytes::{JsonStop, read_json};
+use serde_json::Value;
 use std::alloc::{AllocError, Global};
 use std::marker::Model;
 use trace_graph::{Edges, Graph, Nodes, is_well_formed};
@@ -35,20 +35,6 @@ impl Model for Draft {
     ghost Value = { Parts };
 
     ghost view = { λ a. record { nodes = a.nodes; edges = a.edges } };
-}
-
-// The JSON value of bytes.
-fn read_json(alloc: Global, bytes: &[u8]) -> Result<Value, ProvStop>
-    ensures ok { IfOk result (λ value. json_of bytes.now ≡ Some (view value)) }
-    ensures not_json { result ≡ Err ProvStop.NotProv → json_of bytes.now ≡ None }
-{
-    match Value::from_slice(alloc, bytes) {
-        Ok(value) => Ok(value),
-        Err(error) => match error.classify() {
-            Category::Memory => Err(ProvStop::NoMemory),
-            _ => Err(ProvStop::NotProv),
-        },
-    }
 }
 
 fn draft_with(alloc: Global, objects: &ObjectRefs<'_>) -> Result<Draft, ProvStop>
@@ -79,7 +65,8 @@ fn draft_of(alloc: Global, bytes: &[u8]) -> Result<Draft, ProvStop>
 {
     match read_json(alloc, bytes) {
         Ok(document) => draft_in(alloc, &document),
-        Err(stop) => Err(stop),
+        Err(JsonStop::NotJson) => Err(ProvStop::NotProv),
+        Err(JsonStop::NoMemory) => Err(ProvStop::NoMemory),
     }
 }
 

@@ -8,6 +8,7 @@ use Rattle.std.specs.List.Sorted.{IsStrictlySortedBy}
 use Rattle.std.specs.Ordering.{nat_cmp}
 use Rattle.std.proofs.lemmas.Bool.{cases_Bool}
 use Rattle.std.proofs.lemmas.List.{map-append}
+use Rattle.ldv_value.proofs.ItemLists.{all_append, all_filter}
 use Rattle.ldv_value.proofs.Lists.{filter-append}
 use Rattle.lineage.specs.Lineage.{Row, Lineage, name_at, with_version}
 use Rattle.lineage.specs.Rows.{kept_origins, PicksStandFor, joined_row}
@@ -112,17 +113,6 @@ module _ (names : List (List ℕ)) (versions : Versions) where
   HasVersions (item ∷ from) [] = Unit {0}
   HasVersions (item ∷ from) (row ∷ rows) = (row.version ≡ versions item.table row.number) × HasVersions from rows
 
-  all-joined : (P : List SourceRow → Type 0) (xs ys : List (List SourceRow)) → AllByRecursion P xs → AllByRecursion P ys → AllByRecursion P (xs ++ ys)
-  all-joined P [] ys a b = b
-  all-joined P (x ∷ xs) ys a b = (a.0, all-joined P xs ys a.1 b)
-
-  all-kept : (P : List SourceRow → Type 0) (p : List SourceRow → Bool) (xs : List (List SourceRow)) → AllByRecursion P xs → AllByRecursion P (filter p xs)
-  all-kept P p [] a = tt
-  all-kept P p (x ∷ xs) a = elim (cases_Bool (p x)) [
-    | inl hit ↦ rw hit (a.0, all-kept P p xs a.1)
-    | inr miss ↦ rw miss (all-kept P p xs a.1)
-  ]
-
   with-row : (item : FromItem) (from : List FromItem) (row : SourceRow) → row.version ≡ versions item.table row.number → (cs : List (List SourceRow))
       → AllByRecursion (HasVersions from) cs → AllByRecursion (HasVersions (item ∷ from)) (map (λ others. row ∷ others) cs)
   with-row item from row is [] all = tt
@@ -133,7 +123,7 @@ module _ (names : List (List ℕ)) (versions : Versions) where
       → AllByRecursion (HasVersions (item ∷ from)) (flat_map (λ row. map (λ others. row ∷ others) cs) rows)
   with-rows item from cs all [] at = tt
   with-rows item from cs all (row ∷ rows) at =
-      all-joined (HasVersions (item ∷ from)) (map (λ others. row ∷ others) cs) (flat_map (λ row. map (λ others. row ∷ others) cs) rows)
+      all_append (HasVersions (item ∷ from)) (map (λ others. row ∷ others) cs) (flat_map (λ row. map (λ others. row ∷ others) cs) rows)
       (with-row item from row at.0 cs all) (with-rows item from cs all rows at.1)
 
   combos-versions : (db : List Table) (from : List FromItem) (keeps : List (TableRow → Bool)) (sources : List Source) → AreSources names versions db from keeps sources
@@ -188,7 +178,7 @@ module _ (names : List (List ℕ)) (versions : Versions) where
   all-stand sorted keep db core keeps sources conds picks are leaves same is =
       let scope : List InScope = scope_of core.from (catalog_of db) in
       let cs : List (List SourceRow) = filter (tests scope conds) (combos (map source_rows sources)) in
-      let all : AllByRecursion (HasVersions core.from) cs = all-kept (HasVersions core.from) (tests scope conds) (combos (map source_rows sources)) (combos-versions db core.from keeps sources are) in
+      let all : AllByRecursion (HasVersions core.from) cs = all_filter (HasVersions core.from) (tests scope conds) (combos (map source_rows sources)) (combos-versions db core.from keeps sources are) in
       subst (λ (ps : List Pick). PicksStandFor names versions keep ps (map (joined_row core.from) (picked core db))) (sym is)
       (subst (λ (rows : List Combination). PicksStandFor names versions keep (map (pick_of keep sources) cs) (map (joined_row core.from) rows)) (picked-are names versions db core keeps sources conds are leaves same)
       (picks-stand (distinct-sorted names sorted) keep db core.from keeps sources are cs all))

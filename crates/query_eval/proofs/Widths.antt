@@ -1,6 +1,7 @@
 -- The rows of a combination have the widths of their tables.
-use Rattle.std.proofs.Common.{◌≡◌, ℕ, List, [], ◌∷◌, ◌++◌, map, length}
+use Rattle.std.proofs.Common.{◌≡◌, ℕ, List, [], ◌∷◌, map, length}
 use Rattle.std.specs.List.{flat_map, AllByRecursion}
+use Rattle.ldv_value.proofs.ItemLists.{all_append}
 use Rattle.query_eval.specs.Sourcing.{HaveWidths, TablesAreWide}
 use Rattle.query_eval.specs.Types.{FromItem, Table, TableRow}
 use Rattle.sql_model.specs.QueryAnswer.{Combination, combinations}
@@ -8,10 +9,6 @@ use Rattle.sql_model.specs.Scope.{rows_of, table_at}
 
 abbrev length-is : ℕ → TableRow → Type 0
 length-is width row = length row.values ≡ width
-
-all-joined : (P : Combination → Type 0) (xs ys : List Combination) → AllByRecursion P xs → AllByRecursion P ys → AllByRecursion P (xs ++ ys)
-all-joined P [] ys a b = b
-all-joined P (x ∷ xs) ys a b = (a.0, all-joined P xs ys a.1 b)
 
 with-row : (width : ℕ) (widths : List ℕ) (row : TableRow) → length-is width row → (cs : List Combination) → AllByRecursion (HaveWidths widths) cs
     → AllByRecursion (HaveWidths (width ∷ widths)) (map (λ others. row ∷ others) cs)
@@ -22,7 +19,7 @@ with-rows : (width : ℕ) (widths : List ℕ) (cs : List Combination) → AllByR
     → AllByRecursion (length-is width) rows → AllByRecursion (HaveWidths (width ∷ widths)) (flat_map (λ row. map (λ others. row ∷ others) cs) rows)
 with-rows width widths cs all [] wide = tt
 with-rows width widths cs all (row ∷ rows) wide =
-    all-joined (HaveWidths (width ∷ widths)) (map (λ others. row ∷ others) cs) (flat_map (λ row. map (λ others. row ∷ others) cs) rows)
+    all_append (HaveWidths (width ∷ widths)) (map (λ others. row ∷ others) cs) (flat_map (λ row. map (λ others. row ∷ others) cs) rows)
     (with-row width widths row wide.0 cs all) (with-rows width widths cs all rows wide.1)
 
 pub all-wide : (from : List FromItem) (db : List Table) (widths : List ℕ) → TablesAreWide from db widths → AllByRecursion (HaveWidths widths) (combinations from db)

@@ -8,7 +8,7 @@ use Rattle.std.specs.Cmp.Lexicographic.{slice_cmp}
 use Rattle.std.proofs.lemmas.Bool.{cases_Bool}
 use Rattle.std.proofs.lemmas.Cmp.{nat_list_cmp_total, tied_itself}
 use Rattle.std.proofs.lemmas.Bool.Decides.{nat_tests}
-pub use Rattle.sql_laws.proofs.ItemLists.{all_append, all_filter, all_found, all_map, all_of_map, all_flat_map}
+pub use Rattle.ldv_value.proofs.ItemLists.{all_append, all_filter, all_found, all_map, all_of_map, all_flat_map}
 use Rattle.sql_model.proofs.SortedLists.{sorted-filter}
 use Rattle.ldv_value.proofs.Orderings.{is_lt-true}
 use Rattle.package_layout.specs.inner.Order.{rises, is_below}

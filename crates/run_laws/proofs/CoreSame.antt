@@ -19,7 +19,7 @@ use Rattle.run_model.specs.StepVariables.{calculation, to_number, printed_line, 
 use Rattle.run_model.proofs.StepKeeps.{AllFiles, open_holds, Keeps, keeps_place, keeps_variable, keeps_end, keeps_assign, keeps_glue, keeps_cut, keeps_jump, keeps_line, keeps_fetch, keeps_close, calculated_byte, to_number_byte, counted_byte, status_value_byte, exit_byte}
 use Rattle.run_laws.proofs.FilesAgree.{Agrees, SameAt, later_agrees, whole_at, absent_at}
 use Rattle.run_laws.proofs.FilesSame.{FileSame, open_same, read_same, write_same, copy_same, remove_same, test_same}
-use Rattle.sql_laws.proofs.ItemLists.{all_append}
+use Rattle.ldv_value.proofs.ItemLists.{all_append}
 use Rattle.run_laws.proofs.ProcessPlaces.{set_all}
 
 -- the core with other files

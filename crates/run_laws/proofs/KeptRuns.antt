@@ -8,7 +8,7 @@ use Rattle.std.proofs.lemmas.List.{append-nil}
 use Rattle.ldv_value.proofs.Lists.{all-weaker}
 use Rattle.ldv_value.proofs.Options.{same-some}
 use Rattle.ldv_value.proofs.SameBytes.{bytes_eq-itself, bytes_eq-other, nat_eq-true}
-use Rattle.sql_laws.proofs.ItemLists.{all_append}
+use Rattle.ldv_value.proofs.ItemLists.{all_append}
 use Rattle.run_laws.specs.Types.{Reply, Entry, Event}
 use Rattle.run_laws.specs.declared.kept.Kept.{Kept}
 use Rattle.run_laws.specs.KeptReplies.{KeepingDatabase, keeping_base, with_answer, kept_of, logs_kept}

@@ -13,7 +13,7 @@ use Rattle.run_model.specs.Outcome.{insert_by_name, by_name}
 use Rattle.run_model.specs.WorldRun.{has_asked, log_of, logs_of}
 use Rattle.run_laws.proofs.ProcessNames.{name_of, names, at_name, Distinct}
 use Rattle.run_laws.proofs.SortedNames.{goes_first, sorted_all}
-use Rattle.sql_laws.proofs.ItemLists.{all_of_map}
+use Rattle.ldv_value.proofs.ItemLists.{all_of_map}
 
 -- ---- of the logs of some processes
 

@@ -12,7 +12,7 @@ use Rattle.run_model.specs.Core.{Process}
 use Rattle.run_model.specs.StepProcesses.{SpawnRequest, child_of, parent_of, with_child}
 use Rattle.run_laws.proofs.ProcessPlaces.{set_related, one_related, set_there, one_there}
 use Rattle.run_laws.proofs.StepTrails.{Trail, trail}
-use Rattle.sql_laws.proofs.ItemLists.{all_append}
+use Rattle.ldv_value.proofs.ItemLists.{all_append}
 
 -- ---- a process as it was before, and as it is later
 

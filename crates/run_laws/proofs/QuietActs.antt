@@ -5,7 +5,7 @@ use Rattle.std.specs.List.{AllByRecursion}
 use Rattle.ldv_value.specs.FileState.{FileState, is_there, FileRefusal, open_refusal, has_room, rest_at, content_at}
 use Rattle.ldv_value.specs.declared.file.OpenMode.TheVariants as modes
 use Rattle.script_parse.specs.declared.script.Instr.TheVariants as instr
-use Rattle.sql_laws.proofs.ItemLists.{all_append}
+use Rattle.ldv_value.proofs.ItemLists.{all_append}
 use Rattle.run_laws.specs.Types.{OpenMode, Instr, Act, Asked}
 use Rattle.run_model.specs.Core.{OpenFile, lookup, Process, Core}
 use Rattle.run_model.specs.Step.{Effect, execute, execute_next, local_step_of, local_step, status_acts, end_acts, ends_at}

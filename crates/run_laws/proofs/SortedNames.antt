@@ -16,7 +16,7 @@ use Rattle.ldv_value.proofs.Orderings.{is_lt-true}
 use Rattle.ldv_value.proofs.SameBytes.{bytes_eq-true}
 use Rattle.run_model.specs.Core.{Process}
 use Rattle.run_model.specs.Outcome.{insert_by_name, by_name}
-use Rattle.sql_laws.proofs.ItemLists.{all_of_map}
+use Rattle.ldv_value.proofs.ItemLists.{all_of_map}
 use Rattle.run_laws.proofs.ProcessNames.{name_of, names, Distinct}
 
 -- ---- the order of names

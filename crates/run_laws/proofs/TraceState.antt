@@ -24,7 +24,7 @@ use Rattle.run_model.specs.StepVariables.{calculation, to_number, printed_line, 
 use Rattle.run_model.specs.ValidTrace.{made_after}
 use Rattle.run_model.proofs.StepKeeps.{IsStatus, AllFiles, open_holds, Keeps, keeps_place, keeps_variable, keeps_end, keeps_assign, keeps_glue, keeps_cut, keeps_jump, keeps_line, keeps_fetch, keeps_close, keeps_open, keeps_read, keeps_write, keeps_copy, keeps_remove, keeps_test, calculated_byte, to_number_byte, counted_byte, status_value_byte, exit_byte}
 use Rattle.run_laws.proofs.ProcessPlaces.{set_length, found_all, set_all}
-use Rattle.sql_laws.proofs.ItemLists.{all_append, all_filter}
+use Rattle.ldv_value.proofs.ItemLists.{all_append, all_filter}
 
 -- ---- paths
 

@@ -1,6 +1,5 @@
 -- Lists that are resolved item by item, as names are added.
-use Rattle.std.proofs.Common.{◌≡◌, ℕ, ◌≤◌, ◌-◌, List, [], ◌∷◌, ◌++◌, length, get_or, take, drop, refl, sym, ap, ◌∙◌, subst, append_assoc, arith}
-use Rattle.std.proofs.Math.Seq.{take-length}
+use Rattle.std.proofs.Common.{◌≡◌, ℕ, List, [], ◌∷◌, ◌++◌, refl, sym, ap, ◌∙◌, subst, append_assoc}
 use Rattle.ldv_value.proofs.Lists.{append-nil}
 use Rattle.script_parse.specs.declared.script.Instr.{Instr}
 use Rattle.script_parse.specs.declared.script.Operand.{Operand}
@@ -22,15 +21,6 @@ abbrev pub InstrsSo : Scope → List Instr → List Instr → List SlotInstr →
 InstrsSo s all rest so = (later : Scope) (more : List SlotInstr) → KeepsAll s later → ResolvesAll later rest more → ResolvesAll later all (so ++ more)
 
 -- ---- a step of each loop, by the first of the rest
-
--- a list whose first item is x; same is the list, as a slice of it names it
-pub split_first : {X : Type 0} (rest same : List X) (x : X) → 1 ≤ length rest → x ≡ get_or rest 0 x → same ≡ rest
-    → rest ≡ x ∷ take (length same - 1) (drop 1 rest)
-split_first [] same x some first is = absurd (omega (arith, some))
-split_first (y ∷ ys) same x some first is =
-    let size : length same - 1 ≡ length ys = omega (arith, ap length is) in
-    let all : take (length ys) ys ≡ ys = take-length ys in
-    λ j. sym first j ∷ (sym all ∙ ap (λ (n : ℕ). take n ys) (sym size)) j
 
 -- one more at the end, and then others
 more_last : {X : Type 0} (so new more : List X) (x : X) → new ≡ so ++ x ∷ [] → so ++ (x ∷ more) ≡ new ++ more

@@ -15,7 +15,7 @@ use Rattle.query_eval.specs.Stored.{table_names, version_in, TellVersions}
 use Rattle.sql_engine.proofs.NeedLaws.{AreNamedIn}
 use Rattle.sql_engine.specs.inner.Answering.{hidden_lineage}
 use Rattle.sql_engine.specs.Types.{Query, StoreHistory, Table}
-use Rattle.sql_laws.proofs.ItemLists.{all_append}
+use Rattle.ldv_value.proofs.ItemLists.{all_append}
 use Rattle.sql_laws.proofs.NeedsSound.{answer_good, each_rejected, others_good}
 use Rattle.sql_laws.proofs.TableNames.{less-differs, table-trans}
 use Rattle.sql_model.proofs.Databases.{sorted_of_database}

@@ -5,7 +5,6 @@ pub mod DatabaseLaws
 pub mod FewerTables
 pub mod FewerTablesChanges
 pub mod FewerTablesQueries
-pub mod ItemLists
 pub mod KeptClash
 pub mod KeyClashes
 pub mod KindLaws

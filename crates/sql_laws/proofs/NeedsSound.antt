@@ -1,5 +1,5 @@
 -- What holds of the rows of all tables holds of the rows that a statement needs.
-use Rattle.std.proofs.Common.{◌≡◌, ℕ, zero, suc, List, [], ◌∷◌, ◌++◌, take, drop, refl, sym, subst, Bool, true, false, inl, inr}
+use Rattle.std.proofs.Common.{◌≡◌, ℕ, List, [], ◌∷◌, ◌++◌, refl, sym, subst, Bool, true, false, inl, inr}
 use Rattle.std.specs.Prelude.{Option, Some, None, option_map, option_to_list, map, filter, not, ◌&&◌, ◌==◌}
 use Rattle.std.specs.List.{flat_map, filter_map, list_any, AllByRecursion, cons_option}
 use Rattle.ldv_value.proofs.Booleans.{and-parts}
@@ -30,7 +30,7 @@ use Rattle.sql_model.specs.Statements.{target, refusal_of}
 use Rattle.sql_model.proofs.Equations.{need_is}
 use Rattle.sql_laws.proofs.StatementParts.{need_parts}
 use Rattle.sql_laws.specs.Types.{Foreign, Statement, Table, TableRow}
-use Rattle.sql_laws.proofs.ItemLists.{all_append, all_filter, all_flat_map}
+use Rattle.ldv_value.proofs.ItemLists.{all_append, all_filter, all_flat_map, all_take, all_drop}
 
 -- ---- lists
 
@@ -43,16 +43,6 @@ module _ {X Y : Type 0} (P : Y → Type 0) where
   each_map f each (x ∷ xs) = (each x, each_map f each xs)
 
 module _ {X : Type 0} (P : X → Type 0) where
-  all_take : (n : ℕ) (xs : List X) → AllByRecursion P xs → AllByRecursion P (take n xs)
-  all_take zero xs h = tt
-  all_take (suc n) [] h = tt
-  all_take (suc n) (x ∷ xs) h = (h.0, all_take n xs h.1)
-
-  all_drop : (n : ℕ) (xs : List X) → AllByRecursion P xs → AllByRecursion P (drop n xs)
-  all_drop zero xs h = h
-  all_drop (suc n) [] h = tt
-  all_drop (suc n) (x ∷ xs) h = all_drop n xs h.1
-
   all_put : (cmp : X → X → Ordering) (x : X) (ys : List X) → P x → AllByRecursion P ys → AllByRecursion P (put_sorted cmp x ys)
   all_put cmp x [] one h = (one, tt)
   all_put cmp x (y ∷ ys) one h = elim (cases_Bool (is_gt (cmp x y))) [

@@ -4,6 +4,7 @@ use Rattle.std.specs.Prelude.{if◌then◌else◌}
 use Rattle.std.specs.List.{filter, list_any, AllByRecursion}
 use Rattle.std.specs.Cmp.{IsEquivalence}
 use Rattle.std.proofs.lemmas.Map.Views.{any-filter_same}
+use Rattle.ldv_value.proofs.ItemLists.{all_filter}
 use Rattle.ldv_value.proofs.Lists.{append-nil, filter-append}
 use Rattle.ldv_value.proofs.Booleans.{or-parts}
 use Rattle.trace_graph.specs.Graph.{distinct_items}
@@ -127,14 +128,6 @@ distinct_apart same (x ∷ xs) =
     (list_any-filter-not (same x) (distinct_items same xs), apart_filter same (λ y. not (same x y)) (distinct_items same xs) (distinct_apart same xs))
 
 -- ---- what holds of each
-
-all_filter : {X : Type 0} (P : X → Type 0) (p : X → Bool) (xs : List X) → AllByRecursion P xs → AllByRecursion P (filter p xs)
-all_filter P p [] all = tt
-all_filter P p (x ∷ xs) all = by (all_filter P p xs all.1) (p x)
-  where
-    by : AllByRecursion P (filter p xs) → (b : Bool) → AllByRecursion P (cond b (x ∷ filter p xs) (filter p xs))
-    by rest true = (all.0, rest)
-    by rest false = rest
 
 pub all_distinct : {X : Type 0} (P : X → Type 0) (same : X → X → Bool) (xs : List X) → AllByRecursion P xs → AllByRecursion P (distinct_items same xs)
 all_distinct P same [] all = tt

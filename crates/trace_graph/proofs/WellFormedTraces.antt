@@ -4,6 +4,7 @@ use Rattle.std.specs.Prelude.{◌&&◌, ◌==◌, min, max, fold, nat_le, nat_lt
 use Rattle.std.specs.List.{filter, flat_map, filter_map, cons_option, list_any, list_all, AllByRecursion}
 use Rattle.std.proofs.lemmas.Bool.{le-leb, leb-true, eqb-true}
 use Rattle.std.proofs.lemmas.Slice.Eq.{bytes_eq-Decides}
+use Rattle.ldv_value.proofs.ItemLists.{all_append}
 use Rattle.ldv_value.proofs.Booleans.{and-first, and-second, and-from, or-from, false≢true}
 use Rattle.ldv_value.specs.Limits.{max_steps, max_processes}
 use Rattle.ldv_value.specs.Names.{path_test}
@@ -40,10 +41,6 @@ all_true p (x ∷ xs) all = (and-first (p x) (list_all p xs) all, all_true p xs 
 all_from : {X : Type 0} (p : X → Bool) (xs : List X) → AllTrue p xs → list_all p xs ≡ true
 all_from p [] all = refl
 all_from p (x ∷ xs) all = and-from (p x) (list_all p xs) all.0 (all_from p xs all.1)
-
-all_append : {X : Type 0} (P : X → Type 0) (xs ys : List X) → AllByRecursion P xs → AllByRecursion P ys → AllByRecursion P (xs ++ ys)
-all_append P [] ys first second = second
-all_append P (x ∷ xs) ys first second = (first.0, all_append P xs ys first.1 second)
 
 -- ---- links that are between nodes that meet their rules, at steps up to a limit
 

@@ -6,7 +6,7 @@ use Rattle.std.proofs.lemmas.Bool.{lt-ltb}
 use Rattle.ldv_value.proofs.Booleans.{and-parts, and-from}
 use Rattle.sql_laws.specs.Types.{Value, Catalog, Reply, Rows, Changed, SqlRefusal, Syntax, Statement, TheQuery, TheInsert, TheUpdate, TheDelete, Table}
 use Rattle.sql_laws.proofs.ChangedTables.{else-parts}
-use Rattle.sql_laws.proofs.ItemLists.{all_found}
+use Rattle.ldv_value.proofs.ItemLists.{all_found}
 use Rattle.sql_model.proofs.Databases.{tables_of_database}
 use Rattle.sql_model.proofs.Equations.{reply_is, after_is}
 use Rattle.sql_model.specs.Changes.{is_matched, target_of, table_of, change_refusal}

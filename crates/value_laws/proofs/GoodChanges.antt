@@ -5,7 +5,7 @@ use Rattle.std.specs.List.{AllByRecursion}
 use Rattle.std.specs.Str.{IsUtf8}
 use Rattle.ldv_value.specs.Limits.{max_columns}
 use Rattle.sql_laws.specs.Types.{Value, Catalog, Expr, Set, Statement, TheQuery, TheInsert, TheUpdate, TheDelete, Update, Column, Schema, Table, TableRow}
-use Rattle.sql_laws.proofs.ItemLists.{all_append, all_filter, all_found}
+use Rattle.ldv_value.proofs.ItemLists.{all_append, all_filter, all_found}
 use Rattle.sql_model.specs.Changes.{is_matched, plain_value, is_given, given_value, value_given, new_values, numbered_rows, rows_of_insert, sets_column, value_set, updated_value, updated_row, update_one, after_insert, after_update, after_delete, table_after, changed_in, matched, new_rows}
 use Rattle.sql_model.specs.Meaning.{Environment, or_null}
 use Rattle.sql_model.specs.Scope.{InScope, is_table, own_scope, environment}

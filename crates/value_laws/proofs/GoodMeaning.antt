@@ -12,7 +12,7 @@ use Rattle.sql_model.specs.declared.expr.Fold.TheVariants as fold
 use Rattle.sql_model.specs.Scope.{InScope, place_of, value_at, environment}
 use Rattle.sql_model.specs.Meaning.{Environment, Meaning, number_value, with_numbers, negation_of, value_both, or_null, lesser_of, greater_of, total, aggregate_of, known_values, is_null, in_first, eval_step, eval}
 use Rattle.sql_laws.specs.Types.{Value, Null, Int, Text, ColumnName, Expr, Expr-F, Fold, Operator, Add, Subtract, Multiply, Compare, And, Or}
-use Rattle.sql_laws.proofs.ItemLists.{all_filter}
+use Rattle.ldv_value.proofs.ItemLists.{all_filter}
 use Rattle.value_laws.specs.Values.{GoodValue, GoodValues, constants_step, constants, GoodExpr}
 
 -- ---- values

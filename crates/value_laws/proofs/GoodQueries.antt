@@ -1,6 +1,6 @@
 -- The rows of an answer are good and not too wide where the constants of the query and the tables are good.
-use Rattle.std.proofs.Common.{◌≡◌, ℕ, suc, zero, ◌+◌, ◌*◌, ◌<◌, ◌≤◌, ◌^◌, arith, List, [], ◌∷◌, ◌++◌, sym, subst, Bool, true, false}
-use Rattle.std.specs.Prelude.{Option, Some, None, map, filter, find, take, length, not, ◌==◌, if◌then◌else◌}
+use Rattle.std.proofs.Common.{◌≡◌, ℕ, suc, ◌+◌, ◌*◌, ◌<◌, ◌≤◌, ◌^◌, arith, List, [], ◌∷◌, ◌++◌, sym, subst, Bool, true, false}
+use Rattle.std.specs.Prelude.{Option, Some, None, map, filter, find, length, not, ◌==◌, if◌then◌else◌}
 use Rattle.std.specs.declared.cmp.Ordering.{Ordering}
 use Rattle.std.specs.List.{AllByRecursion, flat_map, list_all}
 use Rattle.std.specs.Ordering.{is_gt}
@@ -8,7 +8,7 @@ use Rattle.std.proofs.lemmas.Bool.Decides.{Decides-eqb}
 use Rattle.ldv_value.proofs.Booleans.{and-parts}
 use Rattle.ldv_value.proofs.Lists.{length-append, length-map}
 use Rattle.sql_laws.specs.Types.{Value, ColumnName, Column, Core, FromItem, Item, Query, Table, TableRow}
-use Rattle.sql_laws.proofs.ItemLists.{all_append, all_filter}
+use Rattle.ldv_value.proofs.ItemLists.{all_append, all_filter, all_take}
 use Rattle.sql_model.proofs.ValidTables.{table-parts}
 use Rattle.sql_model.specs.Keys.{same_values}
 use Rattle.sql_model.specs.Meaning.{eval}
@@ -27,11 +27,6 @@ module _ {X : Type 0} (P : X → Type 0) where
       → AllByRecursion P (if b then xs else ys)
   all_chosen true xs ys first second = first
   all_chosen false xs ys first second = second
-
-  all_take : (n : ℕ) (xs : List X) → AllByRecursion P xs → AllByRecursion P (take n xs)
-  all_take zero xs all = tt
-  all_take (suc n) [] all = tt
-  all_take (suc n) (x ∷ xs) all = (all.0, all_take n xs all.1)
 
   module _ (cmp : X → X → Ordering) where
     all_put : (x : X) (ys : List X) → P x → AllByRecursion P ys → AllByRecursion P (put_sorted cmp x ys)

@@ -7,7 +7,7 @@ use Rattle.std.specs.Str.{IsUtf8}
 use Rattle.std.proofs.lemmas.Bool.{lt-ltb}
 use Rattle.ldv_value.proofs.Lists.{length-map}
 use Rattle.sql_laws.specs.Types.{Value, Catalog, Foreign, Refused, NoParent, HasChild, Statement, Table, TableRow}
-use Rattle.sql_laws.proofs.ItemLists.{all_filter, all_map, all_flat_map}
+use Rattle.ldv_value.proofs.ItemLists.{all_filter, all_map, all_flat_map}
 use Rattle.sql_model.specs.Changes.{table_after, new_rows}
 use Rattle.sql_model.specs.Keys.{values_at}
 use Rattle.sql_model.specs.Meaning.{is_null}

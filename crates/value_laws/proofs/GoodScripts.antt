@@ -13,9 +13,8 @@ use Rattle.script_parse.specs.declared.token.Token.TheVariants.{Word}
 use Rattle.script_parse.specs.Grammar.{Kind, Blank, Names, Does, word, operand_token, HasForm, tokens_for, place_of, IsAtPlace, IsLine, IsAt, IsScript, steps}
 use Rattle.script_parse.specs.Script.{script_of}
 use Rattle.script_parse.proofs.ScriptLaw.{script_sound}
-use Rattle.sql_laws.proofs.ItemLists.{all_of_map}
+use Rattle.ldv_value.proofs.ItemLists.{all_front, all_of_map}
 use Rattle.value_laws.specs.Literals.{GoodOperand, GoodOperands, GoodInstr, GoodScript}
-use Rattle.value_laws.proofs.ListParts.{all_front}
 use Rattle.value_laws.proofs.ScriptTokens.{GoodPiece, GoodPieces, pieces_good}
 
 -- ---- operands

@@ -6,7 +6,7 @@ use Prim.Native.String.{String}
 use Rattle.ldv_value.specs.Limits.{text_limit, max_sources}
 use Rattle.ldv_value.proofs.Lists.{length-append}
 use Rattle.sql_laws.specs.Types.{Value, Expr, Fold, Operator, Core, FromItem, Item, Query, Set, Insert, Update, Delete, Statement, TheQuery, TheInsert, TheUpdate, TheDelete}
-use Rattle.sql_laws.proofs.ItemLists.{all_append}
+use Rattle.ldv_value.proofs.ItemLists.{all_append, all_front, all_back}
 use Rattle.sql_model.proofs.Folds.{fold-Constant, fold-Column, fold-Negate, fold-Not, fold-Both, fold-IsNull, fold-Count, fold-Aggregate}
 use Rattle.sql_model.specs.declared.expr.Expr.TheVariants as expr
 use Rattle.sql_model.specs.declared.expr.ColumnName.{ColumnName}
@@ -18,7 +18,6 @@ use Rattle.sql_model.specs.GrammarOfStatements.{Then, After, Optionally, IsRepet
 use Rattle.sql_model.specs.Texts.{statement_of}
 use Rattle.sql_parse.proofs.StatementsLaw.{reading_sound}
 use Rattle.value_laws.specs.Values.{GoodValue, GoodValues, constants_step, constants, GoodExpr, GoodExprs, GoodPick, GoodItem, GoodItems, GoodCore, GoodLimit, GoodQuery, GoodSet, GoodUpdate, GoodStatement}
-use Rattle.value_laws.proofs.ListParts.{all_front, all_back}
 use Rattle.value_laws.proofs.GoodTokens.{GoodToken, GoodTokens, tokens_good, tokens_few, given_good, given_few}
 
 -- ---- expressions

@@ -8,7 +8,6 @@ pub mod GoodRefusals
 pub mod GoodScripts
 pub mod GoodStatements
 pub mod GoodTokens
-pub mod ListParts
 pub mod LogsGood
 pub mod LowBytes
 pub mod RunGood

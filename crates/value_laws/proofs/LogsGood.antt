@@ -8,7 +8,7 @@ use Rattle.ldv_value.specs.Names.{path_test}
 use Rattle.ldv_value.proofs.Booleans.{and-parts, and-from}
 use Rattle.ldv_value.proofs.Lists.{all-weaker, length-map, sorted-map, tested-all}
 use Rattle.script_parse.specs.Script.{script_of}
-use Rattle.sql_laws.proofs.ItemLists.{all_map}
+use Rattle.ldv_value.proofs.ItemLists.{all_map}
 use Rattle.sql_model.proofs.SortedLists.{sorted-filter}
 use Rattle.run_model.specs.Types.{Text, Instr}
 use Rattle.ldv_value.specs.declared.file.File.{File}

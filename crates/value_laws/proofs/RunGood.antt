@@ -16,7 +16,7 @@ use Rattle.sql_model.specs.Statements.{reply_of, after}
 use Rattle.sql_model.specs.Tables.{is_short, is_database, is_described, tables_test}
 use Rattle.sql_model.specs.Texts.{statement_of}
 use Rattle.sql_laws.proofs.DatabaseLaws.{tables_law}
-use Rattle.sql_laws.proofs.ItemLists.{all_append}
+use Rattle.ldv_value.proofs.ItemLists.{all_append}
 use Rattle.run_model.specs.Types.{Value, Null, Int, Text, Variable, Instr, Reply, Statement, Table}
 use Rattle.run_model.specs.declared.package.Entry.{Entry}
 use Rattle.run_model.specs.Core.{lookup, Process, Core, is_over}

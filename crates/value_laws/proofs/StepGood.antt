@@ -19,7 +19,7 @@ use Rattle.run_model.specs.TypedPackage.{TypedValues}
 use Rattle.sql_model.specs.Meaning.{or_null}
 use Rattle.sql_model.specs.Tables.{is_short}
 use Rattle.run_model.proofs.StepKeeps.{IsStatus}
-use Rattle.sql_laws.proofs.ItemLists.{all_filter}
+use Rattle.ldv_value.proofs.ItemLists.{all_filter}
 use Rattle.value_laws.specs.Literals.{GoodOperand, GoodOperands, GoodScript}
 use Rattle.value_laws.specs.Values.{GoodValue, GoodValues, GoodReply}
 use Rattle.value_laws.proofs.StepValues.{small_good, GoodComputed, GoodLine, read_good}

@@ -2,7 +2,6 @@ pub mod Columns
 pub mod DocumentWorlds
 pub mod Each
 pub mod Found
-pub mod JsonText
 pub mod Lookups
 pub mod Numbering
 pub mod Pairs

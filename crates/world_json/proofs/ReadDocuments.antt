@@ -24,7 +24,8 @@ use Rattle.world_json.specs.declared.document.Document.{Document}
 use Rattle.world_json.specs.declared.document.Draft.{Draft}
 use Rattle.world_json.specs.declared.document.DraftForeign.{DraftForeign}
 use Rattle.world_json.specs.Shape.{◌>>=◌, each_member, array_of, object_of, only, required_member, optional_member, whole_of, content_of, file_of, cell_of, column_of, foreign_of, draft_of, is_width, table_from, table_in, table_of, table_members, document_as, document_from, document_in, document_of, document_members}
-use Rattle.world_json.specs.Reading.{table_as, world_as, reading_of_document, reading_of_json, json_of, world_reading}
+use Rattle.json_bytes.specs.Reading.{json_of}
+use Rattle.world_json.specs.Reading.{table_as, world_as, reading_of_document, reading_of_json, world_reading}
 use Rattle.world_json.specs.SortedWorld.{is_sorted_world}
 use Rattle.world_json.proofs.Readings.{IsWorldOf, document_passes}
 use Rattle.world_json.proofs.Columns.{table_name}

@@ -1,9 +1,8 @@
 -- The world that a document is, or the first fault by which it is none.
 use Rattle.std.specs.Prelude.{◌≡◌, ℕ, ◌+◌, List, [], ◌∷◌, map, Bool, ◌&&◌, if◌then◌else◌, Option, Some, None}
 use Rattle.std.specs.Prelude.{Result, Ok, Err}
-use Rattle.std.specs.Str.{is_utf8}
 use Rattle.serde_json.specs.Data.{Data}
-use Rattle.serde_json.specs.Read.{read}
+use Rattle.json_bytes.specs.Reading.{json_of}
 use Rattle.ldv_value.specs.declared.file.File.{File}
 use Rattle.script_parse.specs.Script.{script_of, first_bad_line}
 use Rattle.script_parse.specs.declared.script.Instr.{Instr}
@@ -90,10 +89,6 @@ reading_of doc =
 abbrev pub reading_of_document : Option Document → Result World WorldFault
 reading_of_document None = Err Shape
 reading_of_document (Some doc) = reading_of doc
-
--- the JSON value of UTF-8 bytes
-abbrev pub json_of : List ℕ → Option Data
-json_of bytes = if is_utf8 bytes then read bytes else None
 
 abbrev pub reading_of_json : Option Data → Result World WorldFault
 reading_of_json None = Err NotJson

@@ -7,6 +7,7 @@ use Rattle.hex.specs.Hex.{decode_of}
 use Rattle.serde_json.specs.Data.{Data, null, boolean, number, string, array, object}
 use Rattle.serde_json.specs.Data.{Items, no_items, item, Members, no_members, member}
 use Rattle.serde_json.specs.Find.{get_member, as_str, as_number, as_array, as_object, as_u64, as_i64}
+pub use Rattle.ldv_value.specs.Options.{◌>>=◌}
 use Rattle.ldv_value.specs.declared.file.File.{File}
 use Rattle.ldv_value.specs.declared.value.Value.{Value}
 use Rattle.ldv_value.specs.declared.value.Value.TheVariants.{Null, Int, Text}
@@ -14,12 +15,6 @@ use Rattle.sql_model.specs.declared.table.Column.{Column}
 use Rattle.world_json.specs.declared.document.Document.{Document}
 use Rattle.world_json.specs.declared.document.Draft.{Draft}
 use Rattle.world_json.specs.declared.document.DraftForeign.{DraftForeign}
-
--- the next step, where there is a value
-infixl 10 ◌>>=◌
-abbrev pub ◌>>=◌ : {A B : Type 0} → Option A → (A → Option B) → Option B
-None >>= f = None
-Some x >>= f = f x
 
 -- ---- arrays and objects
 

@@ -13,7 +13,6 @@ mod keys;
 mod kinds;
 mod limits;
 mod members;
-mod parse;
 mod parts;
 mod rows;
 mod shape;

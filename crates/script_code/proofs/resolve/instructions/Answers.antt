@@ -1,7 +1,8 @@
 use Rattle.std.proofs.Common.{◌≡◌, [], refl, arith}
 use Rattle.ldv_value.proofs.Lists.{nil-from-length}
 use Rattle.script_code.proofs.KnownNames.{keeps_all_on}
-use Rattle.script_code.proofs.Resolving.{split_first, instr_next, instrs_done}
+use Rattle.ldv_value.proofs.FirstItems.{split_first}
+use Rattle.script_code.proofs.Resolving.{instr_next, instrs_done}
 use Rattle.script_code.proofs.resolve.instructions.Goals as goal
 
 pub loop-rest-preserved : goal.loop-rest-preserved

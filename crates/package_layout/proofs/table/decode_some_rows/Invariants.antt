@@ -1,8 +1,0 @@
-use Rattle.std.proofs.Common.{◌≡◌, ◌-◌}
-use Rattle.package_layout.specs.Fields.{items_at}
-use Rattle.package_layout.specs.Reading.{row_at}
-use Rattle.package_layout.proofs.Lists.{with_front}
-use Rattle.package_layout.proofs.table.decode_some_rows.Given as goal
-
-abbrev pub invariant-loop-turn : goal.invariant-loop-turn
-invariant-loop-turn l = with_front l.rows (items_at (row_at l.columns) (l.count - l._turn) l.cursor) ≡ items_at (row_at l.columns) l.count l.fn.cursor
