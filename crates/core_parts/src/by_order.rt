@@ -7,8 +7,7 @@ ghost use Rattle.std.specs.Cmp.Rules.{comparing};
 ghost use Rattle.std.specs.Ordering.{eq_by_cmp};
 ghost use Rattle.std.specs.declared.cmp.Ordering.{Ordering as Order};
 ghost use Rattle.std.proofs.Common.{rules};
-ghost use Rattle.ldv_value.specs.Order.{order};
-ghost use Rattle.sql_model.specs.KeyOrder.{order_total, values_order, values_total};
+ghost use Rattle.ldv_value.specs.Order.{order, order_total, values_order, values_total};
 
 use ldv_value::{Value, Values, compare};
 use sql_model::compare_values;

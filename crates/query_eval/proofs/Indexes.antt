@@ -4,8 +4,7 @@ use Rattle.std.specs.Ordering.{is_eq, int_cmp}
 use Rattle.std.specs.Cmp.{eq_by_cmp_equiv}
 use Rattle.ldv_value.specs.declared.value.Value.{Value}
 use Rattle.ldv_value.specs.declared.value.Value.TheVariants.{Null, Int, Text}
-use Rattle.ldv_value.specs.Order.{order}
-use Rattle.sql_model.specs.KeyOrder.{order_total}
+use Rattle.ldv_value.specs.Order.{order, order_total}
 use Rattle.core_parts.proofs.Listings.{moved}
 use Rattle.core_parts.specs.declared.refs_by.RefsBy.{RefsBy}
 use Rattle.core_parts.specs.Equality.{equals}

@@ -7,7 +7,7 @@ ghost use Rattle.lineage.specs.Lineage.{union_of};
 ghost use Rattle.lineage.specs.Rows.{AnswersStandFor};
 ghost use Rattle.query_eval.specs.Merging.{own_values, merged_answer, place_of, with_more, with_answer, IsIndex};
 ghost use Rattle.query_eval.specs.Types.{Value as Seen};
-ghost use Rattle.sql_model.specs.KeyOrder.{values_order};
+ghost use Rattle.ldv_value.specs.Order.{values_order};
 ghost use Rattle.sql_model.specs.Needs.{Versions};
 ghost use Rattle.sql_model.specs.QueryAnswer.{AnswerRow, distinct_values, merge};
 

@@ -5,7 +5,7 @@ ghost use Rattle.std.specs.BTreeSet.{contains_by};
 ghost use Rattle.std.specs.List.{list_all, list_any};
 ghost use Rattle.std.specs.Option.{option_map};
 ghost use Rattle.sql_model.specs.Keys.{values_at};
-ghost use Rattle.sql_model.specs.KeyOrder.{values_order};
+ghost use Rattle.ldv_value.specs.Order.{values_order};
 ghost use Rattle.sql_model.specs.inner.KeySets.{refers_among};
 ghost use Rattle.sql_model.specs.Meaning.{is_null};
 ghost use Rattle.sql_model.specs.References.{all_have_parents, has_key, has_parent, is_referring};

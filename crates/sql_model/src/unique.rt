@@ -6,10 +6,9 @@ ghost use Rattle.std.specs.Cmp.{eq_by_cmp_equiv, partial_order_from_agreeing_tot
 ghost use Rattle.std.specs.Cmp.Rules.{comparing};
 ghost use Rattle.std.specs.Ordering.{eq_by_cmp};
 ghost use Rattle.std.proofs.Common.{rules};
-ghost use Rattle.ldv_value.specs.Order.{order};
+ghost use Rattle.ldv_value.specs.Order.{order, values_order, values_total};
 ghost use Rattle.ldv_value.specs.declared.value.Value.{Value};
 ghost use Rattle.sql_model.specs.Keys.{matches_first, has_same_neighbours, has_two_of_a_key, repeats, values_at};
-ghost use Rattle.sql_model.specs.KeyOrder.{values_order, values_total};
 ghost use Rattle.sql_model.specs.Scope.{value_at};
 ghost use Rattle.ldv_value.specs.declared.value.Value.TheVariants.{Null};
 
