@@ -10,7 +10,7 @@ ghost use Rattle.column_store.specs.LentCells.{lent_value};
 
 use crate::cell::Cell;
 use crate::int_column::IntColumn;
-use ldv_value::{CopyItem, Value, compare};
+use ldv_value::{CopyItem, Value};
 use std::alloc::{AllocError, Global};
 use std::cmp::Ordering;
 use std::marker::Model;
@@ -91,11 +91,11 @@ impl Column {
         match &self.held {
             Held::Ints(ints) => {
                 let value = number_value(ints.get(slot));
-                compare(&value, other)
+                value.cmp(other)
             }
             Held::Texts(values) => {
                 let value = &values[slot];
-                compare(value, other)
+                value.cmp(other)
             }
         }
     }

@@ -11,7 +11,7 @@ ghost use Rattle.column_store.specs.Columns.{FitColumns, place_value};
 
 use crate::cell::Cell;
 use crate::column::Column;
-use ldv_value::{List, Value, Values, compare};
+use ldv_value::{List, Value, Values};
 use std::alloc::{AllocError, Global};
 use std::cmp::Ordering;
 use std::mem;
@@ -153,7 +153,7 @@ fn compare_at(columns: &Vec<Column>, slot: usize, place: usize, value: &Value) -
 {
     if place >= columns.len() {
         let null = Value::Null;
-        return compare(&null, value);
+        return null.cmp(value);
     }
     let column = &columns[place];
     column.compare_cell(slot, value)

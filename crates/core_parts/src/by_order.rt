@@ -9,8 +9,7 @@ ghost use Rattle.std.specs.declared.cmp.Ordering.{Ordering as Order};
 ghost use Rattle.std.proofs.Common.{rules};
 ghost use Rattle.ldv_value.specs.Order.{order, order_total, values_order, values_total};
 
-use ldv_value::{Value, Values, compare};
-use sql_model::compare_values;
+use ldv_value::{Value, Values};
 use std::cmp::Ordering;
 use std::marker::Model;
 
@@ -33,7 +32,7 @@ impl Ordered for Value {
     ghost is_total = { order_total };
 
     fn compare_items(&self, other: &Value) -> Ordering {
-        compare(self, other)
+        self.cmp(other)
     }
 }
 
@@ -44,7 +43,7 @@ impl Ordered for Values {
     ghost is_total = { values_total };
 
     fn compare_items(&self, other: &Values) -> Ordering {
-        compare_values(self.items(), other.items())
+        self.cmp(other)
     }
 }
 

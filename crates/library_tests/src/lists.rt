@@ -39,6 +39,19 @@ fn keeps_texts(rt: HostRuntime) -> Result<(), Fail> {
 }
 
 #[test]
+fn orders_lists(rt: HostRuntime) -> Result<(), Fail> {
+    let alloc = rt.alloc();
+    let empty = Numbers::new(alloc);
+    let short = Numbers::of_vec(Vec::from_slice(alloc, &[4])?);
+    let long = Numbers::of_vec(Vec::from_slice(alloc, &[4, 0])?);
+    let copied = long.copy()?;
+    let numbers = numbers(alloc)?;
+    assert!(rt; empty < short && short < long && long < numbers);
+    assert!(rt; long == copied && long != short);
+    Ok(())
+}
+
+#[test]
 fn copies_files(rt: HostRuntime) -> Result<(), Fail> {
     let alloc = rt.alloc();
     let mut files = Files::new(alloc);

@@ -7,7 +7,7 @@ ghost use Rattle.package_join.specs.Joined.{tables_differ};
 ghost use Rattle.package_join.specs.Same.{contents_differ, same_column, same_foreign, same_keys, same_schema};
 
 use ldv_value::{Bytes, Values};
-use sql_model::{Column, Foreign, Schema, Table, compare_values};
+use sql_model::{Column, Foreign, Schema, Table};
 
 /// Whether both are whole, with different bytes.
 pub(crate) fn contents_differ(a: &Option<Bytes>, b: &Option<Bytes>) -> bool
@@ -33,7 +33,7 @@ pub(crate) fn tables_differ(a: &Table, b: &Table) -> bool
 pub(crate) fn values_differ(a: &Values, b: &Values) -> bool
     ensures { result ≡ not (same_values a.now b.now) }
 {
-    !compare_values(a.items(), b.items()).is_eq()
+    !a.cmp(b).is_eq()
 }
 
 fn same_schema(a: &Schema, b: &Schema) -> bool

@@ -1,8 +1,6 @@
 //! Keys of rows, and their order.
 
-ghost use Rattle.std.specs.Prelude.{◌≡◌, [], Some, refl, IfOk};
-ghost use Rattle.std.specs.Cmp.Lexicographic.{slice_cmp};
-ghost use Rattle.ldv_value.specs.Order.{order};
+ghost use Rattle.std.specs.Prelude.{◌≡◌, Some, refl, IfOk};
 ghost use Rattle.std.specs.Cmp.{eq_by_cmp_equiv, partial_order_from_agreeing_total, partial_equiv_from_equiv};
 ghost use Rattle.std.specs.Cmp.Rules.{comparing};
 ghost use Rattle.std.specs.Ordering.{eq_by_cmp};
@@ -10,7 +8,7 @@ ghost use Rattle.std.proofs.Common.{rules};
 ghost use Rattle.sql_model.specs.Scope.{value_at};
 ghost use Rattle.sql_model.specs.KeyOrder.{key_order, key_order_total};
 
-use ldv_value::{CopyItem, Value, Values, compare};
+use ldv_value::{CopyItem, Value, Values};
 use std::alloc::{AllocError, Global};
 use std::cmp::Ordering;
 
@@ -54,41 +52,7 @@ impl Ord for RowKey {
     ghost matches_eq = { λ x y. refl };
 
     fn cmp(&self, other: &RowKey) -> Ordering {
-        compare_values(self.values.items(), other.values.items())
-    }
-}
-
-/// How two rows of values are ordered: value by value, a row that is at its end first.
-pub fn compare_values(a: &[Value], b: &[Value]) -> Ordering
-    ensures { result ≡ slice_cmp order a.now b.now }
-{
-    let mut left = a;
-    let mut right = b;
-    loop {
-        match left {
-            [] => return compare_empty(right),
-            [first, rest @ ..] => match right {
-                [] => return Ordering::Greater,
-                [second, more @ ..] => {
-                    let between = compare(first, second);
-                    if between.is_ne() {
-                        return between;
-                    }
-                    left = rest;
-                    right = more;
-                }
-            },
-        }
-    }
-}
-
-// How no values compare to some.
-fn compare_empty(values: &[Value]) -> Ordering
-    ensures { result ≡ slice_cmp order [] values.now }
-{
-    match values {
-        [] => Ordering::Equal,
-        [_first, ..] => Ordering::Less,
+        self.values.cmp(&other.values)
     }
 }
 

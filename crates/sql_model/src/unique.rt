@@ -13,7 +13,7 @@ ghost use Rattle.sql_model.specs.Scope.{value_at};
 ghost use Rattle.ldv_value.specs.declared.value.Value.TheVariants.{Null};
 
 use crate::table::TableRow;
-use ldv_value::{Places, Value, Values, compare};
+use ldv_value::{Places, Value, Values};
 use std::alloc::{AllocError, Global};
 use std::cmp::Ordering;
 use std::marker::Model;
@@ -152,7 +152,7 @@ fn compare_at(row: &Values, place: usize, other: &Values, at: usize) -> Ordering
     ensures { result ≡ order (value_at row.now place) (value_at other.now at) }
 {
     let null = Value::Null;
-    compare(value_or(row, place, &null), value_or(other, at, &null))
+    value_or(row, place, &null).cmp(value_or(other, at, &null))
 }
 
 /// The value of a row at a place, from 0, or a given NULL where the row has none there.
