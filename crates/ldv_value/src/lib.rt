@@ -6,6 +6,7 @@
 
 mod bytes;
 mod file;
+mod key;
 mod limits;
 mod line;
 mod list;
@@ -17,6 +18,7 @@ mod utf8;
 mod value;
 
 pub use file::{File, Files, OpenMode};
+pub use key::Key;
 pub use limits::{
     DEFAULT_STEPS, FILE_LIMIT, INPUT_LIMIT, MAX_COLUMNS, MAX_DEPTH, MAX_FILES, MAX_NEXT,
     MAX_OPERANDS, MAX_PARAMS, MAX_PROCESSES, MAX_ROWS, MAX_SOURCES, MAX_START_WORDS, MAX_STEPS,
