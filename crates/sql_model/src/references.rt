@@ -106,7 +106,7 @@ fn are_among<'a>(keys: &BTreeSet<KeyOf<'a>>, foreign: &'a Foreign, rows: &'a Tab
 fn table_at<'a>(tables: &'a Tables, name: &Utf8) -> Option<&'a Table>
     ensures { option_map (λ table. table.now) result ≡ table_at name.now tables.now }
 {
-    tables.items().iter().find(|table| table.name.is_same(name))
+    tables.items().iter().find(|table| table.name == *name)
 }
 
 // The keys of rows.
