@@ -16,7 +16,7 @@ use std::mem;
 fn is_recorded(entry: &Entry, text: &Utf8, params: &Values) -> bool
     ensures { result ≡ (same_text text.now entry.now.text && same_values params.now entry.now.params) }
 {
-    text.is_same(&entry.text) && params.cmp(&entry.params).is_eq()
+    *text == entry.text && params.cmp(&entry.params).is_eq()
 }
 
 // Takes the reply of the entry at a place. Neither the entry nor those before it are used again.
