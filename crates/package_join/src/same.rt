@@ -67,7 +67,7 @@ fn same_columns(a: &[Column], b: &[Column]) -> bool
 fn same_keys(a: &Schema, b: &Schema) -> bool
     ensures { result ≡ same_keys a.now b.now }
 {
-    a.key.items() == b.key.items() && same_foreigns(a.foreign.items(), b.foreign.items())
+    a.key == b.key && same_foreigns(a.foreign.items(), b.foreign.items())
 }
 
 fn same_foreigns(a: &[Foreign], b: &[Foreign]) -> bool
@@ -95,11 +95,11 @@ fn same_foreigns(a: &[Foreign], b: &[Foreign]) -> bool
 fn same_foreign(a: &Foreign, b: &Foreign) -> bool
     ensures { result ≡ same_foreign a.now b.now }
 {
-    a.columns.items() == b.columns.items() && a.parent.is_same(&b.parent)
+    a.columns == b.columns && a.parent == b.parent
 }
 
 fn same_column(a: &Column, b: &Column) -> bool
     ensures { result ≡ same_column a.now b.now }
 {
-    a.name.is_same(&b.name) && a.text == b.text && a.not_null == b.not_null
+    a.name == b.name && a.text == b.text && a.not_null == b.not_null
 }
