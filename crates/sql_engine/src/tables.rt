@@ -21,10 +21,7 @@ use std::alloc::{AllocError, Global};
 fn core_names(core: &Core, name: &Utf8) -> bool
     ensures { result ≡ list_any (λ item. is_text name.now item.table) core.now.from }
 {
-    core.from
-        .items()
-        .iter()
-        .any(|item| *name == item.table)
+    core.from.items().iter().any(|item| *name == item.table)
 }
 
 // Whether a query has a table among the sources of its cores.
