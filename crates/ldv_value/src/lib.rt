@@ -28,7 +28,7 @@ pub use line::LineRead;
 pub use list::{CopyItem, List};
 pub use order::{holds, test};
 pub use path_rules::{is_path, is_word};
-pub use show::{append_number, append_signed, append_text};
+pub use show::{append_number, append_signed, append_text, push_text};
 pub use sorted::{Precedes, is_strictly_sorted};
 pub use utf8::Utf8;
 pub use value::{Cmp, Truth, Value};
