@@ -1,7 +1,7 @@
 //! Text: a `String` that contracts see as the list of its bytes.
 
 ghost use Rattle.std.specs.Prelude.{◌≡◌, ◌==◌, ◌++◌, ◌↔◌, [], string_bytes, length, nat_eq};
-ghost use Rattle.std.specs.Prelude.{IsTrue, IfOk, OnOk, OnErr, Some, refl};
+ghost use Rattle.std.specs.Prelude.{IsTrue, IfOk, OnOk, OnErr, MatchOption, Some, None, refl};
 ghost use Rattle.std.specs.Ordering.{nat_cmp};
 ghost use Rattle.std.specs.Cmp.{partial_equiv_from_equiv};
 ghost use Rattle.std.specs.Cmp.Lexicographic.{pointwise, slice_cmp, nat_list_eq_equiv, nat_list_cmp_total};
@@ -9,7 +9,9 @@ ghost use Rattle.std.specs.Cmp.Lexicographic.{texts_ties, texts_po};
 ghost use Rattle.std.specs.Cmp.Rules.{hashing};
 ghost use Rattle.std.specs.Hash as fed;
 ghost use Rattle.std.proofs.Common.{rules};
+ghost use Rattle.ldv_value.specs.Texts.{text_of};
 
+use crate::Bytes;
 use crate::list::CopyItem;
 use std::alloc::{AllocError, Global};
 use std::cmp::Ordering;
@@ -54,6 +56,17 @@ impl Utf8 {
         ensures { result ≡ string_bytes text }
     {
         Utf8 { text }
+    }
+
+    /// Bytes as a text, in their own memory; `None` where they aren't UTF-8.
+    #[tactic(auto, using(crate::proofs::Utf8Parts::text_rules))]
+    pub fn of_utf8(bytes: Bytes) -> Option<Utf8>
+        ensures { MatchOption result (text_of bytes ≡ None) (λ text. text_of bytes ≡ Some text) }
+    {
+        match String::from_utf8(bytes.into_vec()) {
+            Ok(text) => Some(Utf8::of_string(text)),
+            Err(_) => None,
+        }
     }
 
     /// The text as a `String`, in its own memory.
