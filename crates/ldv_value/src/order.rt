@@ -3,7 +3,7 @@
 ghost use Rattle.std.specs.Prelude.{◌≡◌, Some, refl};
 ghost use Rattle.std.specs.Cmp.{eq_by_cmp_equiv, partial_order_from_agreeing_total, partial_equiv_from_equiv};
 ghost use Rattle.std.specs.Ordering.{eq_by_cmp};
-ghost use Rattle.ldv_value.specs.Order.{order, order_total, meets, IsTestable, test_of, truth_of_bool};
+ghost use Rattle.ldv_value.specs.Order.{order, order_total, meets, IsTestable, test_of};
 
 use crate::value::{Cmp, Truth, Value};
 use std::cmp::Ordering;
@@ -81,12 +81,6 @@ pub fn test(op: Cmp, a: &Value, b: &Value) -> Truth
     match (a, b) {
         (Value::Null, _) => Truth::Unknown,
         (_, Value::Null) => Truth::Unknown,
-        (_, _) => truth_of(holds(op, a, b)),
+        (_, _) => Truth::of_bool(holds(op, a, b)),
     }
-}
-
-fn truth_of(holds: bool) -> Truth
-    ensures { result ≡ truth_of_bool holds }
-{
-    if holds { Truth::True } else { Truth::False }
 }

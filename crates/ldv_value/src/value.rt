@@ -1,5 +1,8 @@
 //! Values, truth values and comparison operators.
 
+ghost use Rattle.std.specs.Prelude.{◌≡◌};
+ghost use Rattle.ldv_value.specs.Order.{truth_of_bool};
+
 use crate::list::CopyItem;
 use crate::utf8::Utf8;
 use std::alloc::{AllocError, Global};
@@ -42,6 +45,15 @@ pub enum Cmp {
     Gt,
     /// `>=`
     Ge,
+}
+
+impl Truth {
+    /// True where a test holds, and else false.
+    pub fn of_bool(test: bool) -> Truth
+        ensures { result ≡ truth_of_bool test }
+    {
+        if test { Truth::True } else { Truth::False }
+    }
 }
 
 impl CopyItem for Value {
