@@ -17,7 +17,8 @@ use Rattle.ldv_value.specs.Order.{order, truth_of_bool, values_total}
 use Rattle.ldv_value.specs.declared.value.Cmp.TheVariants.{Eq}
 use Rattle.sql_model.specs.Keys.{same_values, values_at}
 use Rattle.sql_model.specs.Meaning.{is_true, truth}
-use Rattle.sql_model.specs.Scope.{InScope, environment, value_at}
+use Rattle.ldv_value.specs.Cells.{value_at}
+use Rattle.sql_model.specs.Scope.{InScope, environment}
 use Rattle.sql_model.specs.declared.expr.Expr.TheVariants.{Both}
 use Rattle.sql_model.proofs.SameValues.{exact}
 

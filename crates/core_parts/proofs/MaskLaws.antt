@@ -23,7 +23,8 @@ use Rattle.ldv_value.specs.declared.value.Cmp.{Cmp}
 use Rattle.ldv_value.specs.declared.value.Cmp.TheVariants.{Eq, Ne, Lt, Le, Gt, Ge}
 use Rattle.ldv_value.proofs.Booleans.{and-true, and-assoc}
 use Rattle.sql_model.specs.Meaning.{is_true, truth}
-use Rattle.sql_model.specs.Scope.{InScope, environment, value_at}
+use Rattle.ldv_value.specs.Cells.{value_at}
+use Rattle.sql_model.specs.Scope.{InScope, environment}
 use Rattle.sql_model.specs.declared.expr.Expr.TheVariants.{Both, IsNull}
 
 -- ---- comparisons

@@ -1,3 +1,4 @@
+pub mod Cells
 pub mod Digits
 pub mod FileState
 pub mod Gives

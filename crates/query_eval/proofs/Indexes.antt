@@ -12,7 +12,7 @@ use Rattle.core_parts.proofs.Equalities.{truth_of_bool-true}
 use Rattle.query_eval.specs.inner.Joining.{rows_listed, row_added, with_value}
 use Rattle.query_eval.specs.declared.source.SourceRow.{SourceRow}
 use Rattle.sql_model.specs.Meaning.{is_null}
-use Rattle.sql_model.specs.Scope.{value_at}
+use Rattle.ldv_value.specs.Cells.{value_at}
 
 -- `=` of what isn't NULL is a tie in the order
 equals_tied : (v w : Value) → is_null w ≡ false → equals v w ≡ is_eq (order w v)

@@ -8,7 +8,7 @@ ghost use Rattle.query_eval.specs.Sourcing.{joined_row_values};
 ghost use Rattle.query_eval.specs.Types.{Value as Seen, Null};
 ghost use Rattle.query_eval.specs.declared.source.SourceRow.{SourceRow as Given};
 ghost use Rattle.sql_model.specs.Meaning.{is_null};
-ghost use Rattle.sql_model.specs.Scope.{value_at};
+ghost use Rattle.ldv_value.specs.Cells.{value_at};
 
 use crate::source::SourceRow;
 use core_parts::{Refs, RefsBy};

@@ -4,7 +4,7 @@ ghost use Rattle.std.specs.Prelude.{◌≡◌, [], map, IfOk};
 ghost use Rattle.ldv_value.specs.Order.{order};
 ghost use Rattle.query_eval.specs.Finishing.{as_key, sort_columns, by_columns};
 ghost use Rattle.sql_model.specs.QueryAnswer.{order_in_direction, order_by};
-ghost use Rattle.sql_model.specs.Scope.{value_at};
+ghost use Rattle.ldv_value.specs.Cells.{value_at};
 ghost use Rattle.sql_model.specs.Sorting.{sorted_by};
 
 use ldv_value::{List, Value, Values};

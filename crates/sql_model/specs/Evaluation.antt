@@ -6,7 +6,8 @@ use Rattle.sql_model.specs.Types.{Truth, Value, Null, Int, Expr, Expr-F}
 use Rattle.sql_model.specs.declared.expr.Expr.TheOpen as open_expr
 use Rattle.sql_model.specs.declared.expr.Expr.TheFolds.{fold-Expr}
 use Rattle.sql_model.specs.Kinds.{names_in}
-use Rattle.sql_model.specs.Scope.{InScope, places_in, value_at, environment}
+use Rattle.ldv_value.specs.Cells.{value_at}
+use Rattle.sql_model.specs.Scope.{InScope, places_in, environment}
 use Rattle.sql_model.specs.Meaning.{Meaning, of_value, of_truth, negation_of, truth_not, both, null_test}
 use Rattle.sql_model.specs.Meaning.{counted_one, aggregate_of, known_values, eval}
 

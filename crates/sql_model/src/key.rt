@@ -1,7 +1,7 @@
 //! Keys of rows, and their order.
 
 ghost use Rattle.std.specs.Prelude.{◌≡◌, IfOk};
-ghost use Rattle.sql_model.specs.Scope.{value_at};
+ghost use Rattle.ldv_value.specs.Cells.{value_at};
 
 use ldv_value::{CopyItem, Value, Values};
 use std::alloc::{AllocError, Global};

@@ -10,7 +10,8 @@ ghost use Rattle.sql_model.specs.inner.KeySets.{refers_among};
 ghost use Rattle.sql_model.specs.Meaning.{is_null};
 ghost use Rattle.sql_model.specs.References.{all_have_parents, has_key, has_parent, is_referring};
 ghost use Rattle.sql_model.specs.References.{references_hold};
-ghost use Rattle.sql_model.specs.Scope.{table_at, value_at};
+ghost use Rattle.ldv_value.specs.Cells.{value_at};
+ghost use Rattle.sql_model.specs.Scope.{table_at};
 ghost use Rattle.sql_model.specs.Types.{Value};
 
 use crate::table::{Foreign, Foreigns, Table, TableRow, TableRows, Tables};

@@ -9,7 +9,7 @@ ghost use Rattle.std.proofs.Common.{rules};
 ghost use Rattle.ldv_value.specs.Order.{order, values_order, values_total};
 ghost use Rattle.ldv_value.specs.declared.value.Value.{Value};
 ghost use Rattle.sql_model.specs.Keys.{matches_first, has_same_neighbours, has_two_of_a_key, repeats, values_at};
-ghost use Rattle.sql_model.specs.Scope.{value_at};
+ghost use Rattle.ldv_value.specs.Cells.{value_at};
 ghost use Rattle.ldv_value.specs.declared.value.Value.TheVariants.{Null};
 
 use crate::table::TableRow;

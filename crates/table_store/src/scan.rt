@@ -5,7 +5,7 @@ ghost use Rattle.std.specs.Prelude.{None, is_some, length, slice_index_or};
 ghost use Rattle.std.specs.Option.{option_map_or};
 ghost use Rattle.lanes.specs.Sets.{member};
 ghost use Rattle.lanes.specs.Selection.{passes};
-ghost use Rattle.sql_model.specs.Scope.{value_at};
+ghost use Rattle.ldv_value.specs.Cells.{value_at};
 ghost use Rattle.column_store.specs.Cells.{int_value};
 ghost use Rattle.column_store.specs.Columns.{no_cells, values_at};
 ghost use Rattle.table_store.specs.Scans.{null_passes, passes_test};
