@@ -5,7 +5,8 @@ ghost use Rattle.std.specs.Prelude.{length, map, slice_index_or, slice_set, OnOk
 ghost use Rattle.std.specs.Prelude.{Some, IfSome, is_none, is_some};
 ghost use Rattle.ldv_value.specs.Order.{order};
 ghost use Rattle.column_store.specs.Types.{Null};
-ghost use Rattle.column_store.specs.Cells.{Cells, int_value, is_of_kind};
+ghost use Rattle.ldv_value.specs.Cells.{int_value};
+ghost use Rattle.column_store.specs.Cells.{Cells, is_of_kind};
 ghost use Rattle.column_store.specs.LentCells.{lent_value};
 
 use crate::cell::Cell;
@@ -62,7 +63,7 @@ impl Column {
         ensures { IfOk result (λ value. value ≡ slice_index_or self.now.items slot Null) }
     {
         match &self.held {
-            Held::Ints(ints) => Ok(number_value(ints.get(slot))),
+            Held::Ints(ints) => Ok(Value::of_number(ints.get(slot))),
             Held::Texts(values) => {
                 let value = &values[slot];
                 value.copy_item(alloc)
@@ -90,7 +91,7 @@ impl Column {
     {
         match &self.held {
             Held::Ints(ints) => {
-                let value = number_value(ints.get(slot));
+                let value = Value::of_number(ints.get(slot));
                 value.cmp(other)
             }
             Held::Texts(values) => {
@@ -169,16 +170,6 @@ impl Column {
             Held::Ints(_ints) => None,
             Held::Texts(values) => Some(values.as_slice()),
         }
-    }
-}
-
-// The value of a cell of numbers.
-fn number_value(number: Option<i64>) -> Value
-    ensures { result ≡ int_value number }
-{
-    match number {
-        None => Value::Null,
-        Some(number) => Value::Int(number),
     }
 }
 

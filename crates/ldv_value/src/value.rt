@@ -1,6 +1,7 @@
 //! Values, truth values and comparison operators.
 
 ghost use Rattle.std.specs.Prelude.{◌≡◌};
+ghost use Rattle.ldv_value.specs.Cells.{int_value};
 ghost use Rattle.ldv_value.specs.Order.{truth_of_bool};
 
 use crate::list::CopyItem;
@@ -45,6 +46,18 @@ pub enum Cmp {
     Gt,
     /// `>=`
     Ge,
+}
+
+impl Value {
+    /// A number, or NULL where there is none.
+    pub fn of_number(number: Option<i64>) -> Value
+        ensures { result ≡ int_value number }
+    {
+        match number {
+            None => Value::Null,
+            Some(number) => Value::Int(number),
+        }
+    }
 }
 
 impl Truth {
