@@ -118,14 +118,6 @@ impl Utf8 {
         Utf8::of(*self.text.allocator(), self.text.as_str())
     }
 
-    /// Whether two texts are the same.
-    pub fn is_same(&self, other: &Utf8) -> bool
-        ensures same { IsTrue result ↔ (self.now ≡ other.now) }
-        ensures test { result ≡ pointwise nat_eq self.now other.now }
-    {
-        self.as_str() == other.as_str()
-    }
-
     /// Whether the text is the other one.
     pub fn is_text(&self, other: &str) -> bool
         ensures same { IsTrue result ↔ (self.now ≡ other.now) }

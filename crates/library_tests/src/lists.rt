@@ -33,7 +33,7 @@ fn keeps_texts(rt: HostRuntime) -> Result<(), Fail> {
     let mut greeting = Utf8::of_string(Utf8::of(alloc, "h")?.into_string());
     greeting.push_str("i")?;
     let same = greeting.copy_item(greeting.allocator())?;
-    assert!(rt; greeting.is_same(&same) && greeting.is_text("hi") && !greeting.is_empty());
+    assert!(rt; greeting == same && greeting.is_text("hi") && !greeting.is_empty());
     assert!(rt; Utf8::new(alloc).is_empty());
     Ok(())
 }
