@@ -2,7 +2,7 @@
 use Rattle.std.proofs.Common.{◌≡◌, ℕ, zero, suc, List, [], ◌∷◌, ◌++◌, length, map, get_or, set, refl, ap}
 use Rattle.std.specs.Prelude.{ℤ, Option, Some, None}
 use Rattle.column_store.specs.Types.{Value, Null}
-use Rattle.column_store.specs.Cells.{int_value}
+use Rattle.ldv_value.specs.Cells.{int_value}
 
 pub ints_get : (cells : List (Option ℤ)) (slot : ℕ) → get_or (map int_value cells) slot Null ≡ int_value (get_or cells slot None)
 ints_get [] slot = refl

@@ -1,6 +1,6 @@
 -- The cells of a column, of numbers or of texts.
-use Rattle.std.specs.Prelude.{ℕ, ◌-◌, ℤ, Bool, true, false, not, Option, Some, None, List, map, vec_len}
-use Rattle.std.specs.Prelude.{vec_capacity}
+use Rattle.std.specs.Prelude.{ℕ, ◌-◌, Bool, true, false, not, List, map, vec_len, vec_capacity}
+use Rattle.ldv_value.specs.Cells.{int_value}
 use Rattle.column_store.specs.Types.{Value, Null, Int, Text}
 use Rattle.column_store.specs.declared.column.Held.{Held}
 use Rattle.column_store.specs.declared.column.Held.TheVariants.{Ints, Texts}
@@ -10,10 +10,6 @@ pub record Cells : Type 0 where
   pub text : Bool
   pub items : List Value
   pub spare : ℕ
-
-abbrev pub int_value : Option ℤ → Value
-int_value None = Null
-int_value (Some number) = Int number
 
 abbrev pub held_cells : Held → Cells
 held_cells (Ints ints) = record { text = false; items = map int_value ints.items; spare = ints.spare }

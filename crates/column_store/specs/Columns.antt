@@ -1,6 +1,6 @@
 -- One cell of each of several columns.
-use Rattle.std.specs.Prelude.{◌≡◌, ℕ, ◌<◌, Bool, true, false, List, [], ◌∷◌, ◌++◌, length, map, unwrap_or}
-use Rattle.std.specs.Prelude.{slice_get, slice_index_or, slice_set}
+use Rattle.std.specs.Prelude.{◌≡◌, ℕ, ◌<◌, Bool, true, false, List, [], ◌∷◌, ◌++◌, length, map}
+use Rattle.std.specs.Prelude.{slice_index_or, slice_set}
 use Rattle.column_store.specs.Types.{Value, Null}
 use Rattle.column_store.specs.Cells.{Cells, is_of_kind}
 
@@ -13,10 +13,6 @@ values_at columns slot = map (λ column. slice_index_or column.items slot Null) 
 
 abbrev pub kinds_of : List Cells → List Bool
 kinds_of columns = map (λ column. column.text) columns
-
--- the value at a place; past the last column there is NULL
-abbrev pub place_value : List Value → ℕ → Value
-place_value values place = unwrap_or (slice_get values place) Null
 
 abbrev pub AreLong : ℕ → List Cells → Type 0
 AreLong count columns = (k : ℕ) → k < length columns

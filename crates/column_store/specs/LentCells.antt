@@ -1,6 +1,6 @@
 -- One value of a row, as it is lent.
 use Rattle.column_store.specs.Types.{Value}
-use Rattle.column_store.specs.Cells.{int_value}
+use Rattle.ldv_value.specs.Cells.{int_value}
 use Rattle.column_store.specs.declared.cell.Cell.{Cell}
 use Rattle.column_store.specs.declared.cell.Cell.TheVariants.{Number, Lent}
 

@@ -5,12 +5,13 @@ ghost use Rattle.std.specs.Prelude.{length, map, slice_index_or, slice_set, OnOk
 ghost use Rattle.std.specs.Prelude.{Some, IfSome, is_none, is_some};
 ghost use Rattle.ldv_value.specs.Order.{order};
 ghost use Rattle.column_store.specs.Types.{Null};
-ghost use Rattle.column_store.specs.Cells.{Cells, int_value, is_of_kind};
+ghost use Rattle.ldv_value.specs.Cells.{int_value};
+ghost use Rattle.column_store.specs.Cells.{Cells, is_of_kind};
 ghost use Rattle.column_store.specs.LentCells.{lent_value};
 
 use crate::cell::Cell;
 use crate::int_column::IntColumn;
-use ldv_value::{CopyItem, Value, compare};
+use ldv_value::{CopyItem, Value};
 use std::alloc::{AllocError, Global};
 use std::cmp::Ordering;
 use std::marker::Model;
@@ -62,7 +63,7 @@ impl Column {
         ensures { IfOk result (λ value. value ≡ slice_index_or self.now.items slot Null) }
     {
         match &self.held {
-            Held::Ints(ints) => Ok(number_value(ints.get(slot))),
+            Held::Ints(ints) => Ok(Value::of_number(ints.get(slot))),
             Held::Texts(values) => {
                 let value = &values[slot];
                 value.copy_item(alloc)
@@ -90,12 +91,12 @@ impl Column {
     {
         match &self.held {
             Held::Ints(ints) => {
-                let value = number_value(ints.get(slot));
-                compare(&value, other)
+                let value = Value::of_number(ints.get(slot));
+                value.cmp(other)
             }
             Held::Texts(values) => {
                 let value = &values[slot];
-                compare(value, other)
+                value.cmp(other)
             }
         }
     }
@@ -169,16 +170,6 @@ impl Column {
             Held::Ints(_ints) => None,
             Held::Texts(values) => Some(values.as_slice()),
         }
-    }
-}
-
-// The value of a cell of numbers.
-fn number_value(number: Option<i64>) -> Value
-    ensures { result ≡ int_value number }
-{
-    match number {
-        None => Value::Null,
-        Some(number) => Value::Int(number),
     }
 }
 

@@ -3,15 +3,16 @@
 ghost use Rattle.std.specs.Prelude.{◌≡◌, ℕ, ◌+◌, ◌-◌, ◌^◌, ◌<◌, ◌≤◌, Bool, true, false, List, [], ◌∷◌, ◌++◌};
 ghost use Rattle.std.specs.Prelude.{length, slice_index_or, slice_set, OnOk, OnErr, IfOk, IsOk, vec_len, map};
 ghost use Rattle.std.specs.Cmp.Lexicographic.{slice_cmp};
+ghost use Rattle.ldv_value.specs.Cells.{value_at};
 ghost use Rattle.ldv_value.specs.Order.{order};
 ghost use Rattle.column_store.specs.LentCells.{lent_value};
 ghost use Rattle.column_store.specs.Types.{Null};
 ghost use Rattle.column_store.specs.Columns.{no_cells, values_at, kinds_of, ArePushed, AreSet, AreLong};
-ghost use Rattle.column_store.specs.Columns.{FitColumns, place_value};
+ghost use Rattle.column_store.specs.Columns.{FitColumns};
 
 use crate::cell::Cell;
 use crate::column::Column;
-use ldv_value::{List, Value, Values, compare};
+use ldv_value::{List, Value, Values};
 use std::alloc::{AllocError, Global};
 use std::cmp::Ordering;
 use std::mem;
@@ -112,7 +113,7 @@ pub fn compare_cells(
     requires { (k : ℕ) → k < length columns.now.items
         → slot < length (slice_index_or columns.now.items k no_cells).items }
     ensures { result ≡ slice_cmp order
-        (map (place_value (values_at columns.now.items slot)) places.now) values.now }
+        (map (value_at (values_at columns.now.items slot)) places.now) values.now }
 {
     let mut left = places;
     let mut right = values;
@@ -149,11 +150,11 @@ fn compare_empty(values: &[Value]) -> Ordering
 fn compare_at(columns: &Vec<Column>, slot: usize, place: usize, value: &Value) -> Ordering
     requires { (k : ℕ) → k < length columns.now.items
         → slot < length (slice_index_or columns.now.items k no_cells).items }
-    ensures { result ≡ order (place_value (values_at columns.now.items slot) place) value.now }
+    ensures { result ≡ order (value_at (values_at columns.now.items slot) place) value.now }
 {
     if place >= columns.len() {
         let null = Value::Null;
-        return compare(&null, value);
+        return null.cmp(value);
     }
     let column = &columns[place];
     column.compare_cell(slot, value)
@@ -164,7 +165,7 @@ fn compare_at(columns: &Vec<Column>, slot: usize, place: usize, value: &Value) -
 pub fn cell_at(columns: &Vec<Column>, slot: usize, place: usize) -> Cell<'_>
     requires { (k : ℕ) → k < length columns.now.items
         → slot < length (slice_index_or columns.now.items k no_cells).items }
-    ensures { lent_value result ≡ place_value (values_at columns.now.items slot) place }
+    ensures { lent_value result ≡ value_at (values_at columns.now.items slot) place }
 {
     if place >= columns.len() {
         return Cell::Number(None);

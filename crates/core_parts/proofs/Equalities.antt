@@ -6,10 +6,9 @@ use Rattle.core_parts.specs.Equality.{equals}
 use Rattle.core_parts.specs.Placing.{IsPlaced}
 use Rattle.core_parts.specs.Types.{ColumnName, Compare, Expr, Null, Int, Text, Value}
 use Rattle.core_parts.specs.declared.placed.BoundExpr.{BoundExpr}
-use Rattle.ldv_value.specs.Order.{truth_of_bool, test_of}
+use Rattle.ldv_value.specs.Order.{truth_of_bool, test_of, order_total}
 use Rattle.ldv_value.specs.declared.value.Cmp.{Cmp}
 use Rattle.sql_model.proofs.Folds.{fold-Both, fold-Column, fold-IsNull}
-use Rattle.sql_model.specs.KeyOrder.{order_total}
 use Rattle.sql_model.specs.Kinds.{names_in, names_step}
 use Rattle.sql_model.specs.Meaning.{Environment, Meaning, eval, eval_step, is_null, is_true, null_test, truth}
 use Rattle.sql_model.specs.Scope.{InScope, place_of, places_in}

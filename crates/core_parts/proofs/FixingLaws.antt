@@ -13,12 +13,12 @@ use Rattle.core_parts.specs.Placing.{IsPlaced, AreAllPlaced}
 use Rattle.core_parts.specs.Types.{Compare, Expr, Null, Int, Text, Value}
 use Rattle.core_parts.specs.declared.placed.BoundExpr.{BoundExpr}
 use Rattle.ldv_value.proofs.Booleans.{and-parts}
-use Rattle.ldv_value.specs.Order.{order, truth_of_bool}
+use Rattle.ldv_value.specs.Order.{order, truth_of_bool, values_total}
 use Rattle.ldv_value.specs.declared.value.Cmp.TheVariants.{Eq}
-use Rattle.sql_model.specs.KeyOrder.{values_total}
 use Rattle.sql_model.specs.Keys.{same_values, values_at}
 use Rattle.sql_model.specs.Meaning.{is_true, truth}
-use Rattle.sql_model.specs.Scope.{InScope, environment, value_at}
+use Rattle.ldv_value.specs.Cells.{value_at}
+use Rattle.sql_model.specs.Scope.{InScope, environment}
 use Rattle.sql_model.specs.declared.expr.Expr.TheVariants.{Both}
 use Rattle.sql_model.proofs.SameValues.{exact}
 

@@ -18,13 +18,13 @@ use Rattle.core_parts.specs.declared.mask.Mask.{Mask}
 use Rattle.core_parts.specs.declared.mask.MaskTest.{MaskTest}
 use Rattle.core_parts.specs.declared.mask.MaskTest.TheVariants.{Compares, IsNull as TestsNull, IsNotNull}
 use Rattle.core_parts.specs.declared.placed.BoundExpr.{BoundExpr}
-use Rattle.ldv_value.specs.Order.{order, meets as meets_order, truth_of_bool, test_of}
+use Rattle.ldv_value.specs.Order.{order, meets as meets_order, truth_of_bool, test_of, order_total}
 use Rattle.ldv_value.specs.declared.value.Cmp.{Cmp}
 use Rattle.ldv_value.specs.declared.value.Cmp.TheVariants.{Eq, Ne, Lt, Le, Gt, Ge}
-use Rattle.sql_model.specs.KeyOrder.{order_total}
 use Rattle.ldv_value.proofs.Booleans.{and-true, and-assoc}
 use Rattle.sql_model.specs.Meaning.{is_true, truth}
-use Rattle.sql_model.specs.Scope.{InScope, environment, value_at}
+use Rattle.ldv_value.specs.Cells.{value_at}
+use Rattle.sql_model.specs.Scope.{InScope, environment}
 use Rattle.sql_model.specs.declared.expr.Expr.TheVariants.{Both, IsNull}
 
 -- ---- comparisons

@@ -7,7 +7,8 @@ use Rattle.core_parts.specs.Types.{ColumnName, Expr, Value}
 use Rattle.core_parts.specs.declared.placed.BoundExpr.{BoundExpr}
 use Rattle.sql_model.specs.Kinds.{names_in}
 use Rattle.sql_model.specs.Meaning.{Environment, is_true, truth}
-use Rattle.sql_model.specs.Scope.{InScope, environment, value_at}
+use Rattle.ldv_value.specs.Cells.{value_at}
+use Rattle.sql_model.specs.Scope.{InScope, environment}
 
 -- the expression is the equality of a column, which alone it names, with a value
 pub record IsFixing (expr : Expr) (value : Value) : Type 0 where

@@ -4,7 +4,6 @@
 //! What it promises stands in `docs/GUARANTEES.md`, how it works in `docs/ARCHITECTURE.md`.
 #![tactic(auto)]
 
-mod by_order;
 mod conditions;
 mod constants;
 mod cores;
@@ -17,7 +16,6 @@ mod refs;
 mod refs_by;
 mod truths;
 
-pub use by_order::{ByOrder, Ordered};
 pub use conditions::{conjuncts, conjuncts_of};
 pub use constants::constant_of;
 pub use cores::{column_indexes, core_of, query_of};

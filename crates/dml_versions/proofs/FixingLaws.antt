@@ -5,7 +5,8 @@ use Rattle.core_parts.specs.Conditions.{AreConditions}
 use Rattle.core_parts.specs.Fixing.{FixesKey as FixesBy}
 use Rattle.core_parts.specs.declared.placed.BoundExpr.{BoundExpr}
 use Rattle.sql_model.specs.Kinds.{names_in}
-use Rattle.sql_model.specs.Scope.{InScope, places_in, value_at}
+use Rattle.ldv_value.specs.Cells.{value_at}
+use Rattle.sql_model.specs.Scope.{InScope, places_in}
 use Rattle.dml_versions.specs.inner.Fixing.{FixesKey}
 use Rattle.dml_versions.specs.Types.{Expr, Value}
 

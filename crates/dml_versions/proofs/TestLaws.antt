@@ -15,7 +15,8 @@ use Rattle.core_parts.specs.declared.placed.BoundExpr.{BoundExpr}
 use Rattle.lanes.specs.Sets.{member, IsNext}
 use Rattle.ldv_value.proofs.Booleans.{true≢false}
 use Rattle.sql_model.specs.Kinds.{names_in}
-use Rattle.sql_model.specs.Scope.{InScope, places_in, value_at}
+use Rattle.ldv_value.specs.Cells.{value_at}
+use Rattle.sql_model.specs.Scope.{InScope, places_in}
 use Rattle.table_store.proofs.GridLaws.{place_index}
 use Rattle.table_store.specs.CellTests.{AllFitColumns, cell_passes, passes_columns, slot_chosen, suits}
 use Rattle.table_store.specs.Histories.{RowHistory, no_history, row_now, rows_now}

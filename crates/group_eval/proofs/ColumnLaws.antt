@@ -15,7 +15,8 @@ use Rattle.group_eval.specs.Types.{Expr, Fold, Value}
 use Rattle.sql_model.proofs.Folds.{fold-Column, fold-Count, fold-Aggregate}
 use Rattle.sql_model.specs.Kinds.{names_in, names_step}
 use Rattle.sql_model.specs.Meaning.{Environment, eval, eval_step, aggregate_of, known_values, number_value}
-use Rattle.sql_model.specs.Scope.{InScope, place_of, places_in, value_at}
+use Rattle.ldv_value.specs.Cells.{value_at}
+use Rattle.sql_model.specs.Scope.{InScope, place_of, places_in}
 use Rattle.sql_model.specs.declared.expr.Expr.TheVariants.{Aggregate}
 
 first_same : (x y : ℕ) (xs ys : List ℕ) → x ∷ xs ≡ y ∷ ys → x ≡ y

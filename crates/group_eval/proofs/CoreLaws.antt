@@ -32,7 +32,8 @@ use Rattle.sql_model.specs.Needs.{Versions}
 use Rattle.core_parts.proofs.CorePlaces.{core-places}
 use Rattle.sql_model.specs.QueryAnswer.{Combination, combination_rows, joined_values, environments, item_values, first_values, group_key, has_key, groups_of, group_row, is_kept, distinct_values, one_combination}
 use Rattle.sql_model.specs.Refusals.{core_names, groups}
-use Rattle.sql_model.specs.Scope.{InScope, environment, places_in, place_of, scope_of, value_at}
+use Rattle.ldv_value.specs.Cells.{value_at}
+use Rattle.sql_model.specs.Scope.{InScope, environment, places_in, place_of, scope_of}
 
 -- ---- picks and combinations
 

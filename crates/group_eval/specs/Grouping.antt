@@ -5,7 +5,7 @@ use Rattle.std.specs.BTreeMap as tree
 use Rattle.std.specs.BTreeMap.{BTreeMap}
 use Rattle.std.specs.Option.{option_map}
 use Rattle.lineage.specs.declared.answer.Pick.{Pick}
-use Rattle.sql_model.specs.KeyOrder.{values_order}
+use Rattle.ldv_value.specs.Order.{values_order}
 use Rattle.group_eval.specs.Types.{Value}
 use Rattle.group_eval.specs.declared.groups.KeyedGroup.{KeyedGroup}
 use Rattle.sql_model.specs.Keys.{same_values, values_at}

@@ -4,7 +4,7 @@ ghost use Rattle.std.specs.Prelude.{◌≡◌, ◌++◌, ◌∷◌, [], List as 
 ghost use Rattle.group_eval.specs.inner.Columns.{known_column, IsKnown, IsValueAt};
 ghost use Rattle.lineage.specs.declared.answer.Pick.{Pick as Given};
 ghost use Rattle.sql_model.specs.Meaning.{known_values};
-ghost use Rattle.sql_model.specs.Scope.{value_at};
+ghost use Rattle.ldv_value.specs.Cells.{value_at};
 
 use core_parts::is_column;
 use ldv_value::{List, Places, Value, Values};

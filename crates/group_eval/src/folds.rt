@@ -10,7 +10,7 @@ ghost use Rattle.sql_model.specs.Meaning.{total, or_null};
 ghost use Rattle.sql_model.specs.declared.expr.Fold.TheVariants.{Sum, Min, Max};
 ghost use Rattle.sql_model.specs.Scope.{InScope, places_in};
 
-use ldv_value::{CopyItem, List, Places, Value, Values, compare};
+use ldv_value::{CopyItem, List, Places, Value, Values};
 use lineage::Pick;
 use sql_model::{Expr, Fold, value_of};
 use std::alloc::{AllocError, Global};
@@ -73,13 +73,13 @@ fn sum_of(values: &[Value]) -> Value
 fn lesser_of<'a>(a: &'a Value, b: &'a Value) -> &'a Value
     ensures { result.now ≡ lesser_of a.now b.now }
 {
-    if compare(b, a).is_lt() { b } else { a }
+    if b.cmp(a).is_lt() { b } else { a }
 }
 
 fn greater_of<'a>(a: &'a Value, b: &'a Value) -> &'a Value
     ensures { result.now ≡ greater_of a.now b.now }
 {
-    if compare(b, a).is_gt() { b } else { a }
+    if b.cmp(a).is_gt() { b } else { a }
 }
 
 // The least of one value and more.

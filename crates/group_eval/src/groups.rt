@@ -6,7 +6,7 @@ ghost use Rattle.std.specs.BTreeMap as tree;
 ghost use Rattle.group_eval.specs.Grouping.{key_of, own_picks, group_of, number_of, with_pick};
 ghost use Rattle.group_eval.specs.Grouping.{groups_with_pick, keyed_groups, IsIndex};
 ghost use Rattle.group_eval.specs.Types.{Value as Seen};
-ghost use Rattle.sql_model.specs.KeyOrder.{values_order};
+ghost use Rattle.ldv_value.specs.Order.{values_order};
 
 use core_parts::Refs;
 use ldv_value::Places;

@@ -1,7 +1,7 @@
 -- Numbers among the words: decimal, without sign and leading zeros.
 use Rattle.std.specs.Prelude.{ℕ, ◌+◌, ◌-◌, ◌*◌, List, [], ◌∷◌, codes, ◌&&◌, ◌==◌, nat_le, bytes_eq}
 use Rattle.std.specs.Prelude.{if◌then◌else◌, Option, Some, None, option_and_then}
-use Rattle.sql_model.specs.TextBytes.{is_digit}
+use Rattle.ldv_value.specs.Digits.{is_digit}
 
 -- a number with one more digit, none above the limit
 abbrev pub with_digit : ℕ → ℕ → ℕ → Option ℕ

@@ -1,3 +1,5 @@
+pub mod Cells
+pub mod Digits
 pub mod FileState
 pub mod Gives
 pub mod Limits

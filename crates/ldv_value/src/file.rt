@@ -24,7 +24,7 @@ impl Files {
     pub fn find(&self, path: &Utf8) -> Option<&File>
         ensures { option_map (λ file. file.now) result ≡ file_at path.now self.now }
     {
-        self.items().iter().find(|file| path.is_same(&file.path))
+        self.items().iter().find(|file| *path == file.path)
     }
 }
 

@@ -6,6 +6,7 @@
 
 mod bytes;
 mod file;
+mod key;
 mod limits;
 mod line;
 mod list;
@@ -17,6 +18,7 @@ mod utf8;
 mod value;
 
 pub use file::{File, Files, OpenMode};
+pub use key::Key;
 pub use limits::{
     DEFAULT_STEPS, FILE_LIMIT, INPUT_LIMIT, MAX_COLUMNS, MAX_DEPTH, MAX_FILES, MAX_NEXT,
     MAX_OPERANDS, MAX_PARAMS, MAX_PROCESSES, MAX_ROWS, MAX_SOURCES, MAX_START_WORDS, MAX_STEPS,
@@ -24,9 +26,9 @@ pub use limits::{
 };
 pub use line::LineRead;
 pub use list::{CopyItem, List};
-pub use order::{compare, holds, same, test};
+pub use order::{holds, test};
 pub use path_rules::{is_path, is_word};
-pub use show::{append_number, append_signed, append_text};
+pub use show::{append_number, append_signed, append_text, push_text};
 pub use sorted::{Precedes, is_strictly_sorted};
 pub use utf8::Utf8;
 pub use value::{Cmp, Truth, Value};

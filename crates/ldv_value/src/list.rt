@@ -4,8 +4,11 @@ ghost use Rattle.std.specs.Prelude.{◌≡◌, ◌==◌, ◌+◌, ◌^◌, ◌<�
 ghost use Rattle.std.specs.Prelude.{IfOk, OnOk, OnErr, OnSome, MatchOption, option_to_list, slice_get};
 ghost use Rattle.std.specs.Prelude.{slice_set};
 ghost use Rattle.std.specs.Option.{option_map};
+ghost use Rattle.std.specs.Cmp.Lexicographic.{pointwise, slice_cmp, slice_partial_cmp, lists_per};
+ghost use Rattle.std.specs.Cmp.Lexicographic.{lists_equiv, lists_po, lists_total, lists_agrees, lists_ties};
 
 use std::alloc::{AllocError, Global};
+use std::cmp::Ordering;
 use std::marker::Model;
 
 /// An item that can make a copy equal to itself.
@@ -153,6 +156,46 @@ impl<X: CopyItem> List<X> {
 impl<X: CopyItem> CopyItem for List<X> {
     fn copy_item(&self, _alloc: Global) -> Result<Self, AllocError> {
         self.copy()
+    }
+}
+
+// Lists are compared item by item; one that is at its end comes first.
+
+impl<X: PartialEq> PartialEq for List<X> {
+    ghost eq = { pointwise X.eq };
+
+    ghost laws = { lists_per X.laws };
+
+    fn eq(&self, other: &Self) -> bool {
+        self.items() == other.items()
+    }
+}
+
+impl<X: Eq> Eq for List<X> {
+    ghost laws = { lists_equiv X.Eq.laws };
+}
+
+impl<X: PartialOrd> PartialOrd for List<X> {
+    ghost partial_cmp = { slice_partial_cmp X.partial_cmp };
+
+    ghost laws = { lists_po X.PartialOrd.laws };
+
+    fn partial_cmp(&self, other: &Self) -> Option<Ordering> {
+        self.items().partial_cmp(&other.items())
+    }
+}
+
+impl<X: Ord> Ord for List<X> {
+    ghost cmp = { slice_cmp X.cmp };
+
+    ghost total = { lists_total X.total };
+
+    ghost matches_partial_cmp = { lists_agrees X.matches_partial_cmp };
+
+    ghost matches_eq = { lists_ties X.cmp X.matches_eq };
+
+    fn cmp(&self, other: &Self) -> Ordering {
+        self.items().cmp(&other.items())
     }
 }
 

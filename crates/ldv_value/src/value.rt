@@ -1,5 +1,9 @@
 //! Values, truth values and comparison operators.
 
+ghost use Rattle.std.specs.Prelude.{◌≡◌};
+ghost use Rattle.ldv_value.specs.Cells.{int_value};
+ghost use Rattle.ldv_value.specs.Order.{truth_of_bool};
+
 use crate::list::CopyItem;
 use crate::utf8::Utf8;
 use std::alloc::{AllocError, Global};
@@ -42,6 +46,27 @@ pub enum Cmp {
     Gt,
     /// `>=`
     Ge,
+}
+
+impl Value {
+    /// A number, or NULL where there is none.
+    pub fn of_number(number: Option<i64>) -> Value
+        ensures { result ≡ int_value number }
+    {
+        match number {
+            None => Value::Null,
+            Some(number) => Value::Int(number),
+        }
+    }
+}
+
+impl Truth {
+    /// True where a test holds, and else false.
+    pub fn of_bool(test: bool) -> Truth
+        ensures { result ≡ truth_of_bool test }
+    {
+        if test { Truth::True } else { Truth::False }
+    }
 }
 
 impl CopyItem for Value {

@@ -1,7 +1,7 @@
 //! The value and the truth of expressions over a row, by hand. The columns a, b and c of the row are 7, NULL
 //! and 'x'.
 
-use ldv_value::{Places, Truth, Utf8, Value, Values, same};
+use ldv_value::{Places, Truth, Utf8, Value, Values};
 use sql_model::{Expr, Statement, truth_of, value_of};
 use sql_parse::{ParseStop, parse};
 use std::alloc::{AllocError, Global};
@@ -48,7 +48,7 @@ fn expect_value(
     want: &Value,
 ) -> Result<(), AllocError> {
     let value = value_of(alloc, expr, &row(alloc)?, &places(alloc, at)?)?;
-    assert!(rt; same(&value, want));
+    assert!(rt; value == *want);
     Ok(())
 }
 

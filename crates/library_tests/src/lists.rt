@@ -33,8 +33,21 @@ fn keeps_texts(rt: HostRuntime) -> Result<(), Fail> {
     let mut greeting = Utf8::of_string(Utf8::of(alloc, "h")?.into_string());
     greeting.push_str("i")?;
     let same = greeting.copy_item(greeting.allocator())?;
-    assert!(rt; greeting.is_same(&same) && greeting.is_text("hi") && !greeting.is_empty());
+    assert!(rt; greeting == same && greeting.is_text("hi") && !greeting.is_empty());
     assert!(rt; Utf8::new(alloc).is_empty());
+    Ok(())
+}
+
+#[test]
+fn orders_lists(rt: HostRuntime) -> Result<(), Fail> {
+    let alloc = rt.alloc();
+    let empty = Numbers::new(alloc);
+    let short = Numbers::of_vec(Vec::from_slice(alloc, &[4])?);
+    let long = Numbers::of_vec(Vec::from_slice(alloc, &[4, 0])?);
+    let copied = long.copy()?;
+    let numbers = numbers(alloc)?;
+    assert!(rt; empty < short && short < long && long < numbers);
+    assert!(rt; long == copied && long != short);
     Ok(())
 }
 

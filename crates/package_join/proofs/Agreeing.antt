@@ -16,7 +16,7 @@ use Rattle.sql_model.specs.declared.table.Column.{Column}
 use Rattle.sql_model.specs.declared.table.Foreign.{Foreign}
 use Rattle.sql_model.specs.declared.table.Schema.{Schema}
 use Rattle.sql_model.specs.Keys.{same_values}
-use Rattle.sql_model.specs.KeyOrder.{values_order}
+use Rattle.ldv_value.specs.Order.{values_order}
 use Rattle.sql_model.proofs.UniqueKeys.{or_none}
 use Rattle.sql_model.proofs.SameValues.{all_exact}
 use Rattle.run_model.specs.Between.{IsIn}

@@ -7,7 +7,7 @@ ghost use Rattle.package_join.specs.Joined.{tables_differ};
 ghost use Rattle.package_join.specs.Same.{contents_differ, same_keys, same_schema};
 
 use ldv_value::{Bytes, Values};
-use sql_model::{Column, Foreign, Schema, Table, compare_values};
+use sql_model::{Column, Foreign, Schema, Table};
 
 /// Whether both are whole, with different bytes.
 pub(crate) fn contents_differ(a: &Option<Bytes>, b: &Option<Bytes>) -> bool
@@ -33,7 +33,7 @@ pub(crate) fn tables_differ(a: &Table, b: &Table) -> bool
 pub(crate) fn values_differ(a: &Values, b: &Values) -> bool
     ensures { result ≡ not (same_values a.now b.now) }
 {
-    !compare_values(a.items(), b.items()).is_eq()
+    !a.cmp(b).is_eq()
 }
 
 fn same_schema(a: &Schema, b: &Schema) -> bool
@@ -45,7 +45,7 @@ fn same_schema(a: &Schema, b: &Schema) -> bool
 fn same_keys(a: &Schema, b: &Schema) -> bool
     ensures { result ≡ same_keys a.now b.now }
 {
-    a.key.items() == b.key.items() && are_same(a.foreign.items(), b.foreign.items())
+    a.key == b.key && are_same(a.foreign.items(), b.foreign.items())
 }
 
 // An item that is compared with another.
@@ -62,7 +62,7 @@ impl SameAs for Column {
     ghost same = { same_column };
 
     fn same_as(&self, other: &Column) -> bool {
-        self.name.is_same(&other.name) && self.text == other.text && self.not_null == other.not_null
+        self.name == other.name && self.text == other.text && self.not_null == other.not_null
     }
 }
 
@@ -72,7 +72,7 @@ impl SameAs for Foreign {
     ghost same = { same_foreign };
 
     fn same_as(&self, other: &Foreign) -> bool {
-        self.columns.items() == other.columns.items() && self.parent.is_same(&other.parent)
+        self.columns == other.columns && self.parent == other.parent
     }
 }
 

@@ -129,7 +129,7 @@ fn add_after<P: Drop, X: GroupedRow<P>>(
 ) -> Result<(), AllocError>
     ensures { OnOk result (found.new.items ≡ found.old.items ++ after X.table_of X.part_of last item.now) }
 {
-    if last.table.is_same(item.table()) {
+    if last.table == *item.table() {
         found.push(with_part(last, item.payload())?)?;
         Ok(())
     } else {

@@ -59,7 +59,7 @@ fn starts_on(path: &Utf8, act: &Act) -> bool
     ensures { result ≡ starts_on path.now act.now }
 {
     match act {
-        Act::Started { path: started } => started.is_same(path),
+        Act::Started { path: started } => *started == *path,
         _ => false,
     }
 }

@@ -144,7 +144,7 @@ fn file_is_script(alloc: Global, word: &Utf8, files: &PackedFiles) -> Result<boo
 fn find_file<'a>(files: &'a PackedFiles, path: &Utf8) -> Option<&'a PackedFile>
     ensures { option_map (λ f. f.now) result ≡ find (λ f. bytes_eq path.now f.path) files.now }
 {
-    files.items().iter().find(|file| path.is_same(&file.path))
+    files.items().iter().find(|file| *path == file.path)
 }
 
 fn is_script(alloc: Global, content: &Option<Bytes>) -> Result<bool, AllocError>

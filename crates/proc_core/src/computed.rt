@@ -2,16 +2,14 @@
 
 ghost use Rattle.std.specs.Int.{w64};
 ghost use Rattle.std.specs.Option.{SomeIff};
-ghost use Rattle.std.specs.Prelude.{◌≡◌, ◌++◌, ℤ, FitsSigned, IfOk, OnOk};
-ghost use Rattle.ldv_value.specs.Shown.{value_text};
+ghost use Rattle.std.specs.Prelude.{◌≡◌, ℤ, FitsSigned, IfOk};
 ghost use Rattle.run_model.specs.StepBase.{number_within};
 ghost use Rattle.run_model.specs.StepVariables.{calculation, concatenation, text_within, to_number};
 ghost use Rattle.run_model.specs.StepVariables.{result_of};
 ghost use Rattle.run_model.specs.StepVariables.{number_or_misuse};
 ghost use Rattle.proc_core.specs.inner.Slots.{computation_of};
 
-use itoa::Buffer;
-use ldv_value::{TEXT_LIMIT, Utf8, Value};
+use ldv_value::{TEXT_LIMIT, Utf8, Value, push_text};
 use script_parse::{CalcOp, read_number};
 use sql_model::is_null;
 use std::alloc::{AllocError, Global};
@@ -68,20 +66,6 @@ fn within(number: Option<i64>) -> Computed
     }
 }
 
-// Appends a value as text.
-fn push_shown(text: &mut Utf8, value: &Value) -> Result<(), AllocError>
-    ensures { OnOk result (text.new ≡ text.old ++ value_text value.now) }
-{
-    match value {
-        Value::Null => text.push_str("NULL"),
-        Value::Int(number) => {
-            let mut buffer = Buffer::new();
-            text.push_str(buffer.format(*number))
-        }
-        Value::Text(more) => text.push_str(more.as_str()),
-    }
-}
-
 /// `v ++ w`.
 pub(crate) fn concatenate(alloc: Global, left: &Value, right: &Value) -> Result<Computed, AllocError>
     ensures { IfOk result (λ c. computation_of c ≡ concatenation left.now right.now) }
@@ -90,8 +74,8 @@ pub(crate) fn concatenate(alloc: Global, left: &Value, right: &Value) -> Result<
         return Ok(Computed::Misused(WRONG_KIND));
     }
     let mut text = Utf8::new(alloc);
-    push_shown(&mut text, left)?;
-    push_shown(&mut text, right)?;
+    push_text(left, &mut text)?;
+    push_text(right, &mut text)?;
     Ok(text_within(text))
 }
 

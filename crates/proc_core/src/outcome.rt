@@ -52,7 +52,7 @@ fn outcomes_of(alloc: Global, processes: &[SlotProcess]) -> Result<Vec<ProcOutco
 fn compare_names(a: &ProcOutcome, b: &ProcOutcome) -> Ordering
     ensures { result ≡ name_cmp a.now b.now }
 {
-    a.name.parts.items().cmp(b.name.parts.items())
+    a.name.parts.cmp(&b.name.parts)
 }
 
 // Outcomes in the order of names.

@@ -8,7 +8,8 @@ use Rattle.ldv_value.specs.declared.value.Value.TheVariants.{Null}
 use Rattle.sql_model.specs.declared.expr.ColumnName.{ColumnName}
 use Rattle.sql_model.specs.declared.expr.Expr.{Expr}
 use Rattle.sql_model.specs.Kinds.{names_in}
-use Rattle.sql_model.specs.Scope.{InScope, place_of, environment, value_at}
+use Rattle.ldv_value.specs.Cells.{value_at}
+use Rattle.sql_model.specs.Scope.{InScope, place_of, environment}
 use Rattle.sql_model.specs.Meaning.{Meaning, truth}
 
 -- all columns are among the first values

@@ -4,8 +4,7 @@ use Rattle.std.specs.Ordering.{is_eq, int_cmp}
 use Rattle.std.specs.Cmp.{eq_by_cmp_equiv}
 use Rattle.ldv_value.specs.declared.value.Value.{Value}
 use Rattle.ldv_value.specs.declared.value.Value.TheVariants.{Null, Int, Text}
-use Rattle.ldv_value.specs.Order.{order}
-use Rattle.sql_model.specs.KeyOrder.{order_total}
+use Rattle.ldv_value.specs.Order.{order, order_total}
 use Rattle.core_parts.proofs.Listings.{moved}
 use Rattle.core_parts.specs.declared.refs_by.RefsBy.{RefsBy}
 use Rattle.core_parts.specs.Equality.{equals}
@@ -13,7 +12,7 @@ use Rattle.core_parts.proofs.Equalities.{truth_of_bool-true}
 use Rattle.query_eval.specs.inner.Joining.{rows_listed, row_added, with_value}
 use Rattle.query_eval.specs.declared.source.SourceRow.{SourceRow}
 use Rattle.sql_model.specs.Meaning.{is_null}
-use Rattle.sql_model.specs.Scope.{value_at}
+use Rattle.ldv_value.specs.Cells.{value_at}
 
 -- `=` of what isn't NULL is a tie in the order
 equals_tied : (v w : Value) → is_null w ≡ false → equals v w ≡ is_eq (order w v)

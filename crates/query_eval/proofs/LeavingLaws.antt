@@ -14,7 +14,7 @@ use Rattle.query_eval.specs.Leaving.{AllFit, cell_test, column_tests, row_passes
 use Rattle.query_eval.specs.Sourcing.{table_row}
 use Rattle.query_eval.specs.Stored.{HasVersion}
 use Rattle.query_eval.specs.declared.source.SourceRow.{SourceRow}
-use Rattle.sql_model.specs.Scope.{value_at}
+use Rattle.ldv_value.specs.Cells.{value_at}
 use Rattle.query_eval.specs.Types.{Column, Null, TableRow, Value}
 use Rattle.table_store.proofs.TableLaws.{history_here}
 use Rattle.table_store.specs.CellTests.{AllFitColumns, cell_passes, passes_columns, slot_chosen, suits as suits_cell}

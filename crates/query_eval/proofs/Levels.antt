@@ -19,7 +19,8 @@ use Rattle.query_eval.specs.declared.probe.Probe.{Probe}
 use Rattle.query_eval.specs.declared.source.SourceRow.{SourceRow}
 use Rattle.sql_model.specs.Kinds.{names_in}
 use Rattle.sql_model.specs.Meaning.{is_true, truth}
-use Rattle.sql_model.specs.Scope.{InScope, environment, place_of, places_in, value_at}
+use Rattle.ldv_value.specs.Cells.{value_at}
+use Rattle.sql_model.specs.Scope.{InScope, environment, place_of, places_in}
 
 pub joined_row_values-append : (p others : List SourceRow) → joined_row_values (p ++ others) ≡ joined_row_values p ++ joined_row_values others
 joined_row_values-append p others = flat_map-append (λ (row : SourceRow). row.values) p others

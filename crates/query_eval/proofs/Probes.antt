@@ -15,7 +15,8 @@ use Rattle.query_eval.specs.declared.source.SourceRow.{SourceRow}
 use Rattle.sql_model.proofs.Folds.{fold-Both, fold-Column}
 use Rattle.sql_model.specs.Kinds.{names_in, names_step}
 use Rattle.sql_model.specs.Meaning.{Environment, Meaning, eval_step, both, is_true, truth}
-use Rattle.sql_model.specs.Scope.{environment, place_of, places_in, value_at}
+use Rattle.ldv_value.specs.Cells.{value_at}
+use Rattle.sql_model.specs.Scope.{environment, place_of, places_in}
 use Rattle.sql_model.specs.declared.expr.Expr.TheVariants.{Both, Column}
 
 got-next : (first more : List Value) (i j : ℕ) → i ≡ length first + j → slice_get (first ++ more) i ≡ slice_get more j

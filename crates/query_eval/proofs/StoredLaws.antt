@@ -45,7 +45,8 @@ use Rattle.sql_model.proofs.ValidTables.{table-parts}
 use Rattle.sql_model.specs.Needs.{Versions}
 use Rattle.sql_model.specs.QueryAnswer.{Combination, combinations, joined_values, meets_all, row_environment}
 use Rattle.sql_model.specs.Refusals.{cores_of, doubles_source, is_missing, tables_of_core}
-use Rattle.sql_model.specs.Scope.{InScope, catalog_of, is_schema, rows_of, same_text, schema_in, scope_of, table_at, value_at}
+use Rattle.ldv_value.specs.Cells.{value_at}
+use Rattle.sql_model.specs.Scope.{InScope, catalog_of, is_schema, rows_of, same_text, schema_in, scope_of, table_at}
 use Rattle.sql_model.proofs.Databases.{sorted_of_database, valid_of_database}
 use Rattle.sql_model.specs.Tables.{AreWellFormed, is_database, is_row, is_valid_table, table_precedes}
 use Rattle.sql_model.specs.References.{has_key}

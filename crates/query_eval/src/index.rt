@@ -8,29 +8,29 @@ ghost use Rattle.query_eval.specs.Sourcing.{joined_row_values};
 ghost use Rattle.query_eval.specs.Types.{Value as Seen, Null};
 ghost use Rattle.query_eval.specs.declared.source.SourceRow.{SourceRow as Given};
 ghost use Rattle.sql_model.specs.Meaning.{is_null};
-ghost use Rattle.sql_model.specs.Scope.{value_at};
+ghost use Rattle.ldv_value.specs.Cells.{value_at};
 
 use crate::source::SourceRow;
-use core_parts::{ByOrder, Refs, RefsBy};
-use ldv_value::{Value, Values};
+use core_parts::{Refs, RefsBy};
+use ldv_value::{Key, Value, Values};
 use std::alloc::{AllocError, Global};
 
 /// Rows by the value in a column, in their order.
 #[derive(Drop)]
 pub(crate) struct Index<'a> {
-    map: RefsBy<'a, ByOrder<'a, Value>, SourceRow>,
+    map: RefsBy<'a, Key<'a, Value>, SourceRow>,
 }
 
 // Adds a row under a value.
 fn add_row<'a>(
-    map: &mut RefsBy<'a, ByOrder<'a, Value>, SourceRow>,
+    map: &mut RefsBy<'a, Key<'a, Value>, SourceRow>,
     key: &'a Value,
     row: &'a SourceRow,
 ) -> Result<(), AllocError>
     ensures { OnOk result ((v : Seen)
         → rows_listed map.new v ≡ row_added key.now row.now v (rows_listed map.old v)) }
 {
-    map.add(ByOrder::of(key), row)
+    map.add(Key::of(key), row)
 }
 
 // The value of a row at a place, where it isn't NULL.
@@ -52,7 +52,7 @@ fn known_at(row: &Values, place: usize) -> Option<&Value>
 // Adds a row under its value, if that isn't NULL.
 #[tactic(auto, using(crate::proofs::Indexes::index_on, crate::proofs::Indexes::index_skips))]
 fn add_known<'a>(
-    map: &mut RefsBy<'a, ByOrder<'a, Value>, SourceRow>,
+    map: &mut RefsBy<'a, Key<'a, Value>, SourceRow>,
     row: &'a SourceRow,
     place: usize,
 ) -> Result<(), AllocError>
@@ -85,7 +85,7 @@ pub(crate) fn index_of<'a>(
 fn rows_of<'b, 'a>(index: &'b Index<'a>, value: &'a Value) -> Option<&'b Refs<'a, SourceRow>>
     ensures { unwrap_or (option_map (λ r. r.now) result) [] ≡ rows_listed index.now.map value.now }
 {
-    index.map.get(&ByOrder::of(value))
+    index.map.get(&Key::of(value))
 }
 
 // The value at a place of a joined row; there is none past its end.

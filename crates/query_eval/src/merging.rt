@@ -7,18 +7,17 @@ ghost use Rattle.lineage.specs.Lineage.{union_of};
 ghost use Rattle.lineage.specs.Rows.{AnswersStandFor};
 ghost use Rattle.query_eval.specs.Merging.{own_values, merged_answer, place_of, with_more, with_answer, IsIndex};
 ghost use Rattle.query_eval.specs.Types.{Value as Seen};
-ghost use Rattle.sql_model.specs.KeyOrder.{values_order};
+ghost use Rattle.ldv_value.specs.Order.{values_order};
 ghost use Rattle.sql_model.specs.Needs.{Versions};
 ghost use Rattle.sql_model.specs.QueryAnswer.{AnswerRow, distinct_values, merge};
 
-use core_parts::ByOrder;
-use ldv_value::{List, Values};
+use ldv_value::{Key, List, Values};
 use lineage::{Answer, Answers, LineageRows};
 use std::alloc::{AllocError, Global};
 use std::collections::BTreeMap;
 
 // The places of answers, by their values.
-type Places<'a> = BTreeMap<ByOrder<'a, Values>, usize>;
+type Places<'a> = BTreeMap<Key<'a, Values>, usize>;
 
 /// One answer for all of the same values, at the place of the first, with the union of their lineages. NULL
 /// is the same as NULL. A row has one version in all these lineages.
@@ -64,7 +63,7 @@ fn add_answer<'a>(
 fn place_in<'a>(places: &Places<'a>, values: &'a Values) -> Option<usize>
     ensures { result ≡ tree.get values_order places.now values.now }
 {
-    places.get(&ByOrder::of(values)).copied()
+    places.get(&Key::of(values)).copied()
 }
 
 // Adds the rows of one lineage to another.
@@ -134,6 +133,6 @@ fn add_first<'a>(
 {
     let place = made.len();
     push_copy(alloc, made, answer)?;
-    places.insert(ByOrder::of(&answer.values), place)?;
+    places.insert(Key::of(&answer.values), place)?;
     Ok(())
 }

@@ -4,10 +4,10 @@ ghost use Rattle.std.specs.Prelude.{◌≡◌, [], map, IfOk};
 ghost use Rattle.ldv_value.specs.Order.{order};
 ghost use Rattle.query_eval.specs.Finishing.{as_key, sort_columns, by_columns};
 ghost use Rattle.sql_model.specs.QueryAnswer.{order_in_direction, order_by};
-ghost use Rattle.sql_model.specs.Scope.{value_at};
+ghost use Rattle.ldv_value.specs.Cells.{value_at};
 ghost use Rattle.sql_model.specs.Sorting.{sorted_by};
 
-use ldv_value::{List, Value, Values, compare};
+use ldv_value::{List, Value, Values};
 use lineage::Answers;
 use sql_model::{Order, value_or};
 use std::alloc::{AllocError, Global};
@@ -82,10 +82,7 @@ fn compare_by(column: SortColumn, a: &Values, b: &Values) -> Ordering
         (order (value_at a.now column.place) (value_at b.now column.place)) }
 {
     let null = Value::Null;
-    let between = compare(
-        value_or(a, column.place, &null),
-        value_or(b, column.place, &null),
-    );
+    let between = value_or(a, column.place, &null).cmp(value_or(b, column.place, &null));
     if column.descending {
         between.reverse()
     } else {

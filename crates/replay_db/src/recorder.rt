@@ -95,7 +95,7 @@ impl<D: Database> Database for Recorder<D> {
 fn compare_names(a: &Kept, b: &Kept) -> Ordering
     ensures { result ≡ kept_cmp a.now b.now }
 {
-    a.process.parts.items().cmp(b.process.parts.items())
+    a.process.parts.cmp(&b.process.parts)
 }
 
 // Sorted by process; those of a process stay in order.
@@ -133,7 +133,7 @@ fn with_last(log: Log, kept: Kept) -> Result<Log, AllocError>
 fn is_of(log: &Log, kept: &Kept) -> bool
     ensures { result ≡ is_of kept.now log.now }
 {
-    kept.process.parts.items() == log.process.parts.items()
+    kept.process.parts == log.process.parts
 }
 
 // Adds to the last log what is of its process, or a log for it after that one.

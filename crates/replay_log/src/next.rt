@@ -9,14 +9,14 @@ ghost use Rattle.replay_log.specs.inner.Left.{next_reply};
 
 use ldv_value::{Utf8, Values};
 use run_model::{Entries, Entry, Log, Stop};
-use sql_model::{Reply, compare_values};
+use sql_model::Reply;
 use std::mem;
 
 // Whether an entry records a text with parameters.
 fn is_recorded(entry: &Entry, text: &Utf8, params: &Values) -> bool
     ensures { result ≡ (same_text text.now entry.now.text && same_values params.now entry.now.params) }
 {
-    text.is_same(&entry.text) && compare_values(params.items(), entry.params.items()).is_eq()
+    *text == entry.text && params.cmp(&entry.params).is_eq()
 }
 
 // Takes the reply of the entry at a place. Neither the entry nor those before it are used again.

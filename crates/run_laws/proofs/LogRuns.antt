@@ -10,7 +10,7 @@ use Rattle.std.proofs.lemmas.List.{append_assoc, append_cancel_left}
 use Rattle.ldv_value.proofs.Booleans.{and-from, false≢true}
 use Rattle.ldv_value.proofs.Options.{same-some}
 use Rattle.ldv_value.proofs.SameBytes.{bytes_eq-itself, nat_eq-true}
-use Rattle.sql_model.specs.KeyOrder.{values_total}
+use Rattle.ldv_value.specs.Order.{values_total}
 use Rattle.sql_model.specs.Keys.{same_values}
 use Rattle.sql_model.specs.Scope.{same_text}
 use Rattle.run_laws.specs.Types.{Reply, Entry}

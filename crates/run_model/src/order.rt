@@ -1,8 +1,5 @@
 //! The orders of what a package lists.
 
-ghost use Rattle.std.specs.Prelude.{◌≡◌};
-ghost use Rattle.ldv_value.specs.Sorted.{text_precedes};
-
 use crate::package::{Log, PackedFile, PackedRow, PackedTable};
 use ldv_value::Precedes;
 
@@ -42,12 +39,6 @@ impl Precedes for Log {
     ghost is_before = { log_precedes };
 
     fn precedes(&self, other: &Log) -> bool {
-        name_precedes(self.process.parts.items(), other.process.parts.items())
+        self.process.parts.cmp(&other.process.parts).is_lt()
     }
-}
-
-fn name_precedes(a: &[u32], b: &[u32]) -> bool
-    ensures { result ≡ text_precedes a.now b.now }
-{
-    a.cmp(b).is_lt()
 }

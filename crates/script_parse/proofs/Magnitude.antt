@@ -3,7 +3,8 @@ use Rattle.std.proofs.Common.{◌≡◌, ℕ, suc, ◌+◌, ◌-◌, ◌*◌, �
 use Rattle.std.specs.List.{list_all}
 use Rattle.std.proofs.lemmas.Bool.{cases_Bool, leb-false, lt-leb}
 use Rattle.ldv_value.specs.Options.{◌>>=◌}
-use Rattle.script_parse.specs.Number.{is_digit, digits_from, magnitude_from}
+use Rattle.ldv_value.specs.Digits.{is_digit}
+use Rattle.script_parse.specs.Number.{digits_from, magnitude_from}
 
 digits_grow : (n : ℕ) (bs : List ℕ) → n ≤ digits_from n bs
 digits_grow n [] = omega arith

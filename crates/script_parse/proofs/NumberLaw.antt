@@ -5,8 +5,9 @@ use Rattle.std.specs.List.{AllByRecursion, list_all}
 use Rattle.std.proofs.lemmas.Bool.{cases_Bool, eqb-true, false≢true, leb-true, le-leb, ltb-true, lt-ltb}
 use Rattle.std.proofs.lemmas.Option.{cond_some}
 use Rattle.ldv_value.specs.Options.{◌>>=◌}
-use Rattle.script_parse.specs.Number.{is_digit, digits_from, magnitude_of, natural_of, negative_of, number_of}
-use Rattle.script_parse.specs.Grammar.{AreDigits, IsNumber}
+use Rattle.ldv_value.specs.Digits.{is_digit, AreDigits}
+use Rattle.script_parse.specs.Number.{digits_from, magnitude_of, natural_of, negative_of, number_of}
+use Rattle.script_parse.specs.Grammar.{IsNumber}
 use Rattle.ldv_value.proofs.Options.{bind-some}
 use Rattle.ldv_value.proofs.Booleans.{and-parts}
 

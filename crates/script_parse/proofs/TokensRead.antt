@@ -9,11 +9,12 @@ use Rattle.script_parse.specs.declared.token.Token.TheVariants.{Word, Number, Qu
 use Rattle.script_parse.specs.declared.scan.LexState.{LexState}
 use Rattle.script_parse.specs.declared.scan.LexState.TheVariants.{Between, InWord, InText, Escaped, Closed}
 use Rattle.ldv_value.specs.Options.{◌>>=◌}
-use Rattle.script_parse.specs.Number.{is_digit, number_of}
+use Rattle.ldv_value.specs.Digits.{is_digit, AreDigits}
+use Rattle.script_parse.specs.Number.{number_of}
 use Rattle.ldv_value.specs.Limits.{text_limit}
 use Rattle.ldv_value.specs.Scan.{before}
 use Rattle.script_parse.specs.Tokens.{is_blank, word_or_number, word_token, text_token, step, finish, tokens_from, tokens_of}
-use Rattle.script_parse.specs.Grammar.{AreDigits, IsNumber, Spells, IsBare, IsToken, AreBlanks, EndsToken, AreTokens}
+use Rattle.script_parse.specs.Grammar.{IsNumber, Spells, IsBare, IsToken, AreBlanks, EndsToken, AreTokens}
 use Rattle.ldv_value.proofs.Cases.{cases-option}
 use Rattle.script_parse.proofs.LinesLaw.{ne_eqb}
 use Rattle.script_parse.proofs.NumberLaw.{number_sound, number_complete}

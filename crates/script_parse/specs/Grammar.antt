@@ -4,6 +4,7 @@ use Rattle.std.specs.Prelude.{◌≡◌, ◌≢◌, ◌⊎◌, ℕ, ◌+◌, ◌
 use Rattle.std.specs.Prelude.{IsUtf8, ℤ, pos, neg_ℤ, codes, Option, Some, None}
 use Rattle.std.specs.List.{AllZip, AllByRecursion}
 use Prim.Native.String.{String}
+use Rattle.ldv_value.specs.Digits.{AreDigits}
 use Rattle.ldv_value.specs.Limits.{text_limit, max_operands}
 use Rattle.ldv_value.specs.declared.value.Value.TheVariants as value
 use Rattle.script_parse.specs.declared.script.Operand.{Operand}
@@ -19,7 +20,7 @@ use Rattle.script_parse.specs.declared.token.Token.{Token}
 use Rattle.script_parse.specs.declared.token.Token.TheVariants.{Word, Number, Quoted}
 use Rattle.script_parse.specs.Keywords.{comparison_text, mode_text}
 use Rattle.script_parse.specs.Names.{name_test}
-use Rattle.script_parse.specs.Number.{is_digit, digits_from}
+use Rattle.script_parse.specs.Number.{digits_from}
 use Rattle.script_parse.specs.Tokens.{is_blank}
 
 -- LINES
@@ -45,9 +46,6 @@ AreLines bytes (line ∷ lines) = HasNoFeed line
 -- TOKENS
 
 -- An optional `-` and digits, within i64.
-abbrev pub AreDigits : List ℕ → Type 0
-AreDigits ds = (ds ≢ []) × AllByRecursion (λ b. IsTrue (is_digit b)) ds
-
 abbrev pub IsNumber : List ℕ → ℤ → Type 0
 IsNumber piece z = (ds : List ℕ) × AreDigits ds
     × (((piece ≡ ds) × (z ≡ pos (digits_from 0 ds)) × (digits_from 0 ds < 2 ^ 63))

@@ -1,11 +1,9 @@
 -- Numbers as scripts write them: an optional `-` and digits, within i64.
-use Rattle.std.specs.Prelude.{ℕ, ◌+◌, ◌-◌, ◌*◌, ◌^◌, List, [], ◌∷◌, Bool, ◌&&◌, ◌==◌, nat_le, nat_lt}
+use Rattle.std.specs.Prelude.{ℕ, ◌+◌, ◌-◌, ◌*◌, ◌^◌, List, [], ◌∷◌, ◌&&◌, ◌==◌, nat_le, nat_lt}
 use Rattle.std.specs.Prelude.{if◌then◌else◌, Option, Some, None, ℤ, pos, neg_ℤ}
 use Rattle.std.specs.List.{list_all}
+use Rattle.ldv_value.specs.Digits.{is_digit}
 use Rattle.ldv_value.specs.Options.{◌>>=◌}
-
-abbrev pub is_digit : ℕ → Bool
-is_digit b = nat_le 48 b && nat_le b 57
 
 -- the number of which n is the front and these are the last digits
 abbrev pub digits_from : ℕ → List ℕ → ℕ

@@ -156,7 +156,7 @@ fn cut_form(tokens: &[Token]) -> Result<Line, LineError>
     let before = name(x)?;
     let after = name(y)?;
     let by = operand(v)?;
-    if before.is_same(&after) {
+    if before == after {
         return Err(LineError::Malformed);
     }
     Ok(Line::Plain(Instr::Cut { before, after, by }))

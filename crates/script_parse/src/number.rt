@@ -1,7 +1,8 @@
 //! Numbers as scripts write them.
 
 ghost use Rattle.std.specs.Prelude.{◌≡◌, ◌≤◌, ◌^◌, ◌∷◌, []};
-ghost use Rattle.script_parse.specs.Number.{is_digit, magnitude_from, magnitude_of, natural_of, negative_of};
+ghost use Rattle.ldv_value.specs.Digits.{is_digit};
+ghost use Rattle.script_parse.specs.Number.{magnitude_from, magnitude_of, natural_of, negative_of};
 ghost use Rattle.script_parse.specs.Number.{number_of};
 
 /// The greatest magnitude of an `i64`.

@@ -48,12 +48,11 @@ pub(crate) fn text_token(bytes: Bytes) -> Result<Token, LineError>
     Ok(Token::Quoted(text))
 }
 
-#[tactic(auto, using(ldv_value::proofs::Utf8Parts::text_rules))]
 fn text(bytes: Bytes) -> Result<Utf8, LineError>
     ensures { GivesLine result (text_of bytes) }
 {
-    match String::from_utf8(bytes.into_vec()) {
-        Ok(text) => Ok(Utf8::of_string(text)),
-        Err(_) => Err(LineError::Malformed),
+    match Utf8::of_utf8(bytes) {
+        Some(text) => Ok(text),
+        None => Err(LineError::Malformed),
     }
 }

@@ -21,8 +21,7 @@ const BLOCK_WORDS: usize = 64;
 fn is_of_block(head: &Need, need: &Need) -> bool
     ensures { result ≡ is_of_block head.now need.now }
 {
-    head.member.table.is_same(&need.member.table)
-        && head.member.row / 4_096 == need.member.row / 4_096
+    head.member.table == need.member.table && head.member.row / 4_096 == need.member.row / 4_096
 }
 
 // How many of the reads, from the first on, are of the block of another.

@@ -35,7 +35,7 @@ impl<'a> OutputColumn<'a> {
     {
         match self.text {
             None => false,
-            Some(text) => text.is_same(name),
+            Some(text) => *text == *name,
         }
     }
 }

@@ -38,7 +38,7 @@ impl<'a> Entry<'a> {
     pub(crate) fn is_meant(&self, name: &ColumnName) -> bool
         ensures { result ≡ is_meant name.now self.now }
     {
-        self.column.name.is_same(&name.name) && names_source(&name.table, self.source)
+        self.column.name == name.name && names_source(&name.table, self.source)
     }
 }
 
@@ -48,7 +48,7 @@ fn names_source(table: &Option<Utf8>, source: &Utf8) -> bool
 {
     match table {
         None => true,
-        Some(name) => source.is_same(name),
+        Some(name) => *source == *name,
     }
 }
 
@@ -60,7 +60,7 @@ pub(crate) fn schema_at<'a>(catalog: &'a Catalog, name: &Utf8) -> Option<&'a Sch
         match catalog.schemas.get(place) {
             None => return None,
             Some(schema) => {
-                if named.is_same(name) {
+                if *named == *name {
                     return Some(schema);
                 }
             }
@@ -83,14 +83,14 @@ pub(crate) fn columns_of<'a>(catalog: &'a Catalog, name: &Utf8) -> &'a [Column]
 pub(crate) fn column_at<'a>(columns: &'a [Column], name: &Utf8) -> Option<&'a Column>
     ensures { option_copied result ≡ find (is_column name.now) columns.now }
 {
-    columns.iter().find(|column| column.name.is_same(name))
+    columns.iter().find(|column| column.name == *name)
 }
 
 /// Whether a column has the name.
 pub(crate) fn has_column(columns: &[Column], name: &Utf8) -> bool
     ensures { result ≡ has_column columns.now name.now }
 {
-    columns.iter().any(|column| column.name.is_same(name))
+    columns.iter().any(|column| column.name == *name)
 }
 
 /// The columns of the joined row, in FROM order.

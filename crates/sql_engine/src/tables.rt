@@ -21,10 +21,7 @@ use std::alloc::{AllocError, Global};
 fn core_names(core: &Core, name: &Utf8) -> bool
     ensures { result ≡ list_any (λ item. is_text name.now item.table) core.now.from }
 {
-    core.from
-        .items()
-        .iter()
-        .any(|item| name.is_same(&item.table))
+    core.from.items().iter().any(|item| *name == item.table)
 }
 
 // Whether a query has a table among the sources of its cores.
@@ -41,9 +38,9 @@ fn names_table(statement: &Statement, name: &Utf8) -> bool
 {
     match statement {
         Statement::Query(query) => cores_name(query.cores.items(), name),
-        Statement::Insert(insert) => name.is_same(&insert.table),
-        Statement::Update(update) => name.is_same(&update.table),
-        Statement::Delete(delete) => name.is_same(&delete.table),
+        Statement::Insert(insert) => *name == insert.table,
+        Statement::Update(update) => *name == update.table,
+        Statement::Delete(delete) => *name == delete.table,
     }
 }
 
@@ -146,7 +143,7 @@ fn take(marks: &mut Vec<Mark>, place: usize)
 fn place_of(names: &[Utf8], name: &Utf8) -> Option<usize>
     ensures { result ≡ position (is_text name.now) names.now }
 {
-    names.iter().position(|other| name.is_same(other))
+    names.iter().position(|other| *name == *other)
 }
 
 // Takes the table of a name, if it is there.
@@ -163,7 +160,7 @@ fn take_name(names: &[Utf8], marks: &mut Vec<Mark>, name: &Utf8)
 fn take_unless(names: &[Utf8], marks: &mut Vec<Mark>, before: &Utf8, name: &Utf8)
     ensures { marks.new.items ≡ with_unless names.now before.now name.now marks.old.items }
 {
-    if name.is_same(before) {
+    if *name == *before {
         return;
     }
     take_name(names, marks, name);

@@ -13,7 +13,8 @@ use Rattle.sql_model.specs.declared.expr.Expr.TheOpen as open_expr
 use Rattle.sql_model.specs.declared.expr.Expr.TheViews.{roll-Expr}
 use Rattle.sql_model.specs.declared.expr.Fold.TheVariants as fold
 use Rattle.sql_model.specs.Kinds.{kind_of_value, kind_of_column, is_number, is_logical, kind_if, kind_both, folded_kind, counted_kind, kind_step, kind, is_of_kind}
-use Rattle.sql_model.specs.Scope.{InScope, is_meant, place_of, value_at}
+use Rattle.ldv_value.specs.Cells.{value_at}
+use Rattle.sql_model.specs.Scope.{InScope, is_meant, place_of}
 use Rattle.sql_model.specs.Meaning.{Environment, Meaning, number_value, with_numbers, negation_of, value_both, or_null, lesser_of, greater_of, total, aggregate_of, count_value, known_values, is_null, in_first, eval_step, eval}
 use Rattle.sql_laws.specs.Types.{Value, Null, Int, Text, ColumnName, Expr, Expr-F, Fold, Operator, Add, Subtract, Multiply, Compare, And, Or, Kind, IntKind, TextKind, AnyKind, TruthKind}
 use Rattle.sql_laws.specs.KindLaw.{AllFit, KindLaw, is_typed_row, RowLaw}

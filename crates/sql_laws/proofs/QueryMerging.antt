@@ -10,7 +10,7 @@ use Rattle.ldv_value.proofs.Cases.{cases-bool}
 use Rattle.ldv_value.proofs.Lists.{list_all-map, list_all-weaker}
 use Rattle.sql_laws.specs.Types.{Value}
 use Rattle.sql_model.specs.QueryAnswer.{AnswerRow, answer_values, has_values, merged_row, distinct_values, merge}
-use Rattle.sql_model.specs.KeyOrder.{order_total}
+use Rattle.ldv_value.specs.Order.{order_total}
 use Rattle.sql_model.specs.Keys.{same_values}
 use Rattle.sql_laws.specs.QueryLaw.{Keep}
 use Rattle.sql_laws.proofs.QueryKeeps.{kept_row, lineage_kept}

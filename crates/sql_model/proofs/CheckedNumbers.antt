@@ -4,7 +4,7 @@ use Rattle.std.specs.Prelude.{ℤ, pos, negsuc, Option, Some, None, SomeIff, Fit
 use Rattle.std.proofs.lemmas.Bool.Decides.{nat_tests}
 use Rattle.std.proofs.lemmas.Int.{to_z-of_z}
 use Rattle.sql_model.specs.Types.{Null, Int}
-use Rattle.sql_model.specs.Evaluation.{number_or_null}
+use Rattle.ldv_value.specs.Cells.{int_value}
 use Rattle.sql_model.specs.Meaning.{number_value}
 
 fits : (z : ℤ) → FitsSigned w64 z → number_value z ≡ Int z
@@ -15,7 +15,7 @@ outside : (z : ℤ) → ¬ FitsSigned w64 z → number_value z ≡ Null
 outside (pos n) h = let t : nat_lt n (2 ^ 63) ≡ false = grind (arith, nat_tests) in rw t refl
 outside (negsuc n) h = let t : nat_lt n (2 ^ 63) ≡ false = grind (arith, nat_tests) in rw t refl
 
-pub checked : (z : ℤ) (r : Option ℤ) → SomeIff r (FitsSigned w64 z) z → number_or_null r ≡ number_value z
+pub checked : (z : ℤ) (r : Option ℤ) → SomeIff r (FitsSigned w64 z) z → int_value r ≡ number_value z
 checked z None h = sym (outside z h)
 checked z (Some x) h = ap Int h.1 ∙ sym (fits z h.0)
 

@@ -2,7 +2,7 @@
 use Rattle.std.proofs.Common.{◌≡◌, List, [], ◌∷◌, ◌++◌, refl, sym, ap, ◌∙◌, Bool, true, false, ◌||◌, ◌==◌, map}
 use Rattle.std.specs.List.{list_any}
 use Rattle.std.proofs.lemmas.Bool.Decides.{Decides-eqb}
-use Rattle.ldv_value.proofs.Booleans.{and-parts, and-from}
+use Rattle.ldv_value.proofs.Booleans.{and-parts, and-from, or-comm}
 use Rattle.ldv_value.proofs.Lists.{list_any-append}
 use Rattle.ldv_value.proofs.SameBytes.{bytes_eq-true, bytes_eq-itself}
 use Rattle.sql_model.specs.QueryAnswer.{Origin, AnswerRow, lineage_of, answer_values}
@@ -39,12 +39,6 @@ pub set-append : (a b c d : List Origin) → SameSet a b → SameSet c d → Sam
 set-append a b c d first second o =
     has_origin-append o a c ∙ (λ j. first o j || second o j) ∙ sym (has_origin-append o b d)
 
-or_comm : (a b : Bool) → (a || b) ≡ (b || a)
-or_comm true true = refl
-or_comm true false = refl
-or_comm false true = refl
-or_comm false false = refl
-
 or_itself : (a : Bool) → (a || a) ≡ a
 or_itself true = refl
 or_itself false = refl
@@ -52,7 +46,7 @@ or_itself false = refl
 -- in either order
 pub set-turned : (xs ys : List Origin) → SameSet (xs ++ ys) (ys ++ xs)
 set-turned xs ys o =
-    has_origin-append o xs ys ∙ or_comm (has_origin o xs) (has_origin o ys) ∙ sym (has_origin-append o ys xs)
+    has_origin-append o xs ys ∙ or-comm (has_origin o xs) (has_origin o ys) ∙ sym (has_origin-append o ys xs)
 
 -- twice is once
 pub set-twice : (xs : List Origin) → SameSet (xs ++ xs) xs

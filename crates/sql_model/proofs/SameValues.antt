@@ -5,12 +5,11 @@ use Rattle.std.specs.Ordering.{is_eq}
 use Rattle.std.specs.declared.cmp.Ordering.TheVariants.{Equal}
 use Rattle.std.proofs.lemmas.Bool.{cases_Bool}
 use Rattle.std.proofs.lemmas.Cmp.{tied_itself}
-use Rattle.ldv_value.specs.Order.{order}
+use Rattle.ldv_value.specs.Order.{order, values_order, values_total}
 use Rattle.ldv_value.specs.declared.value.Value.{Value}
 use Rattle.ldv_value.specs.declared.value.Value.TheVariants.{Null, Int, Text}
 use Rattle.ldv_value.proofs.Booleans.{true≢false}
 use Rattle.ldv_value.proofs.Orderings.{is_eq-true}
-use Rattle.sql_model.specs.KeyOrder.{values_order, values_total}
 use Rattle.sql_model.specs.Keys.{same_values}
 
 pub exact : (x y : Value) → order x y ≡ Equal → x ≡ y

@@ -10,10 +10,9 @@ use Rattle.std.proofs.lemmas.Cmp.{upto, on_total, then_total, back_total, tied_i
 use Rattle.std.specs.List.{list_all}
 use Rattle.ldv_value.proofs.Booleans.{and-parts, true≢false}
 use Rattle.ldv_value.proofs.Cases.{cases-bool}
-use Rattle.ldv_value.specs.Order.{order}
-use Rattle.sql_model.specs.KeyOrder.{order_total}
+use Rattle.ldv_value.specs.Order.{order, order_total}
 use Rattle.sql_model.specs.QueryAnswer.{SortKey, order_in_direction, order_by}
-use Rattle.sql_model.specs.Scope.{value_at}
+use Rattle.ldv_value.specs.Cells.{value_at}
 use Rattle.sql_model.specs.Sorting.{put_sorted, sorted_by}
 use Rattle.sql_model.specs.Types.{Value}
 

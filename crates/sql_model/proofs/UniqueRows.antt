@@ -6,10 +6,9 @@ use Rattle.std.specs.Ordering.{is_eq, ordering_reverse}
 use Rattle.std.specs.declared.cmp.Ordering.TheVariants.{Equal}
 use Rattle.std.specs.Cmp.Lexicographic.{slice_cmp}
 use Rattle.std.proofs.lemmas.Bool.{cases_Bool, not-true}
-use Rattle.ldv_value.specs.Order.{order}
+use Rattle.ldv_value.specs.Order.{order, values_total}
 use Rattle.ldv_value.proofs.Booleans.{or-parts, or-left, or-right, not-so, true≢false}
 use Rattle.ldv_value.proofs.Orderings.{is_eq-true}
-use Rattle.sql_model.specs.KeyOrder.{values_total}
 use Rattle.sql_model.specs.Keys.{same_values, values_at, repeats}
 use Rattle.sql_model.specs.References.{has_key}
 use Rattle.sql_model.specs.Tables.{are_keys_unique}

@@ -1,12 +1,13 @@
 -- What an expression means over a row, where its columns are given by places in place of names.
 --
 -- The places are those of its column names, left to right: each name takes the next one.
-use Rattle.std.specs.Prelude.{◌≡◌, ℕ, ℤ, List, [], ◌∷◌, Option, Some, None}
-use Rattle.sql_model.specs.Types.{Truth, Value, Null, Int, Expr, Expr-F}
+use Rattle.std.specs.Prelude.{◌≡◌, ℕ, List, [], ◌∷◌, Some, None}
+use Rattle.sql_model.specs.Types.{Truth, Value, Null, Expr, Expr-F}
 use Rattle.sql_model.specs.declared.expr.Expr.TheOpen as open_expr
 use Rattle.sql_model.specs.declared.expr.Expr.TheFolds.{fold-Expr}
 use Rattle.sql_model.specs.Kinds.{names_in}
-use Rattle.sql_model.specs.Scope.{InScope, places_in, value_at, environment}
+use Rattle.ldv_value.specs.Cells.{value_at}
+use Rattle.sql_model.specs.Scope.{InScope, places_in, environment}
 use Rattle.sql_model.specs.Meaning.{Meaning, of_value, of_truth, negation_of, truth_not, both, null_test}
 use Rattle.sql_model.specs.Meaning.{counted_one, aggregate_of, known_values, eval}
 
@@ -53,11 +54,6 @@ abbrev pub eval_at : List Value → Expr → List ℕ → EvaluatedAt
 eval_at row = fold-Expr (List ℕ → EvaluatedAt) (eval_at_step row)
 
 -- ---- what evaluation gives
-
--- a number, or NULL where there is none
-abbrev pub number_or_null : Option ℤ → Value
-number_or_null None = Null
-number_or_null (Some n) = Int n
 
 -- the value, or the truth, in every scope that resolves the expression's columns to these places
 abbrev pub IsValue : Expr → List Value → List ℕ → Value → Type 0

@@ -1,12 +1,13 @@
 -- How the tokens of SQL are written, as a relation between bytes and tokens. No place in it says how bytes
 -- are read.
-use Rattle.std.specs.Prelude.{◌≡◌, ◌≢◌, ◌⊎◌, ℕ, ◌+◌, ◌-◌, ◌*◌, ◌≤◌, Bool, ◌||◌, ◌==◌, if◌then◌else◌, List, []}
+use Rattle.std.specs.Prelude.{◌≡◌, ◌⊎◌, ℕ, ◌+◌, ◌-◌, ◌*◌, ◌≤◌, Bool, ◌||◌, ◌==◌, if◌then◌else◌, List, []}
 use Rattle.std.specs.Prelude.{◌∷◌, ◌++◌, length, map, IsTrue, codes, pos}
 use Rattle.std.specs.List.{AllByRecursion}
+use Rattle.ldv_value.specs.Digits.{is_digit, AreDigits}
 use Rattle.ldv_value.specs.Limits.{text_limit}
 use Rattle.sql_model.specs.declared.token.Token.{Token}
 use Rattle.sql_model.specs.declared.token.Token.TheVariants.{Word, Number, Quoted, Given}
-use Rattle.sql_model.specs.TextBytes.{is_blank, is_digit, is_letter, lower_case_of}
+use Rattle.sql_model.specs.TextBytes.{is_blank, is_letter, lower_case_of}
 
 abbrev pub AreBlanks : List ℕ → Type 0
 AreBlanks = AllByRecursion (λ b. IsTrue (is_blank b))
@@ -29,10 +30,7 @@ IsWord [] = ⊥
 IsWord (b ∷ bs) = IsTrue (is_letter b) × AllByRecursion (λ c. IsTrue (is_inside c)) bs
     × (length (b ∷ bs) ≤ 63)
 
--- digits, and the number that they spell after those of another one
-abbrev pub AreDigits : List ℕ → Type 0
-AreDigits ds = (ds ≢ []) × AllByRecursion (λ d. IsTrue (is_digit d)) ds
-
+-- the number that digits spell after those of another one
 abbrev pub digits_from : ℕ → List ℕ → ℕ
 digits_from n [] = n
 digits_from n (d ∷ ds) = digits_from (n * 10 + (d - 48)) ds

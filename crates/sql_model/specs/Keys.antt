@@ -5,7 +5,7 @@ use Rattle.std.specs.Ordering.{is_eq}
 use Rattle.std.specs.Cmp.Lexicographic.{slice_cmp}
 use Rattle.ldv_value.specs.Order.{order}
 use Rattle.sql_model.specs.Types.{Value, RowKey}
-use Rattle.sql_model.specs.Scope.{value_at}
+use Rattle.ldv_value.specs.Cells.{value_at}
 
 -- the same value at each place
 abbrev pub same_values : List Value → List Value → Bool

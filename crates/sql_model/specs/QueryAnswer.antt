@@ -15,7 +15,8 @@ use Rattle.ldv_value.specs.Order.{order}
 use Rattle.sql_model.specs.Keys.{same_values}
 use Rattle.sql_model.specs.Places.{key_place}
 use Rattle.sql_model.specs.Refusals.{groups, answer_titles}
-use Rattle.sql_model.specs.Scope.{InScope, table_at, rows_of, catalog_of, scope_of, value_at, environment}
+use Rattle.ldv_value.specs.Cells.{value_at}
+use Rattle.sql_model.specs.Scope.{InScope, table_at, rows_of, catalog_of, scope_of, environment}
 use Rattle.sql_model.specs.Meaning.{Environment, eval, truth, is_true}
 use Rattle.sql_model.specs.Sorting.{sorted_by}
 

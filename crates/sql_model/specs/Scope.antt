@@ -1,9 +1,10 @@
 -- Tables and schemas by name, and which column a name means.
 use Rattle.std.specs.Prelude.{ℕ, List, [], ◌∷◌, map, find, filter, zip, length, Bool, true, ◌&&◌, ◌==◌}
-use Rattle.std.specs.Prelude.{Option, Some, None, option_map, unwrap_or, nat_eq, slice_get}
+use Rattle.std.specs.Prelude.{Option, Some, None, option_map, nat_eq}
 use Rattle.std.specs.List.{flat_map, list_any, position_or_len}
 use Rattle.std.specs.Cmp.Lexicographic.{pointwise}
-use Rattle.sql_model.specs.Types.{Value, Null, Catalog, ColumnName, FromItem, Column, Schema, Table, TableRow}
+use Rattle.ldv_value.specs.Cells.{value_at}
+use Rattle.sql_model.specs.Types.{Value, Catalog, ColumnName, FromItem, Column, Schema, Table, TableRow}
 use Rattle.sql_model.specs.Meaning.{Environment}
 
 abbrev pub same_text : List ℕ → List ℕ → Bool
@@ -94,10 +95,6 @@ place_of scope c = position_or_len (is_meant c) scope
 
 abbrev pub places_in : List InScope → List ColumnName → List ℕ
 places_in scope names = map (place_of scope) names
-
--- the value at a place of a row
-abbrev pub value_at : List Value → ℕ → Value
-value_at values place = unwrap_or (slice_get values place) Null
 
 -- a joined row as an environment
 abbrev pub environment : List InScope → List Value → Environment

@@ -7,7 +7,8 @@ use Rattle.sql_model.specs.declared.token.Token.TheVariants.{Word, Number, Quote
 use Rattle.sql_model.specs.declared.reading.LexState.{LexState}
 use Rattle.sql_model.specs.declared.reading.LexState.TheVariants.{Between, InWord, InNumber, InText, AfterQuote}
 use Rattle.sql_model.specs.declared.reading.LexState.TheVariants.{InSymbol, Ended}
-use Rattle.sql_model.specs.TextBytes.{is_blank, is_digit, is_letter, lower_case_of}
+use Rattle.ldv_value.specs.Digits.{is_digit}
+use Rattle.sql_model.specs.TextBytes.{is_blank, is_letter, lower_case_of}
 use Rattle.ldv_value.specs.Scan.{tokens_from as scanned}
 use Rattle.ldv_value.specs.Texts.{text_of}
 use Rattle.ldv_value.specs.Options.{◌>>=◌}

@@ -2,18 +2,8 @@
 
 ghost use Rattle.std.specs.Prelude.{◌≡◌, ◌+ℤ◌, ◌-ℤ◌, ◌*ℤ◌, neg_ℤ};
 ghost use Rattle.sql_model.specs.Meaning.{number_value, with_numbers};
-ghost use Rattle.sql_model.specs.Evaluation.{number_or_null as number_given};
 
 use ldv_value::Value;
-
-pub(crate) fn number_or_null(number: Option<i64>) -> Value
-    ensures { result ≡ number_given number }
-{
-    match number {
-        None => Value::Null,
-        Some(number) => Value::Int(number),
-    }
-}
 
 #[tactic(auto, using(crate::proofs::CheckedNumbers::checked_numbers))]
 pub(crate) fn sum(left: &Value, right: &Value) -> Value
@@ -23,7 +13,7 @@ pub(crate) fn sum(left: &Value, right: &Value) -> Value
         Value::Null => Value::Null,
         Value::Int(m) => match right {
             Value::Null => Value::Null,
-            Value::Int(n) => number_or_null(m.checked_add(*n)),
+            Value::Int(n) => Value::of_number(m.checked_add(*n)),
             Value::Text(_) => Value::Null,
         },
         Value::Text(_) => Value::Null,
@@ -38,7 +28,7 @@ pub(crate) fn difference(left: &Value, right: &Value) -> Value
         Value::Null => Value::Null,
         Value::Int(m) => match right {
             Value::Null => Value::Null,
-            Value::Int(n) => number_or_null(m.checked_sub(*n)),
+            Value::Int(n) => Value::of_number(m.checked_sub(*n)),
             Value::Text(_) => Value::Null,
         },
         Value::Text(_) => Value::Null,
@@ -53,7 +43,7 @@ pub(crate) fn product(left: &Value, right: &Value) -> Value
         Value::Null => Value::Null,
         Value::Int(m) => match right {
             Value::Null => Value::Null,
-            Value::Int(n) => number_or_null(m.checked_mul(*n)),
+            Value::Int(n) => Value::of_number(m.checked_mul(*n)),
             Value::Text(_) => Value::Null,
         },
         Value::Text(_) => Value::Null,
@@ -64,5 +54,5 @@ pub(crate) fn product(left: &Value, right: &Value) -> Value
 pub(crate) fn negate(number: i64) -> Value
     ensures { result ≡ number_value (neg_ℤ number) }
 {
-    number_or_null(number.checked_neg())
+    Value::of_number(number.checked_neg())
 }

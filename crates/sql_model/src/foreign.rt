@@ -91,7 +91,7 @@ fn table_of<'a, T: NamedSchema>(tables: &'a [T], name: &Utf8) -> Option<&'a T>
     ensures { option_map (λ table. table.now) result
         ≡ find (λ table. same_text (T.name_of table) name.now) tables.now }
 {
-    tables.iter().find(|table| table.table_name().is_same(name))
+    tables.iter().find(|table| *table.table_name() == *name)
 }
 
 fn fits_parent(columns: &Columns, foreign: &Foreign, parent: Option<&Schema>) -> bool

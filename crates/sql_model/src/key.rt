@@ -1,95 +1,15 @@
 //! Keys of rows, and their order.
 
-ghost use Rattle.std.specs.Prelude.{◌≡◌, [], Some, refl, IfOk};
-ghost use Rattle.std.specs.Cmp.Lexicographic.{slice_cmp};
-ghost use Rattle.ldv_value.specs.Order.{order};
-ghost use Rattle.std.specs.Cmp.{eq_by_cmp_equiv, partial_order_from_agreeing_total, partial_equiv_from_equiv};
-ghost use Rattle.std.specs.Cmp.Rules.{comparing};
-ghost use Rattle.std.specs.Ordering.{eq_by_cmp};
-ghost use Rattle.std.proofs.Common.{rules};
-ghost use Rattle.sql_model.specs.Scope.{value_at};
-ghost use Rattle.sql_model.specs.KeyOrder.{key_order, key_order_total};
+ghost use Rattle.std.specs.Prelude.{◌≡◌, IfOk};
+ghost use Rattle.ldv_value.specs.Cells.{value_at};
 
-use ldv_value::{CopyItem, Value, Values, compare};
+use ldv_value::{CopyItem, Value, Values};
 use std::alloc::{AllocError, Global};
-use std::cmp::Ordering;
 
-/// The values of a row in its key columns. Keys are ordered value by value.
-#[derive(Drop)]
+/// The values of a row in its key columns. Keys are ordered value by value (`key_order`).
+#[derive(Drop, PartialEq, Eq, PartialOrd, Ord)]
 pub struct RowKey {
     pub values: Values,
-}
-
-impl PartialEq for RowKey {
-    ghost eq = { λ x y. eq_by_cmp key_order x y };
-
-    ghost laws = { partial_equiv_from_equiv (eq_by_cmp_equiv key_order_total) };
-
-    fn eq(&self, other: &RowKey) -> bool {
-        self.cmp(other).is_eq()
-    }
-}
-
-impl Eq for RowKey {
-    ghost laws = { eq_by_cmp_equiv key_order_total };
-}
-
-impl PartialOrd for RowKey {
-    ghost partial_cmp = { λ x y. Some (key_order x y) };
-
-    ghost laws = { partial_order_from_agreeing_total key_order key_order_total (λ x y. refl) (λ x y. refl) };
-
-    fn partial_cmp(&self, other: &RowKey) -> Option<Ordering> {
-        Some(self.cmp(other))
-    }
-}
-
-impl Ord for RowKey {
-    ghost cmp = { λ x y. key_order x y };
-
-    ghost total = { key_order_total };
-
-    ghost matches_partial_cmp = { Prim.search (comparing, rules) };
-
-    ghost matches_eq = { λ x y. refl };
-
-    fn cmp(&self, other: &RowKey) -> Ordering {
-        compare_values(self.values.items(), other.values.items())
-    }
-}
-
-/// How two rows of values are ordered: value by value, a row that is at its end first.
-pub fn compare_values(a: &[Value], b: &[Value]) -> Ordering
-    ensures { result ≡ slice_cmp order a.now b.now }
-{
-    let mut left = a;
-    let mut right = b;
-    loop {
-        match left {
-            [] => return compare_empty(right),
-            [first, rest @ ..] => match right {
-                [] => return Ordering::Greater,
-                [second, more @ ..] => {
-                    let between = compare(first, second);
-                    if between.is_ne() {
-                        return between;
-                    }
-                    left = rest;
-                    right = more;
-                }
-            },
-        }
-    }
-}
-
-// How no values compare to some.
-fn compare_empty(values: &[Value]) -> Ordering
-    ensures { result ≡ slice_cmp order [] values.now }
-{
-    match values {
-        [] => Ordering::Equal,
-        [_first, ..] => Ordering::Less,
-    }
 }
 
 /// The value of a row at a place, from 0; NULL where the row has none there.

@@ -28,7 +28,7 @@ mod value;
 pub use catalog::{Catalog, Checked};
 pub use expr::{ColumnName, ColumnNames, Expr, ExprRows, Exprs, Fold, Operator};
 pub use foreign::{MAX_FOREIGN, NamedSchema, have_parents};
-pub use key::{RowKey, compare_values, value_at};
+pub use key::{RowKey, value_at};
 pub use kind::Kind;
 pub use need::{Member, Members, Need, Needs, Rule};
 pub use reading::{Infix, LexState, Opening, ParsedExpr, Prefix, Sources};

@@ -5,12 +5,13 @@ ghost use Rattle.std.specs.BTreeSet.{contains_by};
 ghost use Rattle.std.specs.List.{list_all, list_any};
 ghost use Rattle.std.specs.Option.{option_map};
 ghost use Rattle.sql_model.specs.Keys.{values_at};
-ghost use Rattle.sql_model.specs.KeyOrder.{values_order};
+ghost use Rattle.ldv_value.specs.Order.{values_order};
 ghost use Rattle.sql_model.specs.inner.KeySets.{refers_among};
 ghost use Rattle.sql_model.specs.Meaning.{is_null};
 ghost use Rattle.sql_model.specs.References.{all_have_parents, has_key, has_parent, is_referring};
 ghost use Rattle.sql_model.specs.References.{references_hold};
-ghost use Rattle.sql_model.specs.Scope.{table_at, value_at};
+ghost use Rattle.ldv_value.specs.Cells.{value_at};
+ghost use Rattle.sql_model.specs.Scope.{table_at};
 ghost use Rattle.sql_model.specs.Types.{Value};
 
 use crate::table::{Foreign, Foreigns, Table, TableRow, TableRows, Tables};
@@ -106,7 +107,7 @@ fn are_among<'a>(keys: &BTreeSet<KeyOf<'a>>, foreign: &'a Foreign, rows: &'a Tab
 fn table_at<'a>(tables: &'a Tables, name: &Utf8) -> Option<&'a Table>
     ensures { option_map (λ table. table.now) result ≡ table_at name.now tables.now }
 {
-    tables.items().iter().find(|table| table.name.is_same(name))
+    tables.items().iter().find(|table| table.name == *name)
 }
 
 // The keys of rows.

@@ -1,7 +1,7 @@
 //! Three-valued logic.
 
 ghost use Rattle.std.specs.Prelude.{◌≡◌};
-ghost use Rattle.ldv_value.specs.Order.{truth_of_bool, test_of};
+ghost use Rattle.ldv_value.specs.Order.{test_of};
 ghost use Rattle.sql_model.specs.Meaning.{truth_not, truth_and, truth_or, is_null, null_test};
 
 use ldv_value::{Cmp, Truth, Value, holds};
@@ -55,13 +55,13 @@ pub(crate) fn comparison_truth(test: Cmp, left: &Value, right: &Value) -> Truth
         Value::Null => Truth::Unknown,
         Value::Int(_) => match right {
             Value::Null => Truth::Unknown,
-            Value::Int(_) => known_truth(holds(test, left, right)),
-            Value::Text(_) => known_truth(holds(test, left, right)),
+            Value::Int(_) => Truth::of_bool(holds(test, left, right)),
+            Value::Text(_) => Truth::of_bool(holds(test, left, right)),
         },
         Value::Text(_) => match right {
             Value::Null => Truth::Unknown,
-            Value::Int(_) => known_truth(holds(test, left, right)),
-            Value::Text(_) => known_truth(holds(test, left, right)),
+            Value::Int(_) => Truth::of_bool(holds(test, left, right)),
+            Value::Text(_) => Truth::of_bool(holds(test, left, right)),
         },
     }
 }
@@ -71,9 +71,9 @@ pub(crate) fn null_truth(negative: bool, value: &Value) -> Truth
     ensures { result ≡ null_test negative value.now }
 {
     if negative {
-        known_truth(!is_null(value))
+        Truth::of_bool(!is_null(value))
     } else {
-        known_truth(is_null(value))
+        Truth::of_bool(is_null(value))
     }
 }
 
@@ -86,10 +86,4 @@ pub fn is_null(value: &Value) -> bool
         Value::Int(_) => false,
         Value::Text(_) => false,
     }
-}
-
-fn known_truth(test: bool) -> Truth
-    ensures { result ≡ truth_of_bool test }
-{
-    if test { Truth::True } else { Truth::False }
 }

@@ -6,15 +6,14 @@ ghost use Rattle.std.specs.Cmp.{eq_by_cmp_equiv, partial_order_from_agreeing_tot
 ghost use Rattle.std.specs.Cmp.Rules.{comparing};
 ghost use Rattle.std.specs.Ordering.{eq_by_cmp};
 ghost use Rattle.std.proofs.Common.{rules};
-ghost use Rattle.ldv_value.specs.Order.{order};
+ghost use Rattle.ldv_value.specs.Order.{order, values_order, values_total};
 ghost use Rattle.ldv_value.specs.declared.value.Value.{Value};
 ghost use Rattle.sql_model.specs.Keys.{matches_first, has_same_neighbours, has_two_of_a_key, repeats, values_at};
-ghost use Rattle.sql_model.specs.KeyOrder.{values_order, values_total};
-ghost use Rattle.sql_model.specs.Scope.{value_at};
+ghost use Rattle.ldv_value.specs.Cells.{value_at};
 ghost use Rattle.ldv_value.specs.declared.value.Value.TheVariants.{Null};
 
 use crate::table::TableRow;
-use ldv_value::{Places, Value, Values, compare};
+use ldv_value::{Places, Value, Values};
 use std::alloc::{AllocError, Global};
 use std::cmp::Ordering;
 use std::marker::Model;
@@ -153,7 +152,7 @@ fn compare_at(row: &Values, place: usize, other: &Values, at: usize) -> Ordering
     ensures { result ≡ order (value_at row.now place) (value_at other.now at) }
 {
     let null = Value::Null;
-    compare(value_or(row, place, &null), value_or(other, at, &null))
+    value_or(row, place, &null).cmp(value_or(other, at, &null))
 }
 
 /// The value of a row at a place, from 0, or a given NULL where the row has none there.

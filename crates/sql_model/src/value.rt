@@ -5,7 +5,7 @@ ghost use Rattle.ldv_value.specs.Order.{test_of};
 ghost use Rattle.sql_model.specs.Evaluation.{eval_at, column_at, IsValue, IsTruth};
 ghost use Rattle.sql_model.specs.Meaning.{negation_of, value_both, aggregate_of, known_values};
 
-use crate::arithmetic::{difference, number_or_null, negate, product, sum};
+use crate::arithmetic::{difference, negate, product, sum};
 use crate::expr::{Expr, Fold, Operator};
 use crate::key::value_at;
 use crate::truths::{and_truth, comparison_truth, not_truth, null_truth, or_truth};
@@ -228,7 +228,7 @@ fn folded_one(fold: Fold, value: Value) -> Value
         },
         Value::Int(number) => match fold {
             Fold::Count => Value::Int(1),
-            Fold::Sum => number_or_null(number.checked_add(0)),
+            Fold::Sum => Value::of_number(number.checked_add(0)),
             Fold::Min => Value::Int(number),
             Fold::Max => Value::Int(number),
         },

@@ -8,7 +8,8 @@ use Rattle.ldv_value.proofs.Booleans.{and-parts, false-not}
 use Rattle.sql_model.specs.declared.reading.LexState.{LexState}
 use Rattle.sql_model.specs.declared.reading.LexState.TheVariants.{Between, InWord, InNumber, InText, AfterQuote, InSymbol}
 use Rattle.sql_model.specs.GrammarOfTokens.{BeginsNot, is_inside, is_quote}
-use Rattle.sql_model.specs.TextBytes.{is_blank, is_digit, is_letter, lower_case_of}
+use Rattle.ldv_value.specs.Digits.{is_digit}
+use Rattle.sql_model.specs.TextBytes.{is_blank, is_letter, lower_case_of}
 use Rattle.sql_model.specs.Tokens.{begins_symbol, is_pair, is_whole_symbol, with_digit, number_token, short_symbol, start, symbol_token, text_token, tokens_from, word_token}
 use Rattle.sql_parse.specs.inner.Lexing.{blank_at, content_at, digit_at, inside_at, letter_at, next_at, pair_at, put_at, quote_at, tokens_at}
 use Rattle.sql_parse.proofs.Symbols.{begins_cases, whole_cases}

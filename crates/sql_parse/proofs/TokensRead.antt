@@ -13,7 +13,8 @@ use Rattle.sql_model.specs.declared.reading.LexState.{LexState}
 use Rattle.sql_model.specs.declared.reading.LexState.TheVariants.{Between, InWord, InNumber, InText, InSymbol, Ended}
 use Rattle.ldv_value.specs.Options.{◌>>=◌}
 use Rattle.sql_model.specs.GrammarOfTokens.{AreBlanks, BeginsNot, is_inside, is_quote, digits_from, with_doubled_quotes, IsSymbol, IsWhole, IsToken, Spells}
-use Rattle.sql_model.specs.TextBytes.{is_blank, is_letter, is_upper, is_digit, lower_case_of}
+use Rattle.ldv_value.specs.Digits.{is_digit}
+use Rattle.sql_model.specs.TextBytes.{is_blank, is_letter, is_upper, lower_case_of}
 use Rattle.ldv_value.specs.Limits.{text_limit}
 use Rattle.ldv_value.specs.Scan.{before}
 use Rattle.sql_model.specs.Tokens.{begins_symbol, is_pair, with_digit, word_token, number_token, text_token, symbol_token, short_symbol, start, step, finish, tokens_from, tokens_of}

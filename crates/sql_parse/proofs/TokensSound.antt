@@ -12,7 +12,8 @@ use Rattle.sql_model.specs.declared.reading.LexState.{LexState}
 use Rattle.sql_model.specs.declared.reading.LexState.TheVariants.{Between, InWord, InNumber, InText, AfterQuote, InSymbol, Ended}
 use Rattle.ldv_value.specs.Options.{◌>>=◌}
 use Rattle.sql_model.specs.GrammarOfTokens.{BeginsNot, is_inside, is_quote, digits_from, with_doubled_quotes, IsSymbol, IsWhole, IsToken, Spells}
-use Rattle.sql_model.specs.TextBytes.{is_blank, is_letter, is_digit, lower_case_of}
+use Rattle.ldv_value.specs.Digits.{is_digit}
+use Rattle.sql_model.specs.TextBytes.{is_blank, is_letter, lower_case_of}
 use Rattle.ldv_value.specs.Texts.{text_of}
 use Rattle.sql_model.specs.Tokens.{is_whole_symbol, begins_symbol, is_pair, with_digit, word_token, number_token, text_token, symbol_token, short_symbol, start, tokens_from}
 use Rattle.sql_parse.proofs.Choices.{choose}

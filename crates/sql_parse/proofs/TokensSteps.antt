@@ -6,7 +6,8 @@ use Rattle.sql_model.specs.declared.reading.LexState.{LexState}
 use Rattle.sql_model.specs.declared.reading.LexState.TheVariants.{Between, InWord, InNumber, InText, AfterQuote, InSymbol, Ended}
 use Rattle.ldv_value.specs.Options.{◌>>=◌}
 use Rattle.sql_model.specs.GrammarOfTokens.{BeginsNot, is_inside, is_quote}
-use Rattle.sql_model.specs.TextBytes.{is_letter, is_digit, lower_case_of}
+use Rattle.ldv_value.specs.Digits.{is_digit}
+use Rattle.sql_model.specs.TextBytes.{is_letter, lower_case_of}
 use Rattle.ldv_value.specs.Scan.{before}
 use Rattle.sql_model.specs.Tokens.{is_pair, with_digit, word_token, number_token, text_token, symbol_token, short_symbol, start, ends, tokens_from}
 use Rattle.ldv_value.proofs.Options.{bind-some, same-some}

@@ -11,7 +11,8 @@ ghost use Rattle.sql_parse.specs.inner.Lexing.{Lexes, LexesTo, blank_at, content
 ghost use Rattle.sql_parse.specs.inner.Lexing.{letter_at, pair_at, put_at, quote_at, tokens_at};
 ghost use Rattle.sql_model.specs.declared.reading.LexState.TheVariants.{Between, InNumber, InText};
 ghost use Rattle.sql_model.specs.GrammarOfTokens.{is_inside};
-ghost use Rattle.sql_model.specs.TextBytes.{is_blank, is_digit, is_upper, is_letter, lower_case_of};
+ghost use Rattle.ldv_value.specs.Digits.{is_digit};
+ghost use Rattle.sql_model.specs.TextBytes.{is_blank, is_upper, is_letter, lower_case_of};
 ghost use Rattle.sql_model.specs.Tokens.{is_whole_symbol, begins_symbol, is_pair, short_symbol, with_digit};
 ghost use Rattle.sql_model.specs.Tokens.{word_token};
 

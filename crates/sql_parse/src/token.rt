@@ -125,12 +125,11 @@ pub(crate) fn symbol_token<'a>(bytes: &'a [u8]) -> Result<Lexeme<'a>, ParseStop>
     }
 }
 
-#[tactic(auto, using(ldv_value::proofs::Utf8Parts::text_rules))]
 fn text(bytes: Bytes) -> Result<Utf8, ParseStop>
     ensures { GivesParsed result (text_of bytes) }
 {
-    match String::from_utf8(bytes.into_vec()) {
-        Ok(text) => Ok(Utf8::of_string(text)),
-        Err(_) => Err(ParseStop::Syntax),
+    match Utf8::of_utf8(bytes) {
+        Some(text) => Ok(text),
+        None => Err(ParseStop::Syntax),
     }
 }

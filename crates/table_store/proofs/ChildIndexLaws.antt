@@ -12,7 +12,8 @@ use Rattle.std.proofs.lemmas.Bool.{cases_lt}
 use Rattle.ldv_value.proofs.Booleans.{not-so, true≢false}
 use Rattle.ldv_value.proofs.Lists.{all-weaker}
 use Rattle.ldv_value.proofs.Options.{none-some, same-some}
-use Rattle.sql_model.specs.KeyOrder.{key_order, values_total}
+use Rattle.ldv_value.specs.Order.{values_total}
+use Rattle.sql_model.specs.KeyOrder.{key_order}
 use Rattle.sql_model.specs.Keys.{same_values, values_at}
 use Rattle.sql_model.specs.Meaning.{is_null}
 use Rattle.sql_model.specs.References.{reference, has_key}

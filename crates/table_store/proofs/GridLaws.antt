@@ -5,16 +5,16 @@ use Rattle.std.specs.List.{range_with_len, list_all}
 use Rattle.std.proofs.lemmas.Bool.{cases_lt, cases_eq}
 use Rattle.std.proofs.lemmas.List.FromFn.{length-map-range_with_len, get_or-map-range_with_len, map-range_with_len_more, fill_by_all}
 use Rattle.std.proofs.lemmas.List.{get_or_past, length-set, length-map, get_or-map}
-use Rattle.std.proofs.lemmas.Option.{unwrap_or-slice_get}
 use Rattle.ldv_value.proofs.Booleans.{and-parts}
 use Rattle.ldv_value.proofs.SameBytes.{nat_eq-true}
 use Rattle.table_store.specs.Types.{Cmp, Value, Null}
-use Rattle.sql_model.specs.Scope.{value_at}
+use Rattle.ldv_value.specs.Cells.{value_at}
 use Rattle.column_store.specs.Cells.{Cells, is_of_kind}
 use Rattle.table_store.specs.Scans.{null_passes, passes_test}
 use Rattle.column_store.specs.Columns.{values_at, kinds_of, no_cells, AreLong, ArePushed, AreSet, FitColumns}
 use Rattle.table_store.specs.inner.Grid.{Slot, slots_of, slot_of, no_slot, new_slot, IsGrid, IsRising, fits_kinds, slot_null, slot_passes}
 use Rattle.column_store.proofs.FlagLaws.{same_below}
+pub use Rattle.column_store.proofs.ColumnLaws.{place_index}
 
 pub slots_len : (numbers since : List ℕ) (standing : List Bool) (columns : List Cells) → length (slots_of numbers since standing columns) ≡ length numbers
 slots_len numbers since standing columns = length-map-range_with_len (slot_of numbers since standing columns) 0 (length numbers)
@@ -245,11 +245,6 @@ fits_columns columns values fits =
     fit_columns columns values both.1 (nat_eq-true (length values) (length (kinds_of columns)) both.0)
 
 pub ruleset grid_rules = (slots_len, slot_is, seen_len, seen_slot)
-
--- ---- places of values
-
-pub place_index : (values : List Value) (place : ℕ) → value_at values place ≡ get_or values place Null
-place_index values place = unwrap_or-slice_get values place Null
 
 -- ---- a column that is looked through
 

@@ -6,7 +6,7 @@ use Rattle.std.specs.Option.{option_and_then}
 use Rattle.std.proofs.lemmas.Bool.{cases_Bool}
 use Rattle.std.proofs.lemmas.List.Folds.{flat_map-map}
 use Rattle.std.proofs.lemmas.Grind.{flat_map-append as flat_append}
-use Rattle.ldv_value.proofs.Booleans.{or-false}
+use Rattle.ldv_value.proofs.Booleans.{or-comm, or-false}
 use Rattle.ldv_value.specs.Options.{first_some}
 use Rattle.sql_model.proofs.Elsewhere.{no_orphans, elsewhere}
 use Rattle.sql_model.proofs.ReferenceLists.{any_split, lost_same}
@@ -21,7 +21,7 @@ use Rattle.table_store.specs.Histories.{TableHistory, row_now, rows_now, table_n
 use Rattle.table_store.specs.Stops.{is_among, with_removed, with_replaced, had_rows}
 use Rattle.table_store.specs.Types.{Foreign, Table, TableRow, Value}
 use Rattle.table_store.proofs.FirstLaws.{first_flat, first_filter_map, first_agree, first_filter, first_filtered, first_none, first_none_of}
-use Rattle.table_store.proofs.PutLaws.{TakesPlace, any_same, or_swap, replaced_has}
+use Rattle.table_store.proofs.PutLaws.{TakesPlace, any_same, replaced_has}
 use Rattle.table_store.proofs.GridLaws.{and_turned}
 
 -- ---- the first child, table by table and slot by slot
@@ -146,7 +146,7 @@ replaced_lost t keyed unique given takes there key =
     let p : TableRow → Bool = has_key t.schema.key key in
     lost_by t keyed unique numbers key (list_any p given) (with_replaced given t).rows
     (replaced_has given t takes there p
-    ∙ or_swap (list_any p given) (list_any (λ row. p row && not (is_among numbers row)) t.rows)
+    ∙ or-comm (list_any p given) (list_any (λ row. p row && not (is_among numbers row)) t.rows)
     ∙ ap (λ (b : Bool). b || list_any p given)
     (any_same (λ row. p row && not (is_among numbers row)) (λ row. not (is_among numbers row) && p row) (λ row. and_turned (p row) (not (is_among numbers row))) t.rows
     ∙ sym (any_swapped p (λ row. not (is_among numbers row)) t.rows)))

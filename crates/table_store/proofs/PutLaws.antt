@@ -5,7 +5,7 @@ use Rattle.std.specs.Prelude.{Option, Some, None, map, find, length, not, unwrap
 use Rattle.std.specs.List.{filter_map, list_any, list_all}
 use Rattle.std.specs.Option.{option_map, option_map_or}
 use Rattle.std.proofs.lemmas.Bool.{cases_Bool, ne_eqb}
-use Rattle.ldv_value.proofs.Booleans.{and-parts, and-true, or-left, or-right, or-false, or-cases, or-parts, not-so, true≢false}
+use Rattle.ldv_value.proofs.Booleans.{and-parts, and-true, or-comm, or-left, or-right, or-false, or-cases, or-parts, not-so, true≢false}
 use Rattle.ldv_value.proofs.Lists.{list_any-append, found-passes}
 use Rattle.ldv_value.proofs.Options.{none-some, same-some}
 use Rattle.ldv_value.proofs.SameBytes.{bytes_eq-true, nat_eq-true}
@@ -30,12 +30,6 @@ pub bool_same : (a b : Bool) → (a ≡ true → b ≡ true) → (b ≡ true →
 bool_same true b one two = sym (one refl)
 bool_same false true one two = two refl
 bool_same false false one two = refl
-
-pub or_swap : (a b : Bool) → (a || b) ≡ (b || a)
-or_swap true true = refl
-or_swap true false = refl
-or_swap false true = refl
-or_swap false false = refl
 
 pub any_same : {X : Type 0} (p q : X → Bool) → ((x : X) → p x ≡ q x) → (xs : List X) → list_any p xs ≡ list_any q xs
 any_same p q same [] = refl
@@ -182,7 +176,7 @@ pub inserted_has : (rows : List (List Value)) (t : Table) (key : List Value)
     ≡ (list_any (has_values t.schema.key key) rows || keeps [] t key)
 inserted_has rows t key =
     list_any-append (has_key t.schema.key key) t.rows (numbered_rows t.next rows)
-    ∙ or_swap (list_any (has_key t.schema.key key) t.rows) (list_any (has_key t.schema.key key) (numbered_rows t.next rows))
+    ∙ or-comm (list_any (has_key t.schema.key key) t.rows) (list_any (has_key t.schema.key key) (numbered_rows t.next rows))
     ∙ (λ j. numbered_keys t.schema.key key t.next rows j || any_same (has_key t.schema.key key) (λ row. has_key t.schema.key key row && true) (λ row. sym (and-true (has_key t.schema.key key row))) t.rows j)
 
 -- ---- other values of rows

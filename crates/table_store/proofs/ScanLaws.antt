@@ -10,8 +10,8 @@ use Rattle.ldv_value.specs.Order.{meets, truth_of_bool}
 use Rattle.lanes.specs.Selection.{passes, holds_at}
 use Rattle.lanes.specs.Sets.{member, IsDifference}
 use Rattle.sql_model.specs.Meaning.{is_true}
-use Rattle.sql_model.specs.Scope.{value_at}
-use Rattle.column_store.specs.Cells.{Cells, int_value}
+use Rattle.ldv_value.specs.Cells.{value_at, int_value}
+use Rattle.column_store.specs.Cells.{Cells}
 use Rattle.column_store.specs.Columns.{no_cells, values_at}
 use Rattle.column_store.proofs.CellLaws.{ints_get, ints_len}
 use Rattle.column_store.proofs.ColumnLaws as laws

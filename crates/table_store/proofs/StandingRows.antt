@@ -10,7 +10,7 @@ use Rattle.ldv_value.proofs.Cases.{cases-bool}
 use Rattle.ldv_value.proofs.Lists.{all-weaker}
 use Rattle.ldv_value.proofs.Options.{none-some, same-some}
 use Rattle.row_version.specs.History.{current_values}
-use Rattle.sql_model.specs.KeyOrder.{values_total}
+use Rattle.ldv_value.specs.Order.{values_total}
 use Rattle.sql_model.specs.Keys.{repeats, same_values, values_at}
 use Rattle.sql_model.specs.Tables.{are_keys_unique}
 use Rattle.sql_model.specs.References.{has_key}

@@ -288,5 +288,5 @@ fn refers_by(
         return Ok(false);
     }
     let own = key_of(alloc, &foreign.columns, values)?;
-    Ok(own == *key)
+    Ok(own.cmp(key).is_eq())
 }

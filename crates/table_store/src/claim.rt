@@ -253,5 +253,5 @@ fn is_earlier(
     let at = past as usize;
     let row = &values[at];
     let other = key_of(alloc, places, row)?;
-    Ok(other == *key)
+    Ok(other.cmp(key).is_eq())
 }

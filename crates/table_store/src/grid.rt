@@ -9,7 +9,7 @@ ghost use Rattle.lanes.specs.Sets.{member};
 ghost use Rattle.ldv_value.specs.Order.{order};
 ghost use Rattle.table_store.specs.Types.{Null};
 ghost use Rattle.sql_model.specs.Keys.{values_at};
-ghost use Rattle.sql_model.specs.Scope.{value_at};
+ghost use Rattle.ldv_value.specs.Cells.{value_at};
 ghost use Rattle.column_store.specs.LentCells.{lent_value};
 ghost use Rattle.table_store.specs.inner.Grid.{IsRising, Slot, no_slot, fits_kinds, are_of_kinds, AreNumberedFrom};
 ghost use Rattle.table_store.specs.inner.Grid.{next_after, new_slot, slot_null, slot_passes};

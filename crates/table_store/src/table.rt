@@ -7,7 +7,7 @@ ghost use Rattle.std.specs.Option.{option_map, option_map_or, option_or, option_
 ghost use Rattle.std.specs.List.{filter_map};
 ghost use Rattle.lanes.specs.Sets.{member};
 ghost use Rattle.row_version.specs.History.{current_values, version};
-ghost use Rattle.sql_model.specs.Scope.{value_at};
+ghost use Rattle.ldv_value.specs.Cells.{value_at};
 ghost use Rattle.sql_model.specs.Tables.{is_valid_table};
 ghost use Rattle.sql_model.specs.References.{has_key};
 ghost use Rattle.column_store.specs.LentCells.{lent_value};

@@ -9,7 +9,8 @@ use Rattle.sql_model.specs.declared.expr.Expr.TheFolds.{fold-roll-Expr, ind-Expr
 use Rattle.sql_model.specs.declared.expr.Expr.TheOpen as open_expr
 use Rattle.sql_model.specs.declared.expr.Expr.TheViews.{roll-Expr}
 use Rattle.sql_model.specs.declared.expr.Fold.TheVariants as fold
-use Rattle.sql_model.specs.Scope.{InScope, place_of, value_at, environment}
+use Rattle.ldv_value.specs.Cells.{value_at}
+use Rattle.sql_model.specs.Scope.{InScope, place_of, environment}
 use Rattle.sql_model.specs.Meaning.{Environment, Meaning, number_value, with_numbers, negation_of, value_both, or_null, lesser_of, greater_of, total, aggregate_of, known_values, is_null, in_first, eval_step, eval}
 use Rattle.sql_laws.specs.Types.{Value, Null, Int, Text, ColumnName, Expr, Expr-F, Fold, Operator, Add, Subtract, Multiply, Compare, And, Or}
 use Rattle.ldv_value.proofs.ItemLists.{all_filter}

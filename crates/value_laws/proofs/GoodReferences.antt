@@ -12,7 +12,8 @@ use Rattle.sql_model.specs.Changes.{table_after, new_rows}
 use Rattle.sql_model.specs.Keys.{values_at}
 use Rattle.sql_model.specs.Meaning.{is_null}
 use Rattle.sql_model.specs.References.{reference, has_key, first_in, MissingParent, missing_key, missing_by, missing_parents, is_lost, Child, Orphan, orphan_by, orphans_of, other_rows, child_of, children, orphans, tables_after, first_missing_parent, is_changed, first_orphan}
-use Rattle.sql_model.specs.Scope.{same_text, value_at, is_table, table_at}
+use Rattle.ldv_value.specs.Cells.{value_at}
+use Rattle.sql_model.specs.Scope.{same_text, is_table, table_at}
 use Rattle.sql_model.specs.Statements.{parent_refusal, child_refusal, reference_refusal}
 use Rattle.value_laws.specs.Values.{GoodValues, GoodStatement, GoodRow, GoodForeign, GoodTable, GoodTables, GoodReply}
 use Rattle.value_laws.proofs.GoodChanges.{new_rows_good}

@@ -8,7 +8,7 @@ use Rattle.sql_laws.specs.Types.{Value, Catalog, Refused, SqlRefusal, NoTable, N
 use Rattle.sql_model.specs.Changes.{table_after, lacks_value, KeyClash, shares_key, clash_or, clash_after, clash_by, key_clash, key_refusal, is_full, or_else, refusal_if, change_refusal}
 use Rattle.sql_model.specs.Keys.{values_at}
 use Rattle.sql_model.specs.Refusals.{lacks_table, lacks_column, clashes, check_refusal}
-use Rattle.sql_model.specs.Scope.{value_at}
+use Rattle.ldv_value.specs.Cells.{value_at}
 use Rattle.sql_model.specs.Tables.{is_short}
 use Rattle.run_model.specs.TypedPackage.{TypedValue, TypedValues}
 use Rattle.value_laws.specs.Values.{GoodValue, GoodValues, GoodStatement, GoodRow, GoodTable, GoodReply}

@@ -96,5 +96,5 @@ fn find_column(columns: &Columns, name: &Utf8) -> Option<usize>
     columns
         .items()
         .iter()
-        .position(|column| column.name.is_same(name))
+        .position(|column| column.name == *name)
 }

@@ -6,7 +6,8 @@ use Rattle.group_eval.specs.Types.{Expr, Value}
 use Rattle.group_eval.specs.declared.columns.KnownColumn.{KnownColumn}
 use Rattle.sql_model.specs.Kinds.{names_in}
 use Rattle.sql_model.specs.Meaning.{known_values}
-use Rattle.sql_model.specs.Scope.{InScope, places_in, value_at}
+use Rattle.ldv_value.specs.Cells.{value_at}
+use Rattle.sql_model.specs.Scope.{InScope, places_in}
 
 -- the value at a place of a pick
 abbrev pub value_in : ℕ → Pick → Value

@@ -17,7 +17,8 @@ use Rattle.core_parts.specs.declared.refs_by.RefsBy.{RefsBy}
 use Rattle.query_eval.specs.declared.probe.Probe.{Probe}
 use Rattle.query_eval.specs.declared.source.SourceRow.{SourceRow}
 use Rattle.sql_model.specs.Meaning.{is_true, truth}
-use Rattle.sql_model.specs.Scope.{InScope, environment, value_at}
+use Rattle.ldv_value.specs.Cells.{value_at}
+use Rattle.sql_model.specs.Scope.{InScope, environment}
 
 -- one row of each source, the first source turning slowest
 abbrev pub combos : List (List SourceRow) → List (List SourceRow)

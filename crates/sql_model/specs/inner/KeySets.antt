@@ -3,7 +3,7 @@ use Rattle.std.specs.Prelude.{List, Bool, ◌||◌}
 use Rattle.std.specs.BTreeSet.{BTreeSet, contains_by}
 use Rattle.std.specs.List.{list_any}
 use Rattle.sql_model.specs.Keys.{values_at}
-use Rattle.sql_model.specs.KeyOrder.{values_order}
+use Rattle.ldv_value.specs.Order.{values_order}
 use Rattle.sql_model.specs.Meaning.{is_null}
 use Rattle.sql_model.specs.Types.{Value, Foreign, TableRow}
 

@@ -1,5 +1,6 @@
 -- How a call that may run out of memory gives what a definition gives.
 use Rattle.std.specs.Prelude.{◌≡◌, List, Option, Some, None, Result, Ok, Err}
+use Rattle.ldv_value.specs.Gives.{Gives as GivesOf}
 use Rattle.sql_parse.specs.declared.error.ParseStop.{ParseStop}
 use Rattle.sql_parse.specs.declared.error.ParseStop.TheVariants.{Syntax, NoMemory}
 use Rattle.sql_model.specs.declared.token.Token.{Token}
@@ -10,8 +11,7 @@ Fails NoMemory due = Unit {0}
 
 -- the result is the value that is due, or `Syntax` where none is, or out of memory
 abbrev pub GivesParsed : {X : Type 0} → Result X ParseStop → Option X → Type 0
-GivesParsed (Ok x) due = due ≡ Some x
-GivesParsed (Err e) due = Fails e due
+GivesParsed = GivesOf Fails
 
 -- the same of a call that reads from the front of tokens and leaves a rest of them
 abbrev pub ReadsPart : {X : Type 0} → Result X ParseStop → List Token → Option (X × List Token) → Type 0

@@ -9,7 +9,8 @@ use Rattle.sql_model.specs.declared.reading.LexState.TheVariants.{Between}
 use Rattle.sql_model.specs.declared.statement.Statement.{Statement}
 use Rattle.sql_model.specs.declared.token.Token.{Token}
 use Rattle.sql_model.specs.GrammarOfTokens.{is_inside, is_quote}
-use Rattle.sql_model.specs.TextBytes.{is_blank, is_digit, is_letter}
+use Rattle.ldv_value.specs.Digits.{is_digit}
+use Rattle.sql_model.specs.TextBytes.{is_blank, is_letter}
 use Rattle.sql_model.specs.Texts.{with_parameters, whole_statement}
 use Rattle.sql_model.specs.Tokens.{is_pair, tokens_from, tokens_of}
 use Rattle.sql_parse.specs.declared.error.ParseStop.{ParseStop}

@@ -3,7 +3,7 @@ use Rattle.std.specs.BTreeSet.{contains}
 use Rattle.ldv_value.specs.declared.value.Value.{Value}
 use Rattle.ldv_value.proofs.Places.{drop_item}
 use Rattle.sql_model.specs.Keys.{same_values, values_at}
-use Rattle.sql_model.specs.KeyOrder.{values_order}
+use Rattle.ldv_value.specs.Order.{values_order}
 use Rattle.sql_model.proofs.Seen.{seen_false}
 use Rattle.package_join.specs.inner.TakenKeys.{first_taken_row}
 use Rattle.package_join.proofs.TakenKeys.{one_seen, one_taken, seen_true}

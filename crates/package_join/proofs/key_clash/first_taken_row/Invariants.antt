@@ -1,6 +1,6 @@
 use Rattle.std.proofs.Common.{◌≡◌, drop}
 use Rattle.std.specs.BTreeSet.{contains}
-use Rattle.sql_model.specs.KeyOrder.{values_order}
+use Rattle.ldv_value.specs.Order.{values_order}
 use Rattle.package_join.specs.inner.TakenKeys.{first_taken_row, unseen}
 use Rattle.package_join.proofs.key_clash.first_taken_row.Given as goal
 

@@ -4,7 +4,7 @@ use Rattle.std.specs.Map.{lookup}
 use Rattle.std.proofs.lemmas.List.{drop_all}
 use Rattle.ldv_value.proofs.Places.{drop_item}
 use Rattle.lineage.specs.declared.answer.Answer.{Answer}
-use Rattle.sql_model.specs.KeyOrder.{values_order}
+use Rattle.ldv_value.specs.Order.{values_order}
 use Rattle.query_eval.specs.Merging.{place_of, merged_onto}
 use Rattle.query_eval.specs.Types.{Value}
 use Rattle.query_eval.proofs.Absorbs.{merges}

@@ -1,7 +1,7 @@
 use Rattle.std.proofs.Common.{◌≡◌, List, take}
 use Rattle.std.specs.BTreeSet.{contains_by}
 use Rattle.std.specs.List.{list_any}
-use Rattle.sql_model.specs.KeyOrder.{values_order}
+use Rattle.ldv_value.specs.Order.{values_order}
 use Rattle.sql_model.specs.References.{has_key}
 use Rattle.sql_model.specs.Types.{Value}
 use Rattle.sql_model.proofs.references.keys_of.Given as goal

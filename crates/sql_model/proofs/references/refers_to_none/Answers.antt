@@ -2,7 +2,7 @@ use Rattle.std.proofs.Common.{◌∙◌, ℕ, List, ap, sym}
 use Rattle.std.specs.List.{list_any}
 use Rattle.ldv_value.proofs.Lists.{list_any-map}
 use Rattle.sql_model.specs.Meaning.{is_null}
-use Rattle.sql_model.specs.Scope.{value_at}
+use Rattle.ldv_value.specs.Cells.{value_at}
 use Rattle.sql_model.proofs.references.refers_to_none.Goals as goal
 
 pub returns : goal.returns

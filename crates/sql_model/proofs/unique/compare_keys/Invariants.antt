@@ -1,7 +1,7 @@
 use Rattle.std.proofs.Common.{◌≡◌, length, map}
 use Rattle.std.specs.Cmp.Lexicographic.{slice_cmp}
 use Rattle.ldv_value.specs.Order.{order}
-use Rattle.sql_model.specs.Scope.{value_at}
+use Rattle.ldv_value.specs.Cells.{value_at}
 use Rattle.sql_model.proofs.unique.compare_keys.Given as goal
 
 abbrev pub invariant-loop-left : goal.invariant-loop-left

@@ -1,6 +1,6 @@
 use Rattle.std.proofs.Common.{rules, ◌≡◌, ◌∙◌, ◌+◌, ◌-◌, ◌<◌, ◌≤◌, ap, sym, subst, ℕ, length, take, get_or, arith, [], Some, None}
 use Rattle.std.specs.Prelude.{if◌then◌else◌}
-use Rattle.std.specs.Ordering.{eq_by_cmp}
+use Rattle.std.specs.Ordering.{eq_by_cmp, is_eq}
 use Rattle.std.specs.Option.{option_map}
 use Rattle.std.proofs.lemmas.List.{length-take-le, get_or-take, get_or_default}
 use Rattle.sql_model.specs.KeyOrder.{key_order}
@@ -44,8 +44,8 @@ returns c =
     let row : c.index-values-at.result ≡ get_or values at [] = c.index-values-at.is ∙ get_or_default values at c.index-values-at.result [] (omega (arith, low, c.requires.within)) in
     let own : c.in_ok-other.other ≡ key_at places (get_or more at []) =
     c.in_ok-other.ensures ∙ ap (key_at places) (row ∙ sym (get_or-take c.args.count values at [] low)) in
-    let same : same_values (values_at places (get_or more at [])) c.args.key.now.values ≡ c.eq.result =
-    ap (λ (k : RowKey). eq_by_cmp key_order k c.args.key.now) (sym own) ∙ sym c.eq.ensures in
+    let same : same_values (values_at places (get_or more at [])) c.args.key.now.values ≡ c.is_eq.result =
+    ap (λ (k : RowKey). eq_by_cmp key_order k c.args.key.now) (sym own) ∙ sym (c.is_eq.ensures ∙ ap is_eq c.cmp.ensures) in
     ap (option_map (λ (row : TableRow). row.number)) (found_new places c.args.key.now.values c.args.number c.args.next slots more order from)
     ∙ numbered_here places c.args.key.now.values c.args.number c.args.next at more within is
     ∙ ap (λ b. if b then Some c.args.number else None) same

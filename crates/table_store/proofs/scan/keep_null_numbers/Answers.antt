@@ -1,7 +1,7 @@
 use Rattle.std.proofs.Common.{◌∙◌, ◌&&◌, ap, sym, get_or}
 use Rattle.std.specs.Prelude.{None}
 use Rattle.lanes.specs.Sets.{member}
-use Rattle.column_store.specs.Cells.{int_value}
+use Rattle.ldv_value.specs.Cells.{int_value}
 use Rattle.table_store.specs.Scans.{null_passes}
 use Rattle.table_store.proofs.ScanLaws.{nulls_kept, some_passes}
 use Rattle.table_store.proofs.scan.keep_null_numbers.Goals as goal

@@ -4,7 +4,7 @@ use Rattle.std.specs.Option.{option_map_or}
 use Rattle.lanes.specs.Sets.{member}
 use Rattle.lanes.specs.Selection.{passes}
 use Rattle.std.proofs.lemmas.Int.{to_z-of_z}
-use Rattle.column_store.specs.Cells.{int_value}
+use Rattle.ldv_value.specs.Cells.{int_value}
 use Rattle.table_store.proofs.ScanLaws.{select_seen}
 use Rattle.table_store.proofs.scan.select.Goals as goal
 

@@ -1,5 +1,5 @@
 use Rattle.std.proofs.Common.{◌∙◌, ◌<◌, ap, sym, length, arith}
-use Rattle.sql_model.specs.Scope.{value_at}
+use Rattle.ldv_value.specs.Cells.{value_at}
 use Rattle.table_store.specs.inner.Grid.{Slot, Rows}
 use Rattle.table_store.proofs.GridLaws.{in_parts, seen_within}
 use Rattle.table_store.proofs.grid.Grid.cell.Goals as goal

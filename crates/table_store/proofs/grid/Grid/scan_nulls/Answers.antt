@@ -1,6 +1,6 @@
 use Rattle.std.proofs.Common.{◌≡◌, ◌∙◌, ◌+◌, ◌/◌, ◌&&◌, ap, sym, ℕ, List, length, get_or}
 use Rattle.lanes.specs.Sets.{member}
-use Rattle.sql_model.specs.Scope.{value_at}
+use Rattle.ldv_value.specs.Cells.{value_at}
 use Rattle.table_store.specs.Scans.{null_passes}
 use Rattle.column_store.specs.Columns.{values_at}
 use Rattle.table_store.specs.inner.Grid.{Slot, Rows, no_slot, slot_null}

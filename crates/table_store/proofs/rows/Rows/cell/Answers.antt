@@ -1,6 +1,6 @@
 use Rattle.std.proofs.Common.{◌∙◌, ap}
 use Rattle.std.specs.Prelude.{Some}
-use Rattle.sql_model.specs.Scope.{value_at}
+use Rattle.ldv_value.specs.Cells.{value_at}
 use Rattle.table_store.specs.inner.RowChains.{RowsHistory, chains_of}
 use Rattle.table_store.proofs.RowLaws.{key_is}
 use Rattle.table_store.proofs.rows.Rows.cell.Goals as goal

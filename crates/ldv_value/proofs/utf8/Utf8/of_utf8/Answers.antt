@@ -1,6 +1,6 @@
 use Rattle.std.proofs.Common.{◌∙◌, sym, ap, Some}
 use Rattle.ldv_value.proofs.Utf8Parts.{text_of-string}
-use Rattle.sql_parse.proofs.token.text.Goals as goal
+use Rattle.ldv_value.proofs.utf8.Utf8.of_utf8.Goals as goal
 
 pub returns-in-Ok : goal.returns-in-Ok
 returns-in-Ok c =
