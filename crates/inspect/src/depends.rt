@@ -1,25 +1,27 @@
 //! The report on what a path depends on.
 
-ghost use Rattle.std.specs.Prelude.{◌≡◌, ◌<◌, ◌++◌, codes, length, IfOk, OnOk};
-ghost use Rattle.std.specs.Fmt.{decimal};
+ghost use Rattle.std.specs.Prelude.{◌≡◌, ◌<◌, ◌++◌, codes, length, map, IfOk, IsTrue, OnOk};
 ghost use Rattle.std.specs.List.{flat_map};
 ghost use Rattle.ldv_value.specs.Gives.{Gives};
 ghost use Rattle.reach.specs.Depends.{depends_of};
-ghost use Rattle.run_model.specs.ValidTrace.{IsTrace};
-ghost use Rattle.inspect.specs.DependsReports.{depends_report, node_line, nodes_report, version_text};
-ghost use Rattle.inspect.specs.ProcessNames.{name_in};
+ghost use Rattle.reach.specs.Lent.{lent_node};
+ghost use Rattle.reach.specs.NodeLines.{node_line};
 ghost use Rattle.run_model.specs.OutcomeText.{line};
+ghost use Rattle.run_model.specs.ValidTrace.{IsTrace};
+ghost use Rattle.trace_graph.specs.Building.{node_of};
+ghost use Rattle.trace_graph.specs.Graph.{are_between};
+ghost use Rattle.trace_graph.specs.Lent.{lent_parts};
+ghost use Rattle.inspect.specs.DependsReports.{depends_report, nodes_report, report_on};
+ghost use Rattle.inspect.specs.ProcessNames.{name_in};
 ghost use Rattle.inspect.specs.Stopping.{Stops};
 
-use crate::append::append_numbered;
 use crate::process_names::{Processes, append_process, processes_of};
 use crate::error::InspectStop;
-use ldv_value::{Bytes, Utf8};
-use reach::depends;
+use ldv_value::Bytes;
+use reach::{append_number_line, append_path, append_version, depends};
 use run_model::{Events, Package};
-use sql_model::Member;
 use std::alloc::{AllocError, Global};
-use trace_graph::{Graph, Node};
+use trace_graph::{LentGraph, NodeKey};
 
 /// A line for each node from which information may have got to a path by the end of the recorded run: paths
 /// sorted by bytes, then processes by creation number, rows by table, row and version, and statements and
@@ -29,59 +31,93 @@ pub fn depends_text(alloc: Global, package: &Package, path: &str) -> Result<Byte
     ensures { Gives Stops result
         (depends_report «package».now.events «package».now.steps path.now) }
 {
-    let graph = Graph::of_events(alloc, &package.events)?;
-    let node = Node::Path(Utf8::of(alloc, path)?);
-    match graph.place(&node) {
+    let graph = LentGraph::of_events(alloc, &package.events)?;
+    report_on(alloc, &package.events, &graph, path, package.steps)
+}
+
+// The report on a path of a graph, for a run of this number of steps.
+fn report_on(
+    alloc: Global,
+    events: &Events,
+    graph: &LentGraph<'_>,
+    path: &str,
+    steps: u32,
+) -> Result<Bytes, InspectStop>
+    requires trace { IsTrace events.now }
+    requires between { IsTrue (are_between (length graph.now.nodes.items) graph.now.edges.items) }
+    ensures { Gives Stops result (report_on (lent_parts graph.now) events.now steps path.now) }
+{
+    match graph.place(path) {
         None => Err(InspectStop::NoSuch),
-        Some(place) => Ok(report_at(alloc, &package.events, &graph, place, package.steps)?),
+        Some(place) => Ok(report_at(alloc, events, graph, place, steps)?),
     }
 }
 
 fn report_at(
     alloc: Global,
     events: &Events,
-    graph: &Graph,
+    graph: &LentGraph<'_>,
     place: usize,
     time: u32,
 ) -> Result<Bytes, AllocError>
     requires trace { IsTrace events.now }
-    requires place { place < length graph.now.nodes }
-    ensures { IfOk result (λ text. text ≡ nodes_report events.now (depends_of graph.now place time)) }
+    requires between { IsTrue (are_between (length graph.now.nodes.items) graph.now.edges.items) }
+    requires place { place < length graph.now.nodes.items }
+    ensures { IfOk result (λ text. text
+        ≡ nodes_report events.now (depends_of (lent_parts graph.now) place time)) }
 {
-    let nodes = depends(alloc, graph, place, time)?;
+    let sources = sources_of(alloc, graph, place, time)?;
     let processes = processes_of(alloc, events.items())?;
     let mut text = Bytes::new(alloc);
-    append_nodes(&mut text, &processes, nodes.items())?;
+    append_nodes(&mut text, &processes, sources.as_slice())?;
     Ok(text)
 }
 
-fn append_nodes(to: &mut Bytes, processes: &Processes, nodes: &[Node]) -> Result<(), AllocError>
-    ensures { OnOk result (to.new ≡ to.old ++ flat_map (node_line processes.now) nodes.now) }
+// The nodes that the node at a place depends on by a time.
+fn sources_of<'a, 'b>(
+    alloc: Global,
+    graph: &'a LentGraph<'b>,
+    place: usize,
+    time: u32,
+) -> Result<Vec<&'a NodeKey<'b>>, AllocError>
+    requires between { IsTrue (are_between (length graph.now.nodes.items) graph.now.edges.items) }
+    requires place { place < length graph.now.nodes.items }
+    ensures { IfOk result (λ sources. map lent_node sources.items
+        ≡ depends_of (lent_parts graph.now) place time) }
+{
+    let nodes = graph.nodes.as_slice();
+    let edges = graph.edges.as_slice();
+    depends(alloc, nodes, edges, place, time)
+}
+
+fn append_nodes(
+    to: &mut Bytes,
+    processes: &Processes,
+    nodes: &[&NodeKey<'_>],
+) -> Result<(), AllocError>
+    ensures { OnOk result (to.new
+        ≡ to.old ++ flat_map (node_line (name_in processes.now)) (map lent_node nodes.now)) }
 {
     for node in nodes {
-        append_node(to, processes, node)?;
+        append_node(to, processes, *node)?;
     }
     Ok(())
 }
 
-fn append_node(to: &mut Bytes, processes: &Processes, node: &Node) -> Result<(), AllocError>
-    ensures { OnOk result (to.new ≡ to.old ++ node_line processes.now node.now) }
+fn append_node(
+    to: &mut Bytes,
+    processes: &Processes,
+    node: &NodeKey<'_>,
+) -> Result<(), AllocError>
+    ensures { OnOk result (to.new ≡ to.old ++ node_line (name_in processes.now) (node_of node.now)) }
 {
     match node {
-        Node::Path(path) => append_path(to, path),
-        Node::Process(process) => append_process_line(to, processes, *process),
-        Node::Row(member) => append_version(to, member),
-        Node::Ask(statement) => append_number_line(to, b"ask ", *statement),
-        Node::Reply(statement) => append_number_line(to, b"reply ", *statement),
+        NodeKey::Path(path) => append_path(to, *path),
+        NodeKey::Process(process) => append_process_line(to, processes, *process),
+        NodeKey::Row(table, row, version) => append_version(to, *table, *row, *version),
+        NodeKey::Ask(statement) => append_number_line(to, b"ask ", *statement),
+        NodeKey::Reply(statement) => append_number_line(to, b"reply ", *statement),
     }
-}
-
-fn append_path(to: &mut Bytes, path: &Utf8) -> Result<(), AllocError>
-    ensures { OnOk result (to.new ≡ to.old ++ line (codes "path " ++ path.now)) }
-{
-    to.extend(b"path ")?;
-    to.extend(path.as_str().as_bytes())?;
-    to.extend(b"\n")
 }
 
 fn append_process_line(
@@ -93,22 +129,5 @@ fn append_process_line(
 {
     to.extend(b"process ")?;
     append_process(to, processes, process)?;
-    to.extend(b"\n")
-}
-
-fn append_version(to: &mut Bytes, member: &Member) -> Result<(), AllocError>
-    ensures { OnOk result (to.new ≡ to.old ++ line (codes "row " ++ version_text member.now)) }
-{
-    to.extend(b"row ")?;
-    to.extend(member.table.as_str().as_bytes())?;
-    append_numbered(to, b" ", member.row as u64)?;
-    append_numbered(to, b" ", member.version as u64)?;
-    to.extend(b"\n")
-}
-
-fn append_number_line(to: &mut Bytes, word: &[u8], number: u32) -> Result<(), AllocError>
-    ensures { OnOk result (to.new ≡ to.old ++ line (word.now ++ decimal number)) }
-{
-    append_numbered(to, word, number as u64)?;
     to.extend(b"\n")
 }

@@ -5,8 +5,8 @@ ghost use Rattle.std.specs.Fmt.{decimal};
 ghost use Rattle.inspect.specs.FileReports.{file_line, files_report};
 ghost use Rattle.run_model.specs.OutcomeText.{line};
 
-use crate::append::append_numbered;
 use ldv_value::{Bytes, Utf8};
+use reach::append_numbered;
 use run_model::{Package, PackedFile};
 use std::alloc::{AllocError, Global};
 

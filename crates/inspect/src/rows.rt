@@ -4,8 +4,9 @@ ghost use Rattle.std.specs.Prelude.{◌≡◌, ◌++◌, IfOk, OnOk};
 ghost use Rattle.std.specs.List.{flat_map};
 ghost use Rattle.inspect.specs.RowReports.{row_line, rows_report, table_lines};
 
-use crate::append::{append_numbered, append_rule};
+use crate::append::append_rule;
 use ldv_value::{Bytes, Utf8};
+use reach::append_numbered;
 use run_model::{Package, PackedRow, PackedTable};
 use std::alloc::{AllocError, Global};
 

@@ -6,9 +6,9 @@ ghost use Rattle.run_model.specs.ValidTrace.{IsTrace};
 ghost use Rattle.inspect.specs.TraceReports.{act_text, asked_text, event_line, found_act, found_text};
 ghost use Rattle.inspect.specs.TraceReports.{path_act, trace_report, waited_text};
 
-use crate::append::append_numbered;
 use crate::process_names::{Processes, append_process, processes_of};
 use ldv_value::{Bytes, Utf8, append_number};
+use reach::append_numbered;
 use run_model::{Act, Event, Package};
 use std::alloc::{AllocError, Global};
 

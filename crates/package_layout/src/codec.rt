@@ -1,6 +1,6 @@
 //! Encoding and decoding: the traits, and lists of items.
 
-ghost use Rattle.std.specs.Prelude.{◌≡◌, ◌++◌, ℕ, List, OnOk, IfOk};
+ghost use Rattle.std.specs.Prelude.{◌≡◌, ◌++◌, [], ℕ, List, OnOk, IfOk};
 ghost use Rattle.std.specs.List.{flat_map, AllByRecursion};
 ghost use Rattle.package_layout.specs.Fields.{DecodeResult, Decodes, items_at, list_at, list_spelling};
 ghost use Rattle.package_layout.specs.Widths.{of_count};
@@ -60,8 +60,8 @@ pub fn encode_list<X: Encode>(
     encode_items(items, to)
 }
 
-/// Reads a list with the number of its items before it. The list grows with the items that are read, so
-/// a false count can't make it allocate.
+/// Reads a list with the number of its items before it. Beyond a few items the list grows with those that are
+/// read, so a false count can't make it allocate.
 pub fn decode_list<X: Decode>(
     alloc: Global,
     width: Width,
@@ -73,6 +73,17 @@ pub fn decode_list<X: Decode>(
     decode_items(alloc, count as usize, cursor)
 }
 
+// A list that grows has room for so many items at first.
+const FEW: usize = 4;
+
+// The empty list, with room for just the items that are to come where they are few: most lists of a statement
+// have one.
+fn list_for<X: Drop>(alloc: Global, count: usize) -> Result<Listed<X>, AllocError>
+    ensures { IfOk result (λ items. items ≡ []) }
+{
+    Listed::with_capacity(alloc, count.min(FEW))
+}
+
 /// Decodes the given number of items.
 pub(crate) fn decode_items<X: Decode>(
     alloc: Global,
@@ -81,7 +92,7 @@ pub(crate) fn decode_items<X: Decode>(
 ) -> Result<Listed<X>, DecodeError>
     ensures { Decodes result cursor.new (items_at X.reading count cursor.old) }
 {
-    let mut items = Listed::new(alloc);
+    let mut items = list_for(alloc, count)?;
     for _turn in 0..count {
         let item = X::decode(alloc, cursor)?;
         items.push(item)?;

@@ -194,13 +194,22 @@ fn neighbours_differ<P>(groups: &Listed<Group<P>>) -> bool
     true
 }
 
+// How many rows groups have: their list gets just this room.
+fn count_parts<P>(groups: &[Group<P>]) -> usize {
+    let mut count = 0usize;
+    for group in groups {
+        count = count.saturating_add(group.parts.len());
+    }
+    count
+}
+
 fn ungroup_all<P: Copy + Drop, X: GroupedRow<P>>(
     alloc: Global,
     groups: &Listed<Group<P>>,
 ) -> Result<Listed<X>, AllocError>
     ensures { IfOk result (λ made. made ≡ flat_map (ungroup X.place) groups.now) }
 {
-    let mut found = Listed::new(alloc);
+    let mut found = Listed::with_capacity(alloc, count_parts(groups.items()))?;
     for group in groups.items() {
         ungroup(group, &mut found)?;
     }

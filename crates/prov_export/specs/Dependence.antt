@@ -1,28 +1,16 @@
 -- What the document of a graph says that a path depends on, in the lines of the report on a package. A
 -- document has no names of processes, so they are named by their creation numbers.
-use Rattle.std.specs.Prelude.{ℕ, List, ◌++◌, codes, Option, option_map}
+use Rattle.std.specs.Prelude.{ℕ, List, Option, option_map}
 use Rattle.std.specs.List.{flat_map}
 use Rattle.std.specs.Fmt.{decimal}
 use Rattle.ldv_value.specs.Limits.{max_steps}
-use Rattle.run_model.specs.OutcomeText.{line}
 use Rattle.trace_graph.specs.Graph.{Parts, place_of}
 use Rattle.reach.specs.Depends.{depends_of}
-use Rattle.prov_export.specs.Types.{Member, Node, Path, Process, Row, Ask, Reply}
-
--- `TABLE ROW VERSION`
-abbrev pub version_text : Member → List ℕ
-version_text member =
-    member.table ++ codes " " ++ decimal member.row ++ codes " " ++ decimal member.version
-
-abbrev pub node_line : Node → List ℕ
-node_line (Path path) = line (codes "path " ++ path)
-node_line (Process process) = line (codes "process " ++ decimal process)
-node_line (Row member) = line (codes "row " ++ version_text member)
-node_line (Ask statement) = line (codes "ask " ++ decimal statement)
-node_line (Reply statement) = line (codes "reply " ++ decimal statement)
+use Rattle.reach.specs.NodeLines.{node_line}
+use Rattle.prov_export.specs.Types.{Node}
 
 abbrev pub nodes_report : List Node → List ℕ
-nodes_report nodes = flat_map node_line nodes
+nodes_report nodes = flat_map (node_line decimal) nodes
 
 -- by the last step that any run may have
 abbrev pub depends_at : Parts → ℕ → List ℕ

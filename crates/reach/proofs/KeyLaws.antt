@@ -1,8 +1,10 @@
 -- Keys are in the order of the nodes that they name.
-use Rattle.std.proofs.Common.{◌≡◌, ◌∙◌, sym, refl, List, [], ◌∷◌, map}
+use Rattle.std.proofs.Common.{◌≡◌, ◌∙◌, sym, refl, List, [], ◌∷◌, map, Bor}
 use Rattle.std.specs.List.{AllByRecursion}
 use Rattle.std.specs.List.Sorted.{IsStrictlySortedBy}
+use Rattle.std.specs.declared.cmp.Ordering.{Ordering}
 use Rattle.std.specs.declared.cmp.Ordering.TheVariants.{Less}
+use Rattle.reach.specs.Lent.{lent_node}
 use Rattle.reach.specs.Order.{node_cmp}
 use Rattle.trace_graph.specs.Building.{node_of}
 use Rattle.trace_graph.specs.declared.key.NodeKey.{NodeKey}
@@ -37,12 +39,20 @@ key_ordered (keys.Reply a) (keys.Row b r v) = refl
 key_ordered (keys.Reply a) (keys.Ask b) = refl
 key_ordered (keys.Reply a) (keys.Reply b) = refl
 
--- sorted keys name sorted nodes
-above : (k : NodeKey) (ks : List NodeKey) → AllByRecursion (λ y. key_cmp k y ≡ Less) ks → AllByRecursion (λ y. node_cmp (node_of k) y ≡ Less) (map node_of ks)
-above k [] all = tt
-above k (x ∷ xs) all = (sym (key_ordered k x) ∙ all.0, above k xs all.1)
+-- of keys where they lie
+abbrev pub lent_cmp : Bor NodeKey → Bor NodeKey → Ordering
+lent_cmp a b = key_cmp a.now b.now
 
-pub keys_sorted : (ks : List NodeKey) → IsStrictlySortedBy key_cmp ks → IsStrictlySortedBy node_cmp (map node_of ks)
+pub lent_ordered : (a b : Bor NodeKey) → lent_cmp a b ≡ node_cmp (lent_node a) (lent_node b)
+lent_ordered a b = key_ordered a.now b.now
+
+-- sorted keys name sorted nodes
+above : (k : Bor NodeKey) (ks : List (Bor NodeKey)) → AllByRecursion (λ y. lent_cmp k y ≡ Less) ks
+    → AllByRecursion (λ y. node_cmp (lent_node k) y ≡ Less) (map lent_node ks)
+above k [] all = tt
+above k (x ∷ xs) all = (sym (lent_ordered k x) ∙ all.0, above k xs all.1)
+
+pub keys_sorted : (ks : List (Bor NodeKey)) → IsStrictlySortedBy lent_cmp ks → IsStrictlySortedBy node_cmp (map lent_node ks)
 unfolding IsStrictlySortedBy
 keys_sorted [] sorted = tt
 keys_sorted (k ∷ ks) sorted = (above k ks sorted.0, keys_sorted ks sorted.1)

@@ -1,7 +1,7 @@
 pub mod Members
 pub mod TimeLaws
 pub mod PathLaws
-pub mod IncomingLaws
+pub mod ChainLaws
 pub mod Standing
 pub mod WorkLaws
 pub mod TurnLaws

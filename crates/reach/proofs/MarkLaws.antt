@@ -1,13 +1,14 @@
 -- A place is marked exactly where an open edge comes from it.
 use Rattle.std.proofs.Common.{◌≡◌, ◌∙◌, sym, ap, subst, refl, inl, inr, ◌⊎◌, arith, ℕ, zero, suc, ◌+◌, ◌<◌, Bool, true, false}
-use Rattle.std.proofs.Common.{List, [], ◌∷◌, ◌++◌, length, get_or, set, map, Option, Some, None}
+use Rattle.std.proofs.Common.{List, [], ◌∷◌, ◌++◌, length, get_or, set, map, Option, Some, None, Bor}
 use Rattle.std.specs.Prelude.{Contains, fold, replicate, slice_get, option_to_list, if◌then◌else◌}
 use Rattle.std.proofs.lemmas.Bool.{false≢true, cases_eq}
 use Rattle.std.proofs.lemmas.List.Elements.{Contains-append_left, Contains-append_right, Contains-append_cases}
 use Rattle.std.proofs.lemmas.List.{append-nil, map-append, get_or-set_same, get_or-set_other, get_or_default, get_or-replicate, length-set, length-replicate}
-use Rattle.std.proofs.lemmas.Option.{slice_get_read}
+use Rattle.std.proofs.lemmas.Option.{same_Some, slice_get_read}
 use Rattle.reach.specs.Types.{Node, Edge}
 use Rattle.reach.specs.Found.{Times, is_open}
+use Rattle.reach.specs.Lent.{lent_node}
 use Rattle.reach.specs.inner.Marks.{Marks, with_mark, marks_of, is_marked, marked_at, marked_below}
 use Rattle.trace_graph.specs.Building.{node_of}
 use Rattle.trace_graph.specs.declared.key.NodeKey.{NodeKey}
@@ -112,16 +113,22 @@ mark_from_open count latest edges place within opened =
 
 -- ---- marked nodes
 
+-- the node of a key at a place
+node_at : (keys : List NodeKey) (place : ℕ) (k : NodeKey) → slice_get keys place ≡ Some k → slice_get (map node_of keys) place ≡ Some (node_of k)
+node_at [] place k is = cc
+node_at (x ∷ xs) zero k is = let same : x ≡ k = same_Some x k is in ap (λ (y : NodeKey). Some (node_of y)) same
+node_at (x ∷ xs) (suc place) k is = node_at xs place k is
+
 -- the key of a marked node is put at the end
-pub marked_put : (old new : List NodeKey) (k : NodeKey) (nodes : List Node) (marks : Marks) (place : ℕ) (node : Node)
-    → place < length nodes → node ≡ get_or nodes place node → node_of k ≡ node → is_marked marks place ≡ true → new ≡ old ++ k ∷ []
-    → map node_of new ≡ map node_of old ++ option_to_list (marked_at nodes marks place)
-marked_put old new k nodes marks place node within at named is put =
-    let there : marked_at nodes marks place ≡ Some node =
-    ap (λ (b : Bool). if b then slice_get nodes place else None) is ∙ slice_get_read nodes (length nodes) place node refl within at in
-    ap (map node_of) put ∙ map-append node_of old (k ∷ [])
-    ∙ ap (λ (n : Node). map node_of old ++ n ∷ []) named
-    ∙ sym (ap (λ (o : Option Node). map node_of old ++ option_to_list o) there)
+pub marked_put : (old new : List (Bor NodeKey)) (k : Bor NodeKey) (keys : List NodeKey) (marks : Marks) (place : ℕ)
+    → place < length keys → k.now ≡ get_or keys place k.now → is_marked marks place ≡ true → new ≡ old ++ k ∷ []
+    → map lent_node new ≡ map lent_node old ++ option_to_list (marked_at (map node_of keys) marks place)
+marked_put old new k keys marks place within at is put =
+    let there : marked_at (map node_of keys) marks place ≡ Some (node_of k.now) =
+    ap (λ (b : Bool). if b then slice_get (map node_of keys) place else None) is
+    ∙ node_at keys place k.now (slice_get_read keys (length keys) place k.now refl within at) in
+    ap (map lent_node) put ∙ map-append lent_node old (k ∷ [])
+    ∙ sym (ap (λ (o : Option Node). map lent_node old ++ option_to_list o) there)
 
 -- one that isn't marked adds nothing
 pub marked_none : (old : List Node) (nodes : List Node) (marks : Marks) (place : ℕ) → is_marked marks place ≡ false

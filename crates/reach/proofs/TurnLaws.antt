@@ -10,11 +10,9 @@ use Rattle.std.proofs.lemmas.List.{length-set, length-replicate, nil_from_length
 use Rattle.trace_graph.specs.Graph.{is_between, are_between}
 use Rattle.reach.specs.Types.{Edge}
 use Rattle.reach.specs.Found.{Times}
-use Rattle.reach.specs.inner.Incoming.{edges_to, incoming_of}
 use Rattle.reach.specs.Search.{Queue, is_current, times_after_visit, visited_queue, is_into, edges_into, ComeFrom, IsWithin, IsSearch, AreLatest, start_times, work_left}
 use Rattle.reach.proofs.TimeLaws.{no_time}
 use Rattle.reach.proofs.PathLaws.{in_limit}
-use Rattle.reach.proofs.IncomingLaws.{incoming_length, incoming_is}
 use Rattle.reach.proofs.Standing.{current_at, permuted, start_stands, visited_stands}
 use Rattle.reach.proofs.WorkLaws.{times_after_visit-length, visited_within, work_visited}
 
@@ -24,8 +22,7 @@ all_from count edges between =
     (λ e is. ltb-true e.source count (and_parts (nat_lt e.source count) (nat_lt e.target count) is).0)
     edges (AllPass-from_list_all (is_between count) edges between)
 
-module _ (count : ℕ) (edges : List Edge) (lists : List (List Edge)) (made : lists ≡ incoming_of count edges)
-    (between : IsTrue (are_between count edges)) (latest : Times) (queue left : Queue) (entry : ℕ × ℕ)
+module _ (count : ℕ) (edges : List Edge) (between : IsTrue (are_between count edges)) (latest : Times) (queue left : Queue) (entry : ℕ × ℕ)
     (out : IsPermutation queue (entry ∷ left)) (long : length latest ≡ count) (within : IsWithin count queue) where
   abbrev out_within : IsWithin count (entry ∷ left)
   out_within = All-permutation (λ (x : ℕ × ℕ). x.1 < count) queue (entry ∷ left) out within
@@ -36,30 +33,21 @@ module _ (count : ℕ) (edges : List Edge) (lists : List (List Edge)) (made : li
   pub turn_place : entry.1 < length latest
   turn_place = omega (arith, place_within, long)
 
-  pub turn_lists : length lists ≡ length latest
-  turn_lists = ap length made ∙ incoming_length count edges ∙ sym long
-
-  list_is : edges_to lists entry.1 ≡ edges_into edges entry.1
-  list_is = ap (λ (l : List (List Edge)). edges_to l entry.1) made ∙ incoming_is count edges entry.1 place_within
-
   into_from : ComeFrom count (edges_into edges entry.1)
   into_from = All-filter (is_into entry.1) (λ (e : Edge). e.source < count) edges (all_from count edges between)
 
-  pub turn_from : ComeFrom (length latest) (edges_to lists entry.1)
-  turn_from =
-      subst (λ (n : ℕ). ComeFrom n (edges_to lists entry.1)) (sym long)
-      (subst (λ (l : List Edge). ComeFrom count l) (sym list_is) into_from)
+  pub turn_from : ComeFrom (length latest) (edges_into edges entry.1)
+  turn_from = subst (λ (n : ℕ). ComeFrom n (edges_into edges entry.1)) (sym long) into_from
 
-  module _ (next : Times) (after : Queue) (next_is : next ≡ times_after_visit latest (edges_to lists entry.1) entry)
-      (after_is : IsPermutation (visited_queue latest (edges_to lists entry.1) entry left) after) where
+  module _ (next : Times) (after : Queue) (next_is : next ≡ times_after_visit latest (edges_into edges entry.1) entry)
+      (after_is : IsPermutation (visited_queue latest (edges_into edges entry.1) entry left) after) where
     pub turn_long : length next ≡ count
-    turn_long = ap length next_is ∙ times_after_visit-length latest (edges_to lists entry.1) entry ∙ long
+    turn_long = ap length next_is ∙ times_after_visit-length latest (edges_into edges entry.1) entry ∙ long
 
     pub turn_within : IsWithin count after
     turn_within =
-        All-permutation (λ (x : ℕ × ℕ). x.1 < count) (visited_queue latest (edges_to lists entry.1) entry left) after after_is
-        (visited_within count latest (edges_to lists entry.1) entry left
-        (subst (λ (l : List Edge). ComeFrom count l) (sym list_is) into_from)
+        All-permutation (λ (x : ℕ × ℕ). x.1 < count) (visited_queue latest (edges_into edges entry.1) entry left) after after_is
+        (visited_within count latest (edges_into edges entry.1) entry left into_from
         (All-tail (λ (x : ℕ × ℕ). x.1 < count) entry left out_within))
 
     before : (node limit : ℕ) → limit < 2 ^ 32 → IsSearch edges node limit latest queue [] 0 → is_current latest entry.0 entry.1 ≡ true → entry.0 < 2 ^ 32
@@ -71,11 +59,11 @@ module _ (count : ℕ) (edges : List Edge) (lists : List (List Edge)) (made : li
     pub turn_smaller : (node limit : ℕ) → limit < 2 ^ 32 → IsSearch edges node limit latest queue [] 0 → work_left next after < work_left latest queue
     turn_smaller node limit small stands =
         let in_time = λ (is : is_current latest entry.0 entry.1 ≡ true). before node limit small stands is in
-        let less = work_visited latest (edges_to lists entry.1) entry left turn_from in_time in
-        let same : length after ≡ length (visited_queue latest (edges_to lists entry.1) entry left) =
-        length_permutation (visited_queue latest (edges_to lists entry.1) entry left) after after_is in
+        let less = work_visited latest (edges_into edges entry.1) entry left turn_from in_time in
+        let same : length after ≡ length (visited_queue latest (edges_into edges entry.1) entry left) =
+        length_permutation (visited_queue latest (edges_into edges entry.1) entry left) after after_is in
         let all : length (entry ∷ left) ≡ length queue = length_permutation queue (entry ∷ left) out in
-        let now : work_left (times_after_visit latest (edges_to lists entry.1) entry) after ≤ work_left latest left = omega (arith, less, same) in
+        let now : work_left (times_after_visit latest (edges_into edges entry.1) entry) after ≤ work_left latest left = omega (arith, less, same) in
         let then : work_left next after ≤ work_left latest left =
         subst (λ (l : Times). work_left l after ≤ work_left latest left) (sym next_is) now in
         omega (arith, then, all)
@@ -84,11 +72,9 @@ module _ (count : ℕ) (edges : List Edge) (lists : List (List Edge)) (made : li
     turn_stands node limit stands =
         let sources = λ (e : Edge) (at : Contains edges e). subst (λ (n : ℕ). e.source < n) (sym long)
         (All-contains (λ (x : Edge). x.source < count) edges e (all_from count edges between) at) in
-        let gone : IsSearch edges node limit (times_after_visit latest (edges_to lists entry.1) entry) (visited_queue latest (edges_to lists entry.1) entry left) [] 0 =
-        subst (λ (l : List Edge). IsSearch edges node limit (times_after_visit latest l entry) (visited_queue latest l entry left) [] 0) (sym list_is)
-        (visited_stands edges node limit latest queue left entry out sources stands) in
         subst (λ (l : Times). IsSearch edges node limit l after [] 0) (sym next_is)
-        (permuted edges node limit (times_after_visit latest (edges_to lists entry.1) entry) (visited_queue latest (edges_to lists entry.1) entry left) after [] 0 after_is gone)
+        (permuted edges node limit (times_after_visit latest (edges_into edges entry.1) entry) (visited_queue latest (edges_into edges entry.1) entry left) after [] 0 after_is
+        (visited_stands edges node limit latest queue left entry out sources stands))
 
 -- ---- at first, and in the end
 

@@ -43,10 +43,10 @@ pub(crate) fn latest_times(
     ensures length { IfOk result (λ latest. length latest.items ≡ count) }
     ensures latest { IfOk result (λ latest. AreLatest edges.now node time latest.items) }
 {
-    let lists = incoming_edges(alloc, count, edges)?;
+    let incoming = incoming_edges(alloc, count, edges)?;
     let mut search = Search::start(alloc, count, node, time)?;
     while let Some((by, place)) = search.queue.pop() {
-        search.visit(&lists, by, place)?;
+        search.visit(alloc, edges, &incoming, by, place)?;
     }
     let Search { latest, queue: _ } = search;
     Ok(latest)

@@ -3,14 +3,15 @@
 ghost use Rattle.std.specs.Prelude.{◌≡◌, ◌<◌, length, IfOk, OnOk, ◌∷◌, []};
 ghost use Rattle.std.specs.List.Sorted.{IsPermutation};
 ghost use Rattle.std.specs.BinaryHeap.{heap_items};
-ghost use Rattle.reach.specs.inner.Incoming.{edges_to};
+ghost use Rattle.reach.specs.inner.Incoming.{AreChains};
 ghost use Rattle.reach.specs.Search.{is_later, times_with_source, queue_after_edge, times_with_sources, queue_after_edges};
-ghost use Rattle.reach.specs.Search.{is_current, times_after_visit, visited_queue, start_times, ComeFrom};
+ghost use Rattle.reach.specs.Search.{is_current, times_after_visit, visited_queue, start_times, edges_into, ComeFrom};
 
+use crate::incoming::Incoming;
 use crate::latest::{reaches, time_at};
 use std::alloc::{AllocError, Global};
 use std::collections::BinaryHeap;
-use trace_graph::{Edge, Edges};
+use trace_graph::Edge;
 
 // Whether an edge may be taken later than its source may be left so far, where its target may be left up to a
 // time.
@@ -96,23 +97,28 @@ impl Search {
     /// Looks at the edges to a place, unless its time has risen since it was queued.
     pub(crate) fn visit(
         &mut self,
-        lists: &[Edges],
+        alloc: Global,
+        edges: &[Edge],
+        incoming: &Incoming,
         time: u32,
         place: usize,
     ) -> Result<(), AllocError>
         requires place { place < length self.old.latest.items }
-        requires lists { length lists.now ≡ length self.old.latest.items }
-        requires sources { ComeFrom (length self.old.latest.items) (edges_to lists.now place) }
+        requires firsts { length incoming.now.firsts.items ≡ length self.old.latest.items }
+        requires nexts { length incoming.now.nexts.items ≡ length edges.now }
+        requires chains { AreChains edges.now incoming.now.nexts.items 0 incoming.now.firsts.items }
+        requires sources { ComeFrom (length self.old.latest.items) (edges_into edges.now place) }
         ensures latest { OnOk result (self.new.latest.items
-            ≡ times_after_visit self.old.latest.items (edges_to lists.now place) (time, place)) }
+            ≡ times_after_visit self.old.latest.items (edges_into edges.now place) (time, place)) }
         ensures queue { OnOk result (IsPermutation
-            (visited_queue self.old.latest.items (edges_to lists.now place) (time, place)
+            (visited_queue self.old.latest.items (edges_into edges.now place) (time, place)
             (heap_items self.old.queue))
             (heap_items self.new.queue)) }
     {
         if !is_current(&self.latest, time, place) {
             return Ok(());
         }
-        self.look_at_all(lists[place].items(), time)
+        let found = incoming.edges_to(alloc, edges, place)?;
+        self.look_at_all(found.as_slice(), time)
     }
 }

@@ -160,6 +160,22 @@ fn a_node_has_a_place_where_it_is_in_the_graph(rt: HostRuntime) -> Result<(), Fa
     Ok(())
 }
 
+// How many nodes the node at a place depends on by a time.
+fn count_sources(
+    alloc: Global,
+    graph: &Graph,
+    place: usize,
+    time: u32,
+) -> Result<usize, AllocError>
+    requires { place < length graph.now.nodes }
+{
+    let keys = graph.keys(alloc)?;
+    let nodes = keys.as_slice();
+    let edges = graph.edges().items();
+    let sources = depends(alloc, nodes, edges, place, time)?;
+    Ok(sources.len())
+}
+
 // How many nodes the path depends on by a time.
 fn sources(
     rt: &impl Abort,
@@ -169,7 +185,7 @@ fn sources(
     time: u32,
 ) -> Result<usize, AllocError> {
     match place_of(alloc, graph, path)? {
-        Some(place) => Ok(depends(alloc, graph, place, time)?.len()),
+        Some(place) => count_sources(alloc, graph, place, time),
         None => panic!(rt; "no {path}"),
     }
 }

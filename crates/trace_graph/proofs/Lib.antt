@@ -6,6 +6,7 @@ pub mod SpanLaws
 pub mod LinkLists
 pub mod EdgeLaws
 pub mod GraphLaw
+pub mod LentLaws
 pub mod TraceLaws
 pub mod GraphFacts
 pub mod VersionFacts

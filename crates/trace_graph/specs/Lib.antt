@@ -4,4 +4,5 @@ pub mod Graph
 pub mod GraphLaws
 pub mod VersionLaws
 pub mod Building
+pub mod Lent
 pub mod WellFormed

@@ -6,7 +6,7 @@ ghost use Rattle.run_model.specs.ValidTrace.{made_after};
 ghost use Rattle.trace_graph.specs.Building.{parts_of, no_parts, node_of, with_link, with_events, made_fits};
 ghost use Rattle.trace_graph.specs.Links.{link};
 
-use crate::key::{NodeKey, NodeKeys, number};
+use crate::key::{NodeKey, NodeKeys, number, place_number};
 use crate::span::{Spans, add_time};
 use run_model::{Act, Event};
 use std::alloc::{AllocError, Global};
@@ -43,7 +43,9 @@ impl<'a> Building<'a> {
     {
         let from = number(&mut self.keys, source)?;
         let to = number(&mut self.keys, target)?;
-        add_time(&mut self.spans, from, to, time)
+        let from_number = place_number(from)?;
+        let to_number = place_number(to)?;
+        add_time(&mut self.spans, from_number, to_number, time)
     }
 }
 

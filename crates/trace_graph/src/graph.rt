@@ -1,14 +1,14 @@
 //! Graphs.
 
-ghost use Rattle.std.specs.Prelude.{◌≡◌, ◌<◌, length, position, IsTrue, IfOk, IfSome};
+ghost use Rattle.std.specs.Prelude.{◌≡◌, ◌<◌, length, map, position, IsTrue, IfOk, IfSome};
 ghost use Rattle.run_model.specs.ValidTrace.{IsTrace};
-ghost use Rattle.trace_graph.specs.Building.{parts_of};
+ghost use Rattle.trace_graph.specs.Building.{node_of, parts_of};
 ghost use Rattle.trace_graph.specs.Graph.{same_node, graph_of, are_between};
 ghost use Rattle.trace_graph.specs.WellFormed.{IsWellFormed};
 
 use crate::building::{Building, build};
 use crate::edge::Edges;
-use crate::key::{is_same, nodes_of};
+use crate::key::{NodeKey, is_same, keys_of, nodes_of};
 use crate::node::{Node, Nodes};
 use crate::span::edges_of;
 use run_model::Events;
@@ -65,6 +65,14 @@ impl Graph {
         ensures between { IsTrue (are_between (length self.now.nodes) self.now.edges) }
     {
         &self.edges
+    }
+
+    /// The nodes as keys, in their order. `AllocError` means out of memory only.
+    pub fn keys(&self, alloc: Global) -> Result<Vec<NodeKey<'_>>, AllocError>
+        ensures { IfOk result (λ keys. map node_of keys.items ≡ self.now.nodes) }
+    {
+        let keys = keys_of(alloc, self.nodes.items())?;
+        Ok(keys)
     }
 
     /// The place of a node in the list of nodes, from 0. It looks at each node.

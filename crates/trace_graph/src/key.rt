@@ -1,8 +1,9 @@
 //! Nodes as the keys of a set or a map, without a copy of their texts.
 
-ghost use Rattle.std.specs.Prelude.{◌≡◌, ◌++◌, [], map, IfOk, OnOk};
+ghost use Rattle.std.specs.Prelude.{◌≡◌, ◌<◌, ◌++◌, [], length, map, position, IfOk, IfSome, OnOk};
 ghost use Rattle.trace_graph.specs.Building.{node_of, with_node};
 ghost use Rattle.trace_graph.specs.Graph.{same_node, place_in};
+ghost use Rattle.trace_graph.specs.Lent.{names_path};
 ghost use Rattle.trace_graph.specs.Links.{at_version};
 ghost use Rattle.trace_graph.specs.Types.{Row};
 
@@ -46,7 +47,7 @@ pub(crate) fn row_key(member: &Member) -> NodeKey<'_>
 }
 
 /// The key of a node.
-pub fn key_of(node: &Node) -> NodeKey<'_>
+pub(crate) fn key_of(node: &Node) -> NodeKey<'_>
     ensures { node_of result ≡ node.now }
 {
     match node {
@@ -76,6 +77,66 @@ pub(crate) fn number<'a>(keys: &mut NodeKeys<'a>, key: NodeKey<'a>) -> Result<us
     Ok(place)
 }
 
+/// The keys of nodes, in their order.
+pub(crate) fn keys_of<'a>(
+    alloc: Global,
+    nodes: &'a [Node],
+) -> Result<Vec<NodeKey<'a>>, AllocError>
+    ensures { IfOk result (λ keys. map node_of keys.items ≡ nodes.now) }
+{
+    let mut keys = Vec::with_capacity(alloc, nodes.len())?;
+    for node in nodes {
+        keys.push(key_of(node))?;
+    }
+    Ok(keys)
+}
+
+/// A copy of keys, whose texts stay where they are.
+pub(crate) fn copy_keys<'a>(
+    alloc: Global,
+    keys: &[NodeKey<'a>],
+) -> Result<Vec<NodeKey<'a>>, AllocError>
+    ensures { IfOk result (λ copied. copied.items ≡ keys.now) }
+{
+    let mut copied = Vec::with_capacity(alloc, keys.len())?;
+    for key in keys {
+        copied.push(*key)?;
+    }
+    Ok(copied)
+}
+
+// Whether a key is that of a path.
+fn names_path(key: &NodeKey<'_>, path: &str) -> bool
+    ensures { result ≡ names_path path.now key.now }
+{
+    match key {
+        NodeKey::Path(other) => path == *other,
+        NodeKey::Process(_process) => false,
+        NodeKey::Row(_table, _row, _version) => false,
+        NodeKey::Ask(_statement) => false,
+        NodeKey::Reply(_statement) => false,
+    }
+}
+
+/// The place of the first key that is that of a path.
+pub(crate) fn path_place(keys: &[NodeKey<'_>], path: &str) -> Option<usize>
+    ensures place { result ≡ position (names_path path.now) keys.now }
+    ensures within { IfSome result (λ place. place < length keys.now) }
+{
+    keys.iter().position(|key| names_path(key, path))
+}
+
+/// A place in four bytes. A table of nodes is refused memory before it has as many.
+pub(crate) fn place_number(place: usize) -> Result<u32, AllocError>
+    ensures { IfOk result (λ number. number ≡ place) }
+{
+    if place <= 4_294_967_295 {
+        Ok(place as u32)
+    } else {
+        Err(AllocError)
+    }
+}
+
 // The node of a key, with texts of its own.
 fn node_at(alloc: Global, key: &NodeKey<'_>) -> Result<Node, AllocError>
     ensures { IfOk result (λ node. node ≡ node_of key.now) }
@@ -94,7 +155,7 @@ fn node_at(alloc: Global, key: &NodeKey<'_>) -> Result<Node, AllocError>
 }
 
 /// The nodes of keys, in their order, with texts of their own.
-pub fn nodes_of(alloc: Global, keys: &[NodeKey<'_>]) -> Result<Nodes, AllocError>
+pub(crate) fn nodes_of(alloc: Global, keys: &[NodeKey<'_>]) -> Result<Nodes, AllocError>
     ensures { IfOk result (λ nodes. nodes ≡ map node_of keys.now) }
 {
     let mut nodes = Nodes::with_capacity(alloc, keys.len())?;

@@ -9,6 +9,7 @@ mod edge;
 mod graph;
 mod key;
 mod law;
+mod lent;
 mod linking;
 mod node;
 mod span;
@@ -16,7 +17,8 @@ mod well_formed;
 
 pub use edge::{Edge, Edges};
 pub use graph::Graph;
-pub use key::{NodeKey, key_of, nodes_of};
+pub use key::NodeKey;
 pub use law::{graph_law, well_formed_law};
+pub use lent::LentGraph;
 pub use node::{Node, Nodes};
 pub use well_formed::is_well_formed;

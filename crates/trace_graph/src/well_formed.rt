@@ -3,12 +3,11 @@
 ghost use Rattle.std.specs.Prelude.{◌≡◌, length, map, IfOk, not};
 ghost use Rattle.std.specs.List.{list_all};
 ghost use Rattle.sql_model.specs.Keys.{repeats};
-ghost use Rattle.trace_graph.specs.Building.{node_of};
 ghost use Rattle.trace_graph.specs.Graph.{same_node, is_between, are_between};
 ghost use Rattle.trace_graph.specs.WellFormed.{node_rule, places_of, same_places, times_rule, is_well_formed};
 
 use crate::edge::Edge;
-use crate::key::{NodeKey, key_of};
+use crate::key::keys_of;
 use crate::node::Node;
 use ldv_value::{MAX_STEPS, is_path};
 use sql_model::{has_twice, is_sql_name};
@@ -33,21 +32,11 @@ fn nodes_rule(nodes: &[Node]) -> bool
     nodes.iter().all(|node| node_rule(node))
 }
 
-fn all_keys<'a>(alloc: Global, nodes: &'a [Node]) -> Result<Vec<NodeKey<'a>>, AllocError>
-    ensures { IfOk result (λ keys. map node_of keys.items ≡ nodes.now) }
-{
-    let mut keys = Vec::with_capacity(alloc, nodes.len())?;
-    for node in nodes {
-        keys.push(key_of(node))?;
-    }
-    Ok(keys)
-}
-
 // Whether no two nodes are the same.
 fn nodes_differ(alloc: Global, nodes: &[Node]) -> Result<bool, AllocError>
     ensures { IfOk result (λ differ. differ ≡ not (repeats same_node nodes.now)) }
 {
-    let keys = all_keys(alloc, nodes)?;
+    let keys = keys_of(alloc, nodes)?;
     let twice = has_twice(alloc, keys)?;
     Ok(!twice)
 }

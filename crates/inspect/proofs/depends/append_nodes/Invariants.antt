@@ -1,7 +1,12 @@
-use Rattle.std.proofs.Common.{◌≡◌, ◌++◌, take}
+-- The text so far, with the lines of the nodes that are left, is the whole text.
+use Rattle.std.proofs.Common.{◌≡◌, ◌++◌, drop, map}
 use Rattle.std.specs.List.{flat_map}
-use Rattle.inspect.specs.DependsReports.{node_line}
+use Rattle.reach.specs.Lent.{lent_node}
+use Rattle.reach.specs.NodeLines.{node_line}
+use Rattle.inspect.specs.ProcessNames.{name_in}
 use Rattle.inspect.proofs.depends.append_nodes.Given as goal
 
 abbrev pub invariant-loop-node : goal.invariant-loop-node
-invariant-loop-node l = l.to ≡ l.fn.to ++ flat_map (node_line l.processes) (take l.node-index l.nodes)
+invariant-loop-node l =
+    l.to ++ flat_map (node_line (name_in l.processes)) (map lent_node (drop l.node-index l.nodes))
+    ≡ l.fn.to ++ flat_map (node_line (name_in l.processes)) (map lent_node l.nodes)

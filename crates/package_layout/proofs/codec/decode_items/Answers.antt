@@ -4,7 +4,7 @@ use Rattle.package_layout.proofs.Lists.{begins, with_front-next, ends, is_done}
 use Rattle.package_layout.proofs.codec.decode_items.Goals as goal
 
 pub loop-turn-init : goal.loop-turn-init
-loop-turn-init g c = rw c.new-items.ensures (begins g.X.Decode.reading c.args.count c.args.cursor.now)
+loop-turn-init g c = rw c.in_ok-items.ensures (begins g.X.Decode.reading c.args.count c.args.cursor.now)
 
 pub returns-in_err-item : goal.returns-in_err-item
 returns-in_err-item g c =

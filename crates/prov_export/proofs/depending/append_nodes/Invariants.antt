@@ -1,7 +1,12 @@
-use Rattle.std.proofs.Common.{◌≡◌, ◌++◌, take}
+-- The text so far, with the lines of the nodes that are left, is the whole text.
+use Rattle.std.proofs.Common.{◌≡◌, ◌++◌, drop, map}
+use Rattle.std.specs.Fmt.{decimal}
 use Rattle.std.specs.List.{flat_map}
-use Rattle.prov_export.specs.Dependence.{node_line}
+use Rattle.reach.specs.Lent.{lent_node}
+use Rattle.reach.specs.NodeLines.{node_line}
 use Rattle.prov_export.proofs.depending.append_nodes.Given as goal
 
 abbrev pub invariant-loop-node : goal.invariant-loop-node
-invariant-loop-node l = l.to ≡ l.fn.to ++ flat_map node_line (take l.node-index l.nodes)
+invariant-loop-node l =
+    l.to ++ flat_map (node_line decimal) (map lent_node (drop l.node-index l.nodes))
+    ≡ l.fn.to ++ flat_map (node_line decimal) (map lent_node l.nodes)

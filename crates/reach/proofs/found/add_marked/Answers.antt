@@ -6,5 +6,5 @@ use Rattle.reach.proofs.found.add_marked.Goals as goal
 pub returns : goal.returns
 returns c =
     let is : is_marked c.args.marks.now c.args.place ≡ true = search rules in
-    marked_put c.args.keys.now.items c.push.new.self.items c.key_of.result c.args.nodes.now c.args.marks.now c.args.place _
-    c.requires.nodes c.index-nodes-place.is c.key_of.ensures is c.in_ok-push.ensures.items
+    marked_put c.args.keys.now.items c.push.new.self.items c.key_at-key.result c.args.nodes.now c.args.marks.now c.args.place
+    c.requires.nodes c.key_at-key.ensures is c.in_ok-push.ensures.items

@@ -1,11 +1,15 @@
--- The lists so far, with the edges that are left, are those of all edges.
-use Rattle.std.proofs.Common.{◌≡◌, drop, length}
-use Rattle.std.specs.Prelude.{fold}
-use Rattle.reach.specs.inner.Incoming.{with_edge, incoming_of}
+-- The edges that were looked at, which are those from a place on, are chained.
+use Rattle.std.proofs.Common.{◌≡◌, ◌≤◌, length}
+use Rattle.reach.specs.inner.Incoming.{AreChains}
 use Rattle.reach.proofs.incoming.incoming_edges.Given as goal
 
-abbrev pub invariant-loop-edge : goal.invariant-loop-edge
-invariant-loop-edge l = record {
-  long : length l.lists.items ≡ l.count;
-  same : fold with_edge l.lists.items (drop l.edge-index l.edges) ≡ incoming_of l.count l.edges;
+abbrev pub invariant-loop-at : goal.invariant-loop-at
+invariant-loop-at l = record {
+  within : l.at ≤ length l.edges;
+  firsts : length l.firsts.items ≡ l.count;
+  nexts : length l.nexts.items ≡ length l.edges;
+  chains : AreChains l.edges l.nexts.items l.at l.firsts.items;
 }
+
+abbrev pub decreases-loop-at : goal.decreases-loop-at
+decreases-loop-at l = l.at

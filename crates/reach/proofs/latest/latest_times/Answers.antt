@@ -1,10 +1,9 @@
-use Rattle.std.proofs.Common.{◌≡◌, ◌∙◌, ℕ, List}
+use Rattle.std.proofs.Common.{◌∙◌, sym, ℕ, List}
 use Rattle.std.specs.BinaryHeap.{heap_items}
 use Rattle.reach.specs.Types.{Edge}
 use Rattle.reach.specs.Found.{Times}
 use Rattle.reach.specs.Search.{Queue}
-use Rattle.reach.specs.inner.Incoming.{incoming_of}
-use Rattle.reach.proofs.TurnLaws.{turn_lists, turn_from, turn_long, turn_within, turn_smaller, turn_stands, begin_long, begin_within, begin_stands}
+use Rattle.reach.proofs.TurnLaws.{turn_from, turn_long, turn_within, turn_smaller, turn_stands, begin_long, begin_within, begin_stands}
 use Rattle.reach.proofs.latest.latest_times.Goals as goal
 
 pub loop-by-init : goal.loop-by-init
@@ -20,28 +19,19 @@ loop-by-init c =
       stands = begin_stands edges c.args.node c.args.time c.args.count latest queue c.requires.node made queued;
     }
 
-pub visit-requires-clause-lists : goal.visit-requires-clause-lists
-visit-requires-clause-lists c =
-    let entry : ℕ × ℕ = (c.in-Some.by, c.in-Some.place) in
-    let lists : List (List Edge) = c.deref.result.now in
-    let made : lists ≡ incoming_of c.args.count c.args.edges.now = c.deref.ensures.value ∙ c.in_ok-lists.ensures in
-    turn_lists c.args.count c.args.edges.now lists made c.requires.between c.loop-by.search.latest.items (heap_items c.loop-by.search.queue)
-    (heap_items c.pop.new.self) entry c.in-Some.ensures.permutation c.loop-by.invariant.long c.loop-by.invariant.within
+pub visit-requires-clause-firsts : goal.visit-requires-clause-firsts
+visit-requires-clause-firsts c = c.in_ok-incoming.ensures.firsts ∙ sym c.loop-by.invariant.long
 
 pub visit-requires-clause-sources : goal.visit-requires-clause-sources
 visit-requires-clause-sources c =
     let entry : ℕ × ℕ = (c.in-Some.by, c.in-Some.place) in
-    let lists : List (List Edge) = c.deref.result.now in
-    let made : lists ≡ incoming_of c.args.count c.args.edges.now = c.deref.ensures.value ∙ c.in_ok-lists.ensures in
-    turn_from c.args.count c.args.edges.now lists made c.requires.between c.loop-by.search.latest.items (heap_items c.loop-by.search.queue)
+    turn_from c.args.count c.args.edges.now c.requires.between c.loop-by.search.latest.items (heap_items c.loop-by.search.queue)
     (heap_items c.pop.new.self) entry c.in-Some.ensures.permutation c.loop-by.invariant.long c.loop-by.invariant.within
 
 pub loop-by-smaller : goal.loop-by-smaller
 loop-by-smaller c =
     let entry : ℕ × ℕ = (c.in-Some.by, c.in-Some.place) in
-    let lists : List (List Edge) = c.deref.result.now in
-    let made : lists ≡ incoming_of c.args.count c.args.edges.now = c.deref.ensures.value ∙ c.in_ok-lists.ensures in
-    turn_smaller c.args.count c.args.edges.now lists made c.requires.between c.loop-by.search.latest.items (heap_items c.loop-by.search.queue)
+    turn_smaller c.args.count c.args.edges.now c.requires.between c.loop-by.search.latest.items (heap_items c.loop-by.search.queue)
     (heap_items c.pop.new.self) entry c.in-Some.ensures.permutation c.loop-by.invariant.long c.loop-by.invariant.within
     c.visit.new.self.latest.items (heap_items c.visit.new.self.queue) c.in_ok-visit.ensures.latest c.in_ok-visit.ensures.queue
     c.args.node c.args.time c.ranges.time.fits c.loop-by.invariant.stands
@@ -50,8 +40,6 @@ pub loop-by-preserved : goal.loop-by-preserved
 loop-by-preserved c =
     let edges : List Edge = c.args.edges.now in
     let entry : ℕ × ℕ = (c.in-Some.by, c.in-Some.place) in
-    let lists : List (List Edge) = c.deref.result.now in
-    let made : lists ≡ incoming_of c.args.count edges = c.deref.ensures.value ∙ c.in_ok-lists.ensures in
     let before : Times = c.loop-by.search.latest.items in
     let queue : Queue = heap_items c.loop-by.search.queue in
     let left : Queue = heap_items c.pop.new.self in
@@ -61,10 +49,10 @@ loop-by-preserved c =
     let next_is = c.in_ok-visit.ensures.latest in
     let after_is = c.in_ok-visit.ensures.queue in
     record {
-      long = turn_long c.args.count edges lists made c.requires.between before queue left entry out c.loop-by.invariant.long c.loop-by.invariant.within
+      long = turn_long c.args.count edges c.requires.between before queue left entry out c.loop-by.invariant.long c.loop-by.invariant.within
           next after next_is after_is;
-      within = turn_within c.args.count edges lists made c.requires.between before queue left entry out c.loop-by.invariant.long c.loop-by.invariant.within
+      within = turn_within c.args.count edges c.requires.between before queue left entry out c.loop-by.invariant.long c.loop-by.invariant.within
           next after next_is after_is;
-      stands = turn_stands c.args.count edges lists made c.requires.between before queue left entry out c.loop-by.invariant.long c.loop-by.invariant.within
+      stands = turn_stands c.args.count edges c.requires.between before queue left entry out c.loop-by.invariant.long c.loop-by.invariant.within
           next after next_is after_is c.args.node c.args.time c.loop-by.invariant.stands;
     }

@@ -1,20 +1,32 @@
-use Rattle.std.proofs.Common.{◌≡◌, ◌∙◌, subst, List}
-use Rattle.std.specs.Prelude.{IfOk}
-use Rattle.trace_graph.specs.Graph.{Parts}
-use Rattle.reach.specs.Types.{Node}
-use Rattle.reach.specs.Reach.{AreSources}
-use Rattle.reach.specs.Depends.{depends_of}
-use Rattle.reach.proofs.FoundLaws.{in_graph}
+use Rattle.std.proofs.Common.{◌≡◌, ◌∙◌, ◌<◌, sym, ap, subst, map, length, ℕ, List, IsTrue}
+use Rattle.std.proofs.lemmas.List.{length-map}
+use Rattle.trace_graph.specs.Building.{node_of}
+use Rattle.trace_graph.specs.Graph.{Parts, are_between}
+use Rattle.reach.specs.Types.{Edge}
+use Rattle.reach.specs.Found.{open_sources}
+use Rattle.reach.specs.Depends.{latest_of}
+use Rattle.reach.specs.Lent.{lent_node}
+use Rattle.reach.proofs.FoundLaws.{are_sources}
+use Rattle.reach.proofs.PassLaws.{latest_are}
+use Rattle.reach.proofs.SameLaws.{same_sources}
 use Rattle.reach.proofs.sources.depends.Goals as goal
 
 pub returns-clause-nodes : goal.returns-clause-nodes
 returns-clause-nodes c =
-    let is = in_graph c.args.graph.now c.items-nodes.result.now c.items-edges.result.now
-    (c.items-nodes.ensures ∙ c.nodes.ensures) (c.items-edges.ensures ∙ c.edges.ensures.edges) in
-    subst (λ (g : Parts). IfOk c.sources.result (λ (found : List Node). found ≡ depends_of g c.args.node c.args.time)) is c.sources.ensures.nodes
+    let edges : List Edge = c.args.edges.now in
+    let graph : Parts = record { nodes = map node_of c.args.nodes.now; edges = edges } in
+    let count : length (map node_of c.args.nodes.now) ≡ length c.args.nodes.now = length-map c.args.nodes.now node_of in
+    let between : IsTrue (are_between (length (map node_of c.args.nodes.now)) edges) =
+    subst (λ (n : ℕ). IsTrue (are_between n edges)) (sym count) c.requires.between in
+    let within : c.args.node < length (map node_of c.args.nodes.now) =
+    subst (λ (n : ℕ). c.args.node < n) (sym count) c.requires.node in
+    c.in_ok-found.ensures.keys ∙ ap (open_sources graph) c.deref.ensures.value
+    ∙ same_sources graph c.args.node c.args.time c.in_ok-latest.latest.items (latest_of graph c.args.node c.args.time)
+    c.in_ok-latest.ensures.latest (latest_are graph c.args.node c.args.time between within)
 
 pub returns-clause-sources : goal.returns-clause-sources
 returns-clause-sources c =
-    let is = in_graph c.args.graph.now c.items-nodes.result.now c.items-edges.result.now
-    (c.items-nodes.ensures ∙ c.nodes.ensures) (c.items-edges.ensures ∙ c.edges.ensures.edges) in
-    subst (λ (g : Parts). IfOk c.sources.result (λ (found : List Node). AreSources g c.args.node c.args.time found)) is c.sources.ensures.sources
+    let graph : Parts = record { nodes = map node_of c.args.nodes.now; edges = c.args.edges.now } in
+    are_sources graph c.args.node c.args.time c.in_ok-latest.latest.items c.in_ok-latest.ensures.latest
+    (map lent_node c.in_ok-found.found.items) (c.in_ok-found.ensures.keys ∙ ap (open_sources graph) c.deref.ensures.value)
+    c.in_ok-found.ensures.sorted

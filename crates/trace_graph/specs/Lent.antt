@@ -1,0 +1,15 @@
+-- Graphs whose nodes are keys, with texts where they came from.
+use Rattle.std.specs.Prelude.{ℕ, List, map, Bool}
+use Rattle.trace_graph.specs.Types.{Path}
+use Rattle.trace_graph.specs.declared.key.NodeKey.{NodeKey}
+use Rattle.trace_graph.specs.declared.lent.LentGraph.{LentGraph}
+use Rattle.trace_graph.specs.Building.{node_of}
+use Rattle.trace_graph.specs.Graph.{Parts, same_node}
+
+-- the nodes and edges of what lies in memory
+abbrev pub lent_parts : LentGraph → Parts
+lent_parts graph = record { nodes = map node_of graph.nodes.items; edges = graph.edges.items }
+
+-- a key is that of a path
+abbrev pub names_path : List ℕ → NodeKey → Bool
+names_path path key = same_node (Path path) (node_of key)
