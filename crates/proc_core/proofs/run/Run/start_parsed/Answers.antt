@@ -1,11 +1,11 @@
 use Rattle.std.proofs.Common.{◌∙◌, sym}
 use Rattle.proc_core.proofs.Begun.{begins, parted}
-use Rattle.proc_core.proofs.Starts.{first_there}
-use Rattle.proc_core.proofs.run.Run.start.Goals as goal
+use Rattle.proc_core.proofs.Starts.{first_parsed}
+use Rattle.proc_core.proofs.run.Run.start_parsed.Goals as goal
 
 pub machine_at-requires : goal.machine_at-requires
 machine_at-requires g c =
-    first_there _ _ c.args.start.now c.args.tree
+    first_parsed _ _ c.args.start.now c.args.tree c.args.script.now.instructions
     (sym c.items.ensures ∙ parted c.items.result.now c.path-item.result c.in-len1-up.len_at_least c.path-item.is)
     c.requires.script
 
