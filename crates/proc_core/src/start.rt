@@ -143,6 +143,8 @@ pub(crate) fn machine_at(
     processes.push(process)?;
     let mut parents = Numbers::new(alloc);
     parents.push(0)?;
+    let mut runners = BTreeMap::new(alloc);
+    runners.insert(path.copy()?.into_string(), 0)?;
     Ok(Machine {
         alloc,
         codes,
@@ -154,6 +156,6 @@ pub(crate) fn machine_at(
         asked: 0,
         ready,
         parents,
-        runners: BTreeMap::new(alloc),
+        runners,
     })
 }
