@@ -23,4 +23,4 @@ mod world;
 
 pub use fault::{WorldFault, WorldStop};
 pub use generator::generate;
-pub use world::world_of;
+pub use world::{parsed_world_of, world_of};
