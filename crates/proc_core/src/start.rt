@@ -1,7 +1,7 @@
 //! The state in which a run begins.
 
 ghost use Rattle.std.specs.Prelude.{◌≡◌, ◌<◌, ◌∷◌, Some, List as Items, [], length, map, true, IfOk, IsSome};
-ghost use Rattle.std.specs.Option.{option_and_then, option_map};
+ghost use Rattle.std.specs.Option.{option_and_then};
 ghost use Rattle.ldv_value.specs.FileState.{content_at, initial_files};
 ghost use Rattle.script_parse.specs.Script.{script_of};
 ghost use Rattle.proc_core.specs.Types.{Instr, File, Text};
@@ -19,31 +19,9 @@ use file_tree::Tree;
 use ldv_value::{Numbers, Parts, Utf8, Value, Values, Words};
 use ready_set::ReadySet;
 use script_code::{Code, code_of};
-use script_parse::{Script, ScriptStop, parse_script};
+use script_parse::{Script, known_script};
 use std::alloc::{AllocError, Global};
 use std::collections::BTreeMap;
-
-// The script that bytes are, or `None` where they are none.
-fn read_script(alloc: Global, bytes: &[u8]) -> Result<Option<Script>, AllocError>
-    ensures { IfOk result (λ found. script_of bytes.now ≡ option_map (λ script. script.instructions) found) }
-{
-    match parse_script(alloc, bytes) {
-        Ok(script) => Ok(Some(script)),
-        Err(ScriptStop::Line(_)) => Ok(None),
-        Err(ScriptStop::NoMemory) => Err(AllocError),
-    }
-}
-
-// The script that bytes are.
-fn script_in(alloc: Global, bytes: &[u8]) -> Result<Script, AllocError>
-    requires { IsSome (script_of bytes.now) }
-    ensures { IfOk result (λ script. script_of bytes.now ≡ Some script.instructions) }
-{
-    match read_script(alloc, bytes)? {
-        None => unreachable!(),
-        Some(script) => Ok(script),
-    }
-}
 
 // The script of a file.
 fn script_at(alloc: Global, tree: &Tree, path: &Utf8) -> Result<Script, AllocError>
@@ -53,7 +31,7 @@ fn script_at(alloc: Global, tree: &Tree, path: &Utf8) -> Result<Script, AllocErr
 {
     match tree.state(path.as_str()) {
         None => unreachable!(),
-        Some(bytes) => script_in(alloc, bytes),
+        Some(bytes) => known_script(alloc, bytes),
     }
 }
 

@@ -8,6 +8,6 @@ use Rattle.proc_core.proofs.start.script_at.Goals as goal
 pub returns : goal.returns
 returns c =
     let at = c.in-Some.ensures.content ∙ ap (content_at c.args.tree.now) c.as_str.ensures in
-    IfOk-weaker c.script_in.result _ _
+    IfOk-weaker c.known_script.result _ _
     (λ (script : Script) is. script_there c.in-Some.bytes.now (content_at c.args.tree.now c.args.path.now) script.instructions at is)
-    c.script_in.ensures
+    c.known_script.ensures
