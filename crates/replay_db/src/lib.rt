@@ -14,15 +14,16 @@ mod replay;
 mod run;
 mod setting;
 mod soundness;
+mod start;
 mod table;
 mod trace;
 
 pub use error::EndStop;
 pub use law::{audit_law, initial_rows_law, members_law, package_law};
 pub use own::own_world;
-pub use record::record_world;
+pub use record::{record_parsed, record_world};
 pub use recorder::Recorder;
 pub use replay::replay_included;
-pub use run::{run_owned, run_world};
+pub use run::{run_owned, run_parsed, run_world};
 pub use soundness::{AuditStop, Verdict, audit};
 pub use table::{TableStop, table_at};

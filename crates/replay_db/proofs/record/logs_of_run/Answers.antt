@@ -1,10 +1,14 @@
-use Rattle.std.proofs.Common.{subst}
+use Rattle.std.proofs.Common.{ap, ◌∙◌, subst}
+use Rattle.run_model.specs.Start.{start_script}
 use Rattle.replay_db.specs.inner.Logging.{IsLogged}
 use Rattle.replay_db.specs.inner.Recording.{HasNotEnded}
 use Rattle.replay_db.specs.Types.{Excluded, World}
 use Rattle.replay_db.proofs.LoggedRuns.{package_logged}
 use Rattle.replay_db.proofs.RecordedRuns.{package_stops}
 use Rattle.replay_db.proofs.record.logs_of_run.Goals as goal
+
+pub log_world-requires-clause-parsed : goal.log_world-requires-clause-parsed
+log_world-requires-clause-parsed c = ap start_script c.in_ok-copy.ensures ∙ c.requires.parsed
 
 pub returns-in_ok-pack_logs-in-Ok : goal.returns-in_ok-pack_logs-in-Ok
 returns-in_ok-pack_logs-in-Ok c =

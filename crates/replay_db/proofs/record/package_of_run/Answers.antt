@@ -1,10 +1,14 @@
 use Rattle.std.proofs.Common.{◌≡◌, ap, ◌∙◌, subst}
+use Rattle.run_model.specs.Start.{start_script}
 use Rattle.run_model.specs.WorldRun.{events_within}
 use Rattle.replay_db.specs.inner.Recording.{HasNotEnded, IsTraced}
 use Rattle.replay_db.specs.Types.{Included, World}
 use Rattle.replay_db.proofs.RecordedRuns.{package_packed, package_stops}
 use Rattle.replay_db.proofs.RunTraces.{recorded_trace, recorded_rows}
 use Rattle.replay_db.proofs.record.package_of_run.Goals as goal
+
+pub trace_world-requires-clause-parsed : goal.trace_world-requires-clause-parsed
+trace_world-requires-clause-parsed c = ap start_script c.in_ok-copy.ensures ∙ c.requires.parsed
 
 pub pack-requires-clause-trace : goal.pack-requires-clause-trace
 pack-requires-clause-trace c =
