@@ -15,7 +15,7 @@ ghost use Rattle.sql_model.specs.Scope.{table_at};
 ghost use Rattle.replay_db.specs.Runs.{CanRun};
 ghost use Rattle.replay_db.specs.TableAt.{IsDueStop, has_table, table_verdict, table_at_of, table_of_run};
 
-use crate::own::own_world;
+use crate::own::{own_world, own_world_of};
 use crate::run::begin;
 use crate::start::parse_start;
 use ldv_value::{CopyItem, Utf8};
@@ -161,7 +161,7 @@ fn table_of_run(
     table_verdict(&gone, step, table)
 }
 
-// The same, where the script of the world wasn't parsed.
+// A table of a world that has it, after a step of its run, where its script wasn't parsed.
 fn table_of_world(
     alloc: Global,
     world: World,
@@ -195,6 +195,23 @@ fn table_included(
     table_of_world(alloc, world, name, step, budget)
 }
 
+// A table of an included package, of which no file and no row is copied.
+fn table_included_owned(
+    alloc: Global,
+    package: Package,
+    name: &str,
+    step: u32,
+    budget: u32,
+) -> Result<Table, TableStop>
+    requires can_run { CanRun (own_world «package») }
+    requires bounded { budget ≤ max_steps }
+    requires there { has_table name.now «package» ≡ true }
+    ensures { GivesOr IsDueStop result (table_of_run budget step name.now (own_world «package»)) }
+{
+    let world = own_world_of(alloc, package)?;
+    table_of_world(alloc, world, name, step, budget)
+}
+
 /// The table of a name, with its rows and the number of its next row, after a step of the run of an included
 /// package's own world within a budget of at most 10,000,000 steps; step 0 is the start. The recorded trace
 /// and the recorded number of steps aren't looked at.
@@ -219,6 +236,31 @@ pub fn table_at(
         Mode::Included => {
             if has_table(package, name) {
                 table_included(alloc, package, name, step, budget)
+            } else {
+                Err(TableStop::NoTable)
+            }
+        }
+    }
+}
+
+/// The table of a name after a step of the run of an included package's own world, as of `table_at`. The run
+/// takes over the package's files and rows, and copies none of them.
+pub fn table_at_owned(
+    alloc: Global,
+    package: Package,
+    name: &str,
+    step: u32,
+    budget: u32,
+) -> Result<Table, TableStop>
+    requires can_run { CanRun (own_world «package») }
+    requires bounded { budget ≤ max_steps }
+    ensures { GivesOr IsDueStop result (table_at_of budget step name.now «package») }
+{
+    match package.mode {
+        Mode::Excluded => Err(TableStop::NoTable),
+        Mode::Included => {
+            if has_table(&package, name) {
+                table_included_owned(alloc, package, name, step, budget)
             } else {
                 Err(TableStop::NoTable)
             }
