@@ -13,17 +13,17 @@ use crate::response::{Response, ended_response};
 use ldv_value::Bytes;
 use package_layout::PackageStop;
 use proc_core::RunStop;
-use replay_db::replay_included;
+use replay_db::replay_included_owned;
 use replay_log::{can_replay_law, replay_owned};
 use run_model::{Mode, Outcome, Package, outcome_text};
 use std::alloc::{AllocError, Global};
 
-fn included_response(alloc: Global, budget: u32, package: &Package) -> Result<Response, AllocError>
-    requires can_run { CanRun (own_world «package».now) }
+fn included_response(alloc: Global, budget: u32, package: Package) -> Result<Response, AllocError>
+    requires can_run { CanRun (own_world «package») }
     requires bounded { budget ≤ max_steps }
-    ensures { IfOk result (λ response. response_due response ≡ due_world budget (own_world «package».now)) }
+    ensures { IfOk result (λ response. response_due response ≡ due_world budget (own_world «package»)) }
 {
-    let ended = replay_included(alloc, package, budget);
+    let ended = replay_included_owned(alloc, package, budget);
     ended_response(alloc, budget, ended)
 }
 
@@ -61,7 +61,7 @@ fn replay_package(alloc: Global, budget: u32, package: Package) -> Result<Respon
     ensures { IfOk result (λ response. response_due response ≡ replayed_package budget «package») }
 {
     match package.mode {
-        Mode::Included => included_response(alloc, budget, &package),
+        Mode::Included => included_response(alloc, budget, package),
         Mode::Excluded => excluded_response(alloc, budget, package),
     }
 }

@@ -15,12 +15,12 @@ ghost use Rattle.ldv_top.specs.declared.command.Command.TheVariants.{Table as Ta
 
 use crate::command::{Command, budget_in};
 use crate::numbers::number_within;
-use crate::reading::read_runs_of;
+use crate::reading::{bare_of, read_runs_of};
 use crate::response::Response;
 use crate::word_stop::WordStop;
 use ldv_value::{Bytes, DEFAULT_STEPS, MAX_STEPS, Utf8};
 use package_layout::PackageStop;
-use replay_db::{TableStop, package_law, table_at};
+use replay_db::{TableStop, package_law, table_at_owned};
 use run_model::{Package, table_text};
 use sql_model::is_sql_name;
 use std::alloc::{AllocError, Global};
@@ -119,7 +119,7 @@ pub(crate) fn table_response(
 {
     package_law();
     match read_runs_of(alloc, input) {
-        Ok(package) => tabled_response(alloc, name, step, budget, &package.bare),
+        Ok(package) => tabled_response(alloc, name, step, budget, bare_of(package)),
         Err(PackageStop::Damaged(kind)) => Ok(Response::Damaged(kind)),
         Err(PackageStop::NoMemory) => Err(AllocError),
     }
@@ -130,14 +130,14 @@ fn tabled_response(
     name: &str,
     step: u32,
     budget: u32,
-    package: &Package,
+    package: Package,
 ) -> Result<Response, AllocError>
-    requires can_run { CanRun (own_world «package».now) }
+    requires can_run { CanRun (own_world «package») }
     requires bounded { budget ≤ max_steps }
     ensures { IfOk result (λ response. response_due response
-        ≡ tabled_package name.now step budget «package».now) }
+        ≡ tabled_package name.now step budget «package») }
 {
-    match table_at(alloc, package, name, step, budget) {
+    match table_at_owned(alloc, package, name, step, budget) {
         Ok(table) => Ok(Response::Written(table_text(alloc, &table)?)),
         Err(TableStop::NoTable) => Ok(Response::NoSuch),
         Err(TableStop::NotEnded) => Ok(Response::NotEnded(budget)),

@@ -2,4 +2,4 @@ use Rattle.run_model.specs.Package.{own_world}
 use Rattle.ldv_top.proofs.replay.included_response.Goals as goal
 
 pub returns : goal.returns
-returns c = c.ended_response.ensures (own_world c.args.package.now) c.replay_included-ended.ensures
+returns c = c.ended_response.ensures (own_world c.args.package) c.replay_included_owned-ended.ensures
