@@ -8,7 +8,7 @@ ghost use Rattle.ldv_top.specs.Due.{response_due, reseeded_package, due_replay_s
 
 use crate::reading::read_input;
 use crate::response::Response;
-use free_order::{OrderStop, replay_other_seed};
+use free_order::{OrderStop, replay_other_seed_owned};
 use ldv_value::Bytes;
 use package_layout::PackageStop;
 use replay_log::can_replay_law;
@@ -49,7 +49,7 @@ pub(crate) fn replay_seed_response(
     can_replay_law();
     match read_input(alloc, input) {
         Ok(package) => {
-            let ended = replay_other_seed(alloc, &package, seed, budget);
+            let ended = replay_other_seed_owned(alloc, package, seed, budget);
             reseeded_response(alloc, budget, ended)
         }
         Err(PackageStop::Damaged(kind)) => Ok(Response::Damaged(kind)),
