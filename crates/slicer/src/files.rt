@@ -8,7 +8,6 @@ ghost use Rattle.slicer.specs.Marks.{has_name, path_by, need_as, packed_by};
 ghost use Rattle.run_model.specs.Slice.{is_path, whole_path, present_path, changed_path, names_initial};
 ghost use Rattle.run_model.specs.Slice.{packed_as, files_needed};
 
-use crate::lists::push_made;
 use crate::name_set::{NameSet, add, has};
 use ldv_value::{File, Utf8};
 use run_model::{Act, Event, PackedFile, PackedFiles};
@@ -154,7 +153,7 @@ fn pack_files(
 {
     let mut packed = PackedFiles::new(alloc);
     for file in files {
-        push_made(&mut packed, pack_file(file, whole, present)?)?;
+        packed.push_some(pack_file(file, whole, present)?)?;
     }
     Ok(packed)
 }

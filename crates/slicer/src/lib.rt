@@ -6,7 +6,6 @@
 mod files;
 mod fresh;
 mod initial;
-mod lists;
 mod name_set;
 mod needed;
 mod reasons;
