@@ -10,11 +10,10 @@ use Rattle.sql_model.specs.declared.need.Need.{Need}
 use Rattle.sql_model.specs.declared.table.Table.{Table}
 use Rattle.sql_model.specs.declared.table.TableRow.{TableRow}
 use Rattle.ldv_value.specs.declared.file.File.{File}
-use Rattle.run_model.specs.declared.event.Act.{Act}
 use Rattle.run_model.specs.declared.package.PackedFile.{PackedFile}
 use Rattle.run_model.specs.declared.package.PackedRow.{PackedRow}
 use Rattle.run_model.specs.declared.package.PackedTable.{PackedTable}
-use Rattle.run_model.specs.Slice.{Reason, is_read, whole_path, present_path, FileNeed, Whole, Present}
+use Rattle.run_model.specs.Slice.{Reason, is_read, FileNeed, Whole, Present}
 use Rattle.run_model.specs.Slice.{packed_as, packed_because}
 use Rattle.slicer.specs.declared.reasons.Why.{Why}
 
@@ -62,10 +61,6 @@ tables_because reason is_named tables =
     map (table_because reason) (filter (λ table. is_named table.name) tables)
 
 -- ---- files
-
--- the path that an act needs whole, or present
-abbrev pub path_by : Bool → Act → Option (List ℕ)
-path_by whole act = if whole then whole_path act else present_path act
 
 abbrev pub need_as : Bool → Bool → Option FileNeed
 need_as whole present = if whole then Some Whole else (if present then Some Present else None)
