@@ -11,7 +11,7 @@ ghost use Rattle.lanes.specs.Sets.{member};
 ghost use Rattle.slicer.specs.inner.Rows.{are_of_block, reason_due, has_row};
 
 use crate::fresh::{fresh_rows, split_block};
-use crate::row_set::{RowSet, has_bit, has_row};
+use crate::row_set::{BLOCK_ROWS, RowSet, has_bit, has_row};
 use ldv_value::List;
 use run_model::{Act, Event};
 use sql_model::{Need, Rule};
@@ -95,7 +95,7 @@ fn is_noted(initial_rows: &RowSet, fresh: &List<u64>, need: &Need) -> bool
     ensures { result ≡ (member fresh.now (need.now.member.row % 4096)
         && has_row initial_rows.now need.now.member.table need.now.member.row) }
 {
-    has_bit(fresh, need.member.row % 4_096)
+    has_bit(fresh, need.member.row % BLOCK_ROWS)
         && has_row(initial_rows, &need.member.table, need.member.row)
 }
 
