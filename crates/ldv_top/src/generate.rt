@@ -25,7 +25,7 @@ use crate::response::Response;
 use hex::encode;
 use itoa::Buffer;
 use ldv_value::{Bytes, DEFAULT_STEPS};
-use package_layout::{SpellStop, spell};
+use package_layout::{DIGEST_LENGTH, SpellStop, spell};
 use replay_db::{EndStop, package_law, record_world, replay_included_owned};
 use run_model::{Mode, Outcome, Package, PackedTable, World, outcome_text};
 use sql_model::Table;
@@ -34,9 +34,6 @@ use world_json::generate;
 
 // The largest number of orders of a generated world.
 const MAX_ORDERS: u32 = 100_000;
-
-// The bytes of a digest, the last ones of a package.
-const DIGEST_LENGTH: usize = 32;
 
 /// The command that the words after `gen` are.
 pub(crate) fn generate_of(words: &[String]) -> Option<Command>

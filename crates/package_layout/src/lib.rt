@@ -40,7 +40,7 @@ pub use codec::{Decode, Encode, decode_items, decode_list, encode_items, encode_
 pub use cursor::Cursor;
 pub use damage::DamageKind;
 pub use decode_error::DecodeError;
-pub use digest::{has_digest, middle};
+pub use digest::{DIGEST_LENGTH, has_digest, middle};
 pub use expanding::events_in;
 pub use law::{round_trip_law, runs_law};
 pub use layout::{PackageStop, SpellStop, read_package, read_runs};
