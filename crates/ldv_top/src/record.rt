@@ -9,7 +9,7 @@ ghost use Rattle.ldv_top.specs.Due.{response_due, due_spelling, recorded_world, 
 ghost use Rattle.ldv_top.specs.Headline.{IsRecording};
 ghost use Rattle.ldv_top.specs.declared.exit.Exit.{Exit};
 
-use crate::headline::headline_law;
+use crate::headline_law::headline_law;
 use crate::reading::read_world;
 use crate::response::Response;
 use ldv_value::Bytes;

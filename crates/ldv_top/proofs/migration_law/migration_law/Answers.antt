@@ -1,5 +1,5 @@
 use Rattle.ldv_top.proofs.MigrationLaws.{migrated_law}
-use Rattle.ldv_top.proofs.migration.migration_law.Goals as goal
+use Rattle.ldv_top.proofs.migration_law.migration_law.Goals as goal
 
 pub returns : goal.returns
 returns c =

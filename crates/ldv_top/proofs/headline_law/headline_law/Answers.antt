@@ -1,5 +1,5 @@
 use Rattle.ldv_top.proofs.HeadlineLaw.{replay_due, recorded_due}
-use Rattle.ldv_top.proofs.headline.headline_law.Goals as goal
+use Rattle.ldv_top.proofs.headline_law.headline_law.Goals as goal
 
 pub returns-clause-replayed : goal.returns-clause-replayed
 returns-clause-replayed c =
