@@ -23,7 +23,7 @@ mod plain;
 mod rules;
 mod run;
 mod run_package;
-mod run_tests;
+mod run_rules;
 mod same_act;
 mod sections;
 mod spelling;

@@ -14,7 +14,7 @@ use crate::plain::fits_version;
 use crate::rules::{is_valid_files, is_valid_logs, is_valid_start, is_valid_tables};
 use crate::run::Run;
 use crate::run_package::RunPackage;
-use crate::run_tests::are_runs;
+use crate::run_rules::are_runs;
 use crate::trace::{asked_count, is_trace};
 use crate::version::Version;
 use ldv_value::{Bytes, FILE_LIMIT, MAX_STEPS, Utf8, Words};

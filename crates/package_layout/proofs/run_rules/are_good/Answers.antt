@@ -2,7 +2,7 @@ use Rattle.std.proofs.Common.{rules, ◌≡◌, ◌-◌, length, refl, sym, ◌�
 use Rattle.ldv_value.proofs.Booleans.{not-false}
 use Rattle.package_layout.specs.Runs.{is_run, stops_before}
 use Rattle.package_layout.proofs.RunFields.{good_next, head_of}
-use Rattle.package_layout.proofs.run_tests.are_good.Goals as goal
+use Rattle.package_layout.proofs.run_rules.are_good.Goals as goal
 
 pub loop-left-preserved : goal.loop-left-preserved
 loop-left-preserved c =

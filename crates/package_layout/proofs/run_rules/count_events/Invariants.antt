@@ -1,6 +1,6 @@
 use Rattle.std.proofs.Common.{◌≡◌, ◌≤◌, ◌+◌, length}
 use Rattle.package_layout.specs.Runs.{total, max_events}
-use Rattle.package_layout.proofs.run_tests.count_events.Given as goal
+use Rattle.package_layout.proofs.run_rules.count_events.Given as goal
 
 -- room is what is left of max_events behind the runs so far
 abbrev pub invariant-loop-left : goal.invariant-loop-left

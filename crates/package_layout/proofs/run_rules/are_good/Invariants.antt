@@ -1,7 +1,7 @@
 use Rattle.std.proofs.Common.{◌≡◌, ◌&&◌, length}
 use Rattle.std.specs.List.{list_all}
 use Rattle.package_layout.specs.Runs.{is_run, are_longest}
-use Rattle.package_layout.proofs.run_tests.are_good.Given as goal
+use Rattle.package_layout.proofs.run_rules.are_good.Given as goal
 
 -- those that are left say whether all are
 abbrev pub invariant-loop-left : goal.invariant-loop-left
