@@ -23,7 +23,7 @@ use std::alloc::{AllocError, Global};
 use trace_graph::Graph;
 
 // What the run needed of the world, with what is recorded of it.
-fn pack(alloc: Global, world: &World, traced: Traced) -> Result<Package, AllocError>
+fn pack_included(alloc: Global, world: &World, traced: Traced) -> Result<Package, AllocError>
     requires trace { IsTrace traced.events }
     requires rows { ReadsInitialRows traced.events world.now.tables }
     ensures { IfOk result (λ p. p ≡ package_of_traced world.now traced) }
@@ -44,7 +44,7 @@ fn pack(alloc: Global, world: &World, traced: Traced) -> Result<Package, AllocEr
 }
 
 // The included package of the run of a world.
-fn package_of_run(
+fn included_package_of_run(
     alloc: Global,
     world: &World,
     script: &Script,
@@ -57,13 +57,13 @@ fn package_of_run(
 {
     let copy = copy_world(world)?;
     match trace_world(alloc, copy, script, budget) {
-        Ok(traced) => Ok(pack(alloc, world, traced)?),
+        Ok(traced) => Ok(pack_included(alloc, world, traced)?),
         Err(stop) => Err(stop),
     }
 }
 
 // What the run needed of the files of the world, and what was asked in it.
-fn pack_logs(alloc: Global, world: &World, logged: Logged) -> Result<Package, AllocError>
+fn pack_excluded(alloc: Global, world: &World, logged: Logged) -> Result<Package, AllocError>
     ensures { IfOk result (λ p. p ≡ packed_logs world.now logged) }
 {
     let Logged {
@@ -85,7 +85,7 @@ fn pack_logs(alloc: Global, world: &World, logged: Logged) -> Result<Package, Al
 }
 
 // The excluded package of the run of a world.
-fn logs_of_run(
+fn excluded_package_of_run(
     alloc: Global,
     world: &World,
     script: &Script,
@@ -98,7 +98,7 @@ fn logs_of_run(
 {
     let copy = copy_world(world)?;
     match log_world(alloc, copy, script, budget) {
-        Ok(logged) => Ok(pack_logs(alloc, world, logged)?),
+        Ok(logged) => Ok(pack_excluded(alloc, world, logged)?),
         Err(stop) => Err(stop),
     }
 }
@@ -116,8 +116,8 @@ fn package_of_mode(
     ensures { Gives Stops result (package_within mode budget world.now) }
 {
     match mode {
-        Mode::Included => package_of_run(alloc, world, script, budget),
-        Mode::Excluded => logs_of_run(alloc, world, script, budget),
+        Mode::Included => included_package_of_run(alloc, world, script, budget),
+        Mode::Excluded => excluded_package_of_run(alloc, world, script, budget),
     }
 }
 
