@@ -33,7 +33,7 @@ pub(crate) fn read_world(alloc: Global, input: Bytes) -> Result<ParsedWorld, Wor
 }
 
 /// The package that the input is. The input isn't kept.
-pub(crate) fn read_input(alloc: Global, input: Bytes) -> Result<Package, PackageStop>
+pub(crate) fn read_package_of(alloc: Global, input: Bytes) -> Result<Package, PackageStop>
     ensures found { IfOk result (λ p. IsTyped p × IsValidPackage p × IsSpelled input p) }
     ensures reading { ReadsAs result (reading input) }
 {
