@@ -62,7 +62,7 @@ fn add_tables(alloc: Global, names: &mut NameSet, act: &Act) -> Result<(), Alloc
 }
 
 /// The names of the tables that statements ask.
-pub(crate) fn tables_named(alloc: Global, events: &[Event]) -> Result<NameSet, AllocError>
+pub(crate) fn tables_asked(alloc: Global, events: &[Event]) -> Result<NameSet, AllocError>
     ensures { IfOk result (λ names. (q : List ℕ) → has_name names q ≡ is_table_needed events.now q) }
 {
     let mut names = NameSet::new(alloc);

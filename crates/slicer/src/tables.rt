@@ -9,7 +9,7 @@ ghost use Rattle.run_model.specs.Slice.{packed_because};
 ghost use Rattle.slicer.specs.inner.Rows.{tables_from};
 
 use crate::initial::initial_rows;
-use crate::name_set::{NameSet, has, tables_named};
+use crate::name_set::{NameSet, has, tables_asked};
 use crate::reasons::{Reasons, RowReasons, Why, reasons_in};
 use ldv_value::CopyItem;
 use run_model::{Event, PackedRow, PackedRows, PackedTable, PackedTables};
@@ -76,7 +76,7 @@ fn pack_table(alloc: Global, reasons: &Reasons, table: &Table) -> Result<PackedT
 }
 
 // Appends a table with its needed rows, if its name is among the names.
-fn push_named(
+fn push_asked(
     alloc: Global,
     to: &mut PackedTables,
     names: &NameSet,
@@ -105,7 +105,7 @@ pub fn pack_tables(
 {
     let mut packed = PackedTables::new(alloc);
     for table in tables {
-        push_named(alloc, &mut packed, names, reasons, table)?;
+        push_asked(alloc, &mut packed, names, reasons, table)?;
     }
     Ok(packed)
 }
@@ -120,7 +120,7 @@ pub(crate) fn needed_tables(
 ) -> Result<PackedTables, AllocError>
     ensures { IfOk result (λ packed. packed ≡ tables_from events.now graph.now tables.now) }
 {
-    let names = tables_named(alloc, events)?;
+    let names = tables_asked(alloc, events)?;
     let initial = initial_rows(alloc, graph)?;
     let reasons = reasons_in(alloc, events, &initial)?;
     pack_tables(alloc, &names, &reasons, tables)
