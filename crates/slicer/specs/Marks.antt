@@ -1,11 +1,12 @@
 -- What the maps of `src/` mean.
-use Rattle.std.specs.Prelude.{ℕ, List, map, filter, Bool, ◌==◌, Option, is_some, option_and_then}
+use Rattle.std.specs.Prelude.{ℕ, List, map, filter, Bool, ◌&&◌, ◌==◌, Option, is_some, option_and_then}
 use Rattle.std.specs.Prelude.{if◌then◌else◌, Some, None, String}
 use Rattle.std.specs.List.{filter_map}
 use Rattle.std.specs.Option.{option_map}
 use Rattle.std.specs.declared.alloc.Global.{Global}
 use Rattle.std.specs.BTreeMap.{BTreeMap, get, get_by_text}
 use Rattle.std.specs.Ordering.{nat_cmp}
+use Rattle.sql_model.specs.Scope.{same_text}
 use Rattle.sql_model.specs.declared.need.Need.{Need}
 use Rattle.sql_model.specs.declared.table.Table.{Table}
 use Rattle.sql_model.specs.declared.table.TableRow.{TableRow}
@@ -38,6 +39,10 @@ reason_at reasons table row = reason_among (get_by_text reasons table) row
 
 abbrev pub reason_of_row : ℕ → Why → ℕ → Option Reason
 reason_of_row needed why row = if needed == row then Some (reason_from why) else None
+
+abbrev pub reason_of_named : List ℕ → ℕ → Why → List ℕ → ℕ → Option Reason
+reason_of_named named needed why table row =
+    if same_text named table && needed == row then Some (reason_from why) else None
 
 abbrev pub reason_of_read : ℕ → Need → List ℕ → ℕ → Option Reason
 reason_of_read statement need table row = if is_read table row need
