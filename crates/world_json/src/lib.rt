@@ -13,12 +13,12 @@ mod keys;
 mod kinds;
 mod limits;
 mod members;
+mod name_rules;
 mod parse;
 mod parts;
 mod rows;
 mod shape;
 mod start;
-mod table_names;
 mod world;
 
 pub use fault::{WorldFault, WorldStop};

@@ -16,7 +16,7 @@ use crate::fault::{WorldFault, WorldStop};
 use crate::keys::{foreign_keys, meets_keys, places_of_key};
 use crate::kinds::{meets_kinds, meets_not_null};
 use crate::limits::meets_limits;
-use crate::table_names::meets_names;
+use crate::name_rules::meets_names;
 use crate::parse::{JsonStop, read_json};
 use crate::parts::read_document;
 use crate::shape::ShapeStop;

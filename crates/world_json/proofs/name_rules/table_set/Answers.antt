@@ -1,5 +1,5 @@
 use Rattle.world_json.proofs.Columns.{table_name, known_more}
-use Rattle.world_json.proofs.table_names.table_set.Goals as goal
+use Rattle.world_json.proofs.name_rules.table_set.Goals as goal
 
 pub loop-table-preserved : goal.loop-table-preserved
 loop-table-preserved c = known_more table_name c.loop-table.known c.insert.new.self c.as_str.result c.items-table-items.result.now c.loop-table.table-index c.table-item.result

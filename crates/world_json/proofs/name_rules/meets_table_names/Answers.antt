@@ -1,7 +1,7 @@
 use Rattle.std.proofs.Common.{◌∙◌}
 use Rattle.std.proofs.lemmas.Result.{IfOk-weaker}
 use Rattle.world_json.proofs.Columns.{tables_by_tables}
-use Rattle.world_json.proofs.table_names.meets_table_names.Goals as goal
+use Rattle.world_json.proofs.name_rules.meets_table_names.Goals as goal
 
 pub returns : goal.returns
 returns c =

@@ -1,7 +1,7 @@
 use Rattle.std.proofs.Common.{◌∙◌}
 use Rattle.std.proofs.lemmas.Result.{IfOk-weaker}
 use Rattle.world_json.proofs.Columns.{keys_by_columns}
-use Rattle.world_json.proofs.table_names.are_keys_known.Goals as goal
+use Rattle.world_json.proofs.name_rules.are_keys_known.Goals as goal
 
 pub returns : goal.returns
 returns c =
