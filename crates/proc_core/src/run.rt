@@ -106,7 +106,7 @@ impl<D: Database, T: Tracer> Run<D, T> {
         Run::start_parsed(start, &script, seed, tree, db, tracer)
     }
 
-    /// The same run, of a script that was parsed: it is that of the file at the first start word.
+    /// The run as of `start`, of a script that was parsed before: that of the file at the first start word.
     pub fn start_parsed(
         start: &Words,
         script: &Script,

@@ -46,7 +46,7 @@ pub fn world_of(alloc: Global, bytes: &[u8]) -> Result<World, WorldStop>
     }
 }
 
-/// The same world, with the script that it starts with. The answers are those of `world_of`.
+/// The world that a document is, with the script that it starts with. The answers are those of `world_of`.
 pub fn parsed_world_of(alloc: Global, bytes: &[u8]) -> Result<ParsedWorld, WorldStop>
     ensures world { IfOk result (λ p. world_reading bytes.now ≡ Ok p.world) }
     ensures fault { IfErr result (IsFaultOf (world_reading bytes.now)) }

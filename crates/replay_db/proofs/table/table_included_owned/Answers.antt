@@ -1,9 +1,6 @@
-use Rattle.std.proofs.Common.{◌≡◌, sym, ap, ◌∙◌}
+use Rattle.std.proofs.Common.{ap, ◌∙◌}
 use Rattle.std.specs.Prelude.{is_some}
-use Rattle.ldv_value.specs.Gives.{GivesOr}
 use Rattle.sql_model.specs.Scope.{table_at}
-use Rattle.replay_db.specs.Runs.{CanRun}
-use Rattle.replay_db.specs.TableAt.{IsDueStop, table_of_run}
 use Rattle.replay_db.specs.Types.{World}
 use Rattle.run_laws.proofs.TableSteps.{own_there}
 use Rattle.replay_db.proofs.table.table_included_owned.Goals as goal
