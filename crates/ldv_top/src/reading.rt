@@ -5,6 +5,7 @@ ghost use Rattle.ldv_value.specs.Gives.{Gives};
 ghost use Rattle.package_layout.specs.ReadResult.{ReadsAs, RunsReadAs};
 ghost use Rattle.package_layout.specs.RunPackages.{expanded_package};
 ghost use Rattle.package_layout.specs.Runs.{IsCut};
+ghost use Rattle.package_layout.specs.StartScript.{StartsWith, cut_of};
 ghost use Rattle.package_layout.specs.Valid.{IsSpelled, IsValidPackage, reading};
 ghost use Rattle.package_layout.specs.Whole.{IsTyped};
 ghost use Rattle.prov_export.specs.Reading.{prov_reading};
@@ -14,7 +15,9 @@ ghost use Rattle.run_model.specs.ValidWorld.{CanRun, ValidWorld};
 ghost use Rattle.world_json.specs.Reading.{world_reading, IsFaultOf};
 
 use ldv_value::Bytes;
-use package_layout::{PackageStop, RunPackage, read_package, read_runs};
+use package_layout::{
+    PackageStop, ParsedPackage, RunPackage, read_package, read_parsed, read_runs,
+};
 use prov_export::{ProvStop, read_prov};
 use run_model::{Package, ParsedWorld};
 use std::alloc::Global;
@@ -40,14 +43,6 @@ pub(crate) fn read_package_of(alloc: Global, input: Bytes) -> Result<Package, Pa
     read_package(alloc, input.as_slice())
 }
 
-/// The package without its trace.
-pub(crate) fn bare_of(package: RunPackage) -> Package
-    ensures { result ≡ «package».bare }
-{
-    let RunPackage { bare, runs: _ } = package;
-    bare
-}
-
 /// The package that the input is, with its trace kept as runs: no list of its events is made, which may be
 /// far larger than the input. The input isn't kept.
 pub(crate) fn read_runs_of(alloc: Global, input: Bytes) -> Result<RunPackage, PackageStop>
@@ -57,6 +52,17 @@ pub(crate) fn read_runs_of(alloc: Global, input: Bytes) -> Result<RunPackage, Pa
     ensures reading { RunsReadAs result (reading input) }
 {
     read_runs(alloc, input.as_slice())
+}
+
+/// The package that the input is, as of `read_runs_of`, with the script that it starts with. The input isn't
+/// kept.
+pub(crate) fn read_parsed_of(alloc: Global, input: Bytes) -> Result<ParsedPackage, PackageStop>
+    ensures found { IfOk result (λ p. IsTyped (expanded_package p.cut)
+        × IsValidPackage (expanded_package p.cut) × IsSpelled input (expanded_package p.cut)) }
+    ensures parsed { IfOk result StartsWith }
+    ensures reading { RunsReadAs (cut_of result) (reading input) }
+{
+    read_parsed(alloc, input.as_slice())
 }
 
 /// The graph whose document the input is. The input isn't kept.

@@ -20,10 +20,10 @@ mod trace;
 
 pub use error::EndStop;
 pub use law::{audit_law, initial_rows_law, members_law, package_law};
-pub use own::{own_world, own_world_of};
+pub use own::{own_parsed_world, own_world, own_world_of};
 pub use record::{record_parsed, record_world};
 pub use recorder::Recorder;
 pub use replay::{replay_included, replay_included_owned};
 pub use run::{run_owned, run_parsed, run_world};
 pub use soundness::{AuditStop, Verdict, audit};
-pub use table::{TableStop, table_at, table_at_owned};
+pub use table::{TableStop, table_at, table_at_parsed};

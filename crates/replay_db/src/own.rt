@@ -1,12 +1,15 @@
 //! The own world of a package.
 
-ghost use Rattle.std.specs.Prelude.{◌≡◌, map, IfOk};
+ghost use Rattle.std.specs.Prelude.{◌≡◌, Some, map, IfOk};
 ghost use Rattle.run_model.specs.Package.{or_empty, own_file, own_row, own_table, own_world};
+ghost use Rattle.run_model.specs.Start.{IsParsed, start_script};
 
 use ldv_value::{Bytes, CopyItem, File, Files};
 use run_model::{
-    Package, PackedFile, PackedFiles, PackedRow, PackedRows, PackedTable, PackedTables, World,
+    Package, PackedFile, PackedFiles, PackedRow, PackedRows, PackedTable, PackedTables, ParsedWorld,
+    World,
 };
+use script_parse::Script;
 use sql_model::{Table, TableRow, TableRows, Tables};
 use std::alloc::{AllocError, Global};
 
@@ -192,4 +195,19 @@ pub fn own_world_of(alloc: Global, package: Package) -> Result<World, AllocError
         files: files_of(alloc, files)?,
         tables: tables_of(alloc, tables)?,
     })
+}
+
+/// The world that a package has in it, as of `own_world_of`, with the script that it starts with, which was
+/// parsed.
+pub fn own_parsed_world(
+    alloc: Global,
+    package: Package,
+    script: Script,
+) -> Result<ParsedWorld, AllocError>
+    requires { start_script (own_world «package») ≡ Some script.instructions }
+    ensures world { IfOk result (λ p. p.world ≡ own_world «package») }
+    ensures parsed { IfOk result IsParsed }
+{
+    let world = own_world_of(alloc, package)?;
+    Ok(ParsedWorld { world, script })
 }

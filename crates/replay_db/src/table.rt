@@ -195,21 +195,23 @@ fn table_included(
     table_of_world(alloc, world, name, step, budget)
 }
 
-// A table of an included package, of which no file and no row is copied.
-fn table_included_owned(
+// A table of an included package whose script was parsed. No file and no row is copied.
+fn table_included_parsed(
     alloc: Global,
     package: Package,
+    script: &Script,
     name: &str,
     step: u32,
     budget: u32,
 ) -> Result<Table, TableStop>
     requires can_run { CanRun (own_world «package») }
+    requires parsed { start_script (own_world «package») ≡ Some script.now.instructions }
     requires bounded { budget ≤ max_steps }
     requires there { has_table name.now «package» ≡ true }
     ensures { GivesOr IsDueStop result (table_of_run budget step name.now (own_world «package»)) }
 {
     let world = own_world_of(alloc, package)?;
-    table_of_world(alloc, world, name, step, budget)
+    table_of_run(alloc, world, script, name, step, budget)
 }
 
 /// The table of a name, with its rows and the number of its next row, after a step of the run of an included
@@ -243,16 +245,19 @@ pub fn table_at(
     }
 }
 
-/// The table of a name after a step of the run of an included package's own world, as of `table_at`. The run
-/// takes over the package's files and rows, and copies none of them.
-pub fn table_at_owned(
+/// The table of a name after a step of the run of an included package's own world, as of `table_at`. The
+/// script that it starts with was parsed. The run takes over the package's files and rows, and copies none of
+/// them.
+pub fn table_at_parsed(
     alloc: Global,
     package: Package,
+    script: &Script,
     name: &str,
     step: u32,
     budget: u32,
 ) -> Result<Table, TableStop>
     requires can_run { CanRun (own_world «package») }
+    requires parsed { start_script (own_world «package») ≡ Some script.now.instructions }
     requires bounded { budget ≤ max_steps }
     ensures { GivesOr IsDueStop result (table_at_of budget step name.now «package») }
 {
@@ -260,7 +265,7 @@ pub fn table_at_owned(
         Mode::Excluded => Err(TableStop::NoTable),
         Mode::Included => {
             if has_table(&package, name) {
-                table_included_owned(alloc, package, name, step, budget)
+                table_included_parsed(alloc, package, script, name, step, budget)
             } else {
                 Err(TableStop::NoTable)
             }
