@@ -5,7 +5,7 @@
 #![tactic(auto)]
 
 use ldv_io::{StdSink, StdSource, write_all};
-use ldv_top::ldv_main;
+use ldv_top::{Exit, ldv_main, status};
 use std::alloc::Global;
 use std::env;
 use std::io::ErrorKind;
@@ -13,8 +13,6 @@ use std::process::ExitCode;
 
 /// The status where the system didn't give the words of the command line.
 const NO_WORDS: u8 = 17;
-/// The status where memory ran out before the words were read, as that of `Exit::NoMemory`.
-const NO_MEMORY: u8 = 11;
 
 fn main(rt: HostRuntime) -> ExitCode {
     let alloc: Global = rt.alloc();
@@ -24,7 +22,7 @@ fn main(rt: HostRuntime) -> ExitCode {
         Err(error) => {
             if error.kind() == ErrorKind::OutOfMemory {
                 let _ = write_all(&mut errors, b"ldv: out of memory\n");
-                return ExitCode::from(NO_MEMORY);
+                return ExitCode::from(status(&Exit::NoMemory));
             }
             let _ = write_all(&mut errors, b"ldv: no words\n");
             return ExitCode::from(NO_WORDS);
@@ -34,7 +32,7 @@ fn main(rt: HostRuntime) -> ExitCode {
     for word in words.skip(1) {
         if all.push(word).is_err() {
             let _ = write_all(&mut errors, b"ldv: out of memory\n");
-            return ExitCode::from(NO_MEMORY);
+            return ExitCode::from(status(&Exit::NoMemory));
         }
     }
     let mut source = StdSource::new(rt.stdin());

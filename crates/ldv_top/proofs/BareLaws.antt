@@ -17,7 +17,7 @@ use Rattle.package_layout.specs.declared.version.Version.{Version}
 use Rattle.package_layout.specs.declared.run_package.RunPackage.{RunPackage}
 use Rattle.replay_db.specs.TableAt.{table_by_mode}
 use Rattle.replay_log.specs.Replays.{CanReplay}
-use Rattle.ldv_top.specs.Due.{due_outcome, outcome_due, due_divergence, due_log, replayed_as, replayed_package, replayed_reading, due_replay}
+use Rattle.ldv_top.specs.Due.{due_outcome, outcome_due, due_divergence, due_log, replayed_as, replayed_package, due_replay}
 use Rattle.ldv_top.specs.DueOfAudits.{audit_by_version, audit_by_mode, audited_package, due_audit}
 use Rattle.ldv_top.specs.DueOfMigrations.{migrated_package, due_migrate}
 use Rattle.ldv_top.specs.DueOfTables.{table_due, tabled_package, due_table}
@@ -71,7 +71,7 @@ module _ (r : RunPackage) where
 
   module _ (input : List ℕ) (short : length input ≤ input_limit) (read : reading input ≡ Ok all) where
     pub replay_read : (budget : ℕ) → replayed_package budget bare ≡ due_replay budget input
-    replay_read budget = rw (not_too_long input short) (replayed_same bare.mode budget ∙ sym (ap (replayed_reading budget) read))
+    replay_read budget = rw (not_too_long input short) (replayed_same bare.mode budget ∙ sym (ap (due_of_reading (replayed_package budget)) read))
 
     pub table_read : (name : List ℕ) (step budget : ℕ) → tabled_package name step budget bare ≡ due_table name step budget input
     table_read name step budget =

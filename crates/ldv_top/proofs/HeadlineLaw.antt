@@ -24,9 +24,9 @@ use Rattle.run_laws.specs.LogLaws.{PickedLogLaw}
 use Rattle.replay_db.specs.Worlds.{ValidWorld, WorldTablesLaw, ValidPackageLaw, TypedPackageLaw}
 use Rattle.world_json.specs.Reading.{world_reading}
 use Rattle.ldv_top.specs.declared.exit.Exit.TheVariants.{Done}
-use Rattle.ldv_top.specs.Due.{DueOutput, due_outcome, outcome_due, due_world, due_reading, due_run, due_spelling, package_due, recorded_world, recorded_reading, due_record, due_divergence, due_log, replayed_as, replayed_reading, due_replay}
+use Rattle.ldv_top.specs.Due.{DueOutput, due_outcome, outcome_due, due_world, due_reading, due_run, due_spelling, package_due, recorded_world, recorded_reading, due_record, due_divergence, due_log, replayed_as, replayed_package, due_replay}
 use Rattle.ldv_top.specs.DueOfAudits.{due_audit}
-use Rattle.ldv_top.specs.DueParts.{due_bytes}
+use Rattle.ldv_top.specs.DueParts.{due_bytes, due_of_reading}
 use Rattle.ldv_top.specs.Headline.{IsPackageOf, IsRecording}
 use Rattle.ldv_top.proofs.ReadBack.{ReadAgain, ShortCounted, read_back as packed_read}
 use Rattle.ldv_top.proofs.RecordLaws.{not_too_long, Spelled, spelling_done}
@@ -87,7 +87,7 @@ module _ (again : ReadAgain) (counted : ShortCounted) (valid : ValidPackageLaw) 
   spelling_due mode n budget w valid_world bounded short enough outcome comes =
       let ended : ends_within n w ≡ true = outcome_ends n w outcome comes in
       rw (not_too_long (spelling (package_of mode n w)) short)
-      (ap (replayed_reading budget) (read_back mode n w valid_world bounded ended short)
+      (ap (due_of_reading (replayed_package budget)) (read_back mode n w valid_world bounded ended short)
       ∙ either_due mode n budget w ended (valid_tables w valid_world) enough outcome comes)
 
   -- an audit of the package with the needed rows

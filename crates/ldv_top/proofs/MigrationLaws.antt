@@ -14,7 +14,7 @@ use Rattle.package_layout.specs.declared.version.Version.TheVariants.{Two}
 use Rattle.package_layout.specs.Whole.{spelling_as, spelling, IsTyped}
 use Rattle.replay_db.specs.Auditing.{SoundLaw, OwnSoundLaw, IsOwn}
 use Rattle.ldv_top.specs.declared.exit.Exit.TheVariants.{Done, NoSuch}
-use Rattle.ldv_top.specs.Due.{DueOutput, due_bytes, replayed_reading, due_replay, due_spelling}
+use Rattle.ldv_top.specs.Due.{DueOutput, due_bytes, replayed_package, due_spelling}
 use Rattle.ldv_top.specs.DueOfAudits.{audit_by_mode, audited_package, due_audit}
 use Rattle.ldv_top.specs.DueOfMigrations.{migrated_package, due_migrate}
 use Rattle.ldv_top.specs.DueOfReports.{report_due}
@@ -37,9 +37,6 @@ record ReadsVersion (version : Version) (p : Package) (bytes : List ℕ) : Type 
 module _ (p : Package) where
   package_due : (due : Package → DueOutput) (version : Version) (bytes : List ℕ) → ReadsVersion version p bytes → due_of_package due bytes ≡ due p
   package_due due version bytes is = rw (not_too_long bytes is.short) (ap (due_of_reading due) is.read)
-
-  replay_due : (budget : ℕ) (version : Version) (bytes : List ℕ) → ReadsVersion version p bytes → due_replay budget bytes ≡ replayed_reading budget (Ok p)
-  replay_due budget version bytes is = rw (not_too_long bytes is.short) (ap (replayed_reading budget) is.read)
 
   -- what is found sound in one version is so in the other
   sound_too : SoundLaw → OwnSoundLaw → IsTyped p → IsValidPackage p → p.mode ≡ Included → (budget : ℕ) → budget ≤ max_steps
@@ -91,7 +88,7 @@ module _ (again : (version : Version) (p : Package) → IsTyped p → IsValidPac
         read_back = second.read;
         version = second.versioned;
         again = package_due p migrated_package Two bytes second ∙ spelled_whole (spelling p) spelled.0 ∙ ap due_bytes (sym same);
-        replayed = λ budget. replay_due p budget Two bytes second ∙ sym (replay_due p budget version input first);
+        replayed = λ budget. package_due p (replayed_package budget) Two bytes second ∙ sym (package_due p (replayed_package budget) version input first);
         tabled = λ name step budget.
             package_due p (tabled_package name step budget) Two bytes second
             ∙ sym (package_due p (tabled_package name step budget) version input first);

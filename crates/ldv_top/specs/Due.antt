@@ -15,7 +15,6 @@ use Rattle.package_join.specs.declared.joined.Which.{Which}
 use Rattle.package_join.specs.Valid.{joined_reading}
 use Rattle.package_join.specs.Worlds.{joined_world}
 use Rattle.package_layout.specs.declared.damage.DamageKind.{DamageKind}
-use Rattle.package_layout.specs.Valid.{reading}
 use Rattle.package_layout.specs.Whole.{spelling}
 use Rattle.replay_log.specs.Replays.{with_seed}
 use Rattle.world_json.specs.Reading.{world_reading}
@@ -91,13 +90,8 @@ replayed_as Excluded budget p = due_log budget p
 abbrev pub replayed_package : ℕ → Package → DueOutput
 replayed_package budget p = replayed_as p.mode budget p
 
-abbrev pub replayed_reading : ℕ → Result Package DamageKind → DueOutput
-replayed_reading budget (Ok p) = replayed_package budget p
-replayed_reading budget (Err kind) = due_refusal (Damaged kind)
-
 abbrev pub due_replay : ℕ → List ℕ → DueOutput
-due_replay budget input = if is_too_long input then due_refusal TooLong
-    else replayed_reading budget (reading input)
+due_replay budget input = due_of_package (replayed_package budget) input
 
 -- under another seed, which only recorded replies of processes that share no written path can be run by
 abbrev pub reseeded_package : ℕ → ℕ → Package → DueOutput

@@ -25,8 +25,8 @@ use crate::response::Response;
 use hex::encode;
 use itoa::Buffer;
 use ldv_value::{Bytes, DEFAULT_STEPS};
-use package_layout::{SpellStop, spell};
-use replay_db::{EndStop, package_law, record_world, replay_included};
+use package_layout::{DIGEST_LENGTH, SpellStop, spell};
+use replay_db::{EndStop, package_law, record_world, replay_included_owned};
 use run_model::{Mode, Outcome, Package, PackedTable, World, outcome_text};
 use sql_model::Table;
 use std::alloc::{AllocError, Global};
@@ -34,9 +34,6 @@ use world_json::generate;
 
 // The largest number of orders of a generated world.
 const MAX_ORDERS: u32 = 100_000;
-
-// The bytes of a digest, the last ones of a package.
-const DIGEST_LENGTH: usize = 32;
 
 /// The command that the words after `gen` are.
 pub(crate) fn generate_of(words: &[String]) -> Option<Command>
@@ -74,7 +71,7 @@ fn world_response(alloc: Global, orders: u32, world: World) -> Result<Response, 
     package_law();
     let rows = row_count(world.tables.items());
     match record_once(alloc, world) {
-        Ok(package) => package_response(alloc, orders, rows, &package),
+        Ok(package) => package_response(alloc, orders, rows, package),
         Err(EndStop::NotEnded) => Ok(Response::NotEnded(DEFAULT_STEPS)),
         Err(EndStop::NoMemory) => Err(AllocError),
     }
@@ -93,13 +90,13 @@ fn package_response(
     alloc: Global,
     orders: u32,
     rows: u128,
-    package: &Package,
+    package: Package,
 ) -> Result<Response, AllocError>
-    requires { IsValidPackage «package».now }
-    ensures { IfOk result (λ response. response_due response ≡ summed_package orders rows «package».now) }
+    requires { IsValidPackage «package» }
+    ensures { IfOk result (λ response. response_due response ≡ summed_package orders rows «package») }
 {
     package_law();
-    match spell(alloc, package) {
+    match spell(alloc, &package) {
         Ok(bytes) => spelled_response(alloc, orders, rows, package, bytes),
         Err(SpellStop::TooLong) => Ok(Response::PackageTooLong),
         Err(SpellStop::NoMemory) => Err(AllocError),
@@ -110,23 +107,23 @@ fn spelled_response(
     alloc: Global,
     orders: u32,
     rows: u128,
-    package: &Package,
+    package: Package,
     bytes: Bytes,
 ) -> Result<Response, AllocError>
-    requires { CanRun (own_world «package».now) }
+    requires { CanRun (own_world «package») }
     ensures { IfOk result (λ response. response_due response
-        ≡ summed_replay (summary_head orders rows «package».now bytes) «package».now) }
+        ≡ summed_replay (summary_head orders rows «package» bytes) «package») }
 {
-    let head = summary_head(alloc, orders, rows, package, bytes)?;
+    let head = summary_head(alloc, orders, rows, &package, bytes)?;
     replayed_response(alloc, package, head)
 }
 
 #[tactic(auto, using(crate::proofs::GenerateLaws::replay_sums))]
-fn replayed_response(alloc: Global, package: &Package, head: Bytes) -> Result<Response, AllocError>
-    requires { CanRun (own_world «package».now) }
-    ensures { IfOk result (λ response. response_due response ≡ summed_replay head «package».now) }
+fn replayed_response(alloc: Global, package: Package, head: Bytes) -> Result<Response, AllocError>
+    requires { CanRun (own_world «package») }
+    ensures { IfOk result (λ response. response_due response ≡ summed_replay head «package») }
 {
-    match replay_included(alloc, package, DEFAULT_STEPS) {
+    match replay_included_owned(alloc, package, DEFAULT_STEPS) {
         Ok(outcome) => Ok(Response::Written(with_replay(alloc, head, &outcome)?)),
         Err(EndStop::NotEnded) => Ok(Response::NotEnded(DEFAULT_STEPS)),
         Err(EndStop::NoMemory) => Err(AllocError),

@@ -15,7 +15,7 @@ ghost use Rattle.ldv_top.specs.declared.command.Report.TheVariants.{Depends, Fil
 
 use crate::command::Report;
 use crate::numbers::number_within;
-use crate::reading::{read_input, read_runs_of};
+use crate::reading::{read_package_of, read_runs_of};
 use crate::response::Response;
 use crate::word_stop::WordStop;
 use inspect::{InspectStop, depends_text, files_text, rows_text, trace_text, why_text};
@@ -155,7 +155,7 @@ fn whole_response(alloc: Global, report: &Report, input: Bytes) -> Result<Respon
     requires short { length input ≤ input_limit }
     ensures { IfOk result (λ response. response_due response ≡ due_inspect report.now input) }
 {
-    match read_input(alloc, input) {
+    match read_package_of(alloc, input) {
         Ok(package) => report_response(alloc, report, &package),
         Err(PackageStop::Damaged(kind)) => Ok(Response::Damaged(kind)),
         Err(PackageStop::NoMemory) => Err(AllocError),

@@ -13,7 +13,7 @@ ghost use Rattle.ldv_top.specs.WordsOfMigrations.{migrate_of};
 ghost use Rattle.ldv_top.specs.declared.exit.Exit.{Exit};
 
 use crate::command::Command;
-use crate::migration::migration_law;
+use crate::migration_law::migration_law;
 use crate::reading::read_runs_of;
 use crate::response::Response;
 use ldv_value::Bytes;

@@ -14,7 +14,7 @@ ghost use Rattle.ldv_top.specs.WordsOfProv.{prov_of, prov_depends_named};
 ghost use Rattle.ldv_top.specs.declared.command.Command.TheVariants.{ProvDepends};
 
 use crate::command::Command;
-use crate::reading::{read_graph, read_input};
+use crate::reading::{read_graph, read_package_of};
 use crate::response::Response;
 use crate::word_stop::WordStop;
 use ldv_value::{Bytes, Utf8, is_path};
@@ -64,7 +64,7 @@ pub(crate) fn prov_response(alloc: Global, input: Bytes) -> Result<Response, All
     requires short { length input ≤ input_limit }
     ensures { IfOk result (λ response. response_due response ≡ due_prov input) }
 {
-    match read_input(alloc, input) {
+    match read_package_of(alloc, input) {
         Ok(package) => written_response(alloc, &package),
         Err(PackageStop::Damaged(kind)) => Ok(Response::Damaged(kind)),
         Err(PackageStop::NoMemory) => Err(AllocError),

@@ -5,45 +5,42 @@ ghost use Rattle.ldv_value.specs.Gives.{Gives};
 ghost use Rattle.package_layout.specs.ReadResult.{ReadsAs, RunsReadAs};
 ghost use Rattle.package_layout.specs.RunPackages.{expanded_package};
 ghost use Rattle.package_layout.specs.Runs.{IsCut};
+ghost use Rattle.package_layout.specs.StartScript.{StartsWith, cut_of};
 ghost use Rattle.package_layout.specs.Valid.{IsSpelled, IsValidPackage, reading};
 ghost use Rattle.package_layout.specs.Whole.{IsTyped};
 ghost use Rattle.prov_export.specs.Reading.{prov_reading};
 ghost use Rattle.prov_export.specs.Stopping.{Stops};
+ghost use Rattle.run_model.specs.Start.{IsParsed};
 ghost use Rattle.run_model.specs.ValidWorld.{CanRun, ValidWorld};
 ghost use Rattle.world_json.specs.Reading.{world_reading, IsFaultOf};
 
 use ldv_value::Bytes;
-use package_layout::{PackageStop, RunPackage, read_package, read_runs};
+use package_layout::{
+    PackageStop, ParsedPackage, RunPackage, read_package, read_parsed, read_runs,
+};
 use prov_export::{ProvStop, read_prov};
-use run_model::{Package, World};
+use run_model::{Package, ParsedWorld};
 use std::alloc::Global;
 use trace_graph::Graph;
-use world_json::{WorldStop, world_of};
+use world_json::{WorldStop, parsed_world_of};
 
-/// The world that the input is a document of. The input isn't kept.
-pub(crate) fn read_world(alloc: Global, input: Bytes) -> Result<World, WorldStop>
-    ensures world { IfOk result (λ world. world_reading input ≡ Ok world) }
+/// The world that the input is a document of, with the script that it starts with. The input isn't kept.
+pub(crate) fn read_world(alloc: Global, input: Bytes) -> Result<ParsedWorld, WorldStop>
+    ensures world { IfOk result (λ p. world_reading input ≡ Ok p.world) }
     ensures fault { IfErr result (IsFaultOf (world_reading input)) }
-    ensures valid { IfOk result (λ world. ValidWorld world) }
-    ensures runs { IfOk result (λ world. CanRun world) }
+    ensures valid { IfOk result (λ p. ValidWorld p.world) }
+    ensures runs { IfOk result (λ p. CanRun p.world) }
+    ensures parsed { IfOk result IsParsed }
 {
-    world_of(alloc, input.as_slice())
+    parsed_world_of(alloc, input.as_slice())
 }
 
 /// The package that the input is. The input isn't kept.
-pub(crate) fn read_input(alloc: Global, input: Bytes) -> Result<Package, PackageStop>
+pub(crate) fn read_package_of(alloc: Global, input: Bytes) -> Result<Package, PackageStop>
     ensures found { IfOk result (λ p. IsTyped p × IsValidPackage p × IsSpelled input p) }
     ensures reading { ReadsAs result (reading input) }
 {
     read_package(alloc, input.as_slice())
-}
-
-/// The package without its trace.
-pub(crate) fn bare_of(package: RunPackage) -> Package
-    ensures { result ≡ «package».bare }
-{
-    let RunPackage { bare, runs: _ } = package;
-    bare
 }
 
 /// The package that the input is, with its trace kept as runs: no list of its events is made, which may be
@@ -55,6 +52,17 @@ pub(crate) fn read_runs_of(alloc: Global, input: Bytes) -> Result<RunPackage, Pa
     ensures reading { RunsReadAs result (reading input) }
 {
     read_runs(alloc, input.as_slice())
+}
+
+/// The package that the input is, as of `read_runs_of`, with the script that it starts with. The input isn't
+/// kept.
+pub(crate) fn read_parsed_of(alloc: Global, input: Bytes) -> Result<ParsedPackage, PackageStop>
+    ensures found { IfOk result (λ p. IsTyped (expanded_package p.cut)
+        × IsValidPackage (expanded_package p.cut) × IsSpelled input (expanded_package p.cut)) }
+    ensures parsed { IfOk result StartsWith }
+    ensures reading { RunsReadAs (cut_of result) (reading input) }
+{
+    read_parsed(alloc, input.as_slice())
 }
 
 /// The graph whose document the input is. The input isn't kept.

@@ -3,18 +3,19 @@
 ghost use Rattle.std.specs.Prelude.{◌≡◌, ◌≤◌, length, IfOk, OnOk};
 ghost use Rattle.ldv_value.specs.Limits.{input_limit, max_steps};
 ghost use Rattle.package_layout.specs.Whole.{spelling};
+ghost use Rattle.run_model.specs.Start.{IsParsed};
 ghost use Rattle.replay_db.specs.Runs.{CanRun};
 ghost use Rattle.ldv_top.specs.Due.{response_due, due_spelling, recorded_world, due_record};
 ghost use Rattle.ldv_top.specs.Headline.{IsRecording};
 ghost use Rattle.ldv_top.specs.declared.exit.Exit.{Exit};
 
-use crate::headline::headline_law;
+use crate::headline_law::headline_law;
 use crate::reading::read_world;
 use crate::response::Response;
 use ldv_value::Bytes;
 use package_layout::{SpellStop, spell};
-use replay_db::{EndStop, record_world};
-use run_model::{Mode, Package, World};
+use replay_db::{EndStop, record_parsed};
+use run_model::{Mode, Package, ParsedWorld};
 use std::alloc::{AllocError, Global};
 use world_json::WorldStop;
 
@@ -33,13 +34,14 @@ fn recorded_response(
     alloc: Global,
     mode: Mode,
     budget: u32,
-    world: World,
+    parsed: ParsedWorld,
 ) -> Result<Response, AllocError>
-    requires can_run { CanRun world }
+    requires can_run { CanRun parsed.world }
+    requires parsed { IsParsed parsed }
     requires bounded { budget ≤ max_steps }
-    ensures { IfOk result (λ response. response_due response ≡ recorded_world mode budget world) }
+    ensures { IfOk result (λ response. response_due response ≡ recorded_world mode budget parsed.world) }
 {
-    match record_world(alloc, &world, mode, budget) {
+    match record_parsed(alloc, &parsed, mode, budget) {
         Ok(package) => spelling_response(alloc, &package),
         Err(EndStop::NotEnded) => Ok(Response::NotEnded(budget)),
         Err(EndStop::NoMemory) => Err(AllocError),
@@ -62,7 +64,7 @@ pub(crate) fn record_response(
 {
     headline_law();
     match read_world(alloc, input) {
-        Ok(world) => recorded_response(alloc, mode, budget, world),
+        Ok(parsed) => recorded_response(alloc, mode, budget, parsed),
         Err(WorldStop::Fault(fault)) => Ok(Response::NotWorld(fault)),
         Err(WorldStop::NoMemory) => Err(AllocError),
     }

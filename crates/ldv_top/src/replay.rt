@@ -1,30 +1,39 @@
 //! `replay`: from a package to the outcome of its run.
 
-ghost use Rattle.std.specs.Prelude.{◌≡◌, ◌≤◌, length, IfOk};
+ghost use Rattle.std.specs.Prelude.{◌≡◌, ◌≤◌, Some, length, IfOk};
 ghost use Rattle.ldv_value.specs.Limits.{input_limit, max_steps};
 ghost use Rattle.run_model.specs.declared.package.Package.{Package};
 ghost use Rattle.run_model.specs.Package.{own_world};
+ghost use Rattle.run_model.specs.Start.{start_script};
+ghost use Rattle.package_layout.specs.StartScript.{StartsWith};
 ghost use Rattle.replay_db.specs.Runs.{CanRun};
 ghost use Rattle.replay_log.specs.Replays.{CanReplay, Replays};
 ghost use Rattle.ldv_top.specs.Due.{response_due, due_world, due_log, replayed_package, due_replay};
 
-use crate::reading::{bare_of, read_runs_of};
-use crate::response::{Response, ended_response};
+use crate::reading::read_parsed_of;
+use crate::response::{Response, parsed_response};
 use ldv_value::Bytes;
-use package_layout::PackageStop;
+use package_layout::{PackageStop, ParsedPackage, RunPackage};
 use proc_core::RunStop;
-use replay_db::replay_included;
+use replay_db::own_parsed_world;
 use replay_log::{can_replay_law, replay_owned};
 use run_model::{Mode, Outcome, Package, outcome_text};
+use script_parse::Script;
 use std::alloc::{AllocError, Global};
 
-fn included_response(alloc: Global, budget: u32, package: &Package) -> Result<Response, AllocError>
-    requires can_run { CanRun (own_world «package».now) }
+fn included_response(
+    alloc: Global,
+    budget: u32,
+    package: Package,
+    script: Script,
+) -> Result<Response, AllocError>
+    requires can_run { CanRun (own_world «package») }
+    requires parsed { start_script (own_world «package») ≡ Some script.instructions }
     requires bounded { budget ≤ max_steps }
-    ensures { IfOk result (λ response. response_due response ≡ due_world budget (own_world «package».now)) }
+    ensures { IfOk result (λ response. response_due response ≡ due_world budget (own_world «package»)) }
 {
-    let ended = replay_included(alloc, package, budget);
-    ended_response(alloc, budget, ended)
+    let own = own_parsed_world(alloc, package, script)?;
+    parsed_response(alloc, budget, own)
 }
 
 // The response to what comes of the run of a package over its recorded replies.
@@ -54,15 +63,22 @@ fn excluded_response(alloc: Global, budget: u32, package: Package) -> Result<Res
     log_response(alloc, budget, ended)
 }
 
-fn replay_package(alloc: Global, budget: u32, package: Package) -> Result<Response, AllocError>
-    requires can_run { CanRun (own_world «package») }
-    requires can_replay { CanReplay «package» }
+fn replay_package(
+    alloc: Global,
+    budget: u32,
+    parsed: ParsedPackage,
+) -> Result<Response, AllocError>
+    requires can_run { CanRun (own_world parsed.cut.bare) }
+    requires can_replay { CanReplay parsed.cut.bare }
+    requires parsed { StartsWith parsed }
     requires bounded { budget ≤ max_steps }
-    ensures { IfOk result (λ response. response_due response ≡ replayed_package budget «package») }
+    ensures { IfOk result (λ response. response_due response ≡ replayed_package budget parsed.cut.bare) }
 {
-    match package.mode {
-        Mode::Included => included_response(alloc, budget, &package),
-        Mode::Excluded => excluded_response(alloc, budget, package),
+    let ParsedPackage { cut, script } = parsed;
+    let RunPackage { bare, runs: _ } = cut;
+    match bare.mode {
+        Mode::Included => included_response(alloc, budget, bare, script),
+        Mode::Excluded => excluded_response(alloc, budget, bare),
     }
 }
 
@@ -77,8 +93,8 @@ pub(crate) fn replay_response(
     ensures { IfOk result (λ response. response_due response ≡ due_replay budget input) }
 {
     can_replay_law();
-    match read_runs_of(alloc, input) {
-        Ok(package) => replay_package(alloc, budget, bare_of(package)),
+    match read_parsed_of(alloc, input) {
+        Ok(parsed) => replay_package(alloc, budget, parsed),
         Err(PackageStop::Damaged(kind)) => Ok(Response::Damaged(kind)),
         Err(PackageStop::NoMemory) => Err(AllocError),
     }

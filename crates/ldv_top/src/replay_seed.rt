@@ -6,9 +6,9 @@ ghost use Rattle.run_model.specs.declared.package.Package.{Package};
 ghost use Rattle.free_order.specs.OtherSeed.{ReplaysUnder};
 ghost use Rattle.ldv_top.specs.Due.{response_due, reseeded_package, due_replay_seed};
 
-use crate::reading::read_input;
+use crate::reading::read_package_of;
 use crate::response::Response;
-use free_order::{OrderStop, replay_other_seed};
+use free_order::{OrderStop, replay_other_seed_owned};
 use ldv_value::Bytes;
 use package_layout::PackageStop;
 use replay_log::can_replay_law;
@@ -47,9 +47,9 @@ pub(crate) fn replay_seed_response(
     ensures { IfOk result (λ response. response_due response ≡ due_replay_seed seed budget input) }
 {
     can_replay_law();
-    match read_input(alloc, input) {
+    match read_package_of(alloc, input) {
         Ok(package) => {
-            let ended = replay_other_seed(alloc, &package, seed, budget);
+            let ended = replay_other_seed_owned(alloc, package, seed, budget);
             reseeded_response(alloc, budget, ended)
         }
         Err(PackageStop::Damaged(kind)) => Ok(Response::Damaged(kind)),

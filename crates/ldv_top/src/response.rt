@@ -3,6 +3,7 @@
 ghost use Rattle.std.specs.Prelude.{◌≡◌, ◌≤◌, IfOk};
 ghost use Rattle.ldv_value.specs.Gives.{Gives};
 ghost use Rattle.ldv_value.specs.Limits.{max_steps};
+ghost use Rattle.run_model.specs.Start.{IsParsed};
 ghost use Rattle.run_model.specs.WorldRun.{outcome_within};
 ghost use Rattle.replay_db.specs.Runs.{CanRun, Stops};
 ghost use Rattle.replay_db.specs.Types.{World};
@@ -11,8 +12,8 @@ ghost use Rattle.ldv_top.specs.Due.{response_due, due_world};
 use ldv_value::Bytes;
 use package_join::Clash;
 use package_layout::DamageKind;
-use replay_db::{EndStop, run_owned};
-use run_model::{Outcome, ProcName, World, outcome_text};
+use replay_db::{EndStop, run_owned, run_parsed};
+use run_model::{Outcome, ParsedWorld, ProcName, World, outcome_text};
 use std::alloc::{AllocError, Global};
 use world_json::WorldFault;
 
@@ -71,5 +72,20 @@ pub(crate) fn world_response(
     ensures { IfOk result (λ response. response_due response ≡ due_world budget world) }
 {
     let ended = run_owned(alloc, world, budget);
+    ended_response(alloc, budget, ended)
+}
+
+/// The response of the run of a world whose script was parsed.
+pub(crate) fn parsed_response(
+    alloc: Global,
+    budget: u32,
+    parsed: ParsedWorld,
+) -> Result<Response, AllocError>
+    requires can_run { CanRun parsed.world }
+    requires parsed { IsParsed parsed }
+    requires bounded { budget ≤ max_steps }
+    ensures { IfOk result (λ response. response_due response ≡ due_world budget parsed.world) }
+{
+    let ended = run_parsed(alloc, parsed, budget);
     ended_response(alloc, budget, ended)
 }

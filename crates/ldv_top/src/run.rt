@@ -5,7 +5,7 @@ ghost use Rattle.ldv_value.specs.Limits.{input_limit, max_steps};
 ghost use Rattle.ldv_top.specs.Due.{response_due, due_run};
 
 use crate::reading::read_world;
-use crate::response::{Response, world_response};
+use crate::response::{Response, parsed_response};
 use ldv_value::Bytes;
 use std::alloc::{AllocError, Global};
 use world_json::WorldStop;
@@ -17,7 +17,7 @@ pub(crate) fn run_response(alloc: Global, budget: u32, input: Bytes) -> Result<R
     ensures { IfOk result (λ response. response_due response ≡ due_run budget input) }
 {
     match read_world(alloc, input) {
-        Ok(world) => world_response(alloc, budget, world),
+        Ok(parsed) => parsed_response(alloc, budget, parsed),
         Err(WorldStop::Fault(fault)) => Ok(Response::NotWorld(fault)),
         Err(WorldStop::NoMemory) => Err(AllocError),
     }

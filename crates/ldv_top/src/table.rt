@@ -4,6 +4,7 @@ ghost use Rattle.std.specs.Prelude.{◌≡◌, ◌≤◌, Some, length, map, opt
 ghost use Rattle.std.specs.Prelude.{option_and_then};
 ghost use Rattle.ldv_value.specs.Gives.{Gives};
 ghost use Rattle.ldv_value.specs.Limits.{input_limit, max_steps};
+ghost use Rattle.package_layout.specs.StartScript.{StartsWith};
 ghost use Rattle.run_model.specs.Package.{own_world};
 ghost use Rattle.replay_db.specs.Runs.{CanRun};
 ghost use Rattle.ldv_top.specs.Due.{response_due};
@@ -15,13 +16,13 @@ ghost use Rattle.ldv_top.specs.declared.command.Command.TheVariants.{Table as Ta
 
 use crate::command::{Command, budget_in};
 use crate::numbers::number_within;
-use crate::reading::read_runs_of;
+use crate::reading::read_parsed_of;
 use crate::response::Response;
 use crate::word_stop::WordStop;
 use ldv_value::{Bytes, DEFAULT_STEPS, MAX_STEPS, Utf8};
-use package_layout::PackageStop;
-use replay_db::{TableStop, package_law, table_at};
-use run_model::{Package, table_text};
+use package_layout::{PackageStop, ParsedPackage, RunPackage};
+use replay_db::{TableStop, package_law, table_at_parsed};
+use run_model::table_text;
 use sql_model::is_sql_name;
 use std::alloc::{AllocError, Global};
 
@@ -118,8 +119,8 @@ pub(crate) fn table_response(
     ensures { IfOk result (λ response. response_due response ≡ due_table name.now step budget input) }
 {
     package_law();
-    match read_runs_of(alloc, input) {
-        Ok(package) => tabled_response(alloc, name, step, budget, &package.bare),
+    match read_parsed_of(alloc, input) {
+        Ok(parsed) => tabled_response(alloc, name, step, budget, parsed),
         Err(PackageStop::Damaged(kind)) => Ok(Response::Damaged(kind)),
         Err(PackageStop::NoMemory) => Err(AllocError),
     }
@@ -130,14 +131,17 @@ fn tabled_response(
     name: &str,
     step: u32,
     budget: u32,
-    package: &Package,
+    parsed: ParsedPackage,
 ) -> Result<Response, AllocError>
-    requires can_run { CanRun (own_world «package».now) }
+    requires can_run { CanRun (own_world parsed.cut.bare) }
+    requires parsed { StartsWith parsed }
     requires bounded { budget ≤ max_steps }
     ensures { IfOk result (λ response. response_due response
-        ≡ tabled_package name.now step budget «package».now) }
+        ≡ tabled_package name.now step budget parsed.cut.bare) }
 {
-    match table_at(alloc, package, name, step, budget) {
+    let ParsedPackage { cut, script } = parsed;
+    let RunPackage { bare, runs: _ } = cut;
+    match table_at_parsed(alloc, bare, &script, name, step, budget) {
         Ok(table) => Ok(Response::Written(table_text(alloc, &table)?)),
         Err(TableStop::NoTable) => Ok(Response::NoSuch),
         Err(TableStop::NotEnded) => Ok(Response::NotEnded(budget)),

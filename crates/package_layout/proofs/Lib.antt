@@ -12,6 +12,7 @@ pub mod RunFields
 pub mod RunReading
 pub mod RunTraces
 pub mod Runs
+pub mod StartScripts
 pub mod Tables
 pub mod Tags
 pub mod Values

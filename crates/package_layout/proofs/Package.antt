@@ -15,12 +15,14 @@ use Rattle.package_layout.specs.declared.damage.DamageKind.{DamageKind}
 use Rattle.package_layout.specs.declared.damage.DamageKind.TheVariants.{Magic, Digest, Form}
 use Rattle.package_layout.specs.declared.layout.PackageStop.{PackageStop}
 use Rattle.package_layout.specs.declared.layout.PackageStop.TheVariants.{Damaged, NoMemory}
+use Rattle.package_layout.specs.declared.run_package.ParsedPackage.{ParsedPackage}
 use Rattle.package_layout.specs.declared.run_package.RunPackage.{RunPackage}
 use Rattle.package_layout.specs.Counted.{IsCounted}
 use Rattle.package_layout.specs.Plain.{has_no_foreign, is_plain_row, is_plain_table, is_plain_log, is_plain_event, has_tables, fits_version}
 use Rattle.package_layout.specs.ReadResult.{ReadsAs, RunsReadAs, damage_by, damage_before}
 use Rattle.package_layout.specs.RunPackages.{expanded_package}
 use Rattle.package_layout.specs.Runs.{IsCut, are_runs}
+use Rattle.package_layout.specs.StartScript.{cut_of}
 use Rattle.package_layout.specs.Valid.{rules, IsValidPackage, HasDigest, IsSpelling, IsSpelled, IsNoSpelling, IsUnspelled, before_digest, middle, kept_if, package_in, has_digest, form_of, reading_as, reading_by, reading}
 use Rattle.package_layout.specs.Version.{Version, One, Two, magic, HasMagic, version_of}
 use Rattle.package_layout.specs.Whole.{sections, body, spelling_as, IsTyped, has_room, all_of}
@@ -269,6 +271,11 @@ form_is bytes r due once = form_answer bytes r (read_says bytes r due) once
 pub runs_found : (bytes : List ℕ) (r : Result RunPackage PackageStop) → IsBytes bytes → RunsReadAs r (reading bytes) → IfOk r (λ r. IsTyped (expanded_package r) × IsValidPackage (expanded_package r) × IsSpelled bytes (expanded_package r))
 runs_found bytes (Ok r) h due = ok_read bytes (expanded_package r) h due
 runs_found bytes (Err stop) h due = tt
+
+pub parsed_found : (bytes : List ℕ) (r : Result ParsedPackage PackageStop) → IsBytes bytes → RunsReadAs (cut_of r) (reading bytes)
+    → IfOk r (λ (p : ParsedPackage). IsTyped (expanded_package p.cut) × IsValidPackage (expanded_package p.cut) × IsSpelled bytes (expanded_package p.cut))
+parsed_found bytes (Ok p) h due = ok_read bytes (expanded_package p.cut) h due
+parsed_found bytes (Err stop) h due = tt
 
 pub runs_magic : (bytes : List ℕ) (r : Result RunPackage PackageStop) → RunsReadAs r (reading bytes) → IfSome (damage_before bytes) (λ kind. r ≡ damaged kind) → (r ≡ damaged Magic) ↔ (version_of bytes ≡ None)
 runs_magic bytes r due once = magic_answer bytes r (runs_say bytes r due) once

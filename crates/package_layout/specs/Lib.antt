@@ -12,6 +12,7 @@ pub mod Room
 pub mod RunPackages
 pub mod Runs
 pub mod Spelling
+pub mod StartScript
 pub mod Typed
 pub mod Valid
 pub mod Version

@@ -4,12 +4,16 @@ ghost use Rattle.std.specs.Prelude.{◌≡◌, ◌≤◌, ◌-◌, ◌++◌, IfO
 ghost use Rattle.sha2.specs.Sha256.{sha256};
 ghost use Rattle.package_layout.specs.Valid.{before_digest, has_digest, middle};
 
+use crate::version::MAGIC_LENGTH;
 use ldv_value::Bytes;
 use sha2::{Digest, Sha256};
 use std::alloc::AllocError;
 
 /// The bytes of a digest.
-pub(crate) const DIGEST_LENGTH: usize = 32;
+pub const DIGEST_LENGTH: usize = 32;
+
+/// The bytes of a magic and a digest, which every package has.
+const SHORTEST_LENGTH: usize = MAGIC_LENGTH + DIGEST_LENGTH;
 
 /// The bytes, followed by their digest.
 pub(crate) fn with_digest(body: Bytes) -> Result<Bytes, AllocError>
@@ -25,7 +29,7 @@ pub(crate) fn with_digest(body: Bytes) -> Result<Bytes, AllocError>
 pub fn has_digest(bytes: &[u8]) -> bool
     ensures { result ≡ has_digest bytes.now }
 {
-    if bytes.len() >= 40 {
+    if bytes.len() >= SHORTEST_LENGTH {
         ends_with_digest(bytes)
     } else {
         false
@@ -47,6 +51,6 @@ pub fn middle(bytes: &[u8]) -> &[u8]
     ensures { result.now ≡ middle bytes.now }
 {
     let (front, _digest) = bytes.split_at(bytes.len() - DIGEST_LENGTH);
-    let (_magic, middle) = front.split_at(8);
+    let (_magic, middle) = front.split_at(MAGIC_LENGTH);
     middle
 }

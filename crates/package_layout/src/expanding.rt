@@ -7,7 +7,7 @@ ghost use Rattle.package_layout.specs.Runs.{at_step, are_runs, events_in, is_run
 
 use crate::run::{Run, Runs};
 use crate::run_package::RunPackage;
-use crate::run_tests::count_events;
+use crate::run_rules::count_events;
 use ldv_value::{CopyItem, List};
 use run_model::{Event, Events, Package};
 use std::alloc::{AllocError, Global};

@@ -1,10 +1,12 @@
 //! From bytes to packages.
 
 ghost use Rattle.std.specs.Prelude.{◌≡◌, ◌↔◌, [], true, false, Some, None, Ok, Err, IfOk, IfSome, IsSome};
+ghost use Rattle.std.specs.Option.{option_map};
 ghost use Rattle.package_layout.specs.ReadResult.{ReadsAs, RunsReadAs, damage_before};
 ghost use Rattle.package_layout.specs.RunPackages.{expanded_package, runs_in};
 ghost use Rattle.package_layout.specs.Runs.{IsCut, are_runs};
 ghost use Rattle.package_layout.specs.Fields.{Makes};
+ghost use Rattle.package_layout.specs.StartScript.{StartsWith, cut_of, package_if, valid_script};
 ghost use Rattle.package_layout.specs.Valid.{IsValidPackage, HasDigest, IsSpelled, IsUnspelled, has_digest};
 ghost use Rattle.package_layout.specs.Valid.{reading, reading_as};
 ghost use Rattle.package_layout.specs.Version.{version_of};
@@ -14,11 +16,12 @@ use crate::damage::DamageKind;
 use crate::decode_error::DecodeError;
 use crate::digest::{has_digest, middle};
 use crate::expanding::expanded_package;
-use crate::run_package::RunPackage;
+use crate::run_package::{ParsedPackage, RunPackage};
 use crate::sections::decode_all;
-use crate::validity::is_valid_package;
+use crate::validity::valid_script;
 use crate::version::{Version, version_of};
 use run_model::Package;
+use script_parse::Script;
 use std::alloc::{AllocError, Global};
 
 /// Why a package isn't spelled.
@@ -87,6 +90,16 @@ pub fn read_runs(alloc: Global, bytes: &[u8]) -> Result<RunPackage, PackageStop>
     runs_answer(alloc, bytes)
 }
 
+/// The package of `read_runs`, with the script that it starts with.
+pub fn read_parsed(alloc: Global, bytes: &[u8]) -> Result<ParsedPackage, PackageStop>
+    ensures found { IfOk result (λ p. IsTyped (expanded_package p.cut)
+        × IsValidPackage (expanded_package p.cut) × IsSpelled bytes.now (expanded_package p.cut)) }
+    ensures parsed { IfOk result StartsWith }
+    ensures reading { RunsReadAs (cut_of result) (reading bytes.now) }
+{
+    parsed_answer(alloc, bytes)
+}
+
 fn decode_package(alloc: Global, bytes: &[u8]) -> Result<Package, PackageStop>
     ensures due { ReadsAs result (reading bytes.now) }
     ensures at_once { IfSome (damage_before bytes.now) (λ kind. result ≡ Err (PackageStop.Damaged kind)) }
@@ -114,17 +127,40 @@ fn runs_answer(alloc: Global, bytes: &[u8]) -> Result<RunPackage, PackageStop>
     ensures runs { IfOk result (λ r. are_runs r.runs ≡ true) }
     ensures bare { IfOk result (λ r. r.bare.events ≡ []) }
 {
+    match parsed_answer(alloc, bytes) {
+        Ok(parsed) => {
+            let ParsedPackage { cut, script: _ } = parsed;
+            Ok(cut)
+        }
+        Err(stop) => Err(stop),
+    }
+}
+
+fn parsed_answer(alloc: Global, bytes: &[u8]) -> Result<ParsedPackage, PackageStop>
+    ensures due { RunsReadAs (cut_of result) (reading bytes.now) }
+    ensures at_once { IfSome (damage_before bytes.now)
+        (λ kind. cut_of result ≡ Err (PackageStop.Damaged kind)) }
+    ensures runs { IfOk result (λ p. are_runs p.cut.runs ≡ true) }
+    ensures bare { IfOk result (λ p. p.cut.bare.events ≡ []) }
+    ensures parsed { IfOk result StartsWith }
+{
     match version_of(bytes) {
         Some(version) => answer_as(alloc, version, bytes),
         None => Err(PackageStop::Damaged(DamageKind::Magic)),
     }
 }
 
-fn answer_as(alloc: Global, version: Version, bytes: &[u8]) -> Result<RunPackage, PackageStop>
-    ensures due { RunsReadAs result (reading_as version bytes.now) }
-    ensures at_once { has_digest bytes.now ≡ false → result ≡ Err (PackageStop.Damaged DamageKind.Digest) }
-    ensures runs { IfOk result (λ r. are_runs r.runs ≡ true) }
-    ensures bare { IfOk result (λ r. r.bare.events ≡ []) }
+fn answer_as(
+    alloc: Global,
+    version: Version,
+    bytes: &[u8],
+) -> Result<ParsedPackage, PackageStop>
+    ensures due { RunsReadAs (cut_of result) (reading_as version bytes.now) }
+    ensures at_once { has_digest bytes.now ≡ false
+        → cut_of result ≡ Err (PackageStop.Damaged DamageKind.Digest) }
+    ensures runs { IfOk result (λ p. are_runs p.cut.runs ≡ true) }
+    ensures bare { IfOk result (λ p. p.cut.bare.events ≡ []) }
+    ensures parsed { IfOk result StartsWith }
 {
     if has_digest(bytes) {
         middle_answer(alloc, version, bytes)
@@ -133,27 +169,62 @@ fn answer_as(alloc: Global, version: Version, bytes: &[u8]) -> Result<RunPackage
     }
 }
 
-fn middle_answer(alloc: Global, version: Version, bytes: &[u8]) -> Result<RunPackage, PackageStop>
+fn middle_answer(
+    alloc: Global,
+    version: Version,
+    bytes: &[u8],
+) -> Result<ParsedPackage, PackageStop>
     requires { has_digest bytes.now ≡ true }
-    ensures due { RunsReadAs result (reading_as version bytes.now) }
-    ensures runs { IfOk result (λ r. are_runs r.runs ≡ true) }
-    ensures bare { IfOk result (λ r. r.bare.events ≡ []) }
+    ensures due { RunsReadAs (cut_of result) (reading_as version bytes.now) }
+    ensures runs { IfOk result (λ p. are_runs p.cut.runs ≡ true) }
+    ensures bare { IfOk result (λ p. p.cut.bare.events ≡ []) }
+    ensures parsed { IfOk result StartsWith }
 {
-    match runs_in(alloc, version, middle(bytes)) {
-        Ok(package) => Ok(package),
+    match parsed_in(alloc, version, middle(bytes)) {
+        Ok(parsed) => Ok(parsed),
         Err(DecodeError::Malformed) => Err(PackageStop::Damaged(DamageKind::Form)),
         Err(DecodeError::NoMemory) => Err(PackageStop::NoMemory),
     }
 }
 
 // Nothing is expanded before all is judged: a few bytes can stand for 20,000,001 events.
-fn runs_in(alloc: Global, version: Version, middle: &[u8]) -> Result<RunPackage, DecodeError>
-    ensures { Makes result (runs_in version middle.now) }
+fn parsed_in(
+    alloc: Global,
+    version: Version,
+    middle: &[u8],
+) -> Result<ParsedPackage, DecodeError>
+    ensures made { Makes (cut_of result) (runs_in version middle.now) }
+    ensures parsed { IfOk result StartsWith }
 {
-    let package = decode_all(alloc, version, middle)?;
-    if is_valid_package(alloc, version, &package)? {
-        Ok(package)
-    } else {
-        Err(DecodeError::Malformed)
+    match decode_all(alloc, version, middle) {
+        Ok(package) => judged_package(alloc, version, package),
+        Err(DecodeError::Malformed) => Err(DecodeError::Malformed),
+        Err(DecodeError::NoMemory) => Err(DecodeError::NoMemory),
+    }
+}
+
+fn judged_package(
+    alloc: Global,
+    version: Version,
+    package: RunPackage,
+) -> Result<ParsedPackage, DecodeError>
+    ensures made { Makes (cut_of result) (package_if (valid_script version «package») «package») }
+    ensures parsed { IfOk result StartsWith }
+{
+    let found = valid_script(alloc, version, &package)?;
+    with_script(package, found)
+}
+
+fn with_script(package: RunPackage, found: Option<Script>) -> Result<ParsedPackage, DecodeError>
+    ensures made { Makes (cut_of result) (package_if (option_map (λ s. s.instructions) found) «package») }
+    ensures parts { IfOk result (λ p. (p.cut ≡ «package»)
+        × (option_map (λ s. s.instructions) found ≡ Some p.script.instructions)) }
+{
+    match found {
+        Some(script) => Ok(ParsedPackage {
+            cut: package,
+            script,
+        }),
+        None => Err(DecodeError::Malformed),
     }
 }

@@ -2,6 +2,7 @@
 
 use crate::run::Runs;
 use run_model::Package;
+use script_parse::Script;
 
 /// A package whose trace is kept as runs of events. A run of a few bytes can stand for millions of events.
 #[derive(Drop)]
@@ -9,4 +10,12 @@ pub struct RunPackage {
     /// The package without its events.
     pub bare: Package,
     pub runs: Runs,
+}
+
+/// A package whose trace is kept as runs, with the script that it starts with, which is that of the file at
+/// the first start word: the package was judged, and the script isn't parsed again.
+#[derive(Drop)]
+pub struct ParsedPackage {
+    pub cut: RunPackage,
+    pub script: Script,
 }

@@ -14,7 +14,7 @@ ghost use Rattle.package_layout.specs.inner.Trace.{follows, at_start, starts_on,
 ghost use Rattle.package_layout.specs.inner.Trace.{trace_test, asked_count, progress_of};
 
 use crate::run::Run;
-use crate::run_tests::last_step;
+use crate::run_rules::last_step;
 use crate::same_act::is_asked;
 use ldv_value::{Names, Utf8, is_path, is_strictly_sorted};
 use run_model::{Act, Event};

@@ -6,20 +6,22 @@ ghost use Rattle.std.specs.Option.{option_map, is_some};
 ghost use Rattle.script_parse.specs.Script.{script_of};
 ghost use Rattle.package_layout.specs.RunPackages.{run_rules, expanded_package};
 ghost use Rattle.package_layout.specs.Runs.{are_runs, events_in, is_run};
-ghost use Rattle.package_layout.specs.Valid.{mode_rule, steps_rule, is_script, is_script_file, script_rule};
-ghost use Rattle.package_layout.specs.Valid.{trace_rule, reasons_rule, parts_rule, whole_rule, rules};
+ghost use Rattle.package_layout.specs.StartScript.{file_script, packed_script, ruled_script, script_in};
+ghost use Rattle.package_layout.specs.StartScript.{valid_script};
+ghost use Rattle.package_layout.specs.Valid.{mode_rule, steps_rule};
+ghost use Rattle.package_layout.specs.Valid.{trace_rule, reasons_rule, parts_rule, whole_rule};
 ghost use Rattle.package_layout.specs.Whole.{with_events};
 
 use crate::plain::fits_version;
 use crate::rules::{is_valid_files, is_valid_logs, is_valid_start, is_valid_tables};
 use crate::run::Run;
 use crate::run_package::RunPackage;
-use crate::run_tests::are_runs;
+use crate::run_rules::are_runs;
 use crate::trace::{asked_count, is_trace};
 use crate::version::Version;
 use ldv_value::{Bytes, FILE_LIMIT, MAX_STEPS, Utf8, Words};
 use run_model::{Logs, Mode, Package, PackedFile, PackedFiles, PackedTable, PackedTables};
-use script_parse::{ScriptStop, parse_script};
+use script_parse::{Script, ScriptStop, parse_script};
 use std::alloc::{AllocError, Global};
 
 /// Whether the runs of a package are those of a trace, all of it meets the rules for valid packages, and the
@@ -31,27 +33,50 @@ pub fn is_valid_package(
 ) -> Result<bool, AllocError>
     ensures { IfOk result (λ holds. holds ≡ run_rules version «package».now) }
 {
+    let script = valid_script(alloc, version, package)?;
+    Ok(is_there(script))
+}
+
+fn is_there(script: Option<Script>) -> bool
+    ensures { result ≡ is_some (option_map (λ s. s.instructions) script) }
+{
+    match script {
+        Some(_) => true,
+        None => false,
+    }
+}
+
+/// The script that a valid package starts with, as of `is_valid_package`; `None` where it isn't valid.
+pub(crate) fn valid_script(
+    alloc: Global,
+    version: Version,
+    package: &RunPackage,
+) -> Result<Option<Script>, AllocError>
+    ensures { IfOk result (λ found. option_map (λ s. s.instructions) found
+        ≡ valid_script version «package».now) }
+{
     if !are_runs(package.runs.items()) {
-        return Ok(false);
+        return Ok(None);
     }
-    if !meets_rules(alloc, package)? {
-        return Ok(false);
+    if !fits_version(version, package) {
+        return Ok(None);
     }
-    Ok(fits_version(version, package))
+    ruled_script(alloc, package)
 }
 
 #[tactic(auto, using(crate::proofs::Runs::are_all_runs))]
-fn meets_rules(alloc: Global, package: &RunPackage) -> Result<bool, AllocError>
+fn ruled_script(alloc: Global, package: &RunPackage) -> Result<Option<Script>, AllocError>
     requires { are_runs «package».now.runs ≡ true }
-    ensures { IfOk result (λ holds. holds ≡ rules (expanded_package «package».now)) }
+    ensures { IfOk result (λ found. option_map (λ s. s.instructions) found
+        ≡ ruled_script (expanded_package «package».now)) }
 {
     if !is_valid_parts(alloc, &package.bare)? {
-        return Ok(false);
+        return Ok(None);
     }
     if !is_valid_whole(&package.bare, package.runs.items()) {
-        return Ok(false);
+        return Ok(None);
     }
-    starts_script(alloc, &package.bare.start, &package.bare.files)
+    packed_script(alloc, &package.bare.start, &package.bare.files)
 }
 
 fn is_valid_parts(alloc: Global, package: &Package) -> Result<bool, AllocError>
@@ -123,21 +148,31 @@ fn is_valid_table_reasons(asked: u64, table: &PackedTable) -> bool
         .all(|row| u64::from(row.statement) < asked)
 }
 
-fn starts_script(alloc: Global, words: &Words, files: &PackedFiles) -> Result<bool, AllocError>
-    ensures { IfOk result (λ holds. holds ≡ script_rule words.now files.now) }
+fn packed_script(
+    alloc: Global,
+    words: &Words,
+    files: &PackedFiles,
+) -> Result<Option<Script>, AllocError>
+    ensures { IfOk result (λ found. option_map (λ s. s.instructions) found
+        ≡ packed_script words.now files.now) }
 {
     match words.items() {
-        [] => Ok(false),
-        [word, ..] => file_is_script(alloc, word, files),
+        [] => Ok(None),
+        [word, ..] => file_script(alloc, word, files),
     }
 }
 
-fn file_is_script(alloc: Global, word: &Utf8, files: &PackedFiles) -> Result<bool, AllocError>
-    ensures { IfOk result (λ holds. holds ≡ is_script_file (find (λ f. bytes_eq word.now f.path) files.now)) }
+fn file_script(
+    alloc: Global,
+    word: &Utf8,
+    files: &PackedFiles,
+) -> Result<Option<Script>, AllocError>
+    ensures { IfOk result (λ found. option_map (λ s. s.instructions) found
+        ≡ file_script (find (λ f. bytes_eq word.now f.path) files.now)) }
 {
     match find_file(files, word) {
-        None => Ok(false),
-        Some(file) => is_script(alloc, &file.content),
+        None => Ok(None),
+        Some(file) => script_in(alloc, &file.content),
     }
 }
 
@@ -147,27 +182,28 @@ fn find_file<'a>(files: &'a PackedFiles, path: &Utf8) -> Option<&'a PackedFile>
     files.items().iter().find(|file| *path == file.path)
 }
 
-fn is_script(alloc: Global, content: &Option<Bytes>) -> Result<bool, AllocError>
-    ensures { IfOk result (λ holds. holds ≡ is_script content.now) }
+fn script_in(alloc: Global, content: &Option<Bytes>) -> Result<Option<Script>, AllocError>
+    ensures { IfOk result (λ found. option_map (λ s. s.instructions) found
+        ≡ script_in content.now) }
 {
     match content {
-        None => Ok(false),
+        None => Ok(None),
         Some(bytes) => {
             if bytes.len() <= FILE_LIMIT {
-                parses(alloc, bytes.as_slice())
+                parse_content(alloc, bytes.as_slice())
             } else {
-                Ok(false)
+                Ok(None)
             }
         }
     }
 }
 
-fn parses(alloc: Global, bytes: &[u8]) -> Result<bool, AllocError>
-    ensures { IfOk result (λ holds. holds ≡ is_some (script_of bytes.now)) }
+fn parse_content(alloc: Global, bytes: &[u8]) -> Result<Option<Script>, AllocError>
+    ensures { IfOk result (λ found. option_map (λ s. s.instructions) found ≡ script_of bytes.now) }
 {
     match parse_script(alloc, bytes) {
-        Ok(_script) => Ok(true),
-        Err(ScriptStop::Line(_)) => Ok(false),
+        Ok(script) => Ok(Some(script)),
+        Err(ScriptStop::Line(_)) => Ok(None),
         Err(ScriptStop::NoMemory) => Err(AllocError),
     }
 }

@@ -3,6 +3,9 @@
 ghost use Rattle.std.specs.Prelude.{◌≡◌, ◌↔◌, Some, None, take};
 ghost use Rattle.package_layout.specs.Version.{HasMagic, has_magic, magic, version_of};
 
+/// The bytes of a magic.
+pub(crate) const MAGIC_LENGTH: usize = 8;
+
 /// A version of the format. Both are read; `spell` writes the second.
 #[derive(Clone, Copy, Debug, PartialEq, Eq)]
 pub enum Version {
@@ -55,5 +58,9 @@ fn has_magic(version: Version, bytes: &[u8]) -> bool
 pub fn first_eight(bytes: &[u8]) -> &[u8]
     ensures { result.now ≡ take 8 bytes.now }
 {
-    if bytes.len() < 8 { bytes } else { &bytes[..8] }
+    if bytes.len() < MAGIC_LENGTH {
+        bytes
+    } else {
+        &bytes[..MAGIC_LENGTH]
+    }
 }

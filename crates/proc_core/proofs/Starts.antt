@@ -1,12 +1,12 @@
 -- The state in which a run begins.
 use Rattle.std.proofs.Common.{◌≡◌, ℕ, zero, suc, List, [], ◌∷◌, length, map, refl, sym, ap, ◌∙◌, subst, Bool, true}
-use Rattle.std.specs.Prelude.{Option, Some, slice_get, is_some, option_and_then, IsSome}
+use Rattle.std.specs.Prelude.{Option, Some, None, slice_get, is_some, option_and_then, IsSome}
 use Rattle.std.specs.List.{AllByRecursion}
 use Rattle.ldv_value.specs.FileState.{FileState, content_at, initial_files}
 use Rattle.ldv_value.proofs.Options.{same-some}
 use Rattle.script_parse.specs.Script.{script_of}
 use Rattle.script_code.specs.declared.code.Code.{Code}
-use Rattle.script_code.specs.Resolved.{IsCode, IsRead}
+use Rattle.script_code.specs.Resolved.{IsCode}
 use Rattle.proc_core.proofs.FlagLaws.{new_runs}
 use Rattle.proc_core.specs.Types.{File, Instr, Text}
 use Rattle.run_model.specs.Core.{Process, new_process, start_core}
@@ -58,15 +58,36 @@ module _ (m : Machine) (path : List ℕ) (words : List (List ℕ)) (seed : ℕ) 
 
 -- ---- the script of a file
 
-pub code_due : (bytes : List ℕ) (o : Option (List ℕ)) (code : Code) (due : List Instr) → Some bytes ≡ o → IsRead bytes (Some code)
-    → option_and_then script_of o ≡ Some due → IsCode code due
-code_due bytes o code due at read is =
-    let both : Some read.0 ≡ Some due = sym read.1 ∙ ap (option_and_then script_of) at ∙ is in
-    subst (IsCode code) (same-some read.0 due both) read.2
+pub script_there : (bytes : List ℕ) (o : Option (List ℕ)) (script : List Instr) → Some bytes ≡ o → script_of bytes ≡ Some script
+    → option_and_then script_of o ≡ Some script
+script_there bytes o script at is = ap (option_and_then script_of) (sym at) ∙ is
 
--- there is one at the first start word
+pub parsed_there : (bytes : List ℕ) (o : Option (List ℕ)) (script : List Instr) → Some bytes ≡ o → option_and_then script_of o ≡ Some script
+    → script_of bytes ≡ Some script
+parsed_there bytes o script at is = ap (option_and_then script_of) at ∙ is
+
+-- no file has none
+pub parsed_absent : (o : Option (List ℕ)) (script : List Instr) → None ≡ o → option_and_then script_of o ≡ Some script → ⊥
+parsed_absent o script at is = let never : None ≡ Some script = ap (option_and_then script_of) at ∙ is in cc
+
+pub code_due : (o : Option (List ℕ)) (script : List Instr) (code : Code) (due : List Instr) → IsCode code script
+    → option_and_then script_of o ≡ Some script → option_and_then script_of o ≡ Some due → IsCode code due
+code_due o script code due coded at is =
+    let both : Some script ≡ Some due = sym at ∙ is in
+    subst (IsCode code) (same-some script due both) coded
+
+-- ---- the script of the file at the first start word
+
 pub first_there : (path : List ℕ) (words start : List (List ℕ)) (tree : FileState) → start ≡ path ∷ words → HasStartScript start tree
     → IsSome (option_and_then script_of (content_at tree path))
 first_there path words start tree is has =
     let here : HasStartScript (path ∷ words) tree = subst (λ (l : List (List ℕ)). HasStartScript l tree) is has in
     ap (λ (o : Option (List Instr)). is_some o) here.1
+
+pub first_parsed : (path : List ℕ) (words start : List (List ℕ)) (tree : FileState) (script : List Instr) → start ≡ path ∷ words
+    → IsStartScript start tree script → option_and_then script_of (content_at tree path) ≡ Some script
+first_parsed path words start tree script is parsed = subst (λ (l : List (List ℕ)). IsStartScript l tree script) is parsed
+
+pub first_found : (path : List ℕ) (words start : List (List ℕ)) (tree : FileState) (script : List Instr) → start ≡ path ∷ words
+    → option_and_then script_of (content_at tree path) ≡ Some script → IsStartScript start tree script
+first_found path words start tree script is found = subst (λ (l : List (List ℕ)). IsStartScript l tree script) (sym is) found

@@ -23,12 +23,13 @@ use crate::machine::Machine;
 use crate::outcome::{outcome_from, outcome_of};
 use crate::ready::{has_ended, refresh};
 use crate::schedule::{choose, schedule};
-use crate::start::machine_at;
+use crate::start::{machine_at, start_script};
 use crate::step::step_process;
 use crate::tell::{PathAct, Who, tell_path};
 use file_tree::Tree;
 use ldv_value::Words;
 use run_model::{Database, Outcome, Tracer};
+use script_parse::Script;
 use std::alloc::AllocError;
 
 // Makes one step of the process that the seed chooses, and brings up to date who may run.
@@ -102,11 +103,36 @@ impl<D: Database, T: Tracer> Run<D, T> {
             (start_events (slice_get start.now 0))) }
         ensures steps { IfOk result (λ begun. begun.steps ≡ 0) }
     {
+        let script = start_script(start, &tree)?;
+        Run::start_parsed(start, &script, seed, tree, db, tracer)
+    }
+
+    /// The run as of `start`, of a script that was parsed before: that of the file at the first start word.
+    pub fn start_parsed(
+        start: &Words,
+        script: &Script,
+        seed: u64,
+        tree: Tree,
+        db: D,
+        tracer: T,
+    ) -> Result<Run<D, T>, AllocError>
+        requires words { 0 < length start.now }
+        requires script { IsStartScript start.now tree script.now.instructions }
+        requires fresh { D.latest db ≡ 0 }
+        ensures state { IfOk result (λ begun. (due : Items Instr) (files : Items File)
+            → tree ≡ initial_files files
+            → IsStartScript start.now tree due
+            → Stands begun.machine (D.seen begun.db)
+            (start_state_of start.now seed files due (D.seen db))) }
+        ensures told { IfOk result (λ begun. AppendsEvents T.KEEPS (T.events tracer) (T.events begun.tracer)
+            (start_events (slice_get start.now 0))) }
+        ensures steps { IfOk result (λ begun. begun.steps ≡ 0) }
+    {
         let mut tracer = tracer;
         match start.items() {
             [] => unreachable!(),
             [path, words @ ..] => {
-                let machine = machine_at(start.allocator(), path, words, seed, tree)?;
+                let machine = machine_at(start.allocator(), path, words, script, seed, tree)?;
                 tell_path(
                     Who { step: 0, number: 0 },
                     PathAct::Started,

@@ -1,48 +1,66 @@
 //! The state in which a run begins.
 
-ghost use Rattle.std.specs.Prelude.{◌≡◌, ◌∷◌, Some, List as Items, [], map, true, IfOk, IsSome};
+ghost use Rattle.std.specs.Prelude.{◌≡◌, ◌<◌, ◌∷◌, Some, List as Items, [], length, map, true, IfOk, IsSome};
 ghost use Rattle.std.specs.Option.{option_and_then};
 ghost use Rattle.ldv_value.specs.FileState.{content_at, initial_files};
 ghost use Rattle.script_parse.specs.Script.{script_of};
 ghost use Rattle.proc_core.specs.Types.{Instr, File, Text};
 ghost use Rattle.run_model.specs.Core.{new_process, start_core};
-ghost use Rattle.script_code.specs.Resolved.{IsCode, IsRead};
+ghost use Rattle.script_code.specs.Resolved.{IsCode};
 ghost use Rattle.proc_core.specs.inner.Counts.{CountsBelow};
 ghost use Rattle.proc_core.specs.inner.SlotReady.{IsReady};
 ghost use Rattle.proc_core.specs.inner.Slots.{Holds};
-ghost use Rattle.proc_core.specs.Stands.{IsCore};
+ghost use Rattle.proc_core.specs.Stands.{HasStartScript, IsCore, IsStartScript};
 
 use crate::machine::{Codes, Machine};
 use crate::new_process::new_process;
 use crate::process::SlotProcess;
 use file_tree::Tree;
-use ldv_value::{Numbers, Parts, Utf8, Value, Values};
+use ldv_value::{Numbers, Parts, Utf8, Value, Values, Words};
 use ready_set::ReadySet;
-use script_code::{Code, read_code};
+use script_code::{Code, code_of};
+use script_parse::{Script, known_script};
 use std::alloc::{AllocError, Global};
 use std::collections::BTreeMap;
 
-// The resolved script of bytes.
-fn code_of(alloc: Global, bytes: &[u8]) -> Result<Code, AllocError>
-    requires { IsSome (script_of bytes.now) }
-    ensures { IfOk result (λ code. IsRead bytes.now (Some code)) }
+// The script of a file.
+fn script_at(alloc: Global, tree: &Tree, path: &Utf8) -> Result<Script, AllocError>
+    requires { IsSome (option_and_then script_of (content_at tree.now path.now)) }
+    ensures { IfOk result (λ script. option_and_then script_of (content_at tree.now path.now)
+        ≡ Some script.instructions) }
 {
-    match read_code(alloc, bytes)? {
+    match tree.state(path.as_str()) {
         None => unreachable!(),
-        Some(code) => Ok(code),
+        Some(bytes) => known_script(alloc, bytes),
     }
 }
 
-// The resolved script of a file.
-#[tactic(auto, using(crate::proofs::Starts::code_due))]
-fn code_at(alloc: Global, tree: &Tree, path: &Utf8) -> Result<Code, AllocError>
-    requires { IsSome (option_and_then script_of (content_at tree.now path.now)) }
+/// The script of the file at the first start word.
+pub(crate) fn start_script(start: &Words, tree: &Tree) -> Result<Script, AllocError>
+    requires words { 0 < length start.now }
+    requires script { HasStartScript start.now tree.now }
+    ensures { IfOk result (λ script. IsStartScript start.now tree.now script.instructions) }
+{
+    match start.items() {
+        [] => unreachable!(),
+        [path, _words @ ..] => script_at(start.allocator(), tree, path),
+    }
+}
+
+// The resolved form of a file's script, which was parsed.
+fn code_at(
+    alloc: Global,
+    tree: &Tree,
+    path: &Utf8,
+    script: &Script,
+) -> Result<Code, AllocError>
+    requires { option_and_then script_of (content_at tree.now path.now) ≡ Some script.now.instructions }
     ensures { IfOk result (λ code. (due : Items Instr)
         → option_and_then script_of (content_at tree.now path.now) ≡ Some due → IsCode code due) }
 {
     match tree.state(path.as_str()) {
         None => unreachable!(),
-        Some(bytes) => code_of(alloc, bytes),
+        Some(bytes) => code_of(alloc, bytes, &script.instructions),
     }
 }
 
@@ -77,23 +95,24 @@ fn first_process(alloc: Global, code: &Code, words: &[Utf8]) -> Result<SlotProce
     new_process(alloc, name, 0, code, arguments.items())
 }
 
-/// The machine of the script at a path, with the other start words as its arguments.
+/// The machine of the script at a path, which was parsed, with the other start words as its arguments.
 pub(crate) fn machine_at(
     alloc: Global,
     path: &Utf8,
     words: &[Utf8],
+    script: &Script,
     seed: u64,
     tree: Tree,
 ) -> Result<Machine, AllocError>
-    requires { IsSome (option_and_then script_of (content_at tree path.now)) }
-    ensures core { IfOk result (λ m. (script : Items Instr) (files : Items File) → tree ≡ initial_files files
-        → option_and_then script_of (content_at tree path.now) ≡ Some script
-        → IsCore m (start_core (path.now ∷ words.now) seed files script)) }
-    ensures ready { IfOk result (λ m. (script : Items Instr) (files : Items File)
-        → IsReady m (start_core (path.now ∷ words.now) seed files script)) }
+    requires { option_and_then script_of (content_at tree path.now) ≡ Some script.now.instructions }
+    ensures core { IfOk result (λ m. (due : Items Instr) (files : Items File) → tree ≡ initial_files files
+        → option_and_then script_of (content_at tree path.now) ≡ Some due
+        → IsCore m (start_core (path.now ∷ words.now) seed files due)) }
+    ensures ready { IfOk result (λ m. (due : Items Instr) (files : Items File)
+        → IsReady m (start_core (path.now ∷ words.now) seed files due)) }
     ensures counted { IfOk result (CountsBelow 1) }
 {
-    let code = code_at(alloc, &tree, path)?;
+    let code = code_at(alloc, &tree, path, script)?;
     let process = first_process(alloc, &code, words)?;
     let ready = first_ready_set(alloc)?;
     let mut codes = Codes::new(alloc);
@@ -102,6 +121,8 @@ pub(crate) fn machine_at(
     processes.push(process)?;
     let mut parents = Numbers::new(alloc);
     parents.push(0)?;
+    let mut runners = BTreeMap::new(alloc);
+    runners.insert(path.copy()?.into_string(), 0)?;
     Ok(Machine {
         alloc,
         codes,
@@ -113,6 +134,6 @@ pub(crate) fn machine_at(
         asked: 0,
         ready,
         parents,
-        runners: BTreeMap::new(alloc),
+        runners,
     })
 }

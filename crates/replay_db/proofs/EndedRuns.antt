@@ -1,9 +1,11 @@
 -- What a run over files and an engine says of the run of a world.
 use Rattle.std.proofs.Common.{◌≡◌, ℕ, List, [], ◌++◌, sym, ap, ◌∙◌, Bool, true, append_assoc}
-use Rattle.std.specs.Prelude.{Some, slice_get}
+use Rattle.std.specs.Prelude.{Option, Some, option_and_then, slice_get}
 use Rattle.std.specs.List.{list_all}
 use Rattle.ldv_value.proofs.Booleans.{and-first, and-second}
 use Rattle.ldv_value.proofs.Lists.{list_all-weaker}
+use Rattle.ldv_value.specs.declared.file.File.{File}
+use Rattle.script_parse.specs.Script.{script_of}
 use Rattle.script_parse.specs.declared.script.Instr.{Instr}
 use Rattle.proc_core.specs.Stands.{AppendsEvents}
 use Rattle.run_model.specs.declared.event.Event.{Event}
@@ -36,6 +38,13 @@ pub tables_distinct : (ts : List Table) → tables_test ts ≡ true → have_dis
 tables_distinct ts met =
     list_all-weaker is_described (λ t. are_distinct t.schema.columns) distinct_in ts
     (and-second (is_database ts) (list_all is_described ts) met)
+
+-- ---- the script that it starts with
+
+pub found_script : (bytes : List ℕ) (file : File) (o : Option File) (script : List Instr) → bytes ≡ file.content → Some file ≡ o
+    → script_of bytes ≡ Some script → option_and_then (λ (f : File). script_of f.content) o ≡ Some script
+found_script bytes file o script same at is =
+    ap (option_and_then (λ (f : File). script_of f.content)) (sym at) ∙ ap script_of (sym same) ∙ is
 
 -- ---- the end
 

@@ -17,6 +17,7 @@ use crate::setting::{Setting, setting_of};
 use crate::error::EndStop;
 use proc_core::{Run, RunStop};
 use run_model::{Events, ListTracer, Logs, World};
+use script_parse::Script;
 use sql_engine::Engine;
 use std::alloc::{AllocError, Global};
 
@@ -30,10 +31,15 @@ pub(crate) struct Logged {
 }
 
 // The run of a world before its first step. What it will ask is kept.
-fn begin(alloc: Global, world: World) -> Result<Run<Recorder<Engine>, ListTracer>, AllocError>
-    requires { CanRun world }
-    ensures state { IfOk result (λ run. (script : Items Instr) → start_script world ≡ Some script
-        → Stands run.machine (keeping_database (database run.db.db) run.db.kept) (kept_start world script)) }
+fn begin(
+    alloc: Global,
+    world: World,
+    script: &Script,
+) -> Result<Run<Recorder<Engine>, ListTracer>, AllocError>
+    requires can_run { CanRun world }
+    requires parsed { start_script world ≡ Some script.now.instructions }
+    ensures state { IfOk result (λ run. (due : Items Instr) → start_script world ≡ Some due
+        → Stands run.machine (keeping_database (database run.db.db) run.db.kept) (kept_start world due)) }
     ensures told { IfOk result (λ run. run.tracer ≡ start_events (slice_get world.start 0)) }
     ensures steps { IfOk result (λ run. run.steps ≡ 0) }
 {
@@ -45,7 +51,14 @@ fn begin(alloc: Global, world: World) -> Result<Run<Recorder<Engine>, ListTracer
     } = world;
     let Setting { tree, engine } = setting_of(alloc, files, tables)?;
     let recorder = Recorder::over(alloc, engine);
-    let begun = Run::start(&start, seed, tree, recorder, ListTracer::new(alloc))?;
+    let begun = Run::start_parsed(
+        &start,
+        script,
+        seed,
+        tree,
+        recorder,
+        ListTracer::new(alloc),
+    )?;
     Ok(begun)
 }
 
@@ -67,13 +80,19 @@ fn recorded_run(run: Run<Recorder<Engine>, ListTracer>) -> Result<Logged, AllocE
 
 /// Runs a world within a budget of steps, and tells what is recorded of the run, with the replies. No
 /// question of SQL diverges.
-pub(crate) fn log_world(alloc: Global, world: World, budget: u32) -> Result<Logged, EndStop>
+pub(crate) fn log_world(
+    alloc: Global,
+    world: World,
+    script: &Script,
+    budget: u32,
+) -> Result<Logged, EndStop>
     requires can_run { CanRun world }
+    requires parsed { start_script world ≡ Some script.now.instructions }
     requires bounded { budget ≤ max_steps }
     ensures logged { IfOk result (λ logged. IsLogged budget world logged) }
     ensures not_ended { IfErr result (HasNotEnded budget world) }
 {
-    let begun = begin(alloc, world)?;
+    let begun = begin(alloc, world, script)?;
     match begun.to_end(budget) {
         Ok(ended) => Ok(recorded_run(ended)?),
         Err(RunStop::NotEnded) => Err(EndStop::NotEnded),

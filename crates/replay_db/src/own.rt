@@ -1,12 +1,15 @@
 //! The own world of a package.
 
-ghost use Rattle.std.specs.Prelude.{◌≡◌, map, IfOk};
+ghost use Rattle.std.specs.Prelude.{◌≡◌, Some, map, IfOk};
 ghost use Rattle.run_model.specs.Package.{or_empty, own_file, own_row, own_table, own_world};
+ghost use Rattle.run_model.specs.Start.{IsParsed, start_script};
 
 use ldv_value::{Bytes, CopyItem, File, Files};
 use run_model::{
-    Package, PackedFile, PackedFiles, PackedRow, PackedRows, PackedTable, PackedTables, World,
+    Package, PackedFile, PackedFiles, PackedRow, PackedRows, PackedTable, PackedTables, ParsedWorld,
+    World,
 };
+use script_parse::Script;
 use sql_model::{Table, TableRow, TableRows, Tables};
 use std::alloc::{AllocError, Global};
 
@@ -89,4 +92,122 @@ pub fn own_world(alloc: Global, package: &Package) -> Result<World, AllocError>
         files: own_files(alloc, &package.files)?,
         tables: own_tables(alloc, &package.tables)?,
     })
+}
+
+// ---- in the package's own memory
+
+fn content_of(alloc: Global, content: Option<Bytes>) -> Bytes
+    ensures { result ≡ or_empty content }
+{
+    match content {
+        None => Bytes::new(alloc),
+        Some(bytes) => bytes,
+    }
+}
+
+fn file_of(alloc: Global, file: PackedFile) -> File
+    ensures { result ≡ own_file file }
+{
+    let PackedFile { path, content } = file;
+    File {
+        path,
+        content: content_of(alloc, content),
+    }
+}
+
+fn files_of(alloc: Global, packed: PackedFiles) -> Result<Files, AllocError>
+    ensures { IfOk result (λ files. files ≡ map own_file packed) }
+{
+    let mut files = Files::with_capacity(alloc, packed.len())?;
+    for file in packed.into_vec() {
+        files.push(file_of(alloc, file))?;
+    }
+    Ok(files)
+}
+
+fn row_of(row: PackedRow) -> TableRow
+    ensures { result ≡ own_row row }
+{
+    let PackedRow {
+        number,
+        statement: _,
+        rule: _,
+        values,
+    } = row;
+    TableRow { number, values }
+}
+
+fn rows_of(alloc: Global, packed: PackedRows) -> Result<TableRows, AllocError>
+    ensures { IfOk result (λ rows. rows ≡ map own_row packed) }
+{
+    let mut rows = TableRows::with_capacity(alloc, packed.len())?;
+    for row in packed.into_vec() {
+        rows.push(row_of(row))?;
+    }
+    Ok(rows)
+}
+
+fn table_of(alloc: Global, table: PackedTable) -> Result<Table, AllocError>
+    ensures { IfOk result (λ own. own ≡ own_table table) }
+{
+    let PackedTable {
+        name,
+        schema,
+        next,
+        rows,
+    } = table;
+    Ok(Table {
+        name,
+        schema,
+        rows: rows_of(alloc, rows)?,
+        next,
+    })
+}
+
+fn tables_of(alloc: Global, packed: PackedTables) -> Result<Tables, AllocError>
+    ensures { IfOk result (λ tables. tables ≡ map own_table packed) }
+{
+    let mut tables = Tables::with_capacity(alloc, packed.len())?;
+    for table in packed.into_vec() {
+        tables.push(table_of(alloc, table)?)?;
+    }
+    Ok(tables)
+}
+
+/// The world that a package has in it, as of `own_world`, in the package's own memory: no file and no row is
+/// copied.
+pub fn own_world_of(alloc: Global, package: Package) -> Result<World, AllocError>
+    ensures { IfOk result (λ world. world ≡ own_world «package») }
+{
+    let Package {
+        mode: _,
+        start,
+        seed,
+        steps: _,
+        files,
+        tables,
+        logs: _,
+        events: _,
+    } = package;
+    Ok(World {
+        start,
+        seed,
+        files: files_of(alloc, files)?,
+        tables: tables_of(alloc, tables)?,
+    })
+}
+
+/// The world that a package has in it, as of `own_world_of`, with the script that it starts with, which was
+/// parsed.
+pub fn own_parsed_world(
+    alloc: Global,
+    package: Package,
+    script: Script,
+) -> Result<ParsedWorld, AllocError>
+    requires { start_script (own_world «package») ≡ Some script.instructions }
+    ensures world { IfOk result (λ p. p.world ≡ own_world «package») }
+    ensures parsed { IfOk result IsParsed }
+{
+    let world = own_world_of(alloc, package)?;
+    Ok(ParsedWorld { world, script })
 }

@@ -1,8 +1,9 @@
 //! The package of a world's run, of either mode.
 
-ghost use Rattle.std.specs.Prelude.{◌≡◌, ◌≤◌, IfOk};
+ghost use Rattle.std.specs.Prelude.{◌≡◌, ◌≤◌, Some, IfOk};
 ghost use Rattle.ldv_value.specs.Gives.{Gives};
 ghost use Rattle.ldv_value.specs.Limits.{max_steps};
+ghost use Rattle.run_model.specs.Start.{IsParsed, start_script};
 ghost use Rattle.run_model.specs.ValidTrace.{IsTrace};
 ghost use Rattle.slicer.specs.InitialRows.{ReadsInitialRows};
 ghost use Rattle.replay_db.specs.inner.Logging.{packed_logs};
@@ -12,15 +13,17 @@ ghost use Rattle.replay_db.specs.Types.{Included, Excluded};
 
 use crate::copy::copy_world;
 use crate::logged::{Logged, log_world};
+use crate::start::parse_start;
 use crate::error::EndStop;
 use crate::trace::{Traced, trace_world};
-use run_model::{Logs, Mode, Package, PackedTables, World};
+use run_model::{Logs, Mode, Package, PackedTables, ParsedWorld, World};
+use script_parse::Script;
 use slicer::{Sliced, slice, slice_files};
 use std::alloc::{AllocError, Global};
 use trace_graph::Graph;
 
 // What the run needed of the world, with what is recorded of it.
-fn pack(alloc: Global, world: &World, traced: Traced) -> Result<Package, AllocError>
+fn pack_included(alloc: Global, world: &World, traced: Traced) -> Result<Package, AllocError>
     requires trace { IsTrace traced.events }
     requires rows { ReadsInitialRows traced.events world.now.tables }
     ensures { IfOk result (λ p. p ≡ package_of_traced world.now traced) }
@@ -41,20 +44,26 @@ fn pack(alloc: Global, world: &World, traced: Traced) -> Result<Package, AllocEr
 }
 
 // The included package of the run of a world.
-fn package_of_run(alloc: Global, world: &World, budget: u32) -> Result<Package, EndStop>
+fn included_package_of_run(
+    alloc: Global,
+    world: &World,
+    script: &Script,
+    budget: u32,
+) -> Result<Package, EndStop>
     requires can_run { CanRun world.now }
+    requires parsed { start_script world.now ≡ Some script.now.instructions }
     requires bounded { budget ≤ max_steps }
     ensures { Gives Stops result (package_within Included budget world.now) }
 {
     let copy = copy_world(world)?;
-    match trace_world(alloc, copy, budget) {
-        Ok(traced) => Ok(pack(alloc, world, traced)?),
+    match trace_world(alloc, copy, script, budget) {
+        Ok(traced) => Ok(pack_included(alloc, world, traced)?),
         Err(stop) => Err(stop),
     }
 }
 
 // What the run needed of the files of the world, and what was asked in it.
-fn pack_logs(alloc: Global, world: &World, logged: Logged) -> Result<Package, AllocError>
+fn pack_excluded(alloc: Global, world: &World, logged: Logged) -> Result<Package, AllocError>
     ensures { IfOk result (λ p. p ≡ packed_logs world.now logged) }
 {
     let Logged {
@@ -76,14 +85,20 @@ fn pack_logs(alloc: Global, world: &World, logged: Logged) -> Result<Package, Al
 }
 
 // The excluded package of the run of a world.
-fn logs_of_run(alloc: Global, world: &World, budget: u32) -> Result<Package, EndStop>
+fn excluded_package_of_run(
+    alloc: Global,
+    world: &World,
+    script: &Script,
+    budget: u32,
+) -> Result<Package, EndStop>
     requires can_run { CanRun world.now }
+    requires parsed { start_script world.now ≡ Some script.now.instructions }
     requires bounded { budget ≤ max_steps }
     ensures { Gives Stops result (package_within Excluded budget world.now) }
 {
     let copy = copy_world(world)?;
-    match log_world(alloc, copy, budget) {
-        Ok(logged) => Ok(pack_logs(alloc, world, logged)?),
+    match log_world(alloc, copy, script, budget) {
+        Ok(logged) => Ok(pack_excluded(alloc, world, logged)?),
         Err(stop) => Err(stop),
     }
 }
@@ -91,16 +106,18 @@ fn logs_of_run(alloc: Global, world: &World, budget: u32) -> Result<Package, End
 fn package_of_mode(
     alloc: Global,
     world: &World,
+    script: &Script,
     mode: Mode,
     budget: u32,
 ) -> Result<Package, EndStop>
     requires can_run { CanRun world.now }
+    requires parsed { start_script world.now ≡ Some script.now.instructions }
     requires bounded { budget ≤ max_steps }
     ensures { Gives Stops result (package_within mode budget world.now) }
 {
     match mode {
-        Mode::Included => package_of_run(alloc, world, budget),
-        Mode::Excluded => logs_of_run(alloc, world, budget),
+        Mode::Included => included_package_of_run(alloc, world, script, budget),
+        Mode::Excluded => excluded_package_of_run(alloc, world, script, budget),
     }
 }
 
@@ -122,5 +139,22 @@ pub fn record_world(
     // Where the world lies between the slice of a larger one and that one, its package is that one's.
     ensures between { RecordsAs mode budget world.now result }
 {
-    package_of_mode(alloc, world, mode, budget)
+    let script = parse_start(alloc, world)?;
+    package_of_mode(alloc, world, &script, mode, budget)
+}
+
+/// The package of the run of a world whose script was parsed, as of `record_world`.
+pub fn record_parsed(
+    alloc: Global,
+    parsed: &ParsedWorld,
+    mode: Mode,
+    budget: u32,
+) -> Result<Package, EndStop>
+    requires can_run { CanRun parsed.now.world }
+    requires parsed { IsParsed parsed.now }
+    requires bounded { budget ≤ max_steps }
+    ensures recorded { Gives Stops result (package_within mode budget parsed.now.world) }
+    ensures between { RecordsAs mode budget parsed.now.world result }
+{
+    package_of_mode(alloc, &parsed.world, &parsed.script, mode, budget)
 }

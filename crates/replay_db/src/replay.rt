@@ -7,7 +7,7 @@ ghost use Rattle.run_model.specs.Package.{own_world};
 ghost use Rattle.run_model.specs.WorldRun.{outcome_within};
 ghost use Rattle.replay_db.specs.Runs.{CanRun, Stops};
 
-use crate::own::own_world;
+use crate::own::{own_world, own_world_of};
 use crate::run::run_owned;
 use crate::error::EndStop;
 use run_model::{Outcome, Package};
@@ -25,4 +25,19 @@ pub fn replay_included(alloc: Global, package: &Package, budget: u32) -> Result<
 {
     let world = own_world(alloc, package)?;
     run_owned(alloc, world, budget)
+}
+
+/// The outcome of the run of an included package's own world, as of `replay_included`. The run takes over the
+/// package's files and rows, and copies none of them.
+pub fn replay_included_owned(
+    alloc: Global,
+    package: Package,
+    budget: u32,
+) -> Result<Outcome, EndStop>
+    requires can_run { CanRun (own_world «package») }
+    requires bounded { budget ≤ max_steps }
+    ensures { Gives Stops result (outcome_within budget (own_world «package»)) }
+{
+    let own = own_world_of(alloc, package)?;
+    run_owned(alloc, own, budget)
 }

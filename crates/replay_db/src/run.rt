@@ -8,7 +8,7 @@ ghost use Rattle.proc_core.specs.Stands.{AppendsEvents};
 ghost use Rattle.run_model.specs.Events.{start_events};
 ghost use Rattle.run_model.specs.Run.{run as state_after};
 ghost use Rattle.run_model.specs.SqlDatabase.{sql_base};
-ghost use Rattle.run_model.specs.Start.{start_script, start_state};
+ghost use Rattle.run_model.specs.Start.{IsParsed, start_script, start_state};
 ghost use Rattle.run_model.specs.WorldRun.{ends_within, events_within, outcome_within, steps_by};
 ghost use Rattle.sql_engine.specs.Asking.{database};
 ghost use Rattle.replay_db.specs.inner.Recording.{HasNotEnded};
@@ -17,21 +17,25 @@ ghost use Rattle.replay_db.specs.Types.{Instr};
 
 use crate::copy::copy_world;
 use crate::setting::{Setting, setting_of};
+use crate::start::parse_start;
 use crate::error::EndStop;
 use proc_core::{Run, RunStop};
-use run_model::{NullTracer, Outcome, Tracer, World};
+use run_model::{NullTracer, Outcome, ParsedWorld, Tracer, World};
+use script_parse::Script;
 use sql_engine::Engine;
 use std::alloc::{AllocError, Global};
 
-/// The run of a world before its first step.
+/// The run of a world before its first step. The script that it starts with was parsed.
 pub(crate) fn begin<T: Tracer>(
     alloc: Global,
     world: World,
+    script: &Script,
     tracer: T,
 ) -> Result<Run<Engine, T>, AllocError>
-    requires { CanRun world }
-    ensures state { IfOk result (λ run. (script : Items Instr) → start_script world ≡ Some script
-        → Stands run.machine (database run.db) (start_state world script)) }
+    requires can_run { CanRun world }
+    requires parsed { start_script world ≡ Some script.now.instructions }
+    ensures state { IfOk result (λ run. (due : Items Instr) → start_script world ≡ Some due
+        → Stands run.machine (database run.db) (start_state world due)) }
     ensures told { IfOk result (λ run. AppendsEvents T.KEEPS (T.events tracer) (T.events run.tracer)
         (start_events (slice_get world.start 0))) }
     ensures steps { IfOk result (λ run. run.steps ≡ 0) }
@@ -43,7 +47,7 @@ pub(crate) fn begin<T: Tracer>(
         tables,
     } = world;
     let Setting { tree, engine } = setting_of(alloc, files, tables)?;
-    let begun = Run::start(&start, seed, tree, engine, tracer)?;
+    let begun = Run::start_parsed(&start, script, seed, tree, engine, tracer)?;
     Ok(begun)
 }
 
@@ -51,13 +55,15 @@ pub(crate) fn begin<T: Tracer>(
 pub(crate) fn run_to_end<T: Tracer>(
     alloc: Global,
     world: World,
+    script: &Script,
     tracer: T,
     budget: u32,
 ) -> Result<Run<Engine, T>, EndStop>
     requires can_run { CanRun world }
+    requires parsed { start_script world ≡ Some script.now.instructions }
     requires bounded { budget ≤ max_steps }
-    ensures state { IfOk result (λ run. (script : Items Instr) → start_script world ≡ Some script
-        → Stands run.machine (database run.db) (state_after sql_base budget [] (start_state world script))) }
+    ensures state { IfOk result (λ run. (due : Items Instr) → start_script world ≡ Some due
+        → Stands run.machine (database run.db) (state_after sql_base budget [] (start_state world due))) }
     ensures ended { OnOk result (ends_within budget world ≡ true) }
     ensures over { IfOk result (λ run. has_ended run.machine ≡ true) }
     ensures told { IfOk result (λ run. AppendsEvents T.KEEPS (T.events tracer) (T.events run.tracer)
@@ -65,7 +71,7 @@ pub(crate) fn run_to_end<T: Tracer>(
     ensures steps { IfOk result (λ run. run.steps ≡ steps_by budget [] world) }
     ensures not_ended { IfErr result (HasNotEnded budget world) }
 {
-    let begun = begin(alloc, world, tracer)?;
+    let begun = begin(alloc, world, script, tracer)?;
     match begun.to_end(budget) {
         Ok(ended) => Ok(ended),
         Err(RunStop::NotEnded) => Err(EndStop::NotEnded),
@@ -80,12 +86,18 @@ pub(crate) fn run_to_end<T: Tracer>(
 }
 
 #[tactic(auto, using(crate::proofs::EndedRuns::outcome_stops))]
-fn outcome_of_run(alloc: Global, world: World, budget: u32) -> Result<Outcome, EndStop>
+fn outcome_of_run(
+    alloc: Global,
+    world: World,
+    script: &Script,
+    budget: u32,
+) -> Result<Outcome, EndStop>
     requires can_run { CanRun world }
+    requires parsed { start_script world ≡ Some script.now.instructions }
     requires bounded { budget ≤ max_steps }
     ensures { Gives Stops result (outcome_within budget world) }
 {
-    let ended = run_to_end(alloc, world, NullTracer, budget)?;
+    let ended = run_to_end(alloc, world, script, NullTracer, budget)?;
     Ok(ended.into_outcome()?)
 }
 
@@ -100,7 +112,20 @@ pub fn run_owned(alloc: Global, world: World, budget: u32) -> Result<Outcome, En
     // Where the world lies between the slice of a larger one and that one, its outcome is that one's.
     ensures between { RunsAs budget world result }
 {
-    outcome_of_run(alloc, world, budget)
+    let script = parse_start(alloc, &world)?;
+    outcome_of_run(alloc, world, &script, budget)
+}
+
+/// The outcome of the run of a world whose script was parsed, as of `run_owned`.
+pub fn run_parsed(alloc: Global, parsed: ParsedWorld, budget: u32) -> Result<Outcome, EndStop>
+    requires can_run { CanRun parsed.world }
+    requires parsed { IsParsed parsed }
+    requires bounded { budget ≤ max_steps }
+    ensures outcome { Gives Stops result (outcome_within budget parsed.world) }
+    ensures between { RunsAs budget parsed.world result }
+{
+    let ParsedWorld { world, script } = parsed;
+    outcome_of_run(alloc, world, &script, budget)
 }
 
 /// The outcome of the run of a world, as of `run_owned`. The run changes a copy of the world.

@@ -8,17 +8,20 @@ ghost use Rattle.proc_core.specs.Running.{Stands, has_ended};
 ghost use Rattle.run_model.specs.Package.{own_world};
 ghost use Rattle.run_model.specs.Run.{move, run as state_after, steps as steps_made};
 ghost use Rattle.run_model.specs.SqlDatabase.{SqlDatabase, sql_base};
+ghost use Rattle.run_model.specs.Start.{start_script};
 ghost use Rattle.run_model.specs.State.{State};
 ghost use Rattle.sql_engine.specs.Asking.{database};
 ghost use Rattle.sql_model.specs.Scope.{table_at};
 ghost use Rattle.replay_db.specs.Runs.{CanRun};
 ghost use Rattle.replay_db.specs.TableAt.{IsDueStop, has_table, table_verdict, table_at_of, table_of_run};
 
-use crate::own::own_world;
+use crate::own::{own_world, own_world_of};
 use crate::run::begin;
+use crate::start::parse_start;
 use ldv_value::{CopyItem, Utf8};
 use proc_core::{Run, Stopped};
 use run_model::{Mode, NullTracer, Package, World};
+use script_parse::Script;
 use sql_engine::Engine;
 use sql_model::Table;
 use std::alloc::{AllocError, Global};
@@ -139,6 +142,29 @@ fn first_part(step: u32, budget: u32) -> u32
 fn table_of_run(
     alloc: Global,
     world: World,
+    script: &Script,
+    name: &str,
+    step: u32,
+    budget: u32,
+) -> Result<Table, TableStop>
+    requires can_run { CanRun world }
+    requires parsed { start_script world ≡ Some script.now.instructions }
+    requires bounded { budget ≤ max_steps }
+    requires there { IsSome (table_at name.now world.tables) }
+    ensures { GivesOr IsDueStop result (table_of_run budget step name.now world) }
+{
+    let early = first_part(step, budget);
+    let begun = begin(alloc, world, script, NullTracer)?;
+    let there = go_on(begun, early)?;
+    let table = table_now(alloc, there.db(), name, there.steps())?;
+    let gone = go_on(there, budget - early)?;
+    table_verdict(&gone, step, table)
+}
+
+// A table of a world that has it, after a step of its run, where its script wasn't parsed.
+fn table_of_world(
+    alloc: Global,
+    world: World,
     name: &str,
     step: u32,
     budget: u32,
@@ -148,12 +174,8 @@ fn table_of_run(
     requires there { IsSome (table_at name.now world.tables) }
     ensures { GivesOr IsDueStop result (table_of_run budget step name.now world) }
 {
-    let early = first_part(step, budget);
-    let begun = begin(alloc, world, NullTracer)?;
-    let there = go_on(begun, early)?;
-    let table = table_now(alloc, there.db(), name, there.steps())?;
-    let gone = go_on(there, budget - early)?;
-    table_verdict(&gone, step, table)
+    let script = parse_start(alloc, &world)?;
+    table_of_run(alloc, world, &script, name, step, budget)
 }
 
 // A table of an included package.
@@ -170,7 +192,26 @@ fn table_included(
     ensures { GivesOr IsDueStop result (table_of_run budget step name.now (own_world «package».now)) }
 {
     let world = own_world(alloc, package)?;
-    table_of_run(alloc, world, name, step, budget)
+    table_of_world(alloc, world, name, step, budget)
+}
+
+// A table of an included package whose script was parsed. No file and no row is copied.
+fn table_included_parsed(
+    alloc: Global,
+    package: Package,
+    script: &Script,
+    name: &str,
+    step: u32,
+    budget: u32,
+) -> Result<Table, TableStop>
+    requires can_run { CanRun (own_world «package») }
+    requires parsed { start_script (own_world «package») ≡ Some script.now.instructions }
+    requires bounded { budget ≤ max_steps }
+    requires there { has_table name.now «package» ≡ true }
+    ensures { GivesOr IsDueStop result (table_of_run budget step name.now (own_world «package»)) }
+{
+    let world = own_world_of(alloc, package)?;
+    table_of_run(alloc, world, script, name, step, budget)
 }
 
 /// The table of a name, with its rows and the number of its next row, after a step of the run of an included
@@ -197,6 +238,34 @@ pub fn table_at(
         Mode::Included => {
             if has_table(package, name) {
                 table_included(alloc, package, name, step, budget)
+            } else {
+                Err(TableStop::NoTable)
+            }
+        }
+    }
+}
+
+/// The table of a name after a step of the run of an included package's own world, as of `table_at`. The
+/// script that it starts with was parsed. The run takes over the package's files and rows, and copies none of
+/// them.
+pub fn table_at_parsed(
+    alloc: Global,
+    package: Package,
+    script: &Script,
+    name: &str,
+    step: u32,
+    budget: u32,
+) -> Result<Table, TableStop>
+    requires can_run { CanRun (own_world «package») }
+    requires parsed { start_script (own_world «package») ≡ Some script.now.instructions }
+    requires bounded { budget ≤ max_steps }
+    ensures { GivesOr IsDueStop result (table_at_of budget step name.now «package») }
+{
+    match package.mode {
+        Mode::Excluded => Err(TableStop::NoTable),
+        Mode::Included => {
+            if has_table(&package, name) {
+                table_included_parsed(alloc, package, script, name, step, budget)
             } else {
                 Err(TableStop::NoTable)
             }

@@ -1,13 +1,15 @@
 //! The run of a world with its events recorded.
 
-ghost use Rattle.std.specs.Prelude.{◌≤◌, IfOk, IfErr};
+ghost use Rattle.std.specs.Prelude.{◌≡◌, ◌≤◌, Some, IfOk, IfErr};
 ghost use Rattle.ldv_value.specs.Limits.{max_steps};
+ghost use Rattle.run_model.specs.Start.{start_script};
 ghost use Rattle.replay_db.specs.inner.Recording.{HasNotEnded, IsTraced};
 ghost use Rattle.replay_db.specs.Runs.{CanRun};
 
 use crate::run::run_to_end;
 use crate::error::EndStop;
 use run_model::{Events, ListTracer, World};
+use script_parse::Script;
 use std::alloc::Global;
 
 /// What is recorded of a run that has ended: its events, and the number of its steps.
@@ -18,13 +20,19 @@ pub(crate) struct Traced {
 }
 
 /// Runs a world within a budget of steps, and tells what is recorded of the run.
-pub(crate) fn trace_world(alloc: Global, world: World, budget: u32) -> Result<Traced, EndStop>
+pub(crate) fn trace_world(
+    alloc: Global,
+    world: World,
+    script: &Script,
+    budget: u32,
+) -> Result<Traced, EndStop>
     requires can_run { CanRun world }
+    requires parsed { start_script world ≡ Some script.now.instructions }
     requires bounded { budget ≤ max_steps }
     ensures traced { IfOk result (λ traced. IsTraced budget world traced) }
     ensures not_ended { IfErr result (HasNotEnded budget world) }
 {
-    let ended = run_to_end(alloc, world, ListTracer::new(alloc), budget)?;
+    let ended = run_to_end(alloc, world, script, ListTracer::new(alloc), budget)?;
     let steps = ended.steps();
     let (_engine, tracer) = ended.into_parts();
     Ok(Traced {

@@ -13,5 +13,5 @@ mod replay;
 mod reply_log;
 
 pub use law::can_replay_law;
-pub use replay::{replay_excluded, replay_owned, replay_seeded};
+pub use replay::{replay_excluded, replay_owned, replay_seeded, replay_seeded_owned};
 pub use reply_log::ReplyLog;

@@ -95,3 +95,18 @@ pub fn replay_seeded(
         Err(AllocError) => Err(RunStop::NoMemory),
     }
 }
+
+/// Runs the files of a package over its recorded replies under another seed, as `replay_owned` does under the
+/// package's own.
+pub fn replay_seeded_owned(
+    alloc: Global,
+    package: Package,
+    seed: u64,
+    budget: u32,
+) -> Result<Outcome, RunStop>
+    requires can_replay { CanReplay «package» }
+    requires bounded { budget ≤ max_steps }
+    ensures { Replays budget (with_seed seed «package») result }
+{
+    replay_owned(alloc, Package { seed, ..package }, budget)
+}

@@ -1,10 +1,11 @@
 -- The script that a world starts with, and the state in which its run starts.
-use Rattle.std.specs.Prelude.{List, length, Bool, nat_le, Option, option_and_then, slice_get}
+use Rattle.std.specs.Prelude.{◌≡◌, List, length, Bool, nat_le, Option, Some, option_and_then, slice_get}
 use Rattle.std.specs.List.{list_all}
 use Rattle.ldv_value.specs.FileState.{file_at}
 use Rattle.ldv_value.specs.Limits.{file_limit}
 use Rattle.script_parse.specs.Script.{script_of}
 use Rattle.run_model.specs.Types.{File, Instr, World}
+use Rattle.run_model.specs.declared.world.ParsedWorld.{ParsedWorld}
 use Rattle.run_model.specs.Core.{start_core}
 use Rattle.run_model.specs.SqlDatabase.{SqlDatabase, initial_database}
 use Rattle.run_model.specs.State.{State}
@@ -16,6 +17,10 @@ start_file w = option_and_then (λ word. file_at word w.files) (slice_get w.star
 -- the instructions of that file
 abbrev pub start_script : World → Option (List Instr)
 start_script w = option_and_then (λ file. script_of file.content) (start_file w)
+
+-- the script beside a world is the one that it starts with
+abbrev pub IsParsed : ParsedWorld → Type 0
+IsParsed p = start_script p.world ≡ Some p.script.instructions
 
 -- each file is within its limit
 abbrev pub has_small_files : World → Bool

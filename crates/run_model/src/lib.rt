@@ -26,4 +26,4 @@ pub use package::{
 };
 pub use text::{append_name, outcome_text, table_text};
 pub use tracer::{ListTracer, NullTracer, Tracer};
-pub use world::World;
+pub use world::{ParsedWorld, World};

@@ -1,6 +1,7 @@
 //! Worlds.
 
 use ldv_value::{Files, Words};
+use script_parse::Script;
 use sql_model::Tables;
 
 /// What a run starts from: the path of the first script and its arguments, the scheduler's seed, the
@@ -11,4 +12,12 @@ pub struct World {
     pub seed: u64,
     pub files: Files,
     pub tables: Tables,
+}
+
+/// A world with the script that it starts with, which is that of the file at the first start word: the world
+/// was judged, and the script isn't parsed again.
+#[derive(Drop)]
+pub struct ParsedWorld {
+    pub world: World,
+    pub script: Script,
 }

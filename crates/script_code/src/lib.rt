@@ -14,4 +14,4 @@ pub use code::{
     Code, FileInstr, OwnInstr, Scope, SlotInstr, SlotInstrs, SlotOperand, SlotOperands, Slots,
 };
 pub use name_table::NameTable;
-pub use read::read_code;
+pub use read::{code_of, read_code};

@@ -1,12 +1,13 @@
 //! Scripts, read and resolved.
 
-ghost use Rattle.std.specs.Prelude.{IfOk};
-ghost use Rattle.script_code.specs.Resolved.{IsRead};
+ghost use Rattle.std.specs.Prelude.{◌≡◌, Some, IfOk};
+ghost use Rattle.script_parse.specs.Script.{script_of};
+ghost use Rattle.script_code.specs.Resolved.{IsCode, IsRead};
 
 use crate::code::Code;
 use crate::resolve::resolve;
 use ldv_value::Bytes;
-use script_parse::{ScriptStop, parse_script};
+use script_parse::{Instrs, ScriptStop, parse_script};
 use std::alloc::{AllocError, Global};
 
 /// The resolved form of the script that bytes are, or `None` where they are no script.
@@ -14,11 +15,17 @@ pub fn read_code(alloc: Global, bytes: &[u8]) -> Result<Option<Code>, AllocError
     ensures { IfOk result (IsRead bytes.now) }
 {
     match parse_script(alloc, bytes) {
-        Ok(script) => {
-            let source = Bytes::of_slice(alloc, bytes)?;
-            Ok(Some(resolve(alloc, source, &script.instructions)?))
-        }
+        Ok(script) => Ok(Some(code_of(alloc, bytes, &script.instructions)?)),
         Err(ScriptStop::Line(_)) => Ok(None),
         Err(ScriptStop::NoMemory) => Err(AllocError),
     }
+}
+
+/// The resolved form of a script that was parsed from these bytes.
+pub fn code_of(alloc: Global, bytes: &[u8], script: &Instrs) -> Result<Code, AllocError>
+    requires { script_of bytes.now ≡ Some script.now }
+    ensures { IfOk result (λ code. IsCode code script.now) }
+{
+    let source = Bytes::of_slice(alloc, bytes)?;
+    resolve(alloc, source, script)
 }

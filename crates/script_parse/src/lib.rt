@@ -20,5 +20,5 @@ mod token;
 
 pub use law::{first_bad_law, reading_law};
 pub use number::read_number;
-pub use parse::{ScriptStop, parse_script};
+pub use parse::{ScriptStop, known_script, parse_script, script_of};
 pub use script::{CalcOp, Instr, Instrs, Operand, Operands, Script};

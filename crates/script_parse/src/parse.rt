@@ -1,6 +1,6 @@
 //! From bytes to a script.
 
-ghost use Rattle.std.specs.Prelude.{◌≡◌, List, Some, IfOk, IfErr, option_map};
+ghost use Rattle.std.specs.Prelude.{◌≡◌, List, Some, IfOk, IfErr, IsSome, option_map};
 ghost use Rattle.std.specs.BTreeMap.{get_by_text};
 ghost use Rattle.script_parse.specs.declared.script.Instr.{Instr};
 ghost use Rattle.script_parse.specs.BadLine.{IsFirstBadLine};
@@ -53,6 +53,28 @@ pub fn parse_script(alloc: Global, bytes: &[u8]) -> Result<Script, ScriptStop>
         × (n ≡ first_bad_line bytes.now))) }
 {
     parse_lines(alloc, bytes)
+}
+
+/// The script that bytes are, or `None` where they are none.
+pub fn script_of(alloc: Global, bytes: &[u8]) -> Result<Option<Script>, AllocError>
+    ensures { IfOk result (λ found. script_of bytes.now ≡ option_map (λ script. script.instructions) found) }
+{
+    match parse_lines(alloc, bytes) {
+        Ok(script) => Ok(Some(script)),
+        Err(ScriptStop::Line(_)) => Ok(None),
+        Err(ScriptStop::NoMemory) => Err(AllocError),
+    }
+}
+
+/// The script that bytes are known to be.
+pub fn known_script(alloc: Global, bytes: &[u8]) -> Result<Script, AllocError>
+    requires { IsSome (script_of bytes.now) }
+    ensures { IfOk result (λ script. script_of bytes.now ≡ Some script.instructions) }
+{
+    match script_of(alloc, bytes)? {
+        None => unreachable!(),
+        Some(script) => Ok(script),
+    }
 }
 
 fn parse_lines(alloc: Global, bytes: &[u8]) -> Result<Script, ScriptStop>

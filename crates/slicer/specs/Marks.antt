@@ -1,20 +1,20 @@
 -- What the maps of `src/` mean.
-use Rattle.std.specs.Prelude.{ℕ, List, map, filter, Bool, ◌==◌, Option, is_some, option_and_then}
+use Rattle.std.specs.Prelude.{ℕ, List, map, filter, Bool, ◌&&◌, ◌==◌, Option, is_some, option_and_then}
 use Rattle.std.specs.Prelude.{if◌then◌else◌, Some, None, String}
 use Rattle.std.specs.List.{filter_map}
 use Rattle.std.specs.Option.{option_map}
 use Rattle.std.specs.declared.alloc.Global.{Global}
 use Rattle.std.specs.BTreeMap.{BTreeMap, get, get_by_text}
 use Rattle.std.specs.Ordering.{nat_cmp}
+use Rattle.sql_model.specs.Scope.{same_text}
 use Rattle.sql_model.specs.declared.need.Need.{Need}
 use Rattle.sql_model.specs.declared.table.Table.{Table}
 use Rattle.sql_model.specs.declared.table.TableRow.{TableRow}
 use Rattle.ldv_value.specs.declared.file.File.{File}
-use Rattle.run_model.specs.declared.event.Act.{Act}
 use Rattle.run_model.specs.declared.package.PackedFile.{PackedFile}
 use Rattle.run_model.specs.declared.package.PackedRow.{PackedRow}
 use Rattle.run_model.specs.declared.package.PackedTable.{PackedTable}
-use Rattle.run_model.specs.Slice.{Reason, is_read, whole_path, present_path, FileNeed, Whole, Present}
+use Rattle.run_model.specs.Slice.{Reason, is_read, FileNeed, Whole, Present}
 use Rattle.run_model.specs.Slice.{packed_as, packed_because}
 use Rattle.slicer.specs.declared.reasons.Why.{Why}
 
@@ -40,6 +40,10 @@ reason_at reasons table row = reason_among (get_by_text reasons table) row
 abbrev pub reason_of_row : ℕ → Why → ℕ → Option Reason
 reason_of_row needed why row = if needed == row then Some (reason_from why) else None
 
+abbrev pub reason_of_named : List ℕ → ℕ → Why → List ℕ → ℕ → Option Reason
+reason_of_named named needed why table row =
+    if same_text named table && needed == row then Some (reason_from why) else None
+
 abbrev pub reason_of_read : ℕ → Need → List ℕ → ℕ → Option Reason
 reason_of_read statement need table row = if is_read table row need
     then Some (record { statement = statement; rule = need.rule }) else None
@@ -62,10 +66,6 @@ tables_because reason is_named tables =
     map (table_because reason) (filter (λ table. is_named table.name) tables)
 
 -- ---- files
-
--- the path that an act needs whole, or present
-abbrev pub path_by : Bool → Act → Option (List ℕ)
-path_by whole act = if whole then whole_path act else present_path act
 
 abbrev pub need_as : Bool → Bool → Option FileNeed
 need_as whole present = if whole then Some Whole else (if present then Some Present else None)

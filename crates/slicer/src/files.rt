@@ -4,11 +4,10 @@ ghost use Rattle.std.specs.Prelude.{◌≡◌, ◌||◌, ◌&&◌, not, List, �
 ghost use Rattle.std.specs.Prelude.{if◌then◌else◌};
 ghost use Rattle.std.specs.List.{filter_map};
 ghost use Rattle.std.specs.Option.{option_map};
-ghost use Rattle.slicer.specs.Marks.{has_name, path_by, need_as, packed_by};
+ghost use Rattle.slicer.specs.Marks.{has_name, need_as, packed_by};
 ghost use Rattle.run_model.specs.Slice.{is_path, whole_path, present_path, changed_path, names_initial};
 ghost use Rattle.run_model.specs.Slice.{packed_as, files_needed};
 
-use crate::lists::push_made;
 use crate::name_set::{NameSet, add, has};
 use ldv_value::{File, Utf8};
 use run_model::{Act, Event, PackedFile, PackedFiles};
@@ -41,16 +40,6 @@ fn present_in(act: &Act) -> Option<&Utf8>
         Act::Tested { path, found } => only_if(path, *found),
         Act::Removed { path } => Some(path),
         _ => None,
-    }
-}
-
-fn needed_in(act: &Act, whole: bool) -> Option<&Utf8>
-    ensures { option_map (λ p. p.now) result ≡ path_by whole act.now }
-{
-    if whole {
-        whole_in(act)
-    } else {
-        present_in(act)
     }
 }
 
@@ -108,18 +97,28 @@ fn note_changed(alloc: Global, changed: &mut NameSet, path: Option<&Utf8>) -> Re
     }
 }
 
-// The paths that events need whole, or present, before an earlier event changes them.
-fn named_initially(alloc: Global, events: &[Event], whole: bool) -> Result<NameSet, AllocError>
-    ensures { IfOk result (λ names. (q : List ℕ) → has_name names q
-        ≡ names_initial (path_by whole) q events.now) }
+// The paths that events need whole and those that they need present, before an earlier event changes them.
+#[derive(Drop)]
+struct Paths {
+    whole: NameSet,
+    present: NameSet,
+}
+
+fn named_initially(alloc: Global, events: &[Event]) -> Result<Paths, AllocError>
+    ensures whole { IfOk result (λ paths. (q : List ℕ) → has_name paths.whole q
+        ≡ names_initial whole_path q events.now) }
+    ensures present { IfOk result (λ paths. (q : List ℕ) → has_name paths.present q
+        ≡ names_initial present_path q events.now) }
 {
-    let mut names = NameSet::new(alloc);
+    let mut whole = NameSet::new(alloc);
+    let mut present = NameSet::new(alloc);
     let mut changed = NameSet::new(alloc);
     for event in events {
-        note_needed(alloc, &mut names, &changed, needed_in(&event.act, whole))?;
+        note_needed(alloc, &mut whole, &changed, whole_in(&event.act))?;
+        note_needed(alloc, &mut present, &changed, present_in(&event.act))?;
         note_changed(alloc, &mut changed, changed_in(&event.act))?;
     }
-    Ok(names)
+    Ok(Paths { whole, present })
 }
 
 fn pack_file(
@@ -154,7 +153,7 @@ fn pack_files(
 {
     let mut packed = PackedFiles::new(alloc);
     for file in files {
-        push_made(&mut packed, pack_file(file, whole, present)?)?;
+        packed.push_some(pack_file(file, whole, present)?)?;
     }
     Ok(packed)
 }
@@ -167,7 +166,6 @@ pub(crate) fn needed_files(
 ) -> Result<PackedFiles, AllocError>
     ensures { IfOk result (λ packed. packed ≡ files_needed events.now files.now) }
 {
-    let whole = named_initially(alloc, events, true)?;
-    let present = named_initially(alloc, events, false)?;
+    let Paths { whole, present } = named_initially(alloc, events)?;
     pack_files(alloc, files, &whole, &present)
 }

@@ -6,13 +6,13 @@ ghost use Rattle.std.specs.List.{list_all, list_any};
 ghost use Rattle.lanes.specs.Sets.{member};
 ghost use Rattle.slicer.specs.inner.Rows.{asks, are_of_block, has_row, is_of_block};
 
-use crate::row_set::{RowSet, set_bit};
+use crate::row_set::{BLOCK_ROWS, RowSet, set_bit};
 use crate::united::unite_rows;
 use ldv_value::List;
 use sql_model::Need;
 use std::alloc::{AllocError, Global};
 
-/// The words of a block.
+/// The words of a block, with 64 numbers each.
 const BLOCK_WORDS: usize = 64;
 
 // ---- the reads of one block of a table
@@ -21,7 +21,7 @@ const BLOCK_WORDS: usize = 64;
 fn is_of_block(head: &Need, need: &Need) -> bool
     ensures { result ≡ is_of_block head.now need.now }
 {
-    head.member.table == need.member.table && head.member.row / 4_096 == need.member.row / 4_096
+    head.member.table == need.member.table && head.member.row / BLOCK_ROWS == need.member.row / BLOCK_ROWS
 }
 
 // How many of the reads, from the first on, are of the block of another.
@@ -67,7 +67,7 @@ fn words_of(alloc: Global, needs: &[Need]) -> Result<List<u64>, AllocError>
 {
     let mut words = List::with_capacity(alloc, BLOCK_WORDS)?;
     for need in needs {
-        set_bit(&mut words, need.member.row % 4_096)?;
+        set_bit(&mut words, need.member.row % BLOCK_ROWS)?;
     }
     Ok(words)
 }
@@ -86,7 +86,7 @@ fn fresh_in_block(
         → member words (row % 4096) ≡ not (has_row needed.old table row)) }
 {
     let mut words = words_of(alloc, needs)?;
-    let block = head.member.row / 4_096;
+    let block = head.member.row / BLOCK_ROWS;
     unite_rows(alloc, needed, &head.member.table, block, &mut words)?;
     Ok(words)
 }

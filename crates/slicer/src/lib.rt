@@ -6,7 +6,6 @@
 mod files;
 mod fresh;
 mod initial;
-mod lists;
 mod name_set;
 mod needed;
 mod reasons;
@@ -16,5 +15,5 @@ mod united;
 
 pub use name_set::{NameSet, add_all, has};
 pub use needed::{Sliced, slice, slice_files};
-pub use reasons::{Reasons, RowReasons, Why, note_need};
+pub use reasons::{Reasons, RowReasons, Why, note_named, note_need};
 pub use tables::pack_tables;

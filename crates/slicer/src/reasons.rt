@@ -3,7 +3,7 @@
 ghost use Rattle.std.specs.Prelude.{◌≡◌, ◌&&◌, ◌%◌, ◌<◌, OnOk, IfOk, List as Items, ℕ, Option, None};
 ghost use Rattle.std.specs.Prelude.{length, true};
 ghost use Rattle.std.specs.BTreeMap.{get_by_text};
-ghost use Rattle.slicer.specs.Marks.{reason_at, reason_of_read, reason_of_row, row_reason};
+ghost use Rattle.slicer.specs.Marks.{reason_at, reason_of_named, reason_of_read, reason_of_row, row_reason};
 ghost use Rattle.std.specs.Option.{option_or};
 ghost use Rattle.ldv_value.specs.Options.{only_if};
 ghost use Rattle.run_model.specs.Slice.{Reason, reason_in, act_reason, first_reason};
@@ -11,8 +11,8 @@ ghost use Rattle.lanes.specs.Sets.{member};
 ghost use Rattle.slicer.specs.inner.Rows.{are_of_block, reason_due, has_row};
 
 use crate::fresh::{fresh_rows, split_block};
-use crate::row_set::{RowSet, has_bit, has_row};
-use ldv_value::List;
+use crate::row_set::{BLOCK_ROWS, RowSet, has_bit, has_row};
+use ldv_value::{List, Utf8};
 use run_model::{Act, Event};
 use sql_model::{Need, Rule};
 use std::alloc::{AllocError, Global};
@@ -47,25 +47,37 @@ fn note_row(rows: &mut RowReasons, row: u32, why: Why) -> Result<(), AllocError>
 fn note_table(
     alloc: Global,
     reasons: &mut Reasons,
-    statement: u32,
-    need: &Need,
+    table: &Utf8,
+    row: u32,
+    why: Why,
 ) -> Result<(), AllocError>
-    requires { get_by_text reasons.old need.now.member.table ≡ None }
-    ensures { OnOk result ((table : Items ℕ) (row : ℕ) → reason_at reasons.new table row
-        ≡ option_or (reason_at reasons.old table row) (reason_of_read statement need.now table row)) }
+    requires { get_by_text reasons.old table.now ≡ None }
+    ensures { OnOk result ((t : Items ℕ) (n : ℕ) → reason_at reasons.new t n
+        ≡ option_or (reason_at reasons.old t n) (reason_of_named table.now row why t n)) }
 {
-    let key = String::from_str(alloc, need.member.table.as_str())?;
+    let key = String::from_str(alloc, table.as_str())?;
     let mut rows = RowReasons::new(alloc);
-    note_row(
-        &mut rows,
-        need.member.row,
-        Why {
-            statement,
-            rule: need.rule,
-        },
-    )?;
+    note_row(&mut rows, row, why)?;
     reasons.insert(key, rows)?;
     Ok(())
+}
+
+/// Notes why a row of a table is needed, if the row isn't there. The table's name is copied where it is the
+/// first row of the table.
+pub fn note_named(
+    alloc: Global,
+    reasons: &mut Reasons,
+    table: &Utf8,
+    row: u32,
+    why: Why,
+) -> Result<(), AllocError>
+    ensures { OnOk result ((t : Items ℕ) (n : ℕ) → reason_at reasons.new t n
+        ≡ option_or (reason_at reasons.old t n) (reason_of_named table.now row why t n)) }
+{
+    match reasons.get_mut(table.as_str()) {
+        Some(rows) => note_row(rows, row, why),
+        None => note_table(alloc, reasons, table, row, why),
+    }
 }
 
 /// Notes a row that a statement needs, if it isn't there.
@@ -78,24 +90,18 @@ pub fn note_need(
     ensures { OnOk result ((table : Items ℕ) (row : ℕ) → reason_at reasons.new table row
         ≡ option_or (reason_at reasons.old table row) (reason_of_read statement need.now table row)) }
 {
-    match reasons.get_mut(need.member.table.as_str()) {
-        Some(rows) => note_row(
-            rows,
-            need.member.row,
-            Why {
-                statement,
-                rule: need.rule,
-            },
-        ),
-        None => note_table(alloc, reasons, statement, need),
-    }
+    let why = Why {
+        statement,
+        rule: need.rule,
+    };
+    note_named(alloc, reasons, &need.member.table, need.member.row, why)
 }
 
 fn is_noted(initial_rows: &RowSet, fresh: &List<u64>, need: &Need) -> bool
     ensures { result ≡ (member fresh.now (need.now.member.row % 4096)
         && has_row initial_rows.now need.now.member.table need.now.member.row) }
 {
-    has_bit(fresh, need.member.row % 4_096)
+    has_bit(fresh, need.member.row % BLOCK_ROWS)
         && has_row(initial_rows, &need.member.table, need.member.row)
 }
 

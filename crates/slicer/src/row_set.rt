@@ -11,6 +11,9 @@ use ldv_value::{List, Utf8};
 use std::alloc::{AllocError, Global};
 use std::collections::BTreeMap;
 
+/// The numbers of a block.
+pub(crate) const BLOCK_ROWS: u32 = 4_096;
+
 /// Numbers in blocks of 4,096: bit i of word j of block b is the number 4,096 * b + 64 * j + i. A block has
 /// the words up to that of its greatest number, and maybe more, so a number far from all others takes 512
 /// bytes.
@@ -79,9 +82,9 @@ fn clear_bit(words: &mut List<u64>, number: u32)
 fn has_number(numbers: &Numbers, number: u32) -> bool
     ensures { result ≡ has_number numbers.now number }
 {
-    match numbers.get(&(number / 4_096)) {
+    match numbers.get(&(number / BLOCK_ROWS)) {
         None => false,
-        Some(words) => has_bit(words, number % 4_096),
+        Some(words) => has_bit(words, number % BLOCK_ROWS),
     }
 }
 
@@ -91,16 +94,16 @@ fn add_block(alloc: Global, numbers: &mut Numbers, number: u32) -> Result<(), Al
     ensures { OnOk result ((n : ℕ) → has_number numbers.new n ≡ (number == n || has_number numbers.old n)) }
 {
     let mut words = List::new(alloc);
-    set_bit(&mut words, number % 4_096)?;
-    numbers.insert(number / 4_096, words)?;
+    set_bit(&mut words, number % BLOCK_ROWS)?;
+    numbers.insert(number / BLOCK_ROWS, words)?;
     Ok(())
 }
 
 fn add_number(alloc: Global, numbers: &mut Numbers, number: u32) -> Result<(), AllocError>
     ensures { OnOk result ((n : ℕ) → has_number numbers.new n ≡ (number == n || has_number numbers.old n)) }
 {
-    match numbers.get_mut(&(number / 4_096)) {
-        Some(words) => set_bit(words, number % 4_096),
+    match numbers.get_mut(&(number / BLOCK_ROWS)) {
+        Some(words) => set_bit(words, number % BLOCK_ROWS),
         None => add_block(alloc, numbers, number),
     }
 }
@@ -108,8 +111,8 @@ fn add_number(alloc: Global, numbers: &mut Numbers, number: u32) -> Result<(), A
 fn remove_number(numbers: &mut Numbers, number: u32)
     ensures { (n : ℕ) → has_number numbers.new n ≡ (not (number == n) && has_number numbers.old n) }
 {
-    match numbers.get_mut(&(number / 4_096)) {
-        Some(words) => clear_bit(words, number % 4_096),
+    match numbers.get_mut(&(number / BLOCK_ROWS)) {
+        Some(words) => clear_bit(words, number % BLOCK_ROWS),
         None => {}
     }
 }

@@ -9,7 +9,6 @@ ghost use Rattle.run_model.specs.Slice.{packed_because};
 ghost use Rattle.slicer.specs.inner.Rows.{tables_from};
 
 use crate::initial::initial_rows;
-use crate::lists::push_made;
 use crate::name_set::{NameSet, has, tables_asked};
 use crate::reasons::{Reasons, RowReasons, Why, reasons_in};
 use ldv_value::CopyItem;
@@ -49,7 +48,7 @@ fn pack_rows(
     let mut packed = PackedRows::new(alloc);
     for row in rows {
         let why = find_reason(reasons, row.number);
-        push_made(&mut packed, pack_because(row, why)?)?;
+        packed.push_some(pack_because(row, why)?)?;
     }
     Ok(packed)
 }

@@ -27,6 +27,7 @@ use Rattle.sql_model.specs.declared.table.Table.{Table}
 use Rattle.run_model.specs.ValidPackage.{packed_file_precedes, packed_table_precedes, start_rule, file_rule, files_rule, rows_rule, table_rule, tables_rule, is_script_file, script_rule}
 use Rattle.run_model.specs.declared.package.PackedRow.{PackedRow}
 use Rattle.run_model.specs.declared.package.PackedTable.{PackedTable}
+use Rattle.run_model.specs.declared.world.ParsedWorld.{ParsedWorld}
 use Rattle.run_model.specs.declared.world.World.{World}
 use Rattle.run_model.proofs.KeyPlaces.{find-of-list_any}
 use Rattle.run_model.specs.ValidWorld.{all_of_file, all_of_row, all_of_table, TypedWorld, world_rules, ValidWorld, CanRun}
@@ -247,12 +248,12 @@ document_valid : (bytes : List ℕ) (w : World) → world_reading bytes ≡ Ok w
 document_valid bytes w is typed = record { typed = typed; ruled = document_rules bytes w is }
 
 -- what a reading of the bytes gives is valid, where it is typed
-pub read_valid : (bytes : List ℕ) (r : Result World WorldStop) → IfOk r (λ w. world_reading bytes ≡ Ok w) → IfOk r (λ w. TypedWorld w)
-    → IfOk r (λ w. ValidWorld w)
-read_valid bytes (Ok w) is typed = document_valid bytes w is typed
+pub read_valid : (bytes : List ℕ) (r : Result ParsedWorld WorldStop) → IfOk r (λ (p : ParsedWorld). world_reading bytes ≡ Ok p.world)
+    → IfOk r (λ (p : ParsedWorld). TypedWorld p.world) → IfOk r (λ (p : ParsedWorld). ValidWorld p.world)
+read_valid bytes (Ok p) is typed = document_valid bytes p.world is typed
 read_valid bytes (Err stop) is typed = tt
 
-pub read_runs : (bytes : List ℕ) (r : Result World WorldStop) → IfOk r (λ w. world_reading bytes ≡ Ok w) → IfOk r (λ w. TypedWorld w)
-    → IfOk r (λ w. CanRun w)
-read_runs bytes (Ok w) is typed = valid_runs w (document_valid bytes w is typed)
+pub read_runs : (bytes : List ℕ) (r : Result ParsedWorld WorldStop) → IfOk r (λ (p : ParsedWorld). world_reading bytes ≡ Ok p.world)
+    → IfOk r (λ (p : ParsedWorld). TypedWorld p.world) → IfOk r (λ (p : ParsedWorld). CanRun p.world)
+read_runs bytes (Ok p) is typed = valid_runs p.world (document_valid bytes p.world is typed)
 read_runs bytes (Err stop) is typed = tt

@@ -101,3 +101,8 @@ world_reading bytes = reading_of_json (json_of bytes)
 abbrev pub IsFaultOf : Result World WorldFault → WorldStop → Type 0
 IsFaultOf reading (Fault fault) = reading ≡ Err fault
 IsFaultOf reading NoMemory = Unit {0}
+
+-- the same of a fault, where there is one
+abbrev pub IsStopFor : Option WorldFault → WorldStop → Type 0
+IsStopFor due (Fault fault) = Some fault ≡ due
+IsStopFor due NoMemory = Unit {0}

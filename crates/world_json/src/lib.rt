@@ -13,13 +13,13 @@ mod keys;
 mod kinds;
 mod limits;
 mod members;
+mod name_rules;
 mod parts;
 mod rows;
 mod shape;
 mod start;
-mod table_names;
 mod world;
 
 pub use fault::{WorldFault, WorldStop};
 pub use generator::generate;
-pub use world::world_of;
+pub use world::{parsed_world_of, world_of};

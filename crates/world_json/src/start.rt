@@ -1,41 +1,44 @@
-//! The faults NoStart and BadScript: the file of the first start word.
+//! The script of the file of the first start word, and the faults NoStart and BadScript of that file.
 
-ghost use Rattle.std.specs.Prelude.{◌≡◌, ◌≤◌, ◌<◌, ◌^◌, IfOk, IfSome, length, true};
-ghost use Rattle.std.specs.Option.{option_map};
+ghost use Rattle.std.specs.Prelude.{◌≡◌, ◌≤◌, ◌<◌, ◌^◌, Some, IfOk, IfErr, IfSome, length, true};
+ghost use Rattle.std.specs.Option.{option_and_then, option_map};
 ghost use Rattle.ldv_value.specs.FileState.{file_at};
 ghost use Rattle.ldv_value.specs.Limits.{file_limit};
 ghost use Rattle.script_parse.specs.Script.{script_of};
 ghost use Rattle.world_json.specs.Faults.{start_of, are_files_within};
-ghost use Rattle.world_json.specs.Reading.{start_fault_of, script_fault};
+ghost use Rattle.world_json.specs.Reading.{IsStopFor, script_fault, start_fault_of};
 
-use crate::fault::WorldFault;
+use crate::fault::{WorldFault, WorldStop};
 use ldv_value::{File, Files, Utf8, Words};
-use script_parse::{ScriptStop, parse_script};
-use std::alloc::{AllocError, Global};
+use script_parse::{Script, ScriptStop, parse_script};
+use std::alloc::Global;
 
-/// The fault of the file of the first start word, if it has one. `AllocError` means out of memory only.
-pub(crate) fn find_start_fault(
+/// The script of the file of the first start word, or the fault of that file.
+pub(crate) fn parse_start(
     alloc: Global,
     start: &Words,
     files: &Files,
-) -> Result<Option<WorldFault>, AllocError>
+) -> Result<Script, WorldStop>
     requires { are_files_within files.now ≡ true }
-    ensures { IfOk result (λ fault. fault ≡ start_fault_of (start_of start.now files.now)) }
+    ensures parsed { IfOk result (λ script. option_and_then (λ file. script_of file.content)
+        (start_of start.now files.now) ≡ Some script.instructions) }
+    ensures fault { IfErr result (IsStopFor (start_fault_of (start_of start.now files.now))) }
 {
     match find_start(start, files) {
-        None => Ok(Some(WorldFault::NoStart)),
-        Some(file) => find_script_fault(alloc, file.content.as_slice()),
+        None => Err(WorldStop::Fault(WorldFault::NoStart)),
+        Some(file) => parse_content(alloc, file.content.as_slice()),
     }
 }
 
-fn find_script_fault(alloc: Global, bytes: &[u8]) -> Result<Option<WorldFault>, AllocError>
+fn parse_content(alloc: Global, bytes: &[u8]) -> Result<Script, WorldStop>
     requires { length bytes.now < 2 ^ 32 }
-    ensures { IfOk result (λ fault. fault ≡ script_fault bytes.now (script_of bytes.now)) }
+    ensures parsed { IfOk result (λ script. script_of bytes.now ≡ Some script.instructions) }
+    ensures fault { IfErr result (IsStopFor (script_fault bytes.now (script_of bytes.now))) }
 {
     match parse_script(alloc, bytes) {
-        Ok(_script) => Ok(None),
-        Err(ScriptStop::Line(number)) => Ok(Some(WorldFault::BadScript(number))),
-        Err(ScriptStop::NoMemory) => Err(AllocError),
+        Ok(script) => Ok(script),
+        Err(ScriptStop::Line(number)) => Err(WorldStop::Fault(WorldFault::BadScript(number))),
+        Err(ScriptStop::NoMemory) => Err(WorldStop::NoMemory),
     }
 }
 

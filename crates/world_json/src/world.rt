@@ -3,6 +3,7 @@
 ghost use Rattle.std.specs.Prelude.{◌≡◌, IfOk, IfErr, Ok, Some, map, true};
 ghost use Rattle.std.specs.List.{list_all};
 ghost use Rattle.serde_json.specs.View.{view};
+ghost use Rattle.run_model.specs.Start.{IsParsed};
 ghost use Rattle.run_model.specs.ValidWorld.{CanRun, TypedWorld, ValidWorld};
 ghost use Rattle.world_json.specs.Faults.{is_within, is_table_within};
 ghost use Rattle.world_json.specs.Reading.{world_reading, reading_of_json, reading_of, referring_of, have_references};
@@ -15,13 +16,13 @@ use crate::fault::{WorldFault, WorldStop};
 use crate::keys::{foreign_keys, meets_keys, places_of_key};
 use crate::kinds::{meets_kinds, meets_not_null};
 use crate::limits::meets_limits;
-use crate::table_names::meets_names;
+use crate::name_rules::meets_names;
 use crate::parts::read_document;
 use crate::shape::ShapeStop;
-use crate::start::find_start_fault;
+use crate::start::parse_start;
 use json_bytes::{JsonStop, read_json};
 use ldv_value::List;
-use run_model::World;
+use run_model::{ParsedWorld, World};
 use serde_json::Value;
 use sql_model::{Schema, Table, Tables, have_parents, references_hold};
 use std::alloc::{AllocError, Global};
@@ -36,6 +37,24 @@ pub fn world_of(alloc: Global, bytes: &[u8]) -> Result<World, WorldStop>
     ensures valid { IfOk result (λ world. ValidWorld world) }
     ensures runs { IfOk result (λ world. CanRun world) }
 {
+    match parsed_world_of(alloc, bytes) {
+        Ok(parsed) => {
+            let ParsedWorld { world, script: _ } = parsed;
+            Ok(world)
+        }
+        Err(stop) => Err(stop),
+    }
+}
+
+/// The world that a document is, with the script that it starts with. The answers are those of `world_of`.
+pub fn parsed_world_of(alloc: Global, bytes: &[u8]) -> Result<ParsedWorld, WorldStop>
+    ensures world { IfOk result (λ p. world_reading bytes.now ≡ Ok p.world) }
+    ensures fault { IfErr result (IsFaultOf (world_reading bytes.now)) }
+    ensures sorted { IfOk result (λ p. is_sorted_world p.world ≡ true) }
+    ensures valid { IfOk result (λ p. ValidWorld p.world) }
+    ensures runs { IfOk result (λ p. CanRun p.world) }
+    ensures parsed { IfOk result IsParsed }
+{
     match read_json(alloc, bytes) {
         Ok(value) => world_of_value(alloc, value),
         Err(JsonStop::NotJson) => Err(WorldStop::Fault(WorldFault::NotJson)),
@@ -43,10 +62,11 @@ pub fn world_of(alloc: Global, bytes: &[u8]) -> Result<World, WorldStop>
     }
 }
 
-fn world_of_value(alloc: Global, value: Value) -> Result<World, WorldStop>
-    ensures world { IfOk result (λ world. reading_of_json (Some (view value)) ≡ Ok world) }
+fn world_of_value(alloc: Global, value: Value) -> Result<ParsedWorld, WorldStop>
+    ensures world { IfOk result (λ p. reading_of_json (Some (view value)) ≡ Ok p.world) }
     ensures fault { IfErr result (IsFaultOf (reading_of_json (Some (view value)))) }
-    ensures typed { IfOk result (λ world. TypedWorld world) }
+    ensures typed { IfOk result (λ p. TypedWorld p.world) }
+    ensures parsed { IfOk result IsParsed }
 {
     match read_document(alloc, value) {
         Ok(document) => world_of_document(alloc, document),
@@ -55,11 +75,12 @@ fn world_of_value(alloc: Global, value: Value) -> Result<World, WorldStop>
     }
 }
 
-fn world_of_document(alloc: Global, document: Document) -> Result<World, WorldStop>
+fn world_of_document(alloc: Global, document: Document) -> Result<ParsedWorld, WorldStop>
     requires { TypedDocument document }
-    ensures world { IfOk result (λ world. reading_of document ≡ Ok world) }
+    ensures world { IfOk result (λ p. reading_of document ≡ Ok p.world) }
     ensures fault { IfErr result (IsFaultOf (reading_of document)) }
-    ensures typed { IfOk result (λ world. TypedWorld world) }
+    ensures typed { IfOk result (λ p. TypedWorld p.world) }
+    ensures parsed { IfOk result IsParsed }
 {
     if !meets_names(alloc, &document)? {
         return Err(WorldStop::Fault(WorldFault::Name));
@@ -81,21 +102,22 @@ fn world_of_document(alloc: Global, document: Document) -> Result<World, WorldSt
 
 // The world of a document that has none of the faults before Reference.
 #[tactic(auto, using(crate::proofs::Referring::referring_rules))]
-fn referring_world(alloc: Global, document: Document) -> Result<World, WorldStop>
+fn referring_world(alloc: Global, document: Document) -> Result<ParsedWorld, WorldStop>
     requires within { is_within document ≡ true }
     requires typed { TypedDocument document }
-    ensures world { IfOk result (λ world. referring_of document ≡ Ok world) }
+    ensures world { IfOk result (λ p. referring_of document ≡ Ok p.world) }
     ensures fault { IfErr result (IsFaultOf (referring_of document)) }
-    ensures typed { IfOk result (λ world. TypedWorld world) }
+    ensures typed { IfOk result (λ p. TypedWorld p.world) }
+    ensures parsed { IfOk result IsParsed }
 {
     let world = to_world(alloc, document)?;
     if !have_references(alloc, &world.tables)? {
         return Err(WorldStop::Fault(WorldFault::Reference));
     }
-    if let Some(fault) = find_start_fault(alloc, &world.start, &world.files)? {
-        return Err(WorldStop::Fault(fault));
+    match parse_start(alloc, &world.start, &world.files) {
+        Ok(script) => Ok(ParsedWorld { world, script }),
+        Err(stop) => Err(stop),
     }
-    Ok(world)
 }
 
 // Whether each foreign key has a parent that it fits, and each row that refers has a parent row.

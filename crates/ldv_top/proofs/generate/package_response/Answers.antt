@@ -6,10 +6,10 @@ use Rattle.ldv_top.proofs.GenerateLaws.{summed_whole}
 use Rattle.ldv_top.proofs.generate.package_response.Goals as goal
 
 pub spelled_response-requires : goal.spelled_response-requires
-spelled_response-requires c = c.package_law.ensures.own_runs c.args.package.now c.in-Ok.ensures.typed c.requires
+spelled_response-requires c = c.package_law.ensures.own_runs c.args.package c.in-Ok.ensures.typed c.requires
 
 pub returns-in-Ok : goal.returns-in-Ok
 returns-in-Ok c =
     subst (λ (d : DueOutput). IfOk c.spelled_response.result (λ (response : Response). response_due response ≡ d))
-    (summed_whole c.args.orders c.args.rows c.args.package.now c.in-Ok.bytes c.in-Ok.ensures.bytes c.in-Ok.ensures.within)
+    (summed_whole c.args.orders c.args.rows c.args.package c.in-Ok.bytes c.in-Ok.ensures.bytes c.in-Ok.ensures.within)
     c.spelled_response.ensures

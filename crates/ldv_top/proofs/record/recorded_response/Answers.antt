@@ -10,11 +10,11 @@ use Rattle.ldv_top.proofs.record.recorded_response.Goals as goal
 pub returns-in-Ok : goal.returns-in-Ok
 returns-in-Ok c =
     subst (λ (d : DueOutput). IfOk c.spelling_response.result (λ (response : Response). response_due response ≡ d))
-    (recorded_in_time c.args.mode c.args.budget c.args.world c.in-Ok.package c.in-Ok.ensures.recorded)
+    (recorded_in_time c.args.mode c.args.budget c.args.parsed.world c.in-Ok.package c.in-Ok.ensures.recorded)
     c.spelling_response.ensures
 
 pub returns-in-Err-NotEnded : goal.returns-in-Err-NotEnded
 returns-in-Err-NotEnded c =
-    recorded_late c.args.mode c.args.budget c.args.world
-    (subst (λ (stop : EndStop). Stops stop (package_within c.args.mode c.args.budget c.args.world))
+    recorded_late c.args.mode c.args.budget c.args.parsed.world
+    (subst (λ (stop : EndStop). Stops stop (package_within c.args.mode c.args.budget c.args.parsed.world))
     c.in-Err-NotEnded.field-0-is c.in-Err-NotEnded.ensures.recorded)

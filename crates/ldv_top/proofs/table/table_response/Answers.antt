@@ -8,10 +8,10 @@ use Rattle.ldv_top.proofs.table.table_response.Goals as goal
 
 pub tabled_response-requires-clause-can_run : goal.tabled_response-requires-clause-can_run
 tabled_response-requires-clause-can_run c =
-    c.package_law.ensures.own_runs (expanded_package c.in-Ok.package) c.in-Ok.ensures.found.0 c.in-Ok.ensures.found.1
+    c.package_law.ensures.own_runs (expanded_package c.in-Ok.parsed.cut) c.in-Ok.ensures.found.0 c.in-Ok.ensures.found.1
 
 pub returns-in-Ok : goal.returns-in-Ok
 returns-in-Ok c =
     subst (λ (d : DueOutput). IfOk c.tabled_response.result (λ (response : Response). response_due response ≡ d))
-    (table_read c.in-Ok.package c.args.input c.requires.short c.in-Ok.ensures.reading c.args.name.now c.args.step c.args.budget)
+    (table_read c.in-Ok.parsed.cut c.args.input c.requires.short c.in-Ok.ensures.reading c.args.name.now c.args.step c.args.budget)
     c.tabled_response.ensures

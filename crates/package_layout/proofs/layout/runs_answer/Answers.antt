@@ -1,15 +1,13 @@
-use Rattle.package_layout.proofs.Package.{some_due, some_once, none_due, none_once}
-use Rattle.std.proofs.Common.{refl}
 use Rattle.package_layout.proofs.layout.runs_answer.Goals as goal
 
-pub returns-in-Some-clause-due : goal.returns-in-Some-clause-due
-returns-in-Some-clause-due c = some_due c.args.bytes.now c.in-Some.version c.answer_as.result c.in-Some.ensures.version c.answer_as.ensures.due
+pub returns-in-Ok-clause-due : goal.returns-in-Ok-clause-due
+returns-in-Ok-clause-due c = c.in-Ok.ensures.due
 
-pub returns-in-Some-clause-at_once : goal.returns-in-Some-clause-at_once
-returns-in-Some-clause-at_once c = some_once c.args.bytes.now c.in-Some.version c.answer_as.result c.in-Some.ensures.version c.answer_as.ensures.at_once
+pub returns-in-Ok-clause-at_once : goal.returns-in-Ok-clause-at_once
+returns-in-Ok-clause-at_once c = c.in-Ok.ensures.at_once
 
-pub returns-in-None-clause-due : goal.returns-in-None-clause-due
-returns-in-None-clause-due c = none_due c.args.bytes.now c.in-None.ensures.version
+pub returns-in-Err-clause-due : goal.returns-in-Err-clause-due
+returns-in-Err-clause-due c = c.in-Err.ensures.due
 
-pub returns-in-None-clause-at_once : goal.returns-in-None-clause-at_once
-returns-in-None-clause-at_once c = none_once c.args.bytes.now _ c.in-None.ensures.version refl
+pub returns-in-Err-clause-at_once : goal.returns-in-Err-clause-at_once
+returns-in-Err-clause-at_once c = c.in-Err.ensures.at_once

@@ -3,17 +3,16 @@ use Rattle.proc_core.specs.Running.{Stands}
 use Rattle.run_model.specs.RunLaw.{start_state_of}
 use Rattle.run_model.specs.SqlDatabase.{SqlDatabase}
 use Rattle.sql_engine.specs.Asking.{database}
-use Rattle.run_model.proofs.StartScripts.{has_script, has_word}
+use Rattle.run_model.proofs.StartScripts.{has_word}
 use Rattle.proc_core.proofs.StartScripts.{start_script_is}
 use Rattle.replay_db.proofs.run.begin.Goals as goal
 
-pub start-requires-clause-words : goal.start-requires-clause-words
-start-requires-clause-words g c = has_word c.args.world c.requires.script
+pub start_parsed-requires-clause-words : goal.start_parsed-requires-clause-words
+start_parsed-requires-clause-words g c = has_word c.args.world c.requires.can_run.script
 
-pub start-requires-clause-script : goal.start-requires-clause-script
-start-requires-clause-script g c =
-    let script = has_script c.args.world c.requires.script in
-    (script.0, start_script_is c.args.world script.0 c.in_ok-tree.field-0.tree c.in_ok-tree.ensures.tree script.1)
+pub start_parsed-requires-clause-script : goal.start_parsed-requires-clause-script
+start_parsed-requires-clause-script g c =
+    start_script_is c.args.world c.args.script.now.instructions c.in_ok-tree.field-0.tree c.in_ok-tree.ensures.tree c.requires.parsed
 
 pub returns-clause-state : goal.returns-clause-state
 returns-clause-state g c = λ script is.

@@ -8,7 +8,7 @@ use Rattle.replay_db.specs.Types.{World}
 use Rattle.run_laws.proofs.TableSteps.{own_there}
 use Rattle.replay_db.proofs.table.table_included.Goals as goal
 
-pub table_of_run-requires-clause-there : goal.table_of_run-requires-clause-there
-table_of_run-requires-clause-there c =
+pub table_of_world-requires-clause-there : goal.table_of_world-requires-clause-there
+table_of_world-requires-clause-there c =
     ap (λ (w : World). is_some (table_at c.args.name.now w.tables)) c.in_ok-world.ensures
     ∙ own_there c.args.name.now c.args.package.now.tables c.requires.there

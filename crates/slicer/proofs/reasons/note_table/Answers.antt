@@ -4,6 +4,7 @@ use Rattle.std.specs.BTreeMap.{BTreeMap, get_by_text}
 use Rattle.std.specs.Option.{option_or}
 use Rattle.std.proofs.lemmas.Map.Text.{btree_map_updates_text}
 use Rattle.run_model.specs.Slice.{Reason}
+use Rattle.run_model.specs.Types.{Need}
 use Rattle.slicer.specs.declared.reasons.Why.{Why}
 use Rattle.slicer.specs.Marks.{row_reason, reason_among, reason_at, reason_of_row}
 use Rattle.slicer.proofs.ReasonLaws.{read_step, none_empty}
@@ -14,9 +15,10 @@ returns c =
     let old = c.args.reasons.now in
     let new = c.insert.new.self in
     let rows = c.note_row.new.rows in
-    let table = c.args.need.now.member.table in
-    let needed = c.args.need.now.member.row in
-    let why : Why = record { statement = c.args.statement; rule = c.args.need.now.rule } in
+    let table = c.args.table.now in
+    let needed = c.args.row in
+    let why : Why = c.args.why in
+    let need : Need = record { member = record { table = table; row = needed; version = 0 }; rule = why.rule } in
     let key : string_bytes c.in_ok-key.key ≡ table = c.in_ok-key.ensures.ok ∙ c.as_str.ensures in
     let updates : (q : List ℕ) → get_by_text new q ≡ cond (bytes_eq table q) (Some rows) (get_by_text old q) =
     λ q. btree_map_updates_text (string_bytes c.in_ok-key.key) old new (Some rows) c.in_ok-insert.ensures.updates q
@@ -25,4 +27,4 @@ returns c =
     λ row. c.in_ok-note_row.ensures row
     ∙ ap (λ (o : Option Reason). option_or o (reason_of_row needed why row))
     (none_empty c.new-rows.result c.new-rows.ensures.empty row ∙ ap (λ (o : Option (BTreeMap ℕ Why)). reason_among o row) (sym c.requires)) in
-    read_step old new rows c.args.statement c.args.need.now updates steps
+    read_step old new rows why.statement need updates steps

@@ -1,0 +1,120 @@
+-- The script of a valid package: where there is one, and that its own world starts with it.
+use Rattle.std.proofs.Common.{◌≡◌, ℕ, List, [], ◌∷◌, length, map, find, Bool, true, false, if◌then◌else◌, Option, Some, None, is_some, refl, sym, ap, ◌∙◌, inl, inr}
+use Rattle.std.specs.Prelude.{◌&&◌, nat_le, bytes_eq, option_map, option_and_then, Result, Ok, Err, IfOk}
+use Rattle.std.proofs.lemmas.Bool.{cases_Bool}
+use Rattle.ldv_value.proofs.Booleans.{and-true, and-false}
+use Rattle.ldv_value.specs.FileState.{file_at}
+use Rattle.ldv_value.specs.Limits.{file_limit}
+use Rattle.ldv_value.specs.declared.file.File.{File}
+use Rattle.script_parse.specs.Script.{script_of}
+use Rattle.script_parse.specs.declared.script.Instr.{Instr}
+use Rattle.run_model.proofs.StartScripts.{first_script}
+use Rattle.run_model.specs.Package.{or_empty, own_file, own_world}
+use Rattle.run_model.specs.Start.{start_script}
+use Rattle.run_model.specs.declared.package.Package.{Package}
+use Rattle.run_model.specs.declared.package.PackedFile.{PackedFile}
+use Rattle.package_layout.specs.declared.decode_error.DecodeError.{DecodeError}
+use Rattle.package_layout.specs.declared.run_package.ParsedPackage.{ParsedPackage}
+use Rattle.package_layout.specs.declared.run_package.RunPackage.{RunPackage}
+use Rattle.package_layout.specs.Fields.{◌>>=◌}
+use Rattle.package_layout.specs.Plain.{fits_version}
+use Rattle.package_layout.specs.RunPackages.{expanded_package, run_rules, run_sections_of, runs_in}
+use Rattle.package_layout.specs.Runs.{are_runs}
+use Rattle.package_layout.specs.StartScript.{StartsWith, file_script, package_if, packed_script, ruled_script, script_in, valid_script}
+use Rattle.package_layout.specs.Valid.{is_script, is_script_file, parts_rule, script_rule, whole_rule}
+use Rattle.package_layout.specs.Version.{Version}
+
+-- ---- there is one exactly where the rules are met
+
+by_limit : (b : Bool) (o : Option (List Instr)) → is_some (if b then o else None) ≡ (b && is_some o)
+by_limit true o = refl
+by_limit false o = refl
+
+content_there : (o : Option (List ℕ)) → is_some (script_in o) ≡ is_script o
+content_there None = refl
+content_there (Some bytes) = by_limit (nat_le (length bytes) file_limit) (script_of bytes)
+
+file_there : (o : Option PackedFile) → is_some (file_script o) ≡ is_script_file o
+file_there None = refl
+file_there (Some file) = content_there file.content
+
+script_there : (start : List (List ℕ)) (files : List PackedFile) → is_some (packed_script start files) ≡ script_rule start files
+script_there [] files = refl
+script_there (word ∷ words) files = file_there (find (λ f. bytes_eq word f.path) files)
+
+by_tests : (a f p w s : Bool) (o : Option (List Instr)) → is_some o ≡ s
+    → is_some (if a then (if f then (if p then (if w then o else None) else None) else None) else None) ≡ (a && ((p && w && s) && f))
+by_tests false f p w s o is = refl
+by_tests true false p w s o is = sym (and-false (p && w && s))
+by_tests true true false w s o is = refl
+by_tests true true true false s o is = refl
+by_tests true true true true s o is = is ∙ sym (and-true s)
+
+pub valid_rules : (v : Version) (r : RunPackage) → is_some (valid_script v r) ≡ run_rules v r
+valid_rules v r =
+    let p : Package = expanded_package r in
+    by_tests (are_runs r.runs) (fits_version v p) (parts_rule p) (whole_rule p) (script_rule p.start p.files) (packed_script p.start p.files)
+    (script_there p.start p.files)
+
+-- ---- what is kept of what was read
+
+abbrev tested : Version → RunPackage → Option RunPackage
+tested v r = if run_rules v r then Some r else None
+
+package_there : (o : Option (List Instr)) (r : RunPackage) → package_if o r ≡ (if is_some o then Some r else None)
+package_there None r = refl
+package_there (Some script) r = refl
+
+package_rules : (v : Version) (r : RunPackage) → package_if (valid_script v r) r ≡ tested v r
+package_rules v r = package_there (valid_script v r) r ∙ ap (λ (b : Bool). if b then Some r else None) (valid_rules v r)
+
+pub made_in : (v : Version) (bytes : List ℕ) (r : RunPackage) → run_sections_of v bytes ≡ Some r → package_if (valid_script v r) r ≡ runs_in v bytes
+made_in v bytes r is = package_rules v r ∙ sym (ap (λ (o : Option RunPackage). o >>= tested v) is)
+
+pub none_in : (v : Version) (bytes : List ℕ) → run_sections_of v bytes ≡ None → runs_in v bytes ≡ None
+none_in v bytes is = ap (λ (o : Option RunPackage). o >>= tested v) is
+
+-- ---- the own world starts with it
+
+unwrapped : (b : Bool) (o : Option (List Instr)) (script : List Instr) → (if b then o else None) ≡ Some script → o ≡ Some script
+unwrapped true o script is = is
+unwrapped false o script is = cc
+
+content_own : (o : Option (List ℕ)) (script : List Instr) → script_in o ≡ Some script → script_of (or_empty o) ≡ Some script
+content_own None script is = cc
+content_own (Some bytes) script is = unwrapped (nat_le (length bytes) file_limit) (script_of bytes) script is
+
+abbrev world_script : Option File → Option (List Instr)
+world_script o = option_and_then (λ (file : File). script_of file.content) o
+
+file_own : (o : Option PackedFile) (script : List Instr) → file_script o ≡ Some script → world_script (option_map own_file o) ≡ Some script
+file_own None script is = cc
+file_own (Some file) script is = content_own file.content script is
+
+own_at : (word : List ℕ) (files : List PackedFile)
+    → file_at word (map own_file files) ≡ option_map own_file (find (λ f. bytes_eq word f.path) files)
+own_at word [] = refl
+own_at word (file ∷ files) = elim (cases_Bool (bytes_eq word file.path)) [
+  | inl hit ↦ rw hit refl
+  | inr miss ↦ rw miss (own_at word files)
+]
+
+own_start : (start : List (List ℕ)) (files : List PackedFile) (script : List Instr) → packed_script start files ≡ Some script
+    → first_script start (map own_file files) ≡ Some script
+own_start [] files script is = cc
+own_start (word ∷ words) files script is =
+    ap world_script (own_at word files) ∙ file_own (find (λ f. bytes_eq word f.path) files) script is
+
+pub starts_with : (v : Version) (r : RunPackage) (script : List Instr) → valid_script v r ≡ Some script
+    → start_script (own_world r.bare) ≡ Some script
+starts_with v r script is =
+    let p : Package = expanded_package r in
+    let fits = unwrapped (are_runs r.runs) (if fits_version v p then ruled_script p else None) script is in
+    let ruled = unwrapped (fits_version v p) (ruled_script p) script fits in
+    let parts = unwrapped (parts_rule p) (if whole_rule p then packed_script p.start p.files else None) script ruled in
+    own_start r.bare.start r.bare.files script (unwrapped (whole_rule p) (packed_script p.start p.files) script parts)
+
+pub with_start : (v : Version) (r : RunPackage) (o : Option (List Instr)) (result : Result ParsedPackage DecodeError) → o ≡ valid_script v r
+    → IfOk result (λ (p : ParsedPackage). (p.cut ≡ r) × (o ≡ Some p.script.instructions)) → IfOk result StartsWith
+with_start v r o (Ok p) is parts = starts_with v p.cut p.script.instructions (ap (valid_script v) parts.0 ∙ sym is ∙ parts.1)
+with_start v r o (Err stop) is parts = tt
