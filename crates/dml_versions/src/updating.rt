@@ -9,7 +9,7 @@ ghost use Rattle.table_store.specs.Histories.{tables_now};
 use crate::change::{Change, matched_change, refused_change};
 use crate::finding::found_rows;
 use crate::found::FoundRows;
-use crate::needs::{needs_of, with_parents};
+use crate::needs::{needs_of, parent_needs_if};
 use crate::places::update_places;
 use crate::statements::update_of;
 use crate::tables::table_of;
@@ -43,7 +43,7 @@ pub fn update(
     let prepared = prepare(checked, update, store)?;
     let Prepared { found, rows } = prepared;
     let needs = needs_of(alloc, &update.table, &found, keep)?;
-    let all = with_parents(store, &update.table, &rows, &needs, keep)?;
+    let all = parent_needs_if(store, &update.table, &rows, &needs, keep)?;
     let change = matched_change(alloc, &update.table, &found, all, keep)?;
     let name = update.table.as_str();
     match store.replace_all(name, rows, time) {

@@ -27,12 +27,12 @@ matched_change-requires c =
     (versions-fit c.args.store.now.time f.table.slots f.held.timed c.args.time c.requires.later (omega arith)
     (filter (test_in f.table c.update_of-update.result.now.pick) (rows_now f.table.slots)))
 
-pub with_parents-requires-clause-there : goal.with_parents-requires-clause-there
-with_parents-requires-clause-there c =
+pub parent_needs_if-requires-clause-there : goal.parent_needs_if-requires-clause-there
+parent_needs_if-requires-clause-there c =
     there-of (tables_now c.args.store.now) c.args.checked.now c.requires.checked (TheUpdate c.update_of-update.result.now) c.update_of-update.ensures tt
 
-pub with_parents-requires-clause-put : goal.with_parents-requires-clause-put
-with_parents-requires-clause-put c =
+pub parent_needs_if-requires-clause-put : goal.parent_needs_if-requires-clause-put
+parent_needs_if-requires-clause-put c =
     let f = c.in_ok-prepared.ensures in
     let update = c.update_of-update.result.now in
     let old = c.args.store.now in

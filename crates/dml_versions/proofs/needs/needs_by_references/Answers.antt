@@ -4,7 +4,7 @@ use Rattle.sql_model.specs.Scope.{table_at}
 use Rattle.table_store.specs.Histories.{tables_now}
 use Rattle.table_store.specs.Referring.{CanBePut, are_apart, parents_now}
 use Rattle.dml_versions.proofs.ReferLaws.{with-parents}
-use Rattle.dml_versions.proofs.needs.parents_with.Goals as goal
+use Rattle.dml_versions.proofs.needs.needs_by_references.Goals as goal
 
 pub parents_of-requires-clause-there : goal.parents_of-requires-clause-there
 parents_of-requires-clause-there c =
