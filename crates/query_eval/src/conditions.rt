@@ -1,6 +1,6 @@
 //! The conjuncts of ON and WHERE.
 
-ghost use Rattle.std.specs.Prelude.{◌≡◌, ◌++◌, List as Items, ℕ, drop, IfOk, OnOk};
+ghost use Rattle.std.specs.Prelude.{◌≡◌, ◌++◌, List as Items, ℕ, drop, IfOk};
 ghost use Rattle.std.specs.List.{flat_map};
 ghost use Rattle.core_parts.specs.Checking.{HasCore};
 ghost use Rattle.core_parts.specs.Conditions.{Adds, AreConditions};
@@ -9,7 +9,7 @@ ghost use Rattle.sql_model.specs.Kinds.{names_in};
 ghost use Rattle.sql_model.specs.Refusals.{core_names, items_of, names_of_items};
 ghost use Rattle.sql_model.specs.Scope.{InScope, places_in};
 
-use core_parts::{BoundExpr, conjuncts, core_of, column_indexes, take_places};
+use core_parts::{BoundExpr, column_indexes, conjuncts, core_of, skip_places};
 use ldv_value::{List, Places};
 use sql_model::{Checked, Core, Item};
 use std::alloc::{AllocError, Global};
@@ -25,21 +25,15 @@ fn items_of(core: &Core) -> &[Item]
 }
 
 // Passes the places of items over.
-fn skip_items(
-    alloc: Global,
-    items: &[Item],
-    places: &Places,
-    at: &mut usize,
-) -> Result<(), AllocError>
-    ensures { OnOk result ((scope : Items InScope) (more : Items ℕ)
+fn skip_items(items: &[Item], places: &Places, at: &mut usize)
+    ensures { (scope : Items InScope) (more : Items ℕ)
         → drop at.old places.now ≡ places_in scope (names_of_items items.now) ++ more
-        → drop at.new places.now ≡ more) }
+        → drop at.new places.now ≡ more }
 {
-    let mut passed = List::new(alloc);
     for item in items {
-        take_places(&item.expr, places, at, &mut passed)?;
+        let end = skip_places(&item.expr, places, *at);
+        *at = end;
     }
-    Ok(())
 }
 
 // The conjuncts of ON and WHERE of a core, with their places among those of the core.
@@ -48,7 +42,7 @@ fn conditions_of(alloc: Global, core: &Core, places: &Places) -> Result<List<Bou
         → places.now ≡ places_in scope (core_names core.now) → AreConditions scope core.now.picks conds) }
 {
     let mut at = 0;
-    skip_items(alloc, items_of(core), places, &mut at)?;
+    skip_items(items_of(core), places, &mut at);
     conjuncts(alloc, core.picks.items(), places, at)
 }
 
