@@ -6,23 +6,13 @@ ghost use Rattle.core_parts.specs.Checking.{HasCore};
 ghost use Rattle.core_parts.specs.Conditions.{Adds, AreConditions};
 ghost use Rattle.query_eval.specs.inner.Conditions.{AreOfCore};
 ghost use Rattle.sql_model.specs.Kinds.{names_in};
-ghost use Rattle.sql_model.specs.Refusals.{core_names, items_of, names_of_items};
+ghost use Rattle.sql_model.specs.Refusals.{core_names, names_of_items};
 ghost use Rattle.sql_model.specs.Scope.{InScope, places_in};
 
 use core_parts::{BoundExpr, column_indexes, conjuncts, core_of, skip_places};
 use ldv_value::{List, Places};
-use sql_model::{Checked, Core, Item};
+use sql_model::{Checked, Core, Item, items_of};
 use std::alloc::{AllocError, Global};
-
-// The items that are written; `*` is none.
-fn items_of(core: &Core) -> &[Item]
-    ensures { result.now ≡ items_of core.now }
-{
-    match &core.items {
-        None => &[],
-        Some(items) => items.items(),
-    }
-}
 
 // Passes the places of items over.
 fn skip_items(items: &[Item], places: &Places, at: &mut usize)

@@ -11,12 +11,13 @@ ghost use Rattle.sql_model.specs.Refusals.{update_clashes, clashes};
 use crate::aggregate::counts;
 use crate::duplicate::has_duplicate;
 use crate::kinds::{are_comparable, group_kind, is_logical, kind_of_column, row_kind};
-use crate::core_names::items_of;
 use crate::scope::{Entry, column_at, columns_of, own_scope};
 use crate::union::query_kinds;
 use crate::values::insert_clashes;
 use ldv_value::Value;
-use sql_model::{Catalog, Column, Core, Expr, Item, Kind, Query, Set, Statement, Update};
+use sql_model::{
+    Catalog, Column, Core, Expr, Item, Kind, Query, Set, Statement, Update, items_of,
+};
 use std::alloc::{AllocError, Global};
 
 /// Whether kinds or counts don't fit, in an expression, a condition, a UNION, LIMIT or a change.

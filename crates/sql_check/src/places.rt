@@ -8,12 +8,11 @@ ghost use Rattle.sql_model.specs.Refusals.{answer_titles, update_names, delete_n
 ghost use Rattle.sql_model.specs.Scope.{places_in};
 
 use crate::output_column::{OutputColumn, answer_titles, key_place};
-use crate::core_names::items_of;
 use crate::scope::{Entry, own_scope, place_of, scope_of};
 use crate::walk::push_places;
 use ldv_value::{List, PlaceLists, Places};
 use sql_model::{
-    Catalog, ColumnName, Core, Delete, Expr, Item, Order, Query, Set, Statement, Update,
+    Catalog, ColumnName, Core, Delete, Expr, Item, Order, Query, Set, Statement, Update, items_of,
 };
 use std::alloc::{AllocError, Global};
 

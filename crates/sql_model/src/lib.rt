@@ -43,7 +43,7 @@ pub use schema::{
 pub use sql_names::is_sql_name;
 pub use statement::{
     Core, Cores, Delete, FromItem, FromItems, Insert, Item, Items, Order, OrderKey, Orders, Query,
-    Set, Sets, Statement, Update,
+    Set, Sets, Statement, Update, items_of,
 };
 pub use table::{
     Column, Columns, Foreign, Foreigns, Schema, Schemas, Table, TableRow, TableRows, Tables,

@@ -1,6 +1,7 @@
 //! Statements.
 
 ghost use Rattle.std.specs.Prelude.{◌≡◌, IfOk};
+ghost use Rattle.sql_model.specs.Refusals.{items_of};
 
 use crate::expr::{ColumnNames, Expr, ExprRows, Exprs, copy_text};
 use ldv_value::{CopyItem, List, Names, Utf8, Value};
@@ -43,6 +44,16 @@ pub struct Core {
     pub group: ColumnNames,
     /// The condition of HAVING.
     pub having: Option<Expr>,
+}
+
+/// The items of a core that are written; `*` is none.
+pub fn items_of(core: &Core) -> &[Item]
+    ensures { result.now ≡ items_of core.now }
+{
+    match &core.items {
+        None => &[],
+        Some(items) => items.items(),
+    }
 }
 
 /// An item of a SELECT, with its AS name.
