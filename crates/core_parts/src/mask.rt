@@ -1,6 +1,6 @@
 //! Tests of single columns, by which the rows of a source can be chosen before conditions are evaluated.
 
-ghost use Rattle.std.specs.Prelude.{◌≡◌, ◌+◌, ◌++◌, option_to_list, IfOk, IfSome, OnOk, true};
+ghost use Rattle.std.specs.Prelude.{◌≡◌, ◌++◌, option_to_list, IfOk, IfSome, OnOk, true};
 ghost use Rattle.core_parts.specs.Constants.{IsConstant};
 ghost use Rattle.core_parts.specs.Equality.{IsColumn};
 ghost use Rattle.core_parts.specs.Masking.{AreMasks, AreExact, IsFound, IsTest, fits, suits, commuted_cmp};
@@ -9,7 +9,7 @@ ghost use Rattle.sql_model.specs.declared.expr.Expr.TheVariants.{Both, IsNull};
 
 use crate::constants::constant_of;
 use crate::equality::is_column;
-use crate::placed::BoundExpr;
+use crate::placed::{BoundExpr, column_of_source};
 use ldv_value::{Cmp, Value};
 use sql_model::{Column, Columns, Expr, Operator};
 use std::alloc::{AllocError, Global};
@@ -95,24 +95,12 @@ fn mask_of(
     let Some(place) = cond.places.get(0) else {
         return Ok(None);
     };
-    let Some(column) = column_at(before, *place) else {
+    let Some(column) = column_of_source(before, *place) else {
         return Ok(None);
     };
     match test_of(alloc, &cond.expr)? {
         None => Ok(None),
         Some(test) => Ok(fitting_mask(columns, Mask { column, test })),
-    }
-}
-
-// The column at a place of the joined row, of those after some values.
-fn column_at(before: u128, place: usize) -> Option<usize>
-    ensures { IfSome result (λ column. before + column ≡ place) }
-{
-    let place = place as u128;
-    if place < before {
-        None
-    } else {
-        Some((place - before) as usize)
     }
 }
 

@@ -1,6 +1,7 @@
 //! Expressions with the places of their columns.
 
-ghost use Rattle.std.specs.Prelude.{◌≡◌, ◌++◌, ◌-◌, ◌≤◌, drop, length, take, IfOk, OnErr, OnOk};
+ghost use Rattle.std.specs.Prelude.{◌≡◌, ◌+◌, ◌++◌, ◌-◌, ◌≤◌, drop, is_none, length, nat_lt, take};
+ghost use Rattle.std.specs.Prelude.{IfOk, IfSome, OnErr, OnOk};
 ghost use Rattle.core_parts.specs.Placing.{own_places, other_places, PlacesItems};
 
 use ldv_value::{CopyItem, List, Places};
@@ -100,6 +101,20 @@ pub fn take_place(places: &Places, at: &mut usize, own: &mut Places) -> Result<(
             *at += 1;
             Ok(())
         }
+    }
+}
+
+/// A place of the joined row as that of a column of the source that comes after `before` values; `None` where
+/// it is one of these.
+pub fn column_of_source(before: u128, place: usize) -> Option<usize>
+    ensures none { is_none result ≡ nat_lt place before }
+    ensures at { IfSome result (λ column. before + column ≡ place) }
+{
+    let place = place as u128;
+    if place < before {
+        None
+    } else {
+        Some((place - before) as usize)
     }
 }
 
