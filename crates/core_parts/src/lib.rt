@@ -19,7 +19,7 @@ mod truths;
 
 pub use by_order::{ByOrder, Ordered};
 pub use conditions::{conjuncts, conjuncts_of};
-pub use constants::constant_of;
+pub use constants::{constant_of, constant_value};
 pub use cores::{column_indexes, core_of, query_of};
 pub use equality::{is_column, is_equal_test};
 pub use fixing::fixed_key;
