@@ -1,8 +1,7 @@
 //! The rows of a table for which WHERE is True.
 
-ghost use Rattle.std.specs.Prelude.{◌≡◌, ◌++◌, ◌+◌, ◌*◌, ◌^◌, ◌<◌, ◌≤◌, length, true, IfOk, OnOk};
+ghost use Rattle.std.specs.Prelude.{◌≡◌, ◌++◌, ◌^◌, ◌<◌, length, true, IfOk, OnOk};
 ghost use Rattle.std.specs.Prelude.{slice_index_or};
-ghost use Rattle.lanes.specs.Sets.{member};
 ghost use Rattle.dml_versions.specs.Finding.{AllPass, CoverFound, IsPickPlaced, Passes, scope_in, test_in};
 ghost use Rattle.dml_versions.specs.Finding.{found_at, found_from};
 ghost use Rattle.sql_model.specs.Changes.{is_matched};
@@ -18,7 +17,7 @@ use crate::keys::picked_key;
 use crate::needs::version_of;
 use crate::tested::picked_tests;
 use core_parts::is_certain;
-use lanes::next_one;
+use lanes::{after_member, next_one};
 use ldv_value::{List, Places, Values};
 use sql_model::{Expr, RowKey, truth_of};
 use std::alloc::{AllocError, Global};
@@ -106,21 +105,10 @@ fn found_among(
             None => return Ok(found),
             Some(slot) => {
                 add_found(alloc, table, slot, exact, pick, places, &mut found)?;
-                at = after(words, slot);
+                at = after_member(words, slot);
             }
         }
     }
-}
-
-// The slot after one that is set.
-#[tactic(auto, using(lanes::proofs::SetLaws::slot_within))]
-fn after(words: &[u64], slot: u64) -> u64
-    requires few { length words.now < 2 ^ 57 }
-    requires set { member words.now slot ≡ true }
-    ensures next { result ≡ slot + 1 }
-    ensures within { result ≤ 64 * length words.now }
-{
-    slot + 1
 }
 
 // The row with the key that WHERE fixes, if WHERE is True for it.

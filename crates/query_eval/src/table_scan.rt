@@ -1,6 +1,6 @@
 //! The rows of a table that masks leave: chosen by bits, and copied only then.
 
-ghost use Rattle.std.specs.Prelude.{◌≡◌, ◌++◌, ◌<◌, ◌≤◌, ◌^◌, ◌*◌, ◌+◌, [], ℕ, length, true, IfOk, OnOk};
+ghost use Rattle.std.specs.Prelude.{◌≡◌, ◌++◌, ◌<◌, ◌^◌, [], ℕ, length, IfOk, OnOk};
 ghost use Rattle.std.specs.Prelude.{Some, unwrap_or};
 ghost use Rattle.std.specs.List.{AllByRecursion};
 ghost use Rattle.std.specs.Option.{option_map, option_to_list};
@@ -12,7 +12,7 @@ ghost use Rattle.table_store.specs.Histories.{history_of_row, row_now, version_n
 
 use crate::source::{SourceRow, SourceRows};
 use core_parts::{Mask, MaskTest};
-use lanes::next_one;
+use lanes::{after_member, next_one};
 use ldv_value::List;
 use std::alloc::{AllocError, Global};
 use table_store::{CellTest, ColumnTest, TableStore};
@@ -106,17 +106,6 @@ pub(crate) fn add_slot(
     }
 }
 
-// The slot after one that is set.
-#[tactic(auto, using(lanes::proofs::SetLaws::slot_within))]
-fn after(words: &[u64], slot: u64) -> u64
-    requires few { length words.now < 2 ^ 57 }
-    requires set { member words.now slot ≡ true }
-    ensures next { result ≡ slot + 1 }
-    ensures within { result ≤ 64 * length words.now }
-{
-    slot + 1
-}
-
 // The rows of the slots that are set.
 #[tactic(auto, using(crate::proofs::LeavingLaws::chosen_next, crate::proofs::LeavingLaws::chosen_end))]
 fn rows_chosen(alloc: Global, table: &TableStore, words: &[u64]) -> Result<SourceRows, AllocError>
@@ -131,7 +120,7 @@ fn rows_chosen(alloc: Global, table: &TableStore, words: &[u64]) -> Result<Sourc
             None => return Ok(rows),
             Some(slot) => {
                 add_slot(table, &mut rows, slot)?;
-                at = after(words, slot);
+                at = after_member(words, slot);
             }
         }
     }
