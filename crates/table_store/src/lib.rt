@@ -36,7 +36,6 @@ mod table;
 mod table_rows;
 
 pub use cell_test::{CellTest, ColumnTest};
-pub use column_store::Cell;
 pub use error::StoreStop;
 pub use store::Store;
 pub use table::TableStore;

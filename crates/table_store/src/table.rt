@@ -7,10 +7,8 @@ ghost use Rattle.std.specs.Option.{option_map, option_map_or, option_or, option_
 ghost use Rattle.std.specs.List.{filter_map};
 ghost use Rattle.lanes.specs.Sets.{member};
 ghost use Rattle.row_version.specs.History.{current_values, version};
-ghost use Rattle.sql_model.specs.Scope.{value_at};
 ghost use Rattle.sql_model.specs.Tables.{is_valid_table};
 ghost use Rattle.sql_model.specs.References.{has_key};
-ghost use Rattle.column_store.specs.LentCells.{lent_value};
 ghost use Rattle.table_store.specs.Scans.{null_passes, passes_test};
 ghost use Rattle.table_store.specs.inner.ChildPairs.{no_foreign, refers, IsNextOf};
 ghost use Rattle.table_store.specs.Types.{Null};
@@ -39,7 +37,6 @@ use crate::rekey::claims_of;
 use crate::rows::Rows;
 use crate::error::StoreStop;
 use crate::table_rows::{rows_as_of, standing_rows};
-use column_store::Cell;
 use ldv_value::{Cmp, Numbers, RowList, Utf8, Values};
 use sql_model::{Columns, RowKey, Schema, Table, TableRows};
 use std::alloc::{AllocError, Global};
@@ -212,17 +209,6 @@ impl TableStore {
         self.rows.copy_values(self.name.allocator(), slot as usize)
     }
 
-    /// The value in a column, by its place from 0, of the row in a slot, which stands; NULL past the last
-    /// column. It is lent, and no row is copied.
-    #[tactic(auto, using(crate::proofs::TableLaws::slot_rules))]
-    pub fn cell(&self, slot: u64, column: u64) -> Cell<'_>
-        requires { IsSome (current_values (slice_index_or self.now.slots slot no_history).changes) }
-        ensures { Some (lent_value result) ≡ option_map (λ values. value_at values column)
-            (current_values (slice_index_or self.now.slots slot no_history).changes) }
-    {
-        self.rows.cell(slot as usize, column as usize)
-    }
-
     /// Sets the bits of the slots whose row stands and has a number in the column that compares so to the
     /// constant, and clears all others. The column is of INT, and the mask has a word for each 64 slots,
     /// rounded up.
@@ -259,13 +245,6 @@ impl TableStore {
             ≡ is_some (row_now (slice_index_or self.now.slots n no_history)) }
     {
         self.rows.standing_slots()
-    }
-
-    /// There are fewer than 2^32 slots. The call does nothing; it lends this to the caller.
-    pub fn tell_few(&self)
-        ensures { length self.now.slots < 2 ^ 32 }
-    {
-        let _standing = self.rows.standing_slots();
     }
 
     /// The version of a row: how often it has changed. `None` where it doesn't stand now.
