@@ -23,7 +23,7 @@ pub use constants::{constant_of, constant_value};
 pub use cores::{column_indexes, core_of, query_of};
 pub use equality::{is_column, is_equal_test};
 pub use fixing::fixed_key;
-pub use mask::{Mask, MaskTest, exact_masks, masks_of};
+pub use mask::{exact_masks, masks_of};
 pub use needs::{needed_by, needs_in_order, union_of_needs};
 pub use placed::{
     BoundExpr, column_of_source, placed_at, placed_items, skip_places, take_place, take_places,

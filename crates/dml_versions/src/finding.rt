@@ -19,9 +19,9 @@ use crate::tested::picked_tests;
 use core_parts::is_certain;
 use lanes::{after_member, next_one};
 use ldv_value::{List, Places, Values};
-use sql_model::{Expr, RowKey, truth_of};
+use sql_model::{ColumnTest, Expr, RowKey, truth_of};
 use std::alloc::{AllocError, Global};
-use table_store::{ColumnTest, TableStore};
+use table_store::TableStore;
 
 /// The rows of a table for which WHERE is True, or missing, in the order of their numbers. `places` are those
 /// of WHERE's columns.

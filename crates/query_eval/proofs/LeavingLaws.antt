@@ -1,66 +1,44 @@
 -- The rows that masks leave, slot by slot.
 use Rattle.std.proofs.Common.{◌≡◌, ◌∙◌, sym, ap, subst, refl, ℕ, zero, suc, ◌+◌, ◌-◌, ◌<◌, ◌≤◌, Bool, true, false, ◌&&◌, List, [], ◌∷◌, ◌++◌, map, drop, length, get_or, append_assoc, append-nil, inl, inr, arith, Option, Some, None}
-use Rattle.std.specs.Prelude.{filter, cond, unwrap_or, slice_get, is_some, IfSome, IsSome}
+use Rattle.std.specs.Prelude.{filter, cond, unwrap_or, is_some, IfSome, IsSome}
 use Rattle.std.specs.List.{cons_option, filter_map, AllByRecursion}
 use Rattle.std.proofs.lemmas.List.{drop-drop, get_or-drop, get_or_past}
 use Rattle.std.specs.Option.{option_map, option_map_or, option_to_list}
 use Rattle.std.proofs.lemmas.Bool.{cases_Bool, cases_lt}
 use Rattle.lanes.specs.Sets.{member, IsNext}
-use Rattle.core_parts.specs.Masking.{passes, passes_all, suits}
-use Rattle.core_parts.specs.declared.mask.Mask.{Mask}
-use Rattle.core_parts.specs.declared.mask.MaskTest.{MaskTest}
-use Rattle.core_parts.specs.declared.mask.MaskTest.TheVariants.{Compares, IsNull, IsNotNull}
-use Rattle.query_eval.specs.Leaving.{AllFit, cell_test, column_tests, row_passes, slot_passes, rows_at_slots, with_version, source_row, rows_in}
+use Rattle.query_eval.specs.Leaving.{row_passes, slot_passes, rows_at_slots, with_version, source_row, rows_in}
 use Rattle.query_eval.specs.Sourcing.{table_row}
 use Rattle.query_eval.specs.Stored.{HasVersion}
 use Rattle.query_eval.specs.declared.source.SourceRow.{SourceRow}
+use Rattle.sql_model.specs.ColumnTests.{passes, passes_all}
 use Rattle.sql_model.specs.Scope.{value_at}
-use Rattle.query_eval.specs.Types.{Column, Null, TableRow, Value}
+use Rattle.sql_model.specs.declared.column_test.ColumnTest.{ColumnTest}
+use Rattle.query_eval.specs.Types.{Null, TableRow, Value}
 use Rattle.table_store.proofs.TableLaws.{history_here}
-use Rattle.table_store.specs.CellTests.{AllFitColumns, cell_passes, passes_columns, slot_chosen, suits as suits_cell}
-use Rattle.table_store.specs.declared.cell_test.ColumnTest.{ColumnTest}
+use Rattle.table_store.specs.CellTests.{passes_columns, slot_chosen}
 use Rattle.table_store.specs.Histories.{RowHistory, TableHistory, no_history, row_now, rows_now, numbered_row, history_of_row, version_now}
 use Rattle.table_store.specs.RowOrder.{AreInOrder}
 use Rattle.row_version.specs.History.{current_values, version}
 
--- ---- masks, as a table makes them
-
-cells-fit : (test : MaskTest) (column : Option Column) → option_map_or (suits test) column false ≡ true → option_map_or (suits_cell (cell_test test)) column false ≡ true
-cells-fit test None is = cc
-cells-fit (Compares op constant) (Some column) is = is
-cells-fit IsNull (Some column) is = refl
-cells-fit IsNotNull (Some column) is = refl
-
-pub tests_fit : (columns : List Column) (masks : List Mask) (tests : List ColumnTest) → tests ≡ column_tests masks → AllFit columns masks → AllFitColumns columns tests
-tests_fit columns masks tests is all = subst (AllFitColumns columns) (sym is) (each masks all)
-  where
-    each : (ms : List Mask) → AllFit columns ms → AllFitColumns columns (column_tests ms)
-    each [] fit = tt
-    each (mask ∷ ms) fit = (cells-fit mask.test (slice_get columns mask.column) fit.0, each ms fit.1)
+-- ---- masks, over the rows of a table
 
 got-at : (row : List Value) (place : ℕ) → get_or row place Null ≡ value_at row place
 got-at [] place = refl
 got-at (v ∷ row) zero = refl
 got-at (v ∷ row) (suc place) = got-at row place
 
-cell-alike : (test : MaskTest) (v : Value) → cell_passes (cell_test test) v ≡ passes test v
-cell-alike (Compares op constant) v = refl
-cell-alike IsNull v = refl
-cell-alike IsNotNull v = refl
-
-row-alike : (masks : List Mask) (row : TableRow) → passes_columns (column_tests masks) row ≡ passes_all masks row.values
+row-alike : (masks : List ColumnTest) (row : TableRow) → passes_columns masks row ≡ passes_all masks row.values
 row-alike [] row = refl
-row-alike (mask ∷ masks) row =
-    λ j. (ap (cell_passes (cell_test mask.test)) (got-at row.values mask.column) ∙ cell-alike mask.test (value_at row.values mask.column)) j && row-alike masks row j
+row-alike (mask ∷ masks) row = λ j. ap (passes mask.test) (got-at row.values mask.column) j && row-alike masks row j
 
-slot-alike : (masks : List Mask) (o : Option TableRow) → option_map_or (passes_columns (column_tests masks)) o false ≡ option_map_or (λ (row : TableRow). passes_all masks row.values) o false
+slot-alike : (masks : List ColumnTest) (o : Option TableRow) → option_map_or (passes_columns masks) o false ≡ option_map_or (λ (row : TableRow). passes_all masks row.values) o false
 slot-alike masks None = refl
 slot-alike masks (Some row) = row-alike masks row
 
-pub tested_alike : (masks : List Mask) (tests : List ColumnTest) (slot : RowHistory) (here : Bool) → tests ≡ column_tests masks → here ≡ slot_chosen tests slot → here ≡ slot_passes masks slot
-tested_alike masks tests slot here is same = same ∙ ap (λ (ts : List ColumnTest). slot_chosen ts slot) is ∙ slot-alike masks (row_now slot)
+pub tested_alike : (masks : List ColumnTest) (slot : RowHistory) (here : Bool) → here ≡ slot_chosen masks slot → here ≡ slot_passes masks slot
+tested_alike masks slot here same = same ∙ slot-alike masks (row_now slot)
 
-passes-alike : (masks : List Mask) (slot : RowHistory) (row : TableRow) → row_now slot ≡ Some row → slot_passes masks slot ≡ passes_all masks row.values
+passes-alike : (masks : List ColumnTest) (slot : RowHistory) (row : TableRow) → row_now slot ≡ Some row → slot_passes masks slot ≡ passes_all masks row.values
 passes-alike masks slot row is = ap (λ (o : Option TableRow). option_map_or (λ (r : TableRow). passes_all masks r.values) o false) is
 
 -- ---- rows of slots
@@ -87,7 +65,7 @@ module _ {A B C : Type 0} (now : A → Option B) (f : B → C) (back : C → B) 
       ]
 
 -- the rows of the slots that are left are those of the table that pass
-pub rows-left : (masks : List Mask) (all slots : List RowHistory) → map table_row (rows_in all (filter (slot_passes masks) slots)) ≡ filter (row_passes masks) (rows_now slots)
+pub rows-left : (masks : List ColumnTest) (all slots : List RowHistory) → map table_row (rows_in all (filter (slot_passes masks) slots)) ≡ filter (row_passes masks) (rows_now slots)
 rows-left masks all slots =
     filter-before row_now (with_version all) table_row (slot_passes masks) (row_passes masks) (λ row. refl) (passes-alike masks) slots
 
@@ -102,7 +80,7 @@ rows_at_slots-is words p at (slot ∷ slots) same =
     rows_at_slots-is words p (suc at) slots (λ n. let next : suc at + n ≡ at + suc n = omega arith in ap (member words) next ∙ same (suc n)) in
     λ j. cond (here j) (slot ∷ rest j) (rest j)
 
-pub rows_at_slots-left : (masks : List Mask) (words : List ℕ) (slots : List RowHistory) → ((n : ℕ) → member words n ≡ slot_passes masks (get_or slots n no_history))
+pub rows_at_slots-left : (masks : List ColumnTest) (words : List ℕ) (slots : List RowHistory) → ((n : ℕ) → member words n ≡ slot_passes masks (get_or slots n no_history))
     → rows_at_slots words 0 slots ≡ filter (slot_passes masks) slots
 rows_at_slots-left masks words slots same = rows_at_slots-is words (slot_passes masks) 0 slots (λ n. let whole : 0 + n ≡ n = omega arith in ap (member words) whole ∙ same n)
 
@@ -208,7 +186,7 @@ module _ (table : TableHistory) (next : ℕ) (order : AreInOrder table.slots nex
     | inr miss ↦ rw miss (rows-known p slots known.1)
   ]
 
-  pub left_known : (masks : List Mask) (rows : List SourceRow) → rows ≡ rows_in table.slots (filter (slot_passes masks) table.slots) → AllByRecursion (HasVersion (Some table)) rows
+  pub left_known : (masks : List ColumnTest) (rows : List SourceRow) → rows ≡ rows_in table.slots (filter (slot_passes masks) table.slots) → AllByRecursion (HasVersion (Some table)) rows
   left_known masks rows is =
       subst (AllByRecursion (HasVersion (Some table))) (sym is) (rows-known (slot_passes masks) table.slots (each-known table.slots known-at))
 
@@ -285,7 +263,7 @@ pub chosen_end : (all : List RowHistory) (words : List ℕ) (slots : List RowHis
 chosen_end all words slots rows total at none same = sym (append-nil rows) ∙ ap (λ (l : List SourceRow). rows ++ l) (sym (no-row all words slots at none)) ∙ same
 
 -- the rows that are left are those of the slots that are set
-pub left_chosen : (all slots : List RowHistory) (masks : List Mask) (words : List ℕ) (rows : List SourceRow)
+pub left_chosen : (all slots : List RowHistory) (masks : List ColumnTest) (words : List ℕ) (rows : List SourceRow)
     → ((n : ℕ) → member words n ≡ slot_passes masks (get_or slots n no_history)) → rows ≡ rows_in all (rows_at_slots words 0 slots)
     → rows ≡ rows_in all (filter (slot_passes masks) slots)
 left_chosen all slots masks words rows same is = is ∙ ap (rows_in all) (rows_at_slots-left masks words slots same)

@@ -24,7 +24,7 @@ use Rattle.lineage.specs.declared.answer.Pick.{Pick}
 use Rattle.core_parts.proofs.FixingLaws.{fixed-key}
 use Rattle.core_parts.proofs.MaskLaws.{masks-pass}
 use Rattle.core_parts.specs.Masking.{AreMasks}
-use Rattle.core_parts.specs.declared.mask.Mask.{Mask}
+use Rattle.sql_model.specs.declared.column_test.ColumnTest.{ColumnTest}
 use Rattle.query_eval.proofs.Agree.{value_first}
 use Rattle.query_eval.proofs.KeyedLaws.{keyed-rows}
 use Rattle.query_eval.proofs.LeavingLaws.{rows-left}
@@ -68,7 +68,7 @@ all-found p q (x ∷ xs) all = elim (cases_Bool (p x)) [
 -- ---- the rows of a source
 
 -- which rows of a table stay
-abbrev keep_by : List Mask → Option (List Value) → TableHistory → TableRow → Bool
+abbrev keep_by : List ColumnTest → Option (List Value) → TableHistory → TableRow → Bool
 keep_by masks (Some key) table = has_key table.schema.key key
 keep_by masks None table = row_passes masks
 
@@ -77,7 +77,7 @@ module _ (conds : List BoundExpr) (before : ℕ) where
   keep_of None rows chosen = λ row. true
   keep_of (Some table) rows chosen = keep_by chosen.masks chosen.key table
 
-  by-key : (table : TableHistory) (masks : List Mask) (key : Option (List Value)) → IfSome key (FixesKey conds before (length table.schema.columns) table.schema.key) → IsValid table
+  by-key : (table : TableHistory) (masks : List ColumnTest) (key : Option (List Value)) → IfSome key (FixesKey conds before (length table.schema.columns) table.schema.key) → IsValid table
       → map table_row (chosen_rows masks key table) ≡ filter (keep_by masks key table) (rows_now table.slots)
   by-key table masks None fixed valid = rows-left masks table.slots table.slots
   by-key table masks (Some key) fixed valid = keyed-rows table key fixed.some (table-parts (table_now table) valid).keys
@@ -106,7 +106,7 @@ module _ (scope : List InScope) (conds : List BoundExpr) (placed : AreAllPlaced 
         value-next front (row.values ++ rest) (before + column) column (omega (arith, long))
         ∙ value_first row.values rest column (omega (arith, below, wide))
 
-    stays-by : (table : TableHistory) (masks : List Mask) (key : Option (List Value)) → AreMasks conds before table.schema.columns masks
+    stays-by : (table : TableHistory) (masks : List ColumnTest) (key : Option (List Value)) → AreMasks conds before table.schema.columns masks
         → IfSome key (FixesKey conds before (length table.schema.columns) table.schema.key)
         → length row.values ≡ length table.schema.columns → keep_by masks key table row ≡ true
     stays-by table masks None given fixed wide =

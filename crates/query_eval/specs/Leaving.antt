@@ -1,38 +1,14 @@
 -- The rows of a table for which masks pass, slot by slot.
-use Rattle.std.specs.Prelude.{◌≡◌, ℕ, suc, List, [], ◌∷◌, filter, map, Bool, true, false, Option}
+use Rattle.std.specs.Prelude.{ℕ, suc, List, [], ◌∷◌, filter, Bool, false, Option}
 use Rattle.std.specs.Prelude.{if◌then◌else◌, slice_index_or, unwrap_or}
-use Rattle.std.specs.List.{filter_map, AllByRecursion}
+use Rattle.std.specs.List.{filter_map}
 use Rattle.std.specs.Option.{option_map, option_map_or}
-use Rattle.core_parts.specs.Masking.{fits, passes_all}
-use Rattle.core_parts.specs.declared.mask.Mask.{Mask}
-use Rattle.core_parts.specs.declared.mask.MaskTest.{MaskTest}
-use Rattle.core_parts.specs.declared.mask.MaskTest.TheVariants.{Compares, IsNull, IsNotNull}
 use Rattle.lanes.specs.Sets.{member}
 use Rattle.query_eval.specs.declared.source.SourceRow.{SourceRow}
-use Rattle.query_eval.specs.Types.{Column, TableRow}
+use Rattle.query_eval.specs.Types.{TableRow}
+use Rattle.sql_model.specs.ColumnTests.{passes_all}
+use Rattle.sql_model.specs.declared.column_test.ColumnTest.{ColumnTest}
 use Rattle.table_store.specs.Histories.{RowHistory, no_history, history_of_row, row_now, version_now}
-use Rattle.table_store.specs.declared.cell_test.CellTest.{CellTest}
-use Rattle.table_store.specs.declared.cell_test.CellTest.TheVariants.{Compare}
-use Rattle.table_store.specs.declared.cell_test.CellTest.TheVariants.{IsNull as CellNull}
-use Rattle.table_store.specs.declared.cell_test.CellTest.TheVariants.{IsNotNull as CellNotNull}
-use Rattle.table_store.specs.declared.cell_test.ColumnTest.{ColumnTest}
-
--- ---- masks, as a table makes them
-
-abbrev pub cell_test : MaskTest → CellTest
-cell_test (Compares op constant) = Compare op constant
-cell_test IsNull = CellNull
-cell_test IsNotNull = CellNotNull
-
-abbrev pub column_test : Mask → ColumnTest
-column_test mask = record { column = mask.column; test = cell_test mask.test }
-
-abbrev pub column_tests : List Mask → List ColumnTest
-column_tests masks = map column_test masks
-
--- each is of a column that it suits
-abbrev pub AllFit : List Column → List Mask → Type 0
-AllFit columns masks = AllByRecursion (λ mask. fits columns mask ≡ true) masks
 
 -- ---- slots
 
@@ -41,11 +17,11 @@ abbrev pub slot_at : List RowHistory → ℕ → RowHistory
 slot_at slots slot = slice_index_or slots slot no_history
 
 -- each mask passes
-abbrev pub row_passes : List Mask → TableRow → Bool
+abbrev pub row_passes : List ColumnTest → TableRow → Bool
 row_passes masks row = passes_all masks row.values
 
 -- the row of a slot stands, and each mask passes
-abbrev pub slot_passes : List Mask → RowHistory → Bool
+abbrev pub slot_passes : List ColumnTest → RowHistory → Bool
 slot_passes masks slot = option_map_or (row_passes masks) (row_now slot) false
 
 -- the slots whose numbers, from a number on, are in a set
@@ -72,5 +48,5 @@ abbrev pub rows_in : List RowHistory → List RowHistory → List SourceRow
 rows_in slots some = filter_map (source_row slots) some
 
 -- the rows of a table that stand and for which each mask passes
-abbrev pub left_rows : List Mask → List RowHistory → List SourceRow
+abbrev pub left_rows : List ColumnTest → List RowHistory → List SourceRow
 left_rows masks slots = rows_in slots (filter (slot_passes masks) slots)

@@ -3,7 +3,7 @@ use Rattle.std.specs.Prelude.{◌≡◌, ℕ, ◌+◌, ◌<◌, List, [], ◌∷
 use Rattle.std.specs.Prelude.{Option, Some, None, option_and_then, IfSome}
 use Rattle.std.specs.List.{list_any, AllByRecursion}
 use Rattle.core_parts.specs.Masking.{AreMasks}
-use Rattle.core_parts.specs.declared.mask.Mask.{Mask}
+use Rattle.sql_model.specs.declared.column_test.ColumnTest.{ColumnTest}
 use Rattle.core_parts.specs.declared.placed.BoundExpr.{BoundExpr}
 use Rattle.lineage.specs.Lineage.{name_at}
 use Rattle.core_parts.specs.Fixing.{FixesKey}
@@ -56,7 +56,7 @@ HasVersion table row = version_in row.number table ≡ Some row.version
 -- ---- its rows
 
 -- the one with a key, or those for which masks pass
-abbrev pub chosen_rows : List Mask → Option (List Value) → TableHistory → List SourceRow
+abbrev pub chosen_rows : List ColumnTest → Option (List Value) → TableHistory → List SourceRow
 chosen_rows masks (Some key) table = keyed_rows key table
 chosen_rows masks None table = left_rows masks table.slots
 
@@ -66,7 +66,7 @@ pub record AreChosen (conds : List BoundExpr) (before : ℕ) (table : TableHisto
     : Type 0 where
   pub key : Option (List Value)
   pub fixed : IfSome key (FixesKey conds before (length table.schema.columns) table.schema.key)
-  pub masks : List Mask
+  pub masks : List ColumnTest
   pub given : AreMasks conds before table.schema.columns masks
   pub are : rows ≡ chosen_rows masks key table
 

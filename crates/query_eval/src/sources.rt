@@ -9,9 +9,9 @@ ghost use Rattle.query_eval.specs.Stored.{AreChosen, AreStored, HasVersion, IsPl
 use crate::key_lookup::rows_of_key;
 use crate::table_scan::rows_left;
 use crate::source::{Source, SourceRows, Sources, width_with};
-use core_parts::{Mask, BoundExpr, fixed_key, masks_of};
+use core_parts::{BoundExpr, fixed_key, masks_of};
 use ldv_value::{List, Names};
-use sql_model::{FromItem, RowKey};
+use sql_model::{ColumnTest, FromItem, RowKey};
 use std::alloc::{AllocError, Global};
 use table_store::{Store, TableStore};
 
@@ -42,7 +42,7 @@ fn masks_in(
     held: &TableStore,
     conds: &[BoundExpr],
     before: u128,
-) -> Result<Vec<Mask>, AllocError>
+) -> Result<Vec<ColumnTest>, AllocError>
     ensures { IfOk result (λ masks. AreMasks conds.now before held.now.schema.columns masks.items) }
 {
     let masks = masks_of(alloc, conds, before, &held.schema().columns)?;

@@ -5,58 +5,27 @@ ghost use Rattle.std.specs.Prelude.{Some, unwrap_or};
 ghost use Rattle.std.specs.List.{AllByRecursion};
 ghost use Rattle.std.specs.Option.{option_map, option_to_list};
 ghost use Rattle.lanes.specs.Sets.{member};
-ghost use Rattle.query_eval.specs.Leaving.{AllFit, cell_test, column_test, column_tests, slot_at};
-ghost use Rattle.query_eval.specs.Leaving.{slot_passes, rows_at_slots, source_row, rows_in, left_rows};
+ghost use Rattle.query_eval.specs.Leaving.{slot_at, slot_passes, rows_at_slots, source_row, rows_in};
+ghost use Rattle.query_eval.specs.Leaving.{left_rows};
 ghost use Rattle.query_eval.specs.Stored.{HasVersion};
+ghost use Rattle.table_store.specs.CellTests.{AllFitColumns};
 ghost use Rattle.table_store.specs.Histories.{history_of_row, row_now, version_now};
 
 use crate::source::{SourceRow, SourceRows};
-use core_parts::{Mask, MaskTest};
 use lanes::{after_member, next_one};
 use ldv_value::List;
+use sql_model::ColumnTest;
 use std::alloc::{AllocError, Global};
-use table_store::{CellTest, ColumnTest, TableStore};
-
-// A mask's test of a value, as a table makes it.
-fn cell_test(test: MaskTest) -> CellTest
-    ensures { result ≡ cell_test test }
-{
-    match test {
-        MaskTest::Compares(op, constant) => CellTest::Compare { op, constant },
-        MaskTest::IsNull => CellTest::IsNull,
-        MaskTest::IsNotNull => CellTest::IsNotNull,
-    }
-}
-
-fn column_test(mask: Mask) -> ColumnTest
-    ensures { result ≡ column_test mask }
-{
-    ColumnTest {
-        column: mask.column as u64,
-        test: cell_test(mask.test),
-    }
-}
-
-// Masks as tests that a table makes.
-fn column_tests(alloc: Global, masks: &[Mask]) -> Result<Vec<ColumnTest>, AllocError>
-    ensures { IfOk result (λ tests. tests.items ≡ column_tests masks.now) }
-{
-    let mut tests = Vec::with_capacity(alloc, masks.len())?;
-    for mask in masks {
-        tests.push(column_test(*mask))?;
-    }
-    Ok(tests)
-}
+use table_store::TableStore;
 
 // The slots whose row stands and for which each mask passes, as bits.
-fn slots_passing(alloc: Global, table: &TableStore, masks: &[Mask]) -> Result<Vec<u64>, AllocError>
-    requires { AllFit table.now.schema.columns masks.now }
+fn slots_passing(alloc: Global, table: &TableStore, masks: &[ColumnTest]) -> Result<Vec<u64>, AllocError>
+    requires { AllFitColumns table.now.schema.columns masks.now }
     ensures few { IfOk result (λ words. length words.items < 2 ^ 57) }
     ensures members { IfOk result (λ words. (n : ℕ)
         → member words.items n ≡ slot_passes masks.now (slot_at table.now.slots n)) }
 {
-    let tests = column_tests(alloc, masks)?;
-    let words = table.choose_slots(alloc, tests.as_slice())?;
+    let words = table.choose_slots(alloc, masks)?;
     Ok(words)
 }
 
@@ -137,8 +106,8 @@ fn all_rows(alloc: Global, table: &TableStore) -> Result<SourceRows, AllocError>
 
 // The rows of a table that stand and for which each mask passes, in the order of their numbers.
 #[tactic(auto, using(crate::proofs::LeavingLaws::left_chosen))]
-fn rows_passing(alloc: Global, table: &TableStore, masks: &[Mask]) -> Result<SourceRows, AllocError>
-    requires { AllFit table.now.schema.columns masks.now }
+fn rows_passing(alloc: Global, table: &TableStore, masks: &[ColumnTest]) -> Result<SourceRows, AllocError>
+    requires { AllFitColumns table.now.schema.columns masks.now }
     ensures { IfOk result (λ rows. rows ≡ left_rows masks.now table.now.slots) }
 {
     let words = slots_passing(alloc, table, masks)?;
@@ -146,8 +115,8 @@ fn rows_passing(alloc: Global, table: &TableStore, masks: &[Mask]) -> Result<Sou
     Ok(rows)
 }
 
-fn rows_by(alloc: Global, table: &TableStore, masks: &[Mask]) -> Result<SourceRows, AllocError>
-    requires { AllFit table.now.schema.columns masks.now }
+fn rows_by(alloc: Global, table: &TableStore, masks: &[ColumnTest]) -> Result<SourceRows, AllocError>
+    requires { AllFitColumns table.now.schema.columns masks.now }
     ensures { IfOk result (λ rows. rows ≡ left_rows masks.now table.now.slots) }
 {
     match masks {
@@ -162,9 +131,9 @@ fn rows_by(alloc: Global, table: &TableStore, masks: &[Mask]) -> Result<SourceRo
 pub(crate) fn rows_left(
     alloc: Global,
     table: &TableStore,
-    masks: &[Mask],
+    masks: &[ColumnTest],
 ) -> Result<SourceRows, AllocError>
-    requires { AllFit table.now.schema.columns masks.now }
+    requires { AllFitColumns table.now.schema.columns masks.now }
     ensures rows { IfOk result (λ rows. rows ≡ left_rows masks.now table.now.slots) }
     ensures versions { IfOk result (AllByRecursion (HasVersion (Some table.now))) }
 {

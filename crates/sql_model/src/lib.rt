@@ -6,6 +6,7 @@
 
 mod arithmetic;
 mod catalog;
+mod column_test;
 mod expr;
 mod foreign;
 mod key;
@@ -26,6 +27,7 @@ mod unique;
 mod value;
 
 pub use catalog::{Catalog, Checked};
+pub use column_test::{CellTest, ColumnTest};
 pub use expr::{ColumnName, ColumnNames, Expr, ExprRows, Exprs, Fold, Operator};
 pub use foreign::{MAX_FOREIGN, NamedSchema, have_parents};
 pub use key::{RowKey, compare_values, value_at};

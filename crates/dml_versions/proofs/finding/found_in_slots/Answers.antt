@@ -1,5 +1,5 @@
 use Rattle.std.proofs.Common.{subst, sym, List}
-use Rattle.table_store.specs.declared.cell_test.ColumnTest.{ColumnTest}
+use Rattle.sql_model.specs.declared.column_test.ColumnTest.{ColumnTest}
 use Rattle.dml_versions.specs.inner.Testing.{AreTests, AreExactTests}
 use Rattle.dml_versions.specs.Types.{Schema}
 use Rattle.dml_versions.proofs.finding.found_in_slots.Goals as goal

@@ -1,11 +1,11 @@
-//! Tests of the values in columns.
+//! Tests of the values in single columns.
 
 use ldv_value::Cmp;
 
 /// A test of a value.
 #[derive(Clone, Copy)]
 pub enum CellTest {
-    /// It is a number that compares so to the constant.
+    /// Its comparison with the number is True.
     Compare { op: Cmp, constant: i64 },
     /// It is NULL.
     IsNull,
@@ -16,6 +16,6 @@ pub enum CellTest {
 /// A test of the value in a column, by its place from 0. Past the last column there is NULL.
 #[derive(Clone, Copy)]
 pub struct ColumnTest {
-    pub column: u64,
+    pub column: usize,
     pub test: CellTest,
 }
