@@ -10,9 +10,10 @@ ghost use Rattle.sql_model.specs.Texts.{statement_of};
 ghost use Rattle.table_store.specs.Histories.{tables_now};
 
 use crate::answered::{Answered, query_answer};
+use crate::asked_tables::tables_asked;
 use crate::done::{Done, refusal_change};
+use crate::marks::{Taking, prepare};
 use crate::needs::needs_of;
-use crate::tables::{Taking, prepare, tables_asked};
 use dml_versions::{Change, delete, insert, update};
 use ldv_value::{List, Names, Values};
 use sql_check::{CheckStop, check_places};

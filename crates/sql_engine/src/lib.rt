@@ -4,11 +4,13 @@
 #![tactic(auto)]
 
 mod answered;
+mod asked_tables;
 mod asking;
 mod cores;
 mod done;
 mod engine;
+mod marks;
+mod named_tables;
 mod needs;
-mod tables;
 
 pub use engine::Engine;

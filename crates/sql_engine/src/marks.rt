@@ -1,53 +1,20 @@
-//! The tables that a statement asks: those that it names and those of the rows that it needs, with their
-//! parents.
+//! Marks of the tables that a statement asks: how far each is taken.
 //!
 //! The rows that a statement needs are known once it has run, and then nothing may fail any more. So all
 //! memory is taken before: a copy of the names of all tables, and a mark for each. There are few tables, so
 //! each is looked for from the first on.
 
-ghost use Rattle.std.specs.Prelude.{◌≡◌, ◌+◌, ◌<◌, ◌≤◌, List as Items, [], ℕ, Bool, length, map, filter};
-ghost use Rattle.std.specs.Prelude.{IfOk, None, slice_index_or};
-ghost use Rattle.std.specs.List.{list_any, position};
-ghost use Rattle.sql_engine.specs.inner.Listing.{is_text, names_table, tables_asked};
-ghost use Rattle.sql_engine.specs.inner.Taking.{is_taken, is_waiting, taken_mark, first_mark, raised_at, with_name};
-ghost use Rattle.sql_engine.specs.inner.Taking.{with_unless, with_more, with_reads, with_parents_of, marks_with_parents};
-ghost use Rattle.sql_engine.specs.inner.Taking.{AreDistinct, AreMarks, IsFresh, InPlace};
+ghost use Rattle.std.specs.Prelude.{◌≡◌, ◌<◌, List as Items, ℕ, length, map, IfOk, None};
+ghost use Rattle.std.specs.List.{position};
+ghost use Rattle.sql_engine.specs.inner.Listing.{is_text};
+ghost use Rattle.sql_engine.specs.inner.Taking.{is_taken, is_waiting, taken_mark, first_mark, raised_at};
+ghost use Rattle.sql_engine.specs.inner.Taking.{with_name, with_unless, with_more, with_reads};
+ghost use Rattle.sql_engine.specs.inner.Taking.{with_parents_of, marks_with_parents, AreMarks, IsFresh};
 
-use ldv_value::{List, Names, Utf8};
-use sql_model::{Catalog, Core, Foreign, Need, Statement};
+use crate::named_tables::names_table;
+use ldv_value::{Names, Utf8};
+use sql_model::{Catalog, Foreign, Need, Statement};
 use std::alloc::{AllocError, Global};
-
-// Whether a core has a table among its sources.
-fn core_names(core: &Core, name: &Utf8) -> bool
-    ensures { result ≡ list_any (λ item. is_text name.now item.table) core.now.from }
-{
-    core.from
-        .items()
-        .iter()
-        .any(|item| name.is_same(&item.table))
-}
-
-// Whether a query has a table among the sources of its cores.
-fn cores_name(cores: &[Core], name: &Utf8) -> bool
-    ensures { result ≡ list_any (λ core. list_any (λ item. is_text name.now item.table) core.from) cores.now }
-{
-    cores.iter().any(|core| core_names(core, name))
-}
-
-// Whether a statement names a table.
-#[tactic(auto, using(crate::proofs::Named::cores_name))]
-fn names_table(statement: &Statement, name: &Utf8) -> bool
-    ensures { result ≡ names_table statement.now name.now }
-{
-    match statement {
-        Statement::Query(query) => cores_name(query.cores.items(), name),
-        Statement::Insert(insert) => name.is_same(&insert.table),
-        Statement::Update(update) => name.is_same(&update.table),
-        Statement::Delete(delete) => name.is_same(&delete.table),
-    }
-}
-
-// ---- marks
 
 /// How far a table is taken: not at all, itself alone, or itself and its parents.
 #[derive(Clone, Copy)]
@@ -57,7 +24,8 @@ pub(crate) enum Mark {
     Done,
 }
 
-fn is_taken(mark: Mark) -> bool
+/// Whether a table is taken.
+pub(crate) fn is_taken(mark: Mark) -> bool
     ensures { result ≡ is_taken mark }
 {
     match mark {
@@ -92,8 +60,8 @@ fn taken_mark(mark: Mark) -> Mark
 /// The names of all tables, and their marks: all memory that listing the asked ones needs.
 #[derive(Drop)]
 pub(crate) struct Taking {
-    names: Names,
-    marks: Vec<Mark>,
+    pub names: Names,
+    pub marks: Vec<Mark>,
 }
 
 /// Makes the names and marks of all tables, before a statement runs. The tables that it names are taken.
@@ -180,8 +148,8 @@ fn take_more(names: &[Utf8], marks: &mut Vec<Mark>, first: &Utf8, reads: &[Need]
     }
 }
 
-// Takes the tables of rows that are needed.
-fn take_reads(names: &[Utf8], marks: &mut Vec<Mark>, reads: &[Need])
+/// Takes the tables of rows that are needed.
+pub(crate) fn take_reads(names: &[Utf8], marks: &mut Vec<Mark>, reads: &[Need])
     ensures { marks.new.items ≡ with_reads names.now reads.now marks.old.items }
 {
     match reads {
@@ -221,8 +189,8 @@ fn finish(catalog: &Catalog, marks: &mut Vec<Mark>, place: usize)
     }
 }
 
-// Takes the parents of all tables that are taken, and theirs.
-fn close(catalog: &Catalog, marks: &mut Vec<Mark>)
+/// Takes the parents of all tables that are taken, and theirs.
+pub(crate) fn close(catalog: &Catalog, marks: &mut Vec<Mark>)
     requires { length catalog.now.names ≡ length catalog.now.schemas }
     ensures marks { (first : Items (Items ℕ)) → AreMarks first catalog.now marks.old.items
         → AreMarks first catalog.now marks.new.items }
@@ -231,59 +199,4 @@ fn close(catalog: &Catalog, marks: &mut Vec<Mark>)
     'tables: while let Some(place) = waiting_table(marks.as_slice()) {
         finish(catalog, marks, place);
     }
-}
-
-// ---- the names of the tables that are taken
-
-// Keeps the name at a place behind those that are kept, where it is taken; how many are kept then.
-fn keep_at(items: &mut Vec<Utf8>, kept: usize, place: usize, taken: bool) -> usize
-    requires within { place < length items.old.items }
-    requires behind { kept ≤ place }
-    ensures few { result ≤ place + 1 }
-    ensures long { length items.new.items ≡ length items.old.items }
-    ensures kept { (test : Items ℕ → Bool) (all : Items (Items ℕ))
-        → InPlace test all items.old.items kept place
-        → test (slice_index_or items.old.items place []) ≡ taken
-        → InPlace test all items.new.items result (place + 1) }
-{
-    if !taken {
-        return kept;
-    }
-    items.swap(kept, place);
-    kept + 1
-}
-
-// The names whose marks say that they are taken.
-fn taken_names(names: Names, marks: &[Mark]) -> Names
-    requires { length names ≡ length marks.now }
-    ensures { (test : Items ℕ → Bool) → map test names ≡ map is_taken marks.now
-        → result ≡ filter test names }
-{
-    let mut items = names.into_vec();
-    let mut kept = 0;
-    for place in 0..marks.len() {
-        kept = keep_at(&mut items, kept, place, is_taken(marks[place]));
-    }
-    items.truncate(kept);
-    List::of_vec(items)
-}
-
-/// The tables that a statement asks, sorted, by the rows that it needs. It takes no memory.
-pub(crate) fn tables_asked(
-    taking: Taking,
-    statement: &Statement,
-    reads: &[Need],
-    catalog: &Catalog,
-) -> Names
-    requires fresh { IsFresh statement.now catalog.now.names taking }
-    requires paired { length catalog.now.names ≡ length catalog.now.schemas }
-    requires distinct { AreDistinct catalog.now.names }
-    ensures { result ≡ tables_asked statement.now reads.now catalog.now }
-{
-    let Taking { names, marks } = taking;
-    let mut taken = marks;
-    take_reads(catalog.names.items(), &mut taken, reads);
-    close(catalog, &mut taken);
-    let made = taken_names(names, taken.as_slice());
-    made
 }

@@ -1,6 +1,6 @@
 use Rattle.std.proofs.Common.{◌∙◌}
 use Rattle.sql_engine.proofs.PlaceLaws.{goes-in-place, stays-in-place}
-use Rattle.sql_engine.proofs.tables.keep_at.Goals as goal
+use Rattle.sql_engine.proofs.asked_tables.keep_at.Goals as goal
 
 pub returns-then-not-taken-clause-kept : goal.returns-then-not-taken-clause-kept
 returns-then-not-taken-clause-kept c = λ test all is mark.

@@ -3,9 +3,9 @@ use Rattle.std.specs.Prelude.{filter}
 use Rattle.sql_engine.proofs.MarkLaws.{first-marks, marks-are}
 use Rattle.sql_engine.specs.inner.Listing.{is_in, names_first}
 use Rattle.sql_engine.specs.inner.Taking.{first_mark, with_reads, is_taken, AreMarks}
-use Rattle.sql_engine.specs.declared.tables.Mark.{Mark}
+use Rattle.sql_engine.specs.declared.marks.Mark.{Mark}
 use Rattle.sql_model.specs.ForeignKeys.{with_parents}
-use Rattle.sql_engine.proofs.tables.tables_asked.Goals as goal
+use Rattle.sql_engine.proofs.asked_tables.tables_asked.Goals as goal
 
 pub taken_names-made-requires : goal.taken_names-made-requires
 taken_names-made-requires c =

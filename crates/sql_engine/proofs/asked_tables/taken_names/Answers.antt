@@ -1,6 +1,6 @@
 use Rattle.std.proofs.Common.{◌∙◌, sym, arith}
 use Rattle.sql_engine.proofs.PlaceLaws.{all-in-place, marked-at}
-use Rattle.sql_engine.proofs.tables.taken_names.Goals as goal
+use Rattle.sql_engine.proofs.asked_tables.taken_names.Goals as goal
 
 pub loop-place-preserved : goal.loop-place-preserved
 loop-place-preserved c = record {

@@ -3,8 +3,8 @@ use Rattle.std.specs.Prelude.{filter, not}
 use Rattle.std.specs.List.{position}
 use Rattle.sql_engine.proofs.MarkLaws.{waiting-at, waits-within, finish-keeps, marks_with_parents-fewer}
 use Rattle.sql_engine.specs.inner.Taking.{is_done, is_waiting, AreMarks}
-use Rattle.sql_engine.specs.declared.tables.Mark.{Mark}
-use Rattle.sql_engine.proofs.tables.close.Goals as goal
+use Rattle.sql_engine.specs.declared.marks.Mark.{Mark}
+use Rattle.sql_engine.proofs.marks.close.Goals as goal
 
 pub finish-requires : goal.finish-requires
 finish-requires c =

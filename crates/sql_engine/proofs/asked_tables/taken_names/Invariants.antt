@@ -1,6 +1,6 @@
 use Rattle.std.proofs.Common.{◌≡◌, ◌≤◌, List, ℕ, Bool, length, map}
 use Rattle.sql_engine.specs.inner.Taking.{is_taken, InPlace}
-use Rattle.sql_engine.proofs.tables.taken_names.Given as goal
+use Rattle.sql_engine.proofs.asked_tables.taken_names.Given as goal
 
 abbrev pub invariant-loop-place : goal.invariant-loop-place
 invariant-loop-place l = record {
