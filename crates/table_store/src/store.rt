@@ -6,11 +6,10 @@ ghost use Rattle.std.specs.Prelude.{length, map, slice_get, slice_index_or, slic
 ghost use Rattle.std.specs.List.{AllByRecursion, list_all};
 ghost use Rattle.std.specs.Option.{option_map, option_map_or, option_and_then, option_or};
 ghost use Rattle.lanes.specs.Sets.{member};
-ghost use Rattle.row_version.specs.History.{current_values};
 ghost use Rattle.ldv_value.specs.Sorted.{text_precedes};
 ghost use Rattle.sql_model.specs.Scope.{catalog_of, table_at};
 ghost use Rattle.sql_model.specs.Tables.{AreWellFormed, have_distinct_columns, is_database, is_valid_table};
-ghost use Rattle.table_store.specs.Scans.{null_passes, passes_test};
+ghost use Rattle.table_store.specs.Scans.{passes_test};
 ghost use Rattle.table_store.specs.Histories.{history_at, is_history, table_now, tables_now, last_since};
 ghost use Rattle.table_store.specs.Histories.{rows_after, next_number_after, AreKeptBefore, changed_at};
 ghost use Rattle.table_store.specs.Histories.{table_with_rows, table_with_values, table_without, version_now, history_of_row};
@@ -190,21 +189,6 @@ impl Store {
         }
     }
 
-    /// A copy of the values of the row in a slot of a table; the table is there, and the row stands now.
-    pub fn row_values(&self, table: &str, slot: u64) -> Result<Values, AllocError>
-        requires there { IsSome (table_at table.now (tables_now self.now)) }
-        requires stands { IfSome (history_at table.now self.now)
-            (λ history. IsSome (current_values (slice_index_or history.slots slot no_history).changes)) }
-        ensures { IfOk result (λ values. option_map
-            (λ history. current_values (slice_index_or history.slots slot no_history).changes)
-            (history_at table.now self.now) ≡ Some (Some values)) }
-    {
-        match self.table(table) {
-            Some(held) => held.row_values(slot),
-            None => unreachable!(),
-        }
-    }
-
     /// Sets the bits of the slots of a table whose row stands and has a number in the column that compares
     /// so to the constant, and clears all others. The table is there, the column is of INT, and the mask
     /// has a word for each 64 slots, rounded up.
@@ -223,25 +207,6 @@ impl Store {
     {
         match self.table(table) {
             Some(held) => held.scan(column, op, constant, mask),
-            None => unreachable!(),
-        }
-    }
-
-    /// Sets the bits of the slots of a table whose row stands and has NULL in the column, or, where `is_null`
-    /// is false, another value, and clears all others. Past the last column there is NULL. The table is
-    /// there, and the mask has a word for each 64 slots, rounded up.
-    pub fn scan_nulls(&self, table: &str, column: u64, is_null: bool, mask: &mut [u64])
-        requires there { IsSome (table_at table.now (tables_now self.now)) }
-        requires mask { IfSome (history_at table.now self.now)
-            (λ history. length mask.old ≡ (length history.slots + 63) / 64) }
-        ensures { (n : ℕ)
-            → option_map (λ history. option_map_or
-            (λ row. null_passes is_null (slice_index_or row.values column Null))
-            (row_now (slice_index_or history.slots n no_history)) false) (history_at table.now self.now)
-            ≡ Some (member mask.new n) }
-    {
-        match self.table(table) {
-            Some(held) => held.scan_nulls(column, is_null, mask),
             None => unreachable!(),
         }
     }
