@@ -23,7 +23,7 @@ loop-item-preserved c =
     let picks : List Pick = map (λ r. r.now) c.args.group.now in
     let items = c.args.items.now in
     let i = c.loop-item.item-index in
-    let item : Placed = c.item-item.result in
+    let item : BoundExpr = c.item-item.result in
     let split : drop i items ≡ item ∷ drop (i + 1) items = drop_item items i item c.loop-item-test.true c.item-item.is in
     record {
       values = λ scope all.

@@ -22,7 +22,7 @@ returns-clause-kept c = indexed_by c.args.places.now (λ q. held_in c.claim_all.
 pub returns-clause-ok : goal.returns-clause-ok
 returns-clause-ok c =
     let places = c.args.places.now in
-    let new : Held = λ q. held_in c.claim_all.new.index q in
+    let new : HeldKeys = λ q. held_in c.claim_all.new.index q in
     let rows = rows_now c.args.stored.now.slots ++ numbered_rows c.args.next c.args.values.now in
     on_ok (c.args.next + length c.args.values.now ≤ 2 ^ 32 → AreHeld places new rows) (c.args.next + length c.args.values.now ≤ 2 ^ 32 → AreIndexed places new rows) c.claim_all.result
     (λ are few. indexed_by places new rows (are few)) c.claim_all.ensures.ok
@@ -31,7 +31,7 @@ pub returns-clause-stop : goal.returns-clause-stop
 returns-clause-stop c =
     let places = c.args.places.now in
     let slots = c.args.stored.now.slots in
-    let old : Held = λ q. held_in c.args.index.now q in
+    let old : HeldKeys = λ q. held_in c.args.index.now q in
     let more : List TableRow = numbered_rows c.args.next c.args.values.now in
     let keyed : (length places == 0) ≡ false = search rules in
     let same : clash_by places (rows_now slots ++ more) ≡ clash_after places (rows_now slots) more =

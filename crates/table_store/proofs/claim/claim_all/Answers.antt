@@ -21,8 +21,8 @@ loop-count-init c =
     let places = c.args.places.now in
     let values = c.args.values.now in
     let rows : List TableRow = rows_now c.args.stored.now.slots in
-    let old : Held = λ q. held_in c.args.index.now q in
-    let high : Held = λ q. high_in c.new-high.result q in
+    let old : HeldKeys = λ q. held_in c.args.index.now q in
+    let high : HeldKeys = λ q. high_in c.new-high.result q in
     let start : c.args.next + 0 ≡ c.args.next = omega arith in
     record {
       held = subst (λ (l : List TableRow). AreHeld places (both old high) l) (sym (append-nil rows)) (widened places old high c.new-high.ensures rows c.requires.held);
@@ -53,8 +53,8 @@ loop-count-preserved c =
 pub returns-in-Err-clause-kept : goal.returns-in-Err-clause-kept
 returns-in-Err-clause-kept c =
     let stored = c.args.stored.now in
-    let low : Held = λ q. held_in c.claim_one.new.index q in
-    let high : Held = λ q. high_in c.claim_one.new.high q in
+    let low : HeldKeys = λ q. held_in c.claim_one.new.index q in
+    let high : HeldKeys = λ q. high_in c.claim_one.new.high q in
     narrowed c.args.places.now low high (rows_now stored.slots) (old_few stored.slots stored.next c.tell_order.ensures.order c.tell_order.ensures.small)
     (held_front c.args.places.now (both low high) (rows_now stored.slots) (numbered_rows c.args.next (take c.loop-count.count c.args.values.now)) c.claim_one.ensures.kept)
 
@@ -75,8 +75,8 @@ returns-in-Err-clause-stop c =
 pub returns-clause-kept : goal.returns-clause-kept
 returns-clause-kept c =
     let stored = c.args.stored.now in
-    let low : Held = λ q. held_in c.loop-count.index q in
-    let high : Held = λ q. high_in c.loop-count.high q in
+    let low : HeldKeys = λ q. held_in c.loop-count.index q in
+    let high : HeldKeys = λ q. high_in c.loop-count.high q in
     narrowed c.args.places.now low high (rows_now stored.slots) (old_few stored.slots stored.next c.tell_order.ensures.order c.tell_order.ensures.small)
     (held_front c.args.places.now (both low high) (rows_now stored.slots) (numbered_rows c.args.next (take c.loop-count.count c.args.values.now)) c.loop-count.invariant.held)
 
@@ -85,8 +85,8 @@ returns-clause-ok c = λ few.
     let places = c.args.places.now in
     let stored = c.args.stored.now in
     let values = c.args.values.now in
-    let low : Held = λ q. held_in c.loop-count.index q in
-    let high : Held = λ q. high_in c.loop-count.high q in
+    let low : HeldKeys = λ q. held_in c.loop-count.index q in
+    let high : HeldKeys = λ q. high_in c.loop-count.high q in
     let all : take c.loop-count.count values ≡ values = take_all c.loop-count.count values (omega arith) in
     let order : AreInOrder stored.slots c.args.next = subst (λ (n : ℕ). AreInOrder stored.slots n) c.requires.next c.tell_order.ensures.order in
     narrowed places low high (rows_now stored.slots ++ numbered_rows c.args.next values) (all_few stored.slots c.args.next order (omega (arith, c.requires.next, c.tell_order.ensures.small)) values few)

@@ -13,13 +13,13 @@ use Rattle.table_store.proofs.claim.row_before.Goals as goal
 
 pub returns-in-None : goal.returns-in-None
 returns-in-None c =
-    let held : Held = both (λ q. held_in c.args.index.now q) (λ q. high_in c.args.high.now q) in
+    let held : HeldKeys = both (λ q. held_in c.args.index.now q) (λ q. high_in c.args.high.now q) in
     let rows = rows_now c.args.stored.now.slots ++ numbered_rows c.args.next (take c.args.count c.args.values.now) in
     sym (ap (option_map (λ (row : TableRow). row.number)) (absent_key c.args.places.now held (any_alike held) c.args.key.now rows c.requires.held (sym c.number_under.ensures ∙ c.in-None.is)))
 
 pub returns-then-branch : goal.returns-then-branch
 returns-then-branch c =
-    let held : Held = both (λ q. held_in c.args.index.now q) (λ q. high_in c.args.high.now q) in
+    let held : HeldKeys = both (λ q. held_in c.args.index.now q) (λ q. high_in c.args.high.now q) in
     let rows = rows_now c.args.stored.now.slots ++ numbered_rows c.args.next (take c.args.count c.args.values.now) in
     let number = c.in-Some.number in
     sym (ap (option_map (λ (row : TableRow). row.number)) (held_key c.args.places.now held (any_alike held) c.args.key.now number rows c.requires.held (sym c.number_under.ensures ∙ c.in-Some.is))
@@ -27,7 +27,7 @@ returns-then-branch c =
 
 pub returns-else-branch : goal.returns-else-branch
 returns-else-branch c =
-    let held : Held = both (λ q. held_in c.args.index.now q) (λ q. high_in c.args.high.now q) in
+    let held : HeldKeys = both (λ q. held_in c.args.index.now q) (λ q. high_in c.args.high.now q) in
     let rows = rows_now c.args.stored.now.slots ++ numbered_rows c.args.next (take c.args.count c.args.values.now) in
     let number = c.in-Some.number in
     sym (ap (option_map (λ (row : TableRow). row.number)) (held_key c.args.places.now held (any_alike held) c.args.key.now number rows c.requires.held (sym c.number_under.ensures ∙ c.in-Some.is))

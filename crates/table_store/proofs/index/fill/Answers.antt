@@ -21,8 +21,8 @@ loop-row-preserved c =
     let row : TableRow = c.row-item.result in
     let within = c.loop-row-test.true in
     let item : get_or rows i row ≡ row = sym c.row-item.is in
-    let old : Held = λ q. held_as (last_under c.loop-row.pairs.items) (get key_order c.loop-row.others.held q) (int_key q.values) in
-    let new : Held = λ q. held_as (last_under c.add_row.new.ints.items) (get key_order c.add_row.new.others.held q) (int_key q.values) in
+    let old : HeldKeys = λ q. held_as (last_under c.loop-row.pairs.items) (get key_order c.loop-row.others.held q) (int_key q.values) in
+    let new : HeldKeys = λ q. held_as (last_under c.add_row.new.ints.items) (get key_order c.add_row.new.others.held q) (int_key q.values) in
     let put : (q : RowKey) → new q ≡ cond (is_at (key_order (key_at places row.values)) q) (Some row.number) (old q) = c.in_ok-add_row.ensures in
     let none : find (has_key places (values_at places row.values)) (take i rows) ≡ None = subst (λ (r : TableRow). find (has_key places (values_at places r.values)) (take i rows) ≡ None) item (earlier_none places rows i row c.requires.unique c.requires.key within) in
     subst (λ (l : List TableRow). AreHeld places new l) (sym (take_more rows i row within ∙ ap (λ (r : TableRow). take i rows ++ r ∷ []) item))
@@ -34,9 +34,9 @@ returns c =
     let rows : List TableRow = c.args.rows.now in
     let pairs : Ints = last_under c.loop-row.pairs.items in
     let ints : Ints = λ n. get int_cmp c.in_ok-ints.ints.held n in
-    let others : Held = λ q. get key_order c.loop-row.others.held q in
-    let old : Held = λ q. held_as pairs (others q) (int_key q.values) in
-    let new : Held = λ q. held_as ints (others q) (int_key q.values) in
+    let others : HeldKeys = λ q. get key_order c.loop-row.others.held q in
+    let old : HeldKeys = λ q. held_as pairs (others q) (int_key q.values) in
+    let new : HeldKeys = λ q. held_as ints (others q) (int_key q.values) in
     let same : (q : RowKey) → new q ≡ old q = same_both pairs ints others others c.in_ok-ints.ensures (λ q. refl) in
     let all : take c.loop-row.row-index rows ≡ rows = take_all c.loop-row.row-index rows (omega arith) in
     subst (λ (h : HeldKeys). AreHeld places h rows) (λ j q. sym (same q) j)

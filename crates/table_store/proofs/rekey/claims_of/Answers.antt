@@ -27,14 +27,14 @@ returns-then-is_empty-clause-stop c =
 
 pub returns-then-keep-clause-ok : goal.returns-then-keep-clause-ok
 returns-then-keep-clause-ok c =
-    let held : Held = λ key. held_in c.args.index.now key in
+    let held : HeldKeys = λ key. held_in c.args.index.now key in
     let stored = c.args.stored.now in
     no_claims c.args.places.now (λ key. held_in c.new-then-keep.result key) held c.new-then-keep.ensures (map (replaced_by c.args.given.now) (rows_now stored.slots))
     (still_indexed c.args.given.now held (index_alike c.args.index.now) stored.slots stored.next c.tell_order.ensures.order c.args.places.now (c.in_ok-keep.ensures c.if-keep.true) c.requires.indexed)
 
 pub returns-then-keep-clause-stop : goal.returns-then-keep-clause-stop
 returns-then-keep-clause-stop c =
-    let held : Held = λ key. held_in c.args.index.now key in
+    let held : HeldKeys = λ key. held_in c.args.index.now key in
     let stored = c.args.stored.now in
     ap (both_stop c.args.places.now)
     (none_clash c.args.given.now held (index_alike c.args.index.now) stored.slots stored.next c.tell_order.ensures.order c.args.places.now (c.in_ok-keep.ensures c.if-keep.true) c.requires.indexed)
@@ -46,7 +46,7 @@ claim_keys-requires-clause-held c =
 pub returns-clause-ok : goal.returns-clause-ok
 returns-clause-ok c =
     let places = c.args.places.now in
-    let old : Held = λ key. held_in c.args.index.now key in
+    let old : HeldKeys = λ key. held_in c.args.index.now key in
     let rows : List TableRow = map (replaced_by c.args.given.now) (rows_now c.args.stored.now.slots) in
     if_ok (λ (claims : Index). AreHeld places (with_claims (λ key. held_in claims key) old) rows) (λ (claims : Index). AreIndexed places (with_claims (λ key. held_in claims key) old) rows) c.claim_keys.result
     (λ claims are. indexed_by places (with_claims (λ key. held_in claims key) old) rows are) c.claim_keys.ensures.ok

@@ -10,8 +10,8 @@ returns-clause-kept c =
     let index = c.args.self.now in
     let old : Ints = λ n. get int_cmp index.ints.held n in
     let new : Ints = λ n. get int_cmp c.open_all.new.self.held n in
-    let others : Held = λ q. get key_order index.others.held q in
-    let more : Held = λ q. get key_order c.open_all-2.new.self.held q in
+    let others : HeldKeys = λ q. get key_order index.others.held q in
+    let more : HeldKeys = λ q. get key_order c.open_all-2.new.self.held q in
     kept_both old new others more c.open_all.ensures.kept c.open_all-2.ensures.kept
 
 pub returns-clause-ok : goal.returns-clause-ok
@@ -19,8 +19,8 @@ returns-clause-ok c =
     let other = c.args.other.now in
     let old : Ints = λ n. get int_cmp other.ints.held n in
     let new : Ints = λ n. get int_cmp c.open_all.new.self.held n in
-    let others : Held = λ q. get key_order other.others.held q in
-    let more : Held = λ q. get key_order c.open_all-2.new.self.held q in
+    let others : HeldKeys = λ q. get key_order other.others.held q in
+    let more : HeldKeys = λ q. get key_order c.open_all-2.new.self.held q in
     some_both old new others more c.in_ok-open_all.ensures.ok c.in_ok-open_all-2.ensures.ok
 
 pub returns-in_err-open_all-2-clause-kept : goal.returns-in_err-open_all-2-clause-kept
@@ -28,6 +28,6 @@ returns-in_err-open_all-2-clause-kept c =
     let index = c.args.self.now in
     let old : Ints = λ n. get int_cmp index.ints.held n in
     let new : Ints = λ n. get int_cmp c.open_all.new.self.held n in
-    let others : Held = λ q. get key_order index.others.held q in
-    let more : Held = λ q. get key_order c.open_all-2.new.self.held q in
+    let others : HeldKeys = λ q. get key_order index.others.held q in
+    let more : HeldKeys = λ q. get key_order c.open_all-2.new.self.held q in
     kept_both old new others more c.open_all.ensures.kept c.open_all-2.ensures.kept

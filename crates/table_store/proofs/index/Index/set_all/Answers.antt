@@ -12,7 +12,7 @@ returns c =
     let left : Ints = λ n. get int_cmp other.ints.held n in
     let old : Ints = λ n. get int_cmp index.ints.held n in
     let new : Ints = λ n. get int_cmp c.set_all.new.self.held n in
-    let others : Held = λ q. get key_order other.others.held q in
-    let held : Held = λ q. get key_order index.others.held q in
-    let more : Held = λ q. get key_order c.set_all-2.new.self.held q in
+    let others : HeldKeys = λ q. get key_order other.others.held q in
+    let held : HeldKeys = λ q. get key_order index.others.held q in
+    let more : HeldKeys = λ q. get key_order c.set_all-2.new.self.held q in
     taken_both left old new others held more c.set_all.ensures c.set_all-2.ensures c.requires

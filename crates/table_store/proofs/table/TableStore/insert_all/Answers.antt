@@ -43,7 +43,7 @@ returns-in-Err-clause-stop c =
     let made : TableHistory = record { name = a.name; schema = a.schema; slots = a.rows.slots; nexts = nexts_of a.nexts.items } in
     let same : list_any (λ values. list_any refuses_null (zip made.schema.columns values)) rows ≡ c.any_lacks_value.result =
     (λ j. list_any (λ values. list_any refuses_null (zip (sym c.items.ensures j) values)) (sym c.items-2.ensures j)) ∙ sym c.any_lacks_value.ensures in
-    let held : Held = λ q. held_in a.index q in
+    let held : HeldKeys = λ q. held_in a.index q in
     let order : AreInOrder made.slots next = subst (λ (n : ℕ). AreInOrder a.rows.slots n) (sym c.next-next.ensures) c.tell_order.ensures.order in
     let whole : insert_stop rows (table_now made) ≡ option_or (claim_stop a.schema.key next (clash_by a.schema.key (rows_now a.rows.slots ++ numbered_rows next c.items-3.result.now))) (stop_if (nat_lt max_next (next + length rows)) Full) =
     insert_stop_by rows made next c.items-3.result.now held (index_alike a.index) order c.self.invariant.indexed (c.next-next.ensures ∙ sym c.self.invariant.next) c.items-3.ensures (same ∙ c.if-any_lacks_value.false) in
@@ -60,7 +60,7 @@ returns-then-is_full-clause-stop c =
     let made : TableHistory = record { name = a.name; schema = a.schema; slots = a.rows.slots; nexts = nexts_of a.nexts.items } in
     let same : list_any (λ values. list_any refuses_null (zip made.schema.columns values)) rows ≡ c.any_lacks_value.result =
     (λ j. list_any (λ values. list_any refuses_null (zip (sym c.items.ensures j) values)) (sym c.items-2.ensures j)) ∙ sym c.any_lacks_value.ensures in
-    let held : Held = λ q. held_in a.index q in
+    let held : HeldKeys = λ q. held_in a.index q in
     let order : AreInOrder made.slots next = subst (λ (n : ℕ). AreInOrder a.rows.slots n) (sym c.next-next.ensures) c.tell_order.ensures.order in
     let whole : insert_stop rows (table_now made) ≡ option_or (claim_stop a.schema.key next (clash_by a.schema.key (rows_now a.rows.slots ++ numbered_rows next c.items-3.result.now))) (stop_if (nat_lt max_next (next + length rows)) Full) =
     insert_stop_by rows made next c.items-3.result.now held (index_alike a.index) order c.self.invariant.indexed (c.next-next.ensures ∙ sym c.self.invariant.next) c.items-3.ensures (same ∙ c.if-any_lacks_value.false) in
@@ -77,7 +77,7 @@ returns-in-Some-clause-stop c =
     let made : TableHistory = record { name = a.name; schema = a.schema; slots = a.rows.slots; nexts = nexts_of a.nexts.items } in
     let same : list_any (λ values. list_any refuses_null (zip made.schema.columns values)) rows ≡ c.any_lacks_value.result =
     (λ j. list_any (λ values. list_any refuses_null (zip (sym c.items.ensures j) values)) (sym c.items-2.ensures j)) ∙ sym c.any_lacks_value.ensures in
-    let held : Held = λ q. held_in a.index q in
+    let held : HeldKeys = λ q. held_in a.index q in
     let order : AreInOrder made.slots next = subst (λ (n : ℕ). AreInOrder a.rows.slots n) (sym c.next-next.ensures) c.tell_order.ensures.order in
     let whole : insert_stop rows (table_now made) ≡ option_or (claim_stop a.schema.key next (clash_by a.schema.key (rows_now a.rows.slots ++ numbered_rows next c.items-3.result.now))) (stop_if (nat_lt max_next (next + length rows)) Full) =
     insert_stop_by rows made next c.items-3.result.now held (index_alike a.index) order c.self.invariant.indexed (c.next-next.ensures ∙ sym c.self.invariant.next) c.items-3.ensures (same ∙ c.if-any_lacks_value.false) in
@@ -95,7 +95,7 @@ returns-clause-stop c =
     let made : TableHistory = record { name = a.name; schema = a.schema; slots = a.rows.slots; nexts = nexts_of a.nexts.items } in
     let same : list_any (λ values. list_any refuses_null (zip made.schema.columns values)) rows ≡ c.any_lacks_value.result =
     (λ j. list_any (λ values. list_any refuses_null (zip (sym c.items.ensures j) values)) (sym c.items-2.ensures j)) ∙ sym c.any_lacks_value.ensures in
-    let held : Held = λ q. held_in a.index q in
+    let held : HeldKeys = λ q. held_in a.index q in
     let order : AreInOrder made.slots next = subst (λ (n : ℕ). AreInOrder a.rows.slots n) (sym c.next-next.ensures) c.tell_order.ensures.order in
     let whole : insert_stop rows (table_now made) ≡ option_or (claim_stop a.schema.key next (clash_by a.schema.key (rows_now a.rows.slots ++ numbered_rows next c.items-3.result.now))) (stop_if (nat_lt max_next (next + length rows)) Full) =
     insert_stop_by rows made next c.items-3.result.now held (index_alike a.index) order c.self.invariant.indexed (c.next-next.ensures ∙ sym c.self.invariant.next) c.items-3.ensures (same ∙ c.if-any_lacks_value.false) in
@@ -140,8 +140,8 @@ invariant_of-self-2 c =
     let time = c.args.time in
     let nexts = nexts_of a.nexts.items in
     let more : List TableRow = numbered_rows a.rows.next rows in
-    let old : Held = λ q. held_in a.index q in
-    let new : Held = λ q. held_in c.claim.new.index q in
+    let old : HeldKeys = λ q. held_in a.index q in
+    let new : HeldKeys = λ q. held_in c.claim.new.index q in
     let made_is : c.in_ok-made.made ≡ numbered_rows a.rows.next rows = c.in_ok-made.ensures ∙ ap (λ (n : ℕ). numbered_rows n rows) c.next-next.ensures in
     let later : last_since nexts < time = subst (λ (t : TableHistory). last_since t.nexts < time) (sym c.self.view_is) c.requires.later in
     let claimed : rows_now a.rows.slots ++ numbered_rows next c.items-3.result.now ≡ rows_now a.rows.slots ++ more = λ j. rows_now a.rows.slots ++ numbered_rows (c.next-next.ensures j) (c.items-3.ensures j) in
@@ -181,15 +181,15 @@ returns-clause-ok c =
 pub invariant_of-self-in_err-add_all : goal.invariant_of-self-in_err-add_all
 invariant_of-self-in_err-add_all c =
     let a = c.self.inside in
-    let old : Held = λ q. held_in a.index q in
-    let new : Held = λ q. held_in c.claim.new.index q in
+    let old : HeldKeys = λ q. held_in a.index q in
+    let new : HeldKeys = λ q. held_in c.claim.new.index q in
     stored_claimed a.schema a.rows old new (pair_in a.children) (pair_in c.add_all.new.index) (nexts_of a.nexts.items) c.claim.ensures.kept c.add_all.ensures.kept c.self.invariant
 
 pub invariant_of-self-in_err-add_rows : goal.invariant_of-self-in_err-add_rows
 invariant_of-self-in_err-add_rows c =
     let a = c.self.inside in
-    let old : Held = λ q. held_in a.index q in
-    let new : Held = λ q. held_in c.claim.new.index q in
+    let old : HeldKeys = λ q. held_in a.index q in
+    let new : HeldKeys = λ q. held_in c.claim.new.index q in
     let wider : Pairs = pair_in c.add_all.new.index in
     let nexts : nexts_of a.nexts.items ≡ nexts_of c.add_rows.new.nexts.items = ap nexts_of (sym c.in_err-add_rows.ensures.nexts_err) in
     subst (λ (r : RowsHistory). IsStored a.schema r new wider (nexts_of c.add_rows.new.nexts.items)) (sym c.in_err-add_rows.ensures.err)

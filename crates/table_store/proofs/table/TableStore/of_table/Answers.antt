@@ -14,7 +14,7 @@ pub invariant_of-result : goal.invariant_of-result
 invariant_of-result c =
     let table = c.args.table in
     let schema : Schema = record { columns = table.schema.columns; key = table.schema.key; foreign = table.schema.foreign } in
-    let held : Held = λ key. held_in c.in_ok-index.index key in
+    let held : HeldKeys = λ key. held_in c.in_ok-index.index key in
     let rows : RowsHistory = record { slots = map (history_of_new_row 0) table.rows; kinds = kinds_in table.schema.columns; next = table.next } in
     let made : c.set_next.new.self ≡ rows =
     c.set_next.ensures ∙ ap (λ (r : RowsHistory). record r { next = table.next }) c.in_ok-push_all.ensures.ok

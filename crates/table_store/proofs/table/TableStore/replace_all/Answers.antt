@@ -105,7 +105,7 @@ invariant_of-self-in_err-given c =
 pub invariant_of-self-in_err-change_rows : goal.invariant_of-self-in_err-change_rows
 invariant_of-self-in_err-change_rows c =
     let a = c.self.inside in
-    let opened : Held = λ key. held_in c.open_all.new.self key in
+    let opened : HeldKeys = λ key. held_in c.open_all.new.self key in
     let nexts : nexts_of a.nexts.items ≡ nexts_of c.change_rows.new.nexts.items = ap nexts_of (sym c.in_err-change_rows.ensures.nexts_err) in
     subst (λ (r : RowsHistory). IsStored a.schema r opened (pair_in c.add_all.new.index) (nexts_of c.change_rows.new.nexts.items)) (sym c.in_err-change_rows.ensures.err)
     (subst (λ (n : List NextSince). IsStored a.schema a.rows opened (pair_in c.add_all.new.index) n) nexts
@@ -116,16 +116,16 @@ invariant_of-self-2 c =
     let a = c.self.inside in
     let time = c.args.time in
     let rows = c.args.rows in
-    let old : Held = λ key. held_in a.index key in
-    let held : Held = λ key. held_in c.set_all.new.self key in
+    let old : HeldKeys = λ key. held_in a.index key in
+    let held : HeldKeys = λ key. held_in c.set_all.new.self key in
     let nexts = nexts_of a.nexts.items in
     let made : TableHistory = record { name = a.name; schema = a.schema; slots = a.rows.slots; nexts = nexts } in
     let given = c.in_ok-given.given.items in
     let later : last_since nexts < time = subst (λ (t : TableHistory). last_since t.nexts < time) (sym c.self.view_is) c.requires.later in
     let stood = subst (λ (t : TableHistory). had_rows rows (table_now t) ≡ true) (sym c.self.view_is) c.requires.stand in
     let stand : GivenStand rows a.rows.slots = given_stand time rows (table_now made) a.rows.slots a.rows.next refl c.tell_order.ensures.order stood in
-    let claims : Held = λ key. held_in c.in-Ok.claims key in
-    let opened : Held = λ key. held_in c.open_all.new.self key in
+    let claims : HeldKeys = λ key. held_in c.in-Ok.claims key in
+    let opened : HeldKeys = λ key. held_in c.open_all.new.self key in
     let after : List TableRow = map (replaced_by c.items-3.result.now) (rows_now a.rows.slots) in
     let used : AreIndexed a.schema.key held after = indexed_same a.schema.key (with_claims claims opened) held (λ q. sym (c.set_all.ensures q)) after (claims_kept a.schema.key claims old opened c.open_all.ensures.kept after c.in-Ok.ensures.ok) in
     let keys = subst (λ (l : List TableRow). AreIndexed a.schema.key held (map (replaced_by l) (rows_now a.rows.slots))) c.items-3.ensures used in
