@@ -146,7 +146,7 @@ named_with ms place (Some m) is =
     let names : List (List ℕ) = names_of ms in
     let after : List Made = set ms place (made_with_child m) in
     let child : Made = next_child place m in
-    let parent : Named = named_by (get_or names place []) m in
+    let parent : NamedProcess = named_by (get_or names place []) m in
     let same : names_of after ≡ names = names_grown [] ms place m is in
     let long : length names ≡ length after = as_long ms ∙ sym (length-set ms place (made_with_child m)) in
     ap (λ (ns : List (List ℕ)). named_by_all ns (after ++ child ∷ []))

@@ -110,7 +110,7 @@ one_label : (look : List ℕ → Option Definition) (m n : ℕ) (s : Line) (k : 
     → ((m : ℕ) → labels_from m rest ≡ labelled m (n + 1) ks) → labels_from m (entry_of n (Some s) ++ rest) ≡ labelled m n (k ∷ ks)
 one_label look m n Quiet k rest ks fits h = h m ∙ ap (λ k. labelled m n (k ∷ ks)) (sym fits)
 one_label look m n (Label l) k rest ks fits h =
-    let it : Labelled = record { name = l; definition = record { line = n; place = m } } in
+    let it : LabelDefinition = record { name = l; definition = record { line = n; place = m } } in
     ap (λ j. it ∷ labels_from j rest) (add-zero m) ∙ ap (λ ls. it ∷ ls) (h m) ∙ ap (λ k. labelled m n (k ∷ ks)) (sym fits.1)
 one_label look m n (Plain i) k rest ks fits h = h (m + 1) ∙ ap (λ k. labelled m n (k ∷ ks)) (sym fits)
 one_label look m n (Jumping i l) k rest ks (d, found, is) h = h (m + 1) ∙ ap (λ k. labelled m n (k ∷ ks)) (sym is)
