@@ -6,7 +6,7 @@ ghost use Rattle.dml_versions.specs.Changing.{AreFound};
 ghost use Rattle.dml_versions.specs.Types.{TheDelete};
 ghost use Rattle.table_store.specs.Histories.{tables_now};
 
-use crate::change::{Change, matched_change, refused_change};
+use crate::change::{Change, matched_change, refused_by_store};
 use crate::finding::found_rows;
 use crate::found::FoundRows;
 use crate::needs::{needs_of, numbers_of};
@@ -47,14 +47,8 @@ pub fn delete(
     match store.delete_all(name, &numbers, time) {
         Ok(()) => Ok(change),
         Err(stop) => {
-            let Change {
-                reply: _reply,
-                made: _made,
-                needs,
-            } = change;
-            let table = table_of(store, &delete.table);
             let none = List::new(alloc);
-            let refused = refused_change(store, &delete.table, table, none, needs, stop)?;
+            let refused = refused_by_store(store, &delete.table, none, change, stop)?;
             Ok(refused)
         }
     }

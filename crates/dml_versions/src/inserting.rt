@@ -12,7 +12,7 @@ ghost use Rattle.sql_model.specs.Changes.{numbered_rows};
 ghost use Rattle.sql_model.specs.Scope.{table_at};
 ghost use Rattle.table_store.specs.Histories.{tables_now};
 
-use crate::change::{Change, inserted_change, refused_change};
+use crate::change::{Change, inserted_change, refused_by_store};
 use crate::needs::{needs_by_references, numbered_rows};
 use crate::rows::new_rows;
 use crate::statements::insert_of;
@@ -50,14 +50,8 @@ pub fn insert(
     match store.insert_all(name, rows, time) {
         Ok(_first) => Ok(change),
         Err(stop) => {
-            let Change {
-                reply: _reply,
-                made: _made,
-                needs,
-            } = change;
-            let table = table_of(store, &insert.table);
             let none = List::new(alloc);
-            let refused = refused_change(store, &insert.table, table, none, needs, stop)?;
+            let refused = refused_by_store(store, &insert.table, none, change, stop)?;
             Ok(refused)
         }
     }

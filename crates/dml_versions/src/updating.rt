@@ -6,7 +6,7 @@ ghost use Rattle.dml_versions.specs.Changing.{ArePrepared};
 ghost use Rattle.dml_versions.specs.Types.{TheUpdate};
 ghost use Rattle.table_store.specs.Histories.{tables_now};
 
-use crate::change::{Change, matched_change, refused_change};
+use crate::change::{Change, matched_change, refused_by_store};
 use crate::finding::found_rows;
 use crate::found::FoundRows;
 use crate::needs::{needs_of, parent_needs_if};
@@ -49,13 +49,7 @@ pub fn update(
     match store.replace_all(name, rows, time) {
         Ok(()) => Ok(change),
         Err(stop) => {
-            let Change {
-                reply: _reply,
-                made: _made,
-                needs: all,
-            } = change;
-            let table = table_of(store, &update.table);
-            let refused = refused_change(store, &update.table, table, needs, all, stop)?;
+            let refused = refused_by_store(store, &update.table, needs, change, stop)?;
             Ok(refused)
         }
     }
