@@ -15,7 +15,7 @@ use crate::columns::KnownColumn;
 use crate::groups::{KeyedGroup, groups_of};
 use crate::lineages::{add_lineages, lineage_of_picks};
 use crate::plan::{Plan, plan_of};
-use crate::bind_aggregates::{group_truth, group_value};
+use crate::group_value::{group_truth, group_value};
 use core_parts::{BoundExpr, Refs, core_of, is_certain, column_indexes};
 use ldv_value::{List, Values};
 use lineage::{Answer, Answers, LineageSet, Pick, Picks};

@@ -23,7 +23,7 @@ use Rattle.run_model.specs.Core.{is_over}
 use Rattle.run_model.specs.Events.{event_at, events, start_events}
 use Rattle.run_model.specs.Run.{first_pick, later_picks, chosen, move}
 use Rattle.run_model.specs.Schedule.{choose}
-use Rattle.run_model.specs.Slice.{is_read, reason_in, act_reason, first_reason, names_table, is_table_needed}
+use Rattle.run_model.specs.Slice.{is_read, reason_in, act_reason, first_reason, asks_table, is_table_needed}
 use Rattle.run_model.specs.SqlDatabase.{SqlDatabase, lists_of, sql_base}
 use Rattle.run_model.specs.Start.{start_script, start_state}
 use Rattle.run_model.specs.State.{State, StepResult}
@@ -59,7 +59,7 @@ module _ (name : List ℕ) (number : ℕ) where
   -- ---- acts that name the table where they need the row
 
   abbrev Names : Act → Type 0
-  Names act = is_some (act_reason name number act) ≡ true → names_table name act ≡ true
+  Names act = is_some (act_reason name number act) ≡ true → asks_table name act ≡ true
 
   unasked_names : (act : Act) → Unasked act → Names act
   unasked_names (Asked statement tables reads made) unasked = absurd unasked
@@ -126,11 +126,11 @@ module _ (name : List ℕ) (number : ℕ) where
   acts_name step process (act ∷ acts) later names rest needed =
       let more : List Event = map (event_at step process) acts ++ later in
       elim (cases_Bool (is_some (act_reason name number act))) [
-        | inl here ↦ or-left (names_table name act) (is_table_needed more name) (names.0 here)
+        | inl here ↦ or-left (asks_table name act) (is_table_needed more name) (names.0 here)
         | inr miss ↦
             let others : is_row_needed more name number ≡ true =
             or_later (act_reason name number act) (first_reason name number more) miss needed in
-            or-right (names_table name act) (is_table_needed more name) (acts_name step process acts later names.1 rest others)
+            or-right (asks_table name act) (is_table_needed more name) (acts_name step process acts later names.1 rest others)
       ]
 
   no_events : NamesAll []

@@ -13,7 +13,7 @@ use Rattle.run_model.specs.Core.{is_over}
 use Rattle.run_model.specs.Events.{event_at, events}
 use Rattle.run_model.specs.Run.{first_pick, later_picks, move}
 use Rattle.run_model.specs.Schedule.{choose}
-use Rattle.run_model.specs.Slice.{Reason, act_reason, first_reason, names_table, is_table_needed}
+use Rattle.run_model.specs.Slice.{Reason, act_reason, first_reason, asks_table, is_table_needed}
 use Rattle.run_model.specs.SqlDatabase.{SqlDatabase, db_after, lists_of, sql_base}
 use Rattle.run_model.specs.State.{State, StepResult}
 use Rattle.run_model.specs.Step.{asked_act}
@@ -63,7 +63,7 @@ module _ (table : List ℕ) (row : ℕ) where
     pub reason : act_reason table row act ≡ None
     pub makes : makes_version (at_first table row) act ≡ false
     pub sees : has_version (at_first table row) act ≡ false
-    pub names : names_table table act ≡ false
+    pub names : asks_table table act ≡ false
 
   plain_quiet : (made : ℕ) (act : Act) → PlainAct made act → QuietAct act
   plain_quiet made (Asked statement tables reads written) plain = absurd plain
@@ -157,13 +157,13 @@ module _ (table : List ℕ) (row : ℕ) where
     ]
 
     asked_named : is_some (option_or (act_reason table row act) (first_reason table row es)) ≡ true
-        → (names_table table act || is_table_needed es table) ≡ true
+        → (asks_table table act || is_table_needed es table) ≡ true
     asked_named found = elim (cases_Bool needed) [
-      | inl here ↦ or-left (names_table table act) (is_table_needed es table) (needed_named table row statement db.tables valid here)
+      | inl here ↦ or-left (asks_table table act) (is_table_needed es table) (needed_named table row statement db.tables valid here)
       | inr none ↦
           let more : is_some (first_reason table row es) ≡ true =
           sym (found_is ∙ ap (λ (b : Bool). b || is_some (first_reason table row es)) none) ∙ found in
-          or-right (names_table table act) (is_table_needed es table) (rest.named more)
+          or-right (asks_table table act) (is_table_needed es table) (rest.named more)
     ]
 
     asked_event : (number process : ℕ) → RowEvents db (event_at number process act ∷ es)

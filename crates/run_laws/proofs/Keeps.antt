@@ -12,7 +12,7 @@ use Rattle.sql_laws.specs.QueryLaw.{KeepsNeeded as KeepsRows}
 use Rattle.sql_laws.specs.StatementLaw.{keep_others}
 use Rattle.run_laws.specs.Types.{Need, Table, Act, Asked, Event}
 use Rattle.run_model.specs.Between.{Cut, KeepsFile, KeepsNeeded, is_initial, is_row_needed}
-use Rattle.run_model.specs.Slice.{Reason, is_read, reason_in, act_reason, first_reason, names_table, is_table_needed, file_need}
+use Rattle.run_model.specs.Slice.{Reason, is_read, reason_in, act_reason, first_reason, asks_table, is_table_needed, file_need}
 
 module _ (cut : Cut) where
   abbrev pub KeepsTables : List (List ℕ) → Type 0
@@ -114,7 +114,7 @@ module _ (all : List Event) (cut : Cut) (keeps : KeepsAll cut all) where
         reads_part statement needs (λ table row more. among table row (some_later statement table row need needs more)),
       )
 
-  act_part : (act : Act) → ((table : List ℕ) → names_table table act ≡ true → is_table_needed all table ≡ true)
+  act_part : (act : Act) → ((table : List ℕ) → asks_table table act ≡ true → is_table_needed all table ≡ true)
       → ((table : List ℕ) (row : ℕ) → is_some (act_reason table row act) ≡ true → is_row_needed all table row ≡ true)
       → KeepsAct cut act
   act_part (Asked statement names needs made) tables_among rows_among = (tables_part names tables_among, reads_part statement needs rows_among)
@@ -134,10 +134,10 @@ module _ (all : List Event) (cut : Cut) (keeps : KeepsAll cut all) where
   events_part [] tables_among rows_among = tt
   events_part (e ∷ es) tables_among rows_among = (
     act_part e.act
-        (λ table here. tables_among table (or-left (names_table table e.act) (is_table_needed es table) here))
+        (λ table here. tables_among table (or-left (asks_table table e.act) (is_table_needed es table) here))
         (λ table row here. rows_among table row (first_some (act_reason table row e.act) (first_reason table row es) here)),
     events_part es
-        (λ table more. tables_among table (or-right (names_table table e.act) (is_table_needed es table) more))
+        (λ table more. tables_among table (or-right (asks_table table e.act) (is_table_needed es table) more))
         (λ table row more. rows_among table row (later_some (act_reason table row e.act) (first_reason table row es) more)),
   )
 

@@ -24,7 +24,7 @@ use Rattle.run_model.specs.Core.{is_over}
 use Rattle.run_model.specs.Events.{event_at, events}
 use Rattle.run_model.specs.Run.{first_pick, later_picks, chosen, move}
 use Rattle.run_model.specs.Schedule.{choose}
-use Rattle.run_model.specs.Slice.{names_table, is_table_needed}
+use Rattle.run_model.specs.Slice.{asks_table, is_table_needed}
 use Rattle.run_model.specs.SqlDatabase.{SqlDatabase, lists_of, sql_base}
 use Rattle.run_model.specs.State.{State, StepResult}
 use Rattle.run_model.specs.Step.{Ask, asked_act, local_step, took, next_ask, ends_at, asking}
@@ -74,7 +74,7 @@ module _ (child parent : List ℕ) where
   -- ---- acts that name the parent where they name the child
 
   abbrev Brings : Act → Type 0
-  Brings act = names_table child act ≡ true → names_table parent act ≡ true
+  Brings act = asks_table child act ≡ true → asks_table parent act ≡ true
 
   unasked_brings : (act : Act) → Unasked act → Brings act
   unasked_brings (Asked statement tables reads made) unasked = absurd unasked
@@ -132,12 +132,12 @@ module _ (child parent : List ℕ) where
   acts_bring step process [] later brings rest needed = rest needed
   acts_bring step process (act ∷ acts) later brings rest needed =
       let more : List Event = map (event_at step process) acts ++ later in
-      elim (cases_Bool (names_table child act)) [
-        | inl here ↦ or-left (names_table parent act) (is_table_needed more parent) (brings.0 here)
+      elim (cases_Bool (asks_table child act)) [
+        | inl here ↦ or-left (asks_table parent act) (is_table_needed more parent) (brings.0 here)
         | inr miss ↦
             let others : is_table_needed more child ≡ true =
             sym (ap (λ (b : Bool). b || is_table_needed more child) miss) ∙ needed in
-            or-right (names_table parent act) (is_table_needed more parent) (acts_bring step process acts later brings.1 rest others)
+            or-right (asks_table parent act) (is_table_needed more parent) (acts_bring step process acts later brings.1 rest others)
       ]
 
   no_events : BringsAll []

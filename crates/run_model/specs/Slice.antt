@@ -153,26 +153,26 @@ rows_needed events table rows = filter_map (packed_row events table) rows
 -- ---- tables
 
 -- an act asks the table of a name
-abbrev pub names_table : List ℕ → Act → Bool
-names_table table (Started path) = false
-names_table table (Spawned path) = false
-names_table table (Unspawned path found) = false
-names_table table (OpenedRead path) = false
-names_table table (OpenedWrite path) = false
-names_table table (OpenedAppend path found) = false
-names_table table (OpenedNew path) = false
-names_table table (Unopened path found) = false
-names_table table (Read path) = false
-names_table table (Wrote path) = false
-names_table table (Removed path) = false
-names_table table (Tested path found) = false
-names_table table (Waited child) = false
-names_table table (Ended status) = false
-names_table table (Asked statement tables reads made) = list_any (λ name. same_text name table) tables
+abbrev pub asks_table : List ℕ → Act → Bool
+asks_table table (Started path) = false
+asks_table table (Spawned path) = false
+asks_table table (Unspawned path found) = false
+asks_table table (OpenedRead path) = false
+asks_table table (OpenedWrite path) = false
+asks_table table (OpenedAppend path found) = false
+asks_table table (OpenedNew path) = false
+asks_table table (Unopened path found) = false
+asks_table table (Read path) = false
+asks_table table (Wrote path) = false
+asks_table table (Removed path) = false
+asks_table table (Tested path found) = false
+asks_table table (Waited child) = false
+asks_table table (Ended status) = false
+asks_table table (Asked statement tables reads made) = list_any (λ name. same_text name table) tables
 
 -- some statement asked it
 abbrev pub is_table_needed : List Event → List ℕ → Bool
-is_table_needed events table = list_any (λ e. names_table table e.act) events
+is_table_needed events table = list_any (λ e. asks_table table e.act) events
 
 abbrev pub packed_table : List Event → Table → PackedTable
 packed_table events table = record {

@@ -4,7 +4,7 @@ ghost use Rattle.std.specs.Prelude.{◌≡◌, ◌||◌, List, ℕ, OnOk, IfOk, 
 ghost use Rattle.std.specs.List.{list_any};
 ghost use Rattle.sql_model.specs.Scope.{same_text};
 ghost use Rattle.slicer.specs.Marks.{has_name};
-ghost use Rattle.run_model.specs.Slice.{names_table, is_table_needed};
+ghost use Rattle.run_model.specs.Slice.{asks_table, is_table_needed};
 
 use ldv_value::Utf8;
 use run_model::{Act, Event};
@@ -48,7 +48,7 @@ pub fn add_all(alloc: Global, names: &mut NameSet, more: &[Utf8]) -> Result<(), 
 // Adds the tables that a statement asks.
 fn add_tables(alloc: Global, names: &mut NameSet, act: &Act) -> Result<(), AllocError>
     ensures { OnOk result ((q : List ℕ) → has_name names.new q
-        ≡ (has_name names.old q || names_table q act.now)) }
+        ≡ (has_name names.old q || asks_table q act.now)) }
 {
     match act {
         Act::Asked {

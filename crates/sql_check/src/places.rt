@@ -4,10 +4,10 @@ ghost use Rattle.std.specs.Prelude.{◌≡◌, ◌++◌, [], ◌∷◌, IfOk, On
 ghost use Rattle.std.specs.List.{flat_map};
 ghost use Rattle.sql_model.specs.Kinds.{names_in};
 ghost use Rattle.sql_model.specs.Places.{core_places, order_places, query_places, places_of};
-ghost use Rattle.sql_model.specs.Refusals.{answer_titles, update_names, delete_names, names_of_items};
+ghost use Rattle.sql_model.specs.Refusals.{answer_columns, update_names, delete_names, names_of_items};
 ghost use Rattle.sql_model.specs.Scope.{places_in};
 
-use crate::output_column::{OutputColumn, answer_titles, key_place};
+use crate::answer_column::{AnswerColumn, answer_columns, key_place};
 use crate::scope::{Entry, own_scope, place_of, scope_of};
 use crate::walk::push_places;
 use ldv_value::{List, PlaceLists, Places};
@@ -63,12 +63,12 @@ fn key_places(
     order: &[Order],
 ) -> Result<Places, AllocError>
     ensures { IfOk result (λ places. places
-        ≡ order_places (answer_titles catalog.now cores.now) order.now) }
+        ≡ order_places (answer_columns catalog.now cores.now) order.now) }
 {
     match order {
         [] => Ok(List::new(alloc)),
         _ => {
-            let titles = answer_titles(alloc, catalog, cores)?;
+            let titles = answer_columns(alloc, catalog, cores)?;
             order_places(alloc, &titles, order)
         }
     }
@@ -187,7 +187,7 @@ fn push_optional_places(
 
 fn order_places(
     alloc: Global,
-    titles: &[OutputColumn],
+    titles: &[AnswerColumn],
     order: &[Order],
 ) -> Result<Places, AllocError>
     ensures { IfOk result (λ places. places ≡ order_places titles.now order.now) }

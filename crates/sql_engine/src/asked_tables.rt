@@ -6,7 +6,7 @@ ghost use Rattle.std.specs.Prelude.{slice_index_or};
 ghost use Rattle.sql_engine.specs.inner.Listing.{tables_asked};
 ghost use Rattle.sql_engine.specs.inner.Taking.{is_taken, AreDistinct, IsFresh, InPlace};
 
-use crate::marks::{Mark, Taking, close, is_taken, take_reads};
+use crate::marks::{Mark, TableMarks, mark_all_parents, is_taken, mark_needed};
 use ldv_value::{List, Names, Utf8};
 use sql_model::{Catalog, Need, Statement};
 
@@ -45,7 +45,7 @@ fn taken_names(names: Names, marks: &[Mark]) -> Names
 
 /// The tables that a statement asks, sorted, by the rows that it needs. It takes no memory.
 pub(crate) fn tables_asked(
-    taking: Taking,
+    taking: TableMarks,
     statement: &Statement,
     reads: &[Need],
     catalog: &Catalog,
@@ -55,10 +55,10 @@ pub(crate) fn tables_asked(
     requires distinct { AreDistinct catalog.now.names }
     ensures { result ≡ tables_asked statement.now reads.now catalog.now }
 {
-    let Taking { names, marks } = taking;
+    let TableMarks { names, marks } = taking;
     let mut taken = marks;
-    take_reads(catalog.names.items(), &mut taken, reads);
-    close(catalog, &mut taken);
+    mark_needed(catalog.names.items(), &mut taken, reads);
+    mark_all_parents(catalog, &mut taken);
     let made = taken_names(names, taken.as_slice());
     made
 }

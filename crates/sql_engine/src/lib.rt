@@ -3,11 +3,11 @@
 //! What it promises stands in `docs/GUARANTEES.md`, how it works in `docs/ARCHITECTURE.md`.
 #![tactic(auto)]
 
-mod answered;
+mod answer;
 mod asked_tables;
-mod asking;
+mod execute;
 mod cores;
-mod done;
+mod recorded;
 mod engine;
 mod marks;
 mod named_tables;

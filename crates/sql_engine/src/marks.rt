@@ -59,22 +59,22 @@ fn taken_mark(mark: Mark) -> Mark
 
 /// The names of all tables, and their marks: all memory that listing the asked ones needs.
 #[derive(Drop)]
-pub(crate) struct Taking {
+pub(crate) struct TableMarks {
     pub names: Names,
     pub marks: Vec<Mark>,
 }
 
 /// Makes the names and marks of all tables, before a statement runs. The tables that it names are taken.
-pub(crate) fn prepare(
+pub(crate) fn marks_for(
     alloc: Global,
     names: &Names,
     statement: &Statement,
-) -> Result<Taking, AllocError>
+) -> Result<TableMarks, AllocError>
     ensures { IfOk result (IsFresh statement.now names.now) }
 {
     let marks = first_marks(alloc, names, statement)?;
     let copies = names.copy()?;
-    Ok(Taking {
+    Ok(TableMarks {
         names: copies,
         marks,
     })
@@ -102,7 +102,7 @@ fn first_mark(statement: &Statement, name: &Utf8) -> Mark
 
 // Takes the table at a place.
 #[tactic(auto, using(crate::proofs::MarkLaws::raised_rules))]
-fn take(marks: &mut Vec<Mark>, place: usize)
+fn mark_taken(marks: &mut Vec<Mark>, place: usize)
     ensures { marks.new.items ≡ raised_at marks.old.items place }
 {
     if place >= marks.len() {
@@ -118,55 +118,55 @@ fn place_of(names: &[Utf8], name: &Utf8) -> Option<usize>
 }
 
 // Takes the table of a name, if it is there.
-fn take_name(names: &[Utf8], marks: &mut Vec<Mark>, name: &Utf8)
+fn mark_name(names: &[Utf8], marks: &mut Vec<Mark>, name: &Utf8)
     ensures { marks.new.items ≡ with_name names.now name.now marks.old.items }
 {
     match place_of(names, name) {
         None => {}
-        Some(place) => take(marks, place),
+        Some(place) => mark_taken(marks, place),
     }
 }
 
 // Takes the table of a name, unless it is the one before.
-fn take_unless(names: &[Utf8], marks: &mut Vec<Mark>, before: &Utf8, name: &Utf8)
+fn mark_unless(names: &[Utf8], marks: &mut Vec<Mark>, before: &Utf8, name: &Utf8)
     ensures { marks.new.items ≡ with_unless names.now before.now name.now marks.old.items }
 {
     if name.is_same(before) {
         return;
     }
-    take_name(names, marks, name);
+    mark_name(names, marks, name);
 }
 
 // Takes the tables of rows that are needed after one of some table. Rows of one table are neighbours.
-fn take_more(names: &[Utf8], marks: &mut Vec<Mark>, first: &Utf8, reads: &[Need])
+fn mark_more(names: &[Utf8], marks: &mut Vec<Mark>, first: &Utf8, reads: &[Need])
     ensures { marks.new.items ≡ with_more names.now first.now reads.now marks.old.items }
 {
     let mut before = first;
     for need in reads {
-        take_unless(names, marks, before, &need.member.table);
+        mark_unless(names, marks, before, &need.member.table);
         before = &need.member.table;
     }
 }
 
 /// Takes the tables of rows that are needed.
-pub(crate) fn take_reads(names: &[Utf8], marks: &mut Vec<Mark>, reads: &[Need])
+pub(crate) fn mark_needed(names: &[Utf8], marks: &mut Vec<Mark>, reads: &[Need])
     ensures { marks.new.items ≡ with_reads names.now reads.now marks.old.items }
 {
     match reads {
         [] => {}
         [need, more @ ..] => {
-            take_name(names, marks, &need.member.table);
-            take_more(names, marks, &need.member.table, more);
+            mark_name(names, marks, &need.member.table);
+            mark_more(names, marks, &need.member.table, more);
         }
     }
 }
 
 // Takes the parents of foreign keys.
-fn take_parents(names: &[Utf8], marks: &mut Vec<Mark>, foreigns: &[Foreign])
+fn mark_parents(names: &[Utf8], marks: &mut Vec<Mark>, foreigns: &[Foreign])
     ensures { marks.new.items ≡ with_parents_of names.now foreigns.now marks.old.items }
 {
     for foreign in foreigns {
-        take_name(names, marks, &foreign.parent);
+        mark_name(names, marks, &foreign.parent);
     }
 }
 
@@ -178,25 +178,25 @@ fn waiting_table(marks: &[Mark]) -> Option<usize>
 }
 
 // Takes the parents of the table at a place, which is done then.
-fn finish(catalog: &Catalog, marks: &mut Vec<Mark>, place: usize)
+fn mark_parents_of(catalog: &Catalog, marks: &mut Vec<Mark>, place: usize)
     requires { place < length marks.old.items }
     ensures { marks.new.items ≡ marks_with_parents catalog.now place marks.old.items }
 {
     marks[place] = Mark::Done;
     match catalog.schemas.get(place) {
         None => {}
-        Some(schema) => take_parents(catalog.names.items(), marks, schema.foreign.items()),
+        Some(schema) => mark_parents(catalog.names.items(), marks, schema.foreign.items()),
     }
 }
 
 /// Takes the parents of all tables that are taken, and theirs.
-pub(crate) fn close(catalog: &Catalog, marks: &mut Vec<Mark>)
+pub(crate) fn mark_all_parents(catalog: &Catalog, marks: &mut Vec<Mark>)
     requires { length catalog.now.names ≡ length catalog.now.schemas }
     ensures marks { (first : Items (Items ℕ)) → AreMarks first catalog.now marks.old.items
         → AreMarks first catalog.now marks.new.items }
     ensures none { position is_waiting marks.new.items ≡ None }
 {
     'tables: while let Some(place) = waiting_table(marks.as_slice()) {
-        finish(catalog, marks, place);
+        mark_parents_of(catalog, marks, place);
     }
 }

@@ -23,7 +23,7 @@ use Rattle.sql_model.specs.QueryAnswer.{Origin, AnswerRow, answer_values, lineag
 use Rattle.sql_model.specs.Changes.{key_clash, table_after, is_matched, matched, new_rows, had_row}
 use Rattle.sql_model.specs.Needs.{NeededRow, needed_by, is_same_row, is_earlier_row, put_row, sorted_needs, lineage_rows, matched_row, matched_rows, sums_up, cut_rows, hidden_rows, clash_rows, key_row, key_rows, parent_rows, child_row, child_rows, accepted_needs, needs_by, need_of}
 use Rattle.sql_model.specs.References.{reference, has_key as has_foreign_key, Child, Orphan, first_in, is_lost, orphan_by, orphans_of, other_rows as other_rows_of, child_of, children, orphans, is_changed, parents_in, parents_by, parents_of, tables_after, first_orphan, parents_needed}
-use Rattle.sql_model.specs.Refusals.{groups, answer_titles}
+use Rattle.sql_model.specs.Refusals.{groups, answer_columns}
 use Rattle.sql_model.specs.Scope.{InScope, same_text, table_at, is_table, rows_of, catalog_of, scope_of, own_scope}
 use Rattle.sql_model.specs.Sorting.{put_sorted, sorted_by}
 use Rattle.sql_model.specs.Statements.{target, refusal_of}
@@ -183,7 +183,7 @@ module _ (P : List ℕ → ℕ → Type 0) (db : List Table) (sound : (name : Li
 
   sorted_good : (query : Query) → AllByRecursion Row (sorted_rows query db)
   sorted_good query =
-      all_sorted Row (λ a b. order_by (map (sort_key (answer_titles (catalog_of db) query.cores)) query.order) a.values b.values)
+      all_sorted Row (λ a b. order_by (map (sort_key (answer_columns (catalog_of db) query.cores)) query.order) a.values b.values)
       (union_rows db query.cores) (union_good query.cores)
 
   first_good : (limit : Option ℕ) (rows : List AnswerRow) → AllByRecursion Row rows → AllByRecursion Row (first_rows limit rows)

@@ -14,7 +14,7 @@ use Rattle.sql_model.specs.Types.{Query, Table, TableRow}
 use Rattle.ldv_value.specs.Order.{order}
 use Rattle.sql_model.specs.Keys.{same_values}
 use Rattle.sql_model.specs.Places.{key_place}
-use Rattle.sql_model.specs.Refusals.{groups, answer_titles}
+use Rattle.sql_model.specs.Refusals.{groups, answer_columns}
 use Rattle.sql_model.specs.Scope.{InScope, table_at, rows_of, catalog_of, scope_of, value_at, environment}
 use Rattle.sql_model.specs.Meaning.{Environment, eval, truth, is_true}
 use Rattle.sql_model.specs.Sorting.{sorted_by}
@@ -202,7 +202,7 @@ sort_rows keys rows = sorted_by (λ a b. order_by keys a.values b.values) rows
 
 abbrev pub sorted_rows : Query → List Table → List AnswerRow
 sorted_rows query db =
-    sort_rows (map (sort_key (answer_titles (catalog_of db) query.cores)) query.order)
+    sort_rows (map (sort_key (answer_columns (catalog_of db) query.cores)) query.order)
     (union_rows db query.cores)
 
 -- how many rows LIMIT keeps, where it isn't refused

@@ -109,32 +109,32 @@ abbrev pub core_lacks_column : Catalog → Core → Bool
 core_lacks_column catalog core = lacks_in_scope (scope_of core.from catalog) core
 
 -- the AS name, or the name of an item that is a column
-abbrev pub title_of : Option (List ℕ) → Expr → Option (List ℕ)
-title_of (Some name) expr = Some name
-title_of None expr = own_name expr
+abbrev pub item_name : Option (List ℕ) → Expr → Option (List ℕ)
+item_name (Some name) expr = Some name
+item_name None expr = own_name expr
 
-abbrev pub item_titles : List InScope → Option (List Item) → List (Option (List ℕ))
-item_titles scope None = map (λ entry. Some entry.column.name) scope
-item_titles scope (Some items) = map (λ item. title_of item.name item.expr) items
+abbrev pub item_columns : List InScope → Option (List Item) → List (Option (List ℕ))
+item_columns scope None = map (λ entry. Some entry.column.name) scope
+item_columns scope (Some items) = map (λ item. item_name item.name item.expr) items
 
 -- the names of the answer columns, which are those of the first core
-abbrev pub answer_titles : Catalog → List Core → List (Option (List ℕ))
-answer_titles catalog [] = []
-answer_titles catalog (core ∷ cores) = item_titles (scope_of core.from catalog) core.items
+abbrev pub answer_columns : Catalog → List Core → List (Option (List ℕ))
+answer_columns catalog [] = []
+answer_columns catalog (core ∷ cores) = item_columns (scope_of core.from catalog) core.items
 
-abbrev pub is_titled : List ℕ → Option (List ℕ) → Bool
-is_titled name None = false
-is_titled name (Some title) = same_text title name
+abbrev pub has_name : List ℕ → Option (List ℕ) → Bool
+has_name name None = false
+has_name name (Some title) = same_text title name
 
 -- the name of exactly one answer column, or the number of one
 abbrev pub is_order_key : List (Option (List ℕ)) → OrderKey → Bool
-is_order_key titles (Name name) = length (filter (is_titled name) titles) == 1
+is_order_key titles (Name name) = length (filter (has_name name) titles) == 1
 is_order_key titles (Place place) = nat_le 1 place && nat_le place (length titles)
 
 abbrev pub query_lacks_column : Query → Catalog → Bool
 query_lacks_column query catalog =
     list_any (core_lacks_column catalog) query.cores
-    || not (list_all (λ order. is_order_key (answer_titles catalog query.cores) order.key) query.order)
+    || not (list_all (λ order. is_order_key (answer_columns catalog query.cores) order.key) query.order)
 
 -- VALUES has no scope
 abbrev pub insert_lacks_column : Insert → List Column → Bool

@@ -21,7 +21,7 @@ pub(crate) fn read_opening(
 ) -> Result<Opening, ParseStop>
     ensures { ReadsPart result reader.new (opening least reader.old) }
 {
-    let token = reader.token()?;
+    let token = reader.take_token()?;
     opens(alloc, reader, least, token)
 }
 

@@ -15,7 +15,7 @@ use sql_model::{Infix, Operator};
 pub(crate) fn joins(reader: &Reader, least: u8, level: u8) -> Option<Infix>
     ensures { result ≡ joins least level reader.now }
 {
-    let joint = next_joint(reader)?;
+    let joint = next_infix(reader)?;
     if may_join(least, level, joint) {
         Some(joint)
     } else {
@@ -23,28 +23,28 @@ pub(crate) fn joins(reader: &Reader, least: u8, level: u8) -> Option<Infix>
     }
 }
 
-fn next_joint(reader: &Reader) -> Option<Infix>
+fn next_infix(reader: &Reader) -> Option<Infix>
     ensures { result ≡ joint_of reader.now }
 {
     match reader.peek() {
         None => None,
-        Some(token) => joint_at(token),
+        Some(token) => infix_at(token),
     }
 }
 
 // What a token is between operands.
-fn joint_at(token: &Lexeme) -> Option<Infix>
+fn infix_at(token: &Lexeme) -> Option<Infix>
     ensures { (more : List Token) → result ≡ joint_of (token.now ∷ more) }
 {
     match token.as_lent() {
-        Lent::Word(word) => joint_in(*word),
+        Lent::Word(word) => infix_in(*word),
         Lent::Number(_) => None,
         Lent::Quoted(_) => None,
         Lent::Given(_) => None,
     }
 }
 
-fn joint_in(word: &str) -> Option<Infix>
+fn infix_in(word: &str) -> Option<Infix>
     ensures { result ≡ joint_in word.now }
 {
     if word == "or" {

@@ -103,7 +103,7 @@ fn take_direction(reader: &mut Reader) -> bool
 fn key(alloc: Global, reader: &mut Reader) -> Result<OrderKey, ParseStop>
     ensures { ReadsPart result reader.new (reads_key reader.old) }
 {
-    let token = reader.token()?;
+    let token = reader.take_token()?;
     let key = key_of(alloc, token)?;
     Ok(key)
 }
@@ -148,7 +148,7 @@ fn limit(alloc: Global, reader: &mut Reader) -> Result<Option<Value>, ParseStop>
 fn parse_bound(alloc: Global, reader: &mut Reader) -> Result<Option<Value>, ParseStop>
     ensures { ReadsPart result reader.new (reads_bound reader.old) }
 {
-    let token = reader.token()?;
+    let token = reader.take_token()?;
     let value = bound_of(alloc, token)?;
     Ok(Some(value))
 }

@@ -98,7 +98,7 @@ impl<'a> Reader<'a> {
     }
 
     /// Takes the next token; `Syntax` where none is left.
-    pub fn token(&mut self) -> Result<Lexeme<'a>, ParseStop>
+    pub fn take_token(&mut self) -> Result<Lexeme<'a>, ParseStop>
         ensures { ReadsPart result self.new (reads_token self.old) }
     {
         match self.tokens.get(self.place) {
@@ -115,7 +115,7 @@ impl<'a> Reader<'a> {
     pub fn name(&mut self, alloc: Global) -> Result<Utf8, ParseStop>
         ensures { ReadsPart result self.new (reads_name self.old) }
     {
-        let token = self.token()?;
+        let token = self.take_token()?;
         name_of(alloc, token)
     }
 }

@@ -256,7 +256,7 @@ impl Store {
         match place_in(&self.tables, table) {
             None => unreachable!(),
             Some(place) => {
-                let later = self.later_of_insert(table, &rows)?;
+                let later = self.reference_stop_of_insert(table, &rows)?;
                 match insert_in(&mut self.tables, place, rows, later, time) {
                     Err(stop) => Err(stop),
                     Ok(first) => {
@@ -293,7 +293,7 @@ impl Store {
         match place_in(&self.tables, table) {
             None => unreachable!(),
             Some(place) => {
-                let later = self.later_of_replace(table, rows.items())?;
+                let later = self.reference_stop_of_replace(table, rows.items())?;
                 match replace_in(&mut self.tables, place, rows, later, time) {
                     Err(stop) => Err(stop),
                     Ok(()) => {
@@ -326,7 +326,7 @@ impl Store {
         match place_in(&self.tables, table) {
             None => unreachable!(),
             Some(place) => {
-                let later = self.later_of_delete(table, numbers.items())?;
+                let later = self.reference_stop_of_delete(table, numbers.items())?;
                 match delete_in(&mut self.tables, place, numbers, later, time) {
                     Err(stop) => Err(stop),
                     Ok(()) => {
@@ -339,7 +339,7 @@ impl Store {
     }
 
     // What references refuse new rows for, which comes after what the rows' own table refuses them for.
-    fn later_of_insert(&self, table: &str, rows: &RowList) -> Result<Option<StoreStop>, AllocError>
+    fn reference_stop_of_insert(&self, table: &str, rows: &RowList) -> Result<Option<StoreStop>, AllocError>
         requires { IsSome (table_at table.now (tables_now self.now)) }
         ensures { IfOk result (λ later. option_map
             (λ own. missing_stop own.schema.foreign (numbered_rows own.next rows.now)
@@ -356,7 +356,7 @@ impl Store {
     }
 
     // What references refuse new values of rows for.
-    fn later_of_replace(
+    fn reference_stop_of_replace(
         &self,
         table: &str,
         rows: &[TableRow],
@@ -381,7 +381,7 @@ impl Store {
     }
 
     // What references refuse to drop rows for.
-    fn later_of_delete(&self, table: &str, numbers: &[u32]) -> Result<Option<StoreStop>, AllocError>
+    fn reference_stop_of_delete(&self, table: &str, numbers: &[u32]) -> Result<Option<StoreStop>, AllocError>
         requires there { IsSome (table_at table.now (tables_now self.now)) }
         requires sorted { are_sorted_numbers numbers.now ≡ true }
         requires stand { IfSome (table_at table.now (tables_now self.now))
