@@ -8,7 +8,7 @@ ghost use Rattle.sql_model.specs.declared.expr.Expr.TheVariants.{Aggregate};
 ghost use Rattle.group_eval.specs.inner.Columns.{known_column, IsKnown};
 ghost use Rattle.group_eval.specs.Folding.{first_row, group_meaning, value_over};
 ghost use Rattle.core_parts.specs.Placing.{IsPlaced};
-ghost use Rattle.group_eval.specs.inner.Settling.{SettlesTo, IsSettled};
+ghost use Rattle.group_eval.specs.inner.BoundAggregates.{BindsTo, IsBound};
 ghost use Rattle.sql_model.specs.Kinds.{names_in};
 ghost use Rattle.sql_model.specs.Meaning.{aggregate_of, known_values};
 ghost use Rattle.sql_model.specs.Scope.{InScope, places_in};
@@ -32,9 +32,9 @@ fn bind_fold(
     places: &Places,
     at: &mut usize,
 ) -> Result<Expr, AllocError>
-    ensures { IfOk result (λ settled. (own : Items ℕ) → SettlesTo (map (λ r. r.now) group.now)
+    ensures { IfOk result (λ bound. (own : Items ℕ) → BindsTo (map (λ r. r.now) group.now)
         (Aggregate fold (Some argument.now)) (drop at.old places.now) own
-        settled own (drop at.new places.now)) }
+        bound own (drop at.new places.now)) }
 {
     let mut taken = List::new(alloc);
     take_places(argument, places, at, &mut taken)?;
@@ -50,8 +50,8 @@ fn bind_aggregate(
     places: &Places,
     at: &mut usize,
 ) -> Result<Expr, AllocError>
-    ensures { IfOk result (λ settled. (own : Items ℕ) → SettlesTo (map (λ r. r.now) group.now)
-        (Aggregate fold argument.now) (drop at.old places.now) own settled own (drop at.new places.now)) }
+    ensures { IfOk result (λ bound. (own : Items ℕ) → BindsTo (map (λ r. r.now) group.now)
+        (Aggregate fold argument.now) (drop at.old places.now) own bound own (drop at.new places.now)) }
 {
     match argument {
         None => Ok(Expr::Constant(count_value(group.len()))),
@@ -69,8 +69,8 @@ fn bind_aggregates(
     at: &mut usize,
     own: &mut Places,
 ) -> Result<Expr, AllocError>
-    ensures { IfOk result (λ settled. SettlesTo (map (λ r. r.now) group.now) expr.now
-        (drop at.old places.now) own.old settled own.new (drop at.new places.now)) }
+    ensures { IfOk result (λ bound. BindsTo (map (λ r. r.now) group.now) expr.now
+        (drop at.old places.now) own.old bound own.new (drop at.new places.now)) }
 {
     match expr {
         Expr::Constant(value) => Ok(Expr::Constant(value.copy_item(alloc)?)),
@@ -104,8 +104,8 @@ fn bind_aggregates(
 
 // The expression with its aggregates over a group as constants.
 fn bind_expr(alloc: Global, placed: &BoundExpr, group: &[&Pick]) -> Result<BoundExpr, AllocError>
-    ensures { IfOk result (λ settled. (scope : Items InScope)
-        → IsPlaced scope placed.now → IsSettled scope (map (λ r. r.now) group.now) placed.now.expr settled) }
+    ensures { IfOk result (λ bound. (scope : Items InScope)
+        → IsPlaced scope placed.now → IsBound scope (map (λ r. r.now) group.now) placed.now.expr bound) }
 {
     let mut at = 0;
     let mut own = List::new(alloc);
@@ -193,8 +193,8 @@ fn bound_value(
         → IsPlaced scope placed.now
         → value ≡ (group_meaning scope (map (λ r. r.now) group.now) placed.now.expr).value) }
 {
-    let settled = bind_expr(alloc, placed, group)?;
-    value_of(alloc, &settled.expr, first, &settled.places)
+    let bound = bind_expr(alloc, placed, group)?;
+    value_of(alloc, &bound.expr, first, &bound.places)
 }
 
 /// The value of an expression over a group. `first` are the values of its first pick. An expression that is a
@@ -236,6 +236,6 @@ pub(crate) fn group_truth(
         → IsPlaced scope placed.now
         → truth ≡ (group_meaning scope (map (λ r. r.now) group.now) placed.now.expr).truth) }
 {
-    let settled = bind_expr(alloc, placed, group)?;
-    truth_of(alloc, &settled.expr, first, &settled.places)
+    let bound = bind_expr(alloc, placed, group)?;
+    truth_of(alloc, &bound.expr, first, &bound.places)
 }

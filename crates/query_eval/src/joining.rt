@@ -11,7 +11,7 @@ ghost use Rattle.core_parts.specs.Conditions.{meets};
 ghost use Rattle.query_eval.specs.inner.Joining.{combos, tests, is_ready, ready_conditions, later_conditions, extensions_left, extensions_of};
 ghost use Rattle.query_eval.specs.inner.Joining.{extensions_of_all, EachHas, IsIndex, extensions_by_probe};
 ghost use Rattle.core_parts.specs.Placing.{IsPlaced, AreAllPlaced};
-ghost use Rattle.query_eval.specs.Sourcing.{joined_row_values, source_rows, AreWide, SourcesAreWide};
+ghost use Rattle.query_eval.specs.Sources.{joined_row_values, source_rows, AreWide, SourcesAreWide};
 ghost use Rattle.query_eval.specs.declared.source.SourceRow.{SourceRow as Given};
 ghost use Rattle.sql_model.specs.Meaning.{is_true, truth};
 ghost use Rattle.sql_model.specs.Scope.{InScope, environment};

@@ -4,7 +4,7 @@ ghost use Rattle.std.specs.Prelude.{◌≡◌, IfOk, Some};
 ghost use Rattle.std.specs.List.{AllByRecursion};
 ghost use Rattle.std.specs.Option.{option_map};
 ghost use Rattle.core_parts.specs.Masking.{AreMasks};
-ghost use Rattle.query_eval.specs.Stored.{AreChosen, AreStored, HasVersion, IsPlace, IsStored, IsTaken};
+ghost use Rattle.query_eval.specs.StoredSources.{AreChosen, AreStored, HasVersion, IsPlace, IsStored, IsTaken};
 
 use crate::key_lookup::rows_of_key;
 use crate::table_scan::rows_left;
@@ -120,7 +120,7 @@ fn read_source(
 }
 
 // A source, from a store. Its columns come after `before` values of the joined row.
-#[tactic(auto, using(crate::proofs::StoredLaws::stored_is))]
+#[tactic(auto, using(crate::proofs::StoredSourceLaws::stored_is))]
 fn source_of(
     alloc: Global,
     store: &Store,
@@ -137,7 +137,7 @@ fn source_of(
 }
 
 /// The sources of a core, each with the rows that may be in a picked combination.
-#[tactic(auto, using(crate::proofs::StoredLaws::sources_end))]
+#[tactic(auto, using(crate::proofs::StoredSourceLaws::sources_end))]
 pub(crate) fn sources_of(
     alloc: Global,
     store: &Store,

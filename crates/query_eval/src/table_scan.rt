@@ -5,9 +5,9 @@ ghost use Rattle.std.specs.Prelude.{Some, unwrap_or};
 ghost use Rattle.std.specs.List.{AllByRecursion};
 ghost use Rattle.std.specs.Option.{option_map, option_to_list};
 ghost use Rattle.lanes.specs.Sets.{member};
-ghost use Rattle.query_eval.specs.Leaving.{slot_at, slot_passes, rows_at_slots, source_row, rows_in};
-ghost use Rattle.query_eval.specs.Leaving.{left_rows};
-ghost use Rattle.query_eval.specs.Stored.{HasVersion};
+ghost use Rattle.query_eval.specs.TableScan.{slot_at, slot_passes, rows_at_slots, source_row, rows_in};
+ghost use Rattle.query_eval.specs.TableScan.{left_rows};
+ghost use Rattle.query_eval.specs.StoredSources.{HasVersion};
 ghost use Rattle.table_store.specs.CellTests.{AllFitColumns};
 ghost use Rattle.table_store.specs.Histories.{history_of_row, row_now, version_now};
 
@@ -30,7 +30,7 @@ fn slots_passing(alloc: Global, table: &TableStore, masks: &[ColumnTest]) -> Res
 }
 
 // The version of the row in a slot, which stands.
-#[tactic(auto, using(crate::proofs::LeavingLaws::slot_stands))]
+#[tactic(auto, using(crate::proofs::TableScanLaws::slot_stands))]
 fn version_of(table: &TableStore, slot: u64, number: u32) -> u32
     requires { option_map (λ row. row.number) (row_now (slot_at table.now.slots slot)) ≡ Some number }
     ensures { result ≡ unwrap_or (version_now (history_of_row number table.now.slots)) 0 }
@@ -40,7 +40,7 @@ fn version_of(table: &TableStore, slot: u64, number: u32) -> u32
 }
 
 // Adds the row of a slot, which stands.
-#[tactic(auto, using(crate::proofs::LeavingLaws::made_rows))]
+#[tactic(auto, using(crate::proofs::TableScanLaws::made_rows))]
 fn add_row(
     table: &TableStore,
     rows: &mut SourceRows,
@@ -60,7 +60,7 @@ fn add_row(
 }
 
 /// Adds the row of a slot, where it stands.
-#[tactic(auto, using(crate::proofs::LeavingLaws::made_rows))]
+#[tactic(auto, using(crate::proofs::TableScanLaws::made_rows))]
 pub(crate) fn add_slot(
     table: &TableStore,
     rows: &mut SourceRows,
@@ -76,7 +76,7 @@ pub(crate) fn add_slot(
 }
 
 // The rows of the slots that are set.
-#[tactic(auto, using(crate::proofs::LeavingLaws::chosen_next, crate::proofs::LeavingLaws::chosen_end))]
+#[tactic(auto, using(crate::proofs::TableScanLaws::chosen_next, crate::proofs::TableScanLaws::chosen_end))]
 fn rows_chosen(alloc: Global, table: &TableStore, words: &[u64]) -> Result<SourceRows, AllocError>
     requires { length words.now < 2 ^ 57 }
     ensures { IfOk result (λ rows. rows
@@ -96,7 +96,7 @@ fn rows_chosen(alloc: Global, table: &TableStore, words: &[u64]) -> Result<Sourc
 }
 
 // The rows of a table that stand, in the order of their numbers.
-#[tactic(auto, using(crate::proofs::LeavingLaws::left_standing))]
+#[tactic(auto, using(crate::proofs::TableScanLaws::left_standing))]
 fn all_rows(alloc: Global, table: &TableStore) -> Result<SourceRows, AllocError>
     ensures { IfOk result (λ rows. rows ≡ left_rows [] table.now.slots) }
 {
@@ -105,7 +105,7 @@ fn all_rows(alloc: Global, table: &TableStore) -> Result<SourceRows, AllocError>
 }
 
 // The rows of a table that stand and for which each mask passes, in the order of their numbers.
-#[tactic(auto, using(crate::proofs::LeavingLaws::left_chosen))]
+#[tactic(auto, using(crate::proofs::TableScanLaws::left_chosen))]
 fn rows_passing(alloc: Global, table: &TableStore, masks: &[ColumnTest]) -> Result<SourceRows, AllocError>
     requires { AllFitColumns table.now.schema.columns masks.now }
     ensures { IfOk result (λ rows. rows ≡ left_rows masks.now table.now.slots) }
@@ -127,7 +127,7 @@ fn rows_by(alloc: Global, table: &TableStore, masks: &[ColumnTest]) -> Result<So
 
 /// The rows of a table that stand and for which each mask passes, in the order of their numbers. The masks
 /// suit their columns.
-#[tactic(auto, using(crate::proofs::LeavingLaws::left_known))]
+#[tactic(auto, using(crate::proofs::TableScanLaws::left_known))]
 pub(crate) fn rows_left(
     alloc: Global,
     table: &TableStore,

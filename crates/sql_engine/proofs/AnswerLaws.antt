@@ -17,7 +17,7 @@ use Rattle.lineage.proofs.RowLaws.{answers-append, answers-values, kept_origins-
 use Rattle.query_eval.specs.Finishing.{IsFinished}
 use Rattle.query_eval.specs.Picking.{ArePicked}
 use Rattle.query_eval.specs.Projecting.{IsProjected}
-use Rattle.query_eval.specs.Stored.{table_names}
+use Rattle.query_eval.specs.StoredSources.{table_names}
 use Rattle.query_eval.specs.declared.order_limit.Finished.{Finished}
 use Rattle.sql_engine.proofs.StoreLaws.{tell_versions}
 use Rattle.sql_engine.specs.inner.Answering.{IsKept, AreRows, IsEvaluated, IsAsked, IsCore, AreUnited, AreAll, hidden_lineage, IsHidden, IsAnswer, IsAnswered, values_of}

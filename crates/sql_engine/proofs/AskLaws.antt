@@ -11,7 +11,7 @@ use Rattle.dml_versions.specs.Changing.{IsChange, IsCheckedOver, IsStoreAfter}
 use Rattle.sql_model.specs.Tables.{AreWellFormed}
 use Rattle.dml_versions.specs.Versions.{versions_now, updates_of, updates_in}
 use Rattle.dml_versions.specs.declared.change.Change.{Change}
-use Rattle.query_eval.specs.Stored.{table_names}
+use Rattle.query_eval.specs.StoredSources.{table_names}
 use Rattle.run_model.specs.SqlDatabase.{SqlDatabase, initial_database, db_after, lists_of, answer_of, sql_base}
 use Rattle.run_model.specs.Database.{Gives, asked_by}
 use Rattle.run_model.specs.declared.database.Asker.{Asker}

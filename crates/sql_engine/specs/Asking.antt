@@ -14,7 +14,7 @@ abbrev pub database : StoreHistory → SqlDatabase
 database store = record { tables = tables_now store; versions = versions_now store }
 
 abbrev pub lists_in : Recorded → Lists
-lists_in done = record { tables = done.tables; reads = done.reads; made = done.made }
+lists_in done = record { tables = done.tables; reads = done.needs; made = done.made }
 
 -- the reply to the statement that a text is, or to a text that is none, the lists where they are kept, and
 -- the database after it
@@ -42,4 +42,4 @@ refusal_change refusal = record { reply = Refused refusal; made = []; needs = []
 
 abbrev pub recorded_of : Change → List (List ℕ) → Recorded
 recorded_of change tables =
-    record { reply = change.reply; tables = tables; reads = change.needs; made = change.made }
+    record { reply = change.reply; tables = tables; needs = change.needs; made = change.made }

@@ -60,13 +60,13 @@ fn asked_event(who: &Asker, done: Recorded) -> (Reply, Event)
     let Recorded {
         reply,
         tables,
-        reads,
+        needs,
         made,
     } = done;
     let act = Act::Asked {
         statement: who.statement,
         tables,
-        reads,
+        reads: needs,
         made,
     };
     let event = Event {

@@ -90,7 +90,7 @@ fn recorded_of(change: Change, tables: Names) -> Recorded
     Recorded {
         reply: change.reply,
         tables,
-        reads: change.needs,
+        needs: change.needs,
         made: change.made,
     }
 }

@@ -14,7 +14,7 @@ use std::alloc::Global;
 pub(crate) struct Recorded {
     pub reply: Reply,
     pub tables: Names,
-    pub reads: Needs,
+    pub needs: Needs,
     pub made: Members,
 }
 

@@ -16,7 +16,7 @@ pub(crate) fn insert(alloc: Global, reader: &mut Reader) -> Result<Insert, Parse
     ensures { ReadsPart result reader.new (reads_insert reader.old) }
 {
     reader.expect("into")?;
-    let table = reader.name(alloc)?;
+    let table = reader.take_name(alloc)?;
     let columns = columns(alloc, reader)?;
     reader.expect("values")?;
     let rows = parse_list::<Exprs>(alloc, reader)?;
@@ -44,7 +44,7 @@ fn columns(alloc: Global, reader: &mut Reader) -> Result<Option<Names>, ParseSto
 pub(crate) fn update(alloc: Global, reader: &mut Reader) -> Result<Update, ParseStop>
     ensures { ReadsPart result reader.new (reads_update reader.old) }
 {
-    let table = reader.name(alloc)?;
+    let table = reader.take_name(alloc)?;
     reader.expect("set")?;
     let sets = parse_list::<Set>(alloc, reader)?;
     let pick = optional_expression(alloc, reader, "where")?;
@@ -55,7 +55,7 @@ impl Part for Set {
     ghost reads = { reads_set };
 
     fn read(alloc: Global, reader: &mut Reader) -> Result<Self, ParseStop> {
-        let column = reader.name(alloc)?;
+        let column = reader.take_name(alloc)?;
         reader.expect("=")?;
         let expr = expression(alloc, reader)?;
         Ok(Set { column, expr })
@@ -67,7 +67,7 @@ pub(crate) fn delete(alloc: Global, reader: &mut Reader) -> Result<Delete, Parse
     ensures { ReadsPart result reader.new (reads_delete reader.old) }
 {
     reader.expect("from")?;
-    let table = reader.name(alloc)?;
+    let table = reader.take_name(alloc)?;
     let pick = optional_expression(alloc, reader, "where")?;
     Ok(Delete { table, pick })
 }

@@ -13,7 +13,7 @@ use std::alloc::Global;
 pub(crate) fn column(alloc: Global, reader: &mut Reader) -> Result<ColumnName, ParseStop>
     ensures { ReadsPart result reader.new (reads_column reader.old) }
 {
-    let name = reader.name(alloc)?;
+    let name = reader.take_name(alloc)?;
     column_after(alloc, reader, name)
 }
 
@@ -27,7 +27,7 @@ pub(crate) fn column_after(
 {
     if reader.starts(".") {
         reader.skip();
-        let second = reader.name(alloc)?;
+        let second = reader.take_name(alloc)?;
         return Ok(ColumnName {
             table: Some(name),
             name: second,

@@ -121,9 +121,9 @@ fn joins_more(
 {
     match joins(reader, least, left.level) {
         None => Ok((left, false)),
-        Some(joint) => {
+        Some(sign) => {
             reader.skip();
-            let left = joined_within(alloc, reader, limit, joint, left)?;
+            let left = joined_within(alloc, reader, limit, sign, left)?;
             Ok((left, true))
         }
     }
@@ -136,17 +136,17 @@ fn joined_within(
     alloc: Global,
     reader: &mut Reader,
     limit: usize,
-    joint: Infix,
+    sign: Infix,
     left: ParsedExpr,
 ) -> Result<ParsedExpr, ParseStop>
     requires { limit < max_depth }
-    ensures read { ReadsPart result reader.new (joined_within (within limit) limit joint left reader.old) }
+    ensures read { ReadsPart result reader.new (joined_within (within limit) limit sign left reader.old) }
     ensures depth { IfOk result (λ deep. deep.depth ≤ limit + 1) }
 {
     if left.depth > limit {
         return Err(ParseStop::Syntax);
     }
-    match joint {
+    match sign {
         Infix::IsNull => null_test(alloc, reader, left),
         Infix::Both(operator) => {
             let right = within(alloc, reader, limit, right_of(operator))?;

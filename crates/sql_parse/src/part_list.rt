@@ -58,7 +58,7 @@ impl Part for Utf8 {
     ghost reads = { reads_name };
 
     fn read(alloc: Global, reader: &mut Reader) -> Result<Self, ParseStop> {
-        reader.name(alloc)
+        reader.take_name(alloc)
     }
 }
 

@@ -112,7 +112,7 @@ impl<'a> Reader<'a> {
     }
 
     /// Takes the next token, which must be a name.
-    pub fn name(&mut self, alloc: Global) -> Result<Utf8, ParseStop>
+    pub fn take_name(&mut self, alloc: Global) -> Result<Utf8, ParseStop>
         ensures { ReadsPart result self.new (reads_name self.old) }
     {
         let token = self.take_token()?;

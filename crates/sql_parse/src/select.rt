@@ -113,6 +113,6 @@ fn alias(alloc: Global, reader: &mut Reader) -> Result<Option<Utf8>, ParseStop>
         return Ok(None);
     }
     reader.skip();
-    let name = reader.name(alloc)?;
+    let name = reader.take_name(alloc)?;
     Ok(Some(name))
 }

@@ -98,7 +98,7 @@ fn joined_source(
 fn source(alloc: Global, reader: &mut Reader) -> Result<FromItem, ParseStop>
     ensures { ReadsPart result reader.new (reads_source reader.old) }
 {
-    let table = reader.name(alloc)?;
+    let table = reader.take_name(alloc)?;
     let name = second_name(alloc, reader, &table)?;
     Ok(FromItem { table, name })
 }
@@ -109,10 +109,10 @@ fn second_name(alloc: Global, reader: &mut Reader, table: &Utf8) -> Result<Utf8,
 {
     if reader.starts("as") {
         reader.skip();
-        return reader.name(alloc);
+        return reader.take_name(alloc);
     }
     if names(reader) {
-        return reader.name(alloc);
+        return reader.take_name(alloc);
     }
     let name = table.copy()?;
     Ok(name)

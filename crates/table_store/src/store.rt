@@ -256,8 +256,8 @@ impl Store {
         match place_in(&self.tables, table) {
             None => unreachable!(),
             Some(place) => {
-                let later = self.reference_stop_of_insert(table, &rows)?;
-                match insert_in(&mut self.tables, place, rows, later, time) {
+                let reference_stop = self.reference_stop_of_insert(table, &rows)?;
+                match insert_in(&mut self.tables, place, rows, reference_stop, time) {
                     Err(stop) => Err(stop),
                     Ok(first) => {
                         self.time = time;
@@ -293,8 +293,8 @@ impl Store {
         match place_in(&self.tables, table) {
             None => unreachable!(),
             Some(place) => {
-                let later = self.reference_stop_of_replace(table, rows.items())?;
-                match replace_in(&mut self.tables, place, rows, later, time) {
+                let reference_stop = self.reference_stop_of_replace(table, rows.items())?;
+                match replace_in(&mut self.tables, place, rows, reference_stop, time) {
                     Err(stop) => Err(stop),
                     Ok(()) => {
                         self.time = time;
@@ -326,8 +326,8 @@ impl Store {
         match place_in(&self.tables, table) {
             None => unreachable!(),
             Some(place) => {
-                let later = self.reference_stop_of_delete(table, numbers.items())?;
-                match delete_in(&mut self.tables, place, numbers, later, time) {
+                let reference_stop = self.reference_stop_of_delete(table, numbers.items())?;
+                match delete_in(&mut self.tables, place, numbers, reference_stop, time) {
                     Err(stop) => Err(stop),
                     Ok(()) => {
                         self.time = time;
@@ -341,16 +341,16 @@ impl Store {
     // What references refuse new rows for, which comes after what the rows' own table refuses them for.
     fn reference_stop_of_insert(&self, table: &str, rows: &RowList) -> Result<Option<StoreStop>, AllocError>
         requires { IsSome (table_at table.now (tables_now self.now)) }
-        ensures { IfOk result (λ later. option_map
+        ensures { IfOk result (λ reference_stop. option_map
             (λ own. missing_stop own.schema.foreign (numbered_rows own.next rows.now)
             (with_changed own.name (with_inserted rows.now) (tables_now self.now)))
-            (table_at table.now (tables_now self.now)) ≡ Some later) }
+            (table_at table.now (tables_now self.now)) ≡ Some reference_stop) }
     {
         match self.table(table) {
             None => unreachable!(),
             Some(own) => {
-                let later = insert_refusal(self, own, rows)?;
-                Ok(later)
+                let reference_stop = insert_refusal(self, own, rows)?;
+                Ok(reference_stop)
             }
         }
     }
@@ -365,17 +365,17 @@ impl Store {
         requires sorted { are_sorted_rows rows.now ≡ true }
         requires stand { IfSome (table_at table.now (tables_now self.now))
             (λ table. had_rows rows.now table ≡ true) }
-        ensures { IfOk result (λ later. option_map
+        ensures { IfOk result (λ reference_stop. option_map
             (λ own. option_or (missing_stop own.schema.foreign rows.now
             (with_changed own.name (with_replaced rows.now) (tables_now self.now)))
             (orphan_stop (is_of rows.now) own (with_replaced rows.now own) (tables_now self.now)))
-            (table_at table.now (tables_now self.now)) ≡ Some later) }
+            (table_at table.now (tables_now self.now)) ≡ Some reference_stop) }
     {
         match self.table(table) {
             None => unreachable!(),
             Some(own) => {
-                let later = replace_refusal(self, own, rows)?;
-                Ok(later)
+                let reference_stop = replace_refusal(self, own, rows)?;
+                Ok(reference_stop)
             }
         }
     }
@@ -386,15 +386,15 @@ impl Store {
         requires sorted { are_sorted_numbers numbers.now ≡ true }
         requires stand { IfSome (table_at table.now (tables_now self.now))
             (λ table. all_stand numbers.now table ≡ true) }
-        ensures { IfOk result (λ later. option_map
+        ensures { IfOk result (λ reference_stop. option_map
             (λ own. orphan_stop (is_among numbers.now) own (with_removed numbers.now own)
-            (tables_now self.now)) (table_at table.now (tables_now self.now)) ≡ Some later) }
+            (tables_now self.now)) (table_at table.now (tables_now self.now)) ≡ Some reference_stop) }
     {
         match self.table(table) {
             None => unreachable!(),
             Some(own) => {
-                let later = delete_refusal(self, own, numbers)?;
-                Ok(later)
+                let reference_stop = delete_refusal(self, own, numbers)?;
+                Ok(reference_stop)
             }
         }
     }
@@ -448,14 +448,15 @@ fn insert_in(
     tables: &mut Vec<TableStore>,
     place: usize,
     rows: RowList,
-    later: Option<StoreStop>,
+    reference_stop: Option<StoreStop>,
     time: u32,
 ) -> Result<u32, StoreStop>
     requires within { place < length tables.old.items }
     requires later { last_since (slice_index_or tables.old.items place no_table).nexts < time }
     requires shape { have_shape rows (table_now (slice_index_or tables.old.items place no_table)) ≡ true }
     ensures stop { StopsAs (option_or
-        (insert_stop rows (table_now (slice_index_or tables.old.items place no_table))) later) result }
+        (insert_stop rows (table_now (slice_index_or tables.old.items place no_table)))
+        reference_stop) result }
     ensures first { IfOk result (λ first. first
         ≡ (table_now (slice_index_or tables.old.items place no_table)).next) }
     ensures ok { OnOk result (tables.new.items
@@ -464,7 +465,7 @@ fn insert_in(
     ensures err { OnErr result (tables.new.items ≡ tables.old.items) }
 {
     let held = &mut tables[place];
-    held.insert_all(rows, later, time)
+    held.insert_all(rows, reference_stop, time)
 }
 
 // Gives rows of the table at a place other values.
@@ -472,7 +473,7 @@ fn replace_in(
     tables: &mut Vec<TableStore>,
     place: usize,
     rows: TableRows,
-    later: Option<StoreStop>,
+    reference_stop: Option<StoreStop>,
     time: u32,
 ) -> Result<(), StoreStop>
     requires within { place < length tables.old.items }
@@ -482,7 +483,8 @@ fn replace_in(
     requires sorted { are_sorted_rows rows ≡ true }
     requires stand { had_rows rows (table_now (slice_index_or tables.old.items place no_table)) ≡ true }
     ensures stop { StopsAs (option_or
-        (replace_stop rows (table_now (slice_index_or tables.old.items place no_table))) later) result }
+        (replace_stop rows (table_now (slice_index_or tables.old.items place no_table)))
+        reference_stop) result }
     ensures ok { OnOk result (tables.new.items
         ≡ slice_set tables.old.items place
         (table_with_values time rows (slice_index_or tables.old.items place no_table))) }
@@ -492,7 +494,7 @@ fn replace_in(
     ensures err { OnErr result (tables.new.items ≡ tables.old.items) }
 {
     let held = &mut tables[place];
-    held.replace_all(rows, later, time)
+    held.replace_all(rows, reference_stop, time)
 }
 
 // Drops rows of the table at a place.
@@ -500,7 +502,7 @@ fn delete_in(
     tables: &mut Vec<TableStore>,
     place: usize,
     numbers: &Numbers,
-    later: Option<StoreStop>,
+    reference_stop: Option<StoreStop>,
     time: u32,
 ) -> Result<(), StoreStop>
     requires within { place < length tables.old.items }
@@ -508,14 +510,14 @@ fn delete_in(
     requires sorted { are_sorted_numbers numbers.now ≡ true }
     requires stand { all_stand numbers.now (table_now (slice_index_or tables.old.items place no_table))
         ≡ true }
-    ensures stop { StopsAs later result }
+    ensures stop { StopsAs reference_stop result }
     ensures ok { OnOk result (tables.new.items
         ≡ slice_set tables.old.items place
         (table_without time numbers.now (slice_index_or tables.old.items place no_table))) }
     ensures err { OnErr result (tables.new.items ≡ tables.old.items) }
 {
     let held = &mut tables[place];
-    held.delete_all(numbers, later, time)
+    held.delete_all(numbers, reference_stop, time)
 }
 
 // The tables, as a store has them at time 0.

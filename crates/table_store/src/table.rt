@@ -315,17 +315,17 @@ impl TableStore {
 
     /// Adds rows at a time, numbered from the number of the next row on, and returns that number. The time
     /// is later than that of each earlier change, and each row has a value for each column, of its kind.
-    /// NotNull, KeyTaken, Full: what the rows refuse, in this order, and then `later`; NoMemory: out of
-    /// memory. The table is then as it was.
+    /// NotNull, KeyTaken, Full: what the rows refuse, in this order, and then `reference_stop`; NoMemory: out
+    /// of memory. The table is then as it was.
     pub(crate) fn insert_all(
         &mut self,
         rows: RowList,
-        later: Option<StoreStop>,
+        reference_stop: Option<StoreStop>,
         time: u32,
     ) -> Result<u32, StoreStop>
         requires later { last_since self.old.nexts < time }
         requires shape { list_all (has_shape self.old.schema.columns) rows ≡ true }
-        ensures stop { StopsAs (option_or (insert_stop rows (table_now self.old)) later) result }
+        ensures stop { StopsAs (option_or (insert_stop rows (table_now self.old)) reference_stop) result }
         ensures first { IfOk result (λ first. first ≡ last_next_number self.old.nexts) }
         ensures ok { OnOk result (self.new ≡ table_with_rows time rows self.old) }
         ensures err { OnErr result (self.new ≡ self.old) }
@@ -350,7 +350,7 @@ impl TableStore {
         if is_full(next, rows.len()) {
             return Err(StoreStop::Full);
         }
-        match later {
+        match reference_stop {
             None => {}
             Some(stop) => return Err(stop),
         }
@@ -368,18 +368,18 @@ impl TableStore {
     /// Gives the rows of these numbers other values at a time. The time is later than that of each earlier
     /// change. The rows are sorted by number, each has the number of a row that stands and a value for each
     /// column, of its kind. NotNull, KeyTaken: what the rows refuse, in this order, where keys are those of
-    /// the table afterwards, and then `later`; NoMemory: out of memory. The table is then as it was.
+    /// the table afterwards, and then `reference_stop`; NoMemory: out of memory. The table is then as it was.
     pub(crate) fn replace_all(
         &mut self,
         rows: TableRows,
-        later: Option<StoreStop>,
+        reference_stop: Option<StoreStop>,
         time: u32,
     ) -> Result<(), StoreStop>
         requires later { last_since self.old.nexts < time }
         requires shape { have_shape (values_of rows) (table_now self.old) ≡ true }
         requires sorted { are_sorted_rows rows ≡ true }
         requires stand { had_rows rows (table_now self.old) ≡ true }
-        ensures stop { StopsAs (option_or (replace_stop rows (table_now self.old)) later) result }
+        ensures stop { StopsAs (option_or (replace_stop rows (table_now self.old)) reference_stop) result }
         ensures ok { OnOk result (self.new ≡ table_with_values time rows self.old) }
         ensures now { OnOk result (table_now (table_with_values time rows self.old)
             ≡ with_replaced rows (table_now self.old)) }
@@ -399,7 +399,7 @@ impl TableStore {
             Ok(claims) => claims,
             Err(stop) => return Err(stop),
         };
-        match later {
+        match reference_stop {
             None => {}
             Some(stop) => return Err(stop),
         }
@@ -428,22 +428,22 @@ impl TableStore {
     }
 
     /// Drops the rows of these numbers at a time. The time is later than that of each earlier change. The
-    /// numbers are sorted, and each is that of a row that stands. `later` is returned; NoMemory: out of
-    /// memory. The table is then as it was.
+    /// numbers are sorted, and each is that of a row that stands. `reference_stop` is returned; NoMemory: out
+    /// of memory. The table is then as it was.
     pub(crate) fn delete_all(
         &mut self,
         numbers: &Numbers,
-        later: Option<StoreStop>,
+        reference_stop: Option<StoreStop>,
         time: u32,
     ) -> Result<(), StoreStop>
         requires later { last_since self.old.nexts < time }
         requires sorted { are_sorted_numbers numbers.now ≡ true }
         requires stand { all_stand numbers.now (table_now self.old) ≡ true }
-        ensures stop { StopsAs later result }
+        ensures stop { StopsAs reference_stop result }
         ensures ok { OnOk result (self.new ≡ table_without time numbers.now self.old) }
         ensures err { OnErr result (self.new ≡ self.old) }
     {
-        match later {
+        match reference_stop {
             None => {}
             Some(stop) => return Err(stop),
         }

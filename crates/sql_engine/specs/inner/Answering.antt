@@ -6,7 +6,7 @@ use Rattle.dml_versions.specs.Versions.{versions_now}
 use Rattle.lineage.specs.Lineage.{Lineage, IsUnion}
 use Rattle.lineage.specs.Rows.{kept_origins, joined_row, AnswersStandFor, PicksStandFor}
 use Rattle.lineage.specs.StandsFor.{StandsFor}
-use Rattle.query_eval.specs.Stored.{table_names}
+use Rattle.query_eval.specs.StoredSources.{table_names}
 use Rattle.sql_engine.specs.Types.{Answer, Catalog, Checked, Core, Pick, Query, StoreHistory, Table, Value}
 use Rattle.sql_engine.specs.declared.answer.QueryAnswer.{QueryAnswer}
 use Rattle.sql_engine.specs.declared.cores.CoreRows.{CoreRows}

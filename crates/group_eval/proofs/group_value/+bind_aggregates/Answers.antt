@@ -1,8 +1,8 @@
 use Rattle.std.proofs.Common.{rules, ◌≡◌, map, drop, List, ℕ, refl}
 use Rattle.std.proofs.lemmas.Result.{IfOk-weaker}
 use Rattle.lineage.specs.declared.answer.Pick.{Pick}
-use Rattle.group_eval.proofs.SettleLaws.{as_forms}
-use Rattle.group_eval.specs.inner.Settling.{SettlesTo}
+use Rattle.group_eval.proofs.BoundLaws.{as_forms}
+use Rattle.group_eval.specs.inner.BoundAggregates.{BindsTo}
 use Rattle.sql_model.specs.declared.expr.Expr.TheVariants.{Aggregate}
 use Rattle.group_eval.proofs.group_value.+bind_aggregates.Goals as goal
 
@@ -16,7 +16,7 @@ returns-in-Aggregate t c =
     let argument = c.in-Aggregate.argument in
     let is : c.args.expr.now ≡ Aggregate f argument = search rules in
     IfOk-weaker c.bind_aggregate.result
-    (λ settled. (own : List ℕ) → SettlesTo picks (Aggregate f argument) places own settled own left)
-    (λ settled. SettlesTo picks c.args.expr.now places own settled own left)
-    (λ settled made. as_forms picks c.args.expr.now (Aggregate f argument) settled settled places own own left is refl (made own))
+    (λ bound. (own : List ℕ) → BindsTo picks (Aggregate f argument) places own bound own left)
+    (λ bound. BindsTo picks c.args.expr.now places own bound own left)
+    (λ bound made. as_forms picks c.args.expr.now (Aggregate f argument) bound bound places own own left is refl (made own))
     c.bind_aggregate.ensures

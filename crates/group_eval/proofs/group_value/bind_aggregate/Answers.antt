@@ -3,8 +3,8 @@ use Rattle.std.specs.Prelude.{Option, Some, None, pos}
 use Rattle.std.proofs.lemmas.List.{length-map}
 use Rattle.std.proofs.lemmas.Result.{IfOk-weaker}
 use Rattle.lineage.specs.declared.answer.Pick.{Pick}
-use Rattle.group_eval.proofs.SettleLaws.{settle-Count}
-use Rattle.group_eval.specs.inner.Settling.{SettlesTo}
+use Rattle.group_eval.proofs.BoundLaws.{settle-Count}
+use Rattle.group_eval.specs.inner.BoundAggregates.{BindsTo}
 use Rattle.group_eval.specs.Types.{Expr}
 use Rattle.sql_model.specs.Meaning.{number_value}
 use Rattle.sql_model.specs.declared.expr.Expr.TheVariants.{Constant, Aggregate}
@@ -18,7 +18,7 @@ returns-in-None c = λ own.
     let flat : c.count_value.result ≡ number_value (pos (length c.args.group.now)) = search rules in
     let count : c.count_value.result ≡ number_value (pos (length picks)) =
     flat ∙ ap (λ n. number_value (pos n)) (sym (length-map c.args.group.now (λ r. r.now))) in
-    subst (λ (o : Option Expr). SettlesTo picks (Aggregate c.args.fold o) places own (Constant c.count_value.result) own places) (sym none)
+    subst (λ (o : Option Expr). BindsTo picks (Aggregate c.args.fold o) places own (Constant c.count_value.result) own places) (sym none)
     (settle-Count picks c.args.fold c.count_value.result places own count)
 
 pub returns-in-Some : goal.returns-in-Some
@@ -29,7 +29,7 @@ returns-in-Some c =
     let e : Expr = c.get.result.now in
     let some : c.args.argument.now ≡ Some e = search rules in
     IfOk-weaker c.bind_fold.result
-    (λ settled. (own : List ℕ) → SettlesTo picks (Aggregate c.args.fold (Some e)) places own settled own left)
-    (λ settled. (own : List ℕ) → SettlesTo picks (Aggregate c.args.fold c.args.argument.now) places own settled own left)
-    (λ settled made own. subst (λ (o : Option Expr). SettlesTo picks (Aggregate c.args.fold o) places own settled own left) (sym some) (made own))
+    (λ bound. (own : List ℕ) → BindsTo picks (Aggregate c.args.fold (Some e)) places own bound own left)
+    (λ bound. (own : List ℕ) → BindsTo picks (Aggregate c.args.fold c.args.argument.now) places own bound own left)
+    (λ bound made own. subst (λ (o : Option Expr). BindsTo picks (Aggregate c.args.fold o) places own bound own left) (sym some) (made own))
     c.bind_fold.ensures

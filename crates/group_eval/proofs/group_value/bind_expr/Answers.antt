@@ -1,7 +1,7 @@
 use Rattle.std.proofs.Common.{map, drop, List, ℕ, subst}
 use Rattle.lineage.specs.declared.answer.Pick.{Pick}
-use Rattle.group_eval.proofs.SettleLaws.{settled_is}
-use Rattle.group_eval.specs.inner.Settling.{SettlesTo}
+use Rattle.group_eval.proofs.BoundLaws.{bound_is}
+use Rattle.group_eval.specs.inner.BoundAggregates.{BindsTo}
 use Rattle.group_eval.specs.Types.{Expr}
 use Rattle.group_eval.proofs.group_value.bind_expr.Goals as goal
 
@@ -11,6 +11,6 @@ returns c = λ scope placed.
     let e : Expr = c.args.placed.now.expr in
     let places : List ℕ = c.args.placed.now.places in
     let left : List ℕ = drop c.bind_aggregates.new.at places in
-    settled_is picks e (record { expr = c.in_ok-expr.expr; places = c.bind_aggregates.new.own }) places left
-    (subst (λ (own : List ℕ). SettlesTo picks e places own c.in_ok-expr.expr c.bind_aggregates.new.own left) c.new-own.ensures c.in_ok-expr.ensures)
+    bound_is picks e (record { expr = c.in_ok-expr.expr; places = c.bind_aggregates.new.own }) places left
+    (subst (λ (own : List ℕ). BindsTo picks e places own c.in_ok-expr.expr c.bind_aggregates.new.own left) c.new-own.ensures c.in_ok-expr.ensures)
     scope placed

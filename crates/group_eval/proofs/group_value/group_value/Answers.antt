@@ -4,7 +4,7 @@ use Rattle.core_parts.specs.Equality.{IsColumn}
 use Rattle.core_parts.specs.Placing.{IsPlaced}
 use Rattle.lineage.specs.declared.answer.Pick.{Pick}
 use Rattle.group_eval.proofs.ColumnLaws.{column_read}
-use Rattle.group_eval.proofs.SettleLaws.{settled_read}
+use Rattle.group_eval.proofs.BoundLaws.{bound_read}
 use Rattle.group_eval.specs.Folding.{group_meaning}
 use Rattle.group_eval.specs.Types.{Expr}
 use Rattle.sql_model.specs.Kinds.{names_in}
@@ -19,7 +19,7 @@ returns-then-is_column-clause-value c =
     let placed = c.args.placed.now in
     let is : c.is_column.result ≡ true = search rules in
     let column : IsColumn placed.expr = c.is_column.ensures is in
-    settled_read (λ (m : Meaning). m.value) picks placed placed c.args.first.now c.value_of.result c.requires.first (λ scope at. column_read picks placed column scope at) c.value_of.ensures
+    bound_read (λ (m : Meaning). m.value) picks placed placed c.args.first.now c.value_of.result c.requires.first (λ scope at. column_read picks placed column scope at) c.value_of.ensures
 
 pub returns-in-Aggregate-clause-value : goal.returns-in-Aggregate-clause-value
 returns-in-Aggregate-clause-value c =

@@ -5,7 +5,7 @@ use Rattle.std.proofs.lemmas.Result.{IfOk-weaker}
 use Rattle.ldv_value.proofs.Places.{drop_item}
 use Rattle.query_eval.specs.inner.Joining.{combos, tests, extensions_left, EachHas}
 use Rattle.core_parts.specs.Placing.{AreAllPlaced}
-use Rattle.query_eval.specs.Sourcing.{source_rows, SourcesAreWide}
+use Rattle.query_eval.specs.Sources.{source_rows, SourcesAreWide}
 use Rattle.query_eval.specs.declared.source.Source.{Source}
 use Rattle.sql_model.specs.Scope.{InScope}
 use Rattle.query_eval.proofs.Levels.{first-step, last-step}

@@ -1,6 +1,6 @@
 use Rattle.lanes.specs.Sets.{member}
-use Rattle.query_eval.specs.Leaving.{slot_at}
-use Rattle.query_eval.proofs.LeavingLaws.{tested_alike}
+use Rattle.query_eval.specs.TableScan.{slot_at}
+use Rattle.query_eval.proofs.TableScanLaws.{tested_alike}
 use Rattle.query_eval.proofs.table_scan.slots_passing.Goals as goal
 
 pub choose_slots-requires : goal.choose_slots-requires

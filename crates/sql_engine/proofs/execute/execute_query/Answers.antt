@@ -2,7 +2,7 @@ use Rattle.std.proofs.Common.{◌≡◌, subst, sym, ap, ◌∙◌}
 use Rattle.std.specs.Cmp.Lexicographic.{slice_cmp}
 use Rattle.std.specs.List.Sorted.{IsStrictlySortedBy}
 use Rattle.std.specs.Ordering.{nat_cmp}
-use Rattle.query_eval.specs.Stored.{table_names}
+use Rattle.query_eval.specs.StoredSources.{table_names}
 use Rattle.sql_engine.specs.inner.Listing.{needs_of}
 use Rattle.sql_engine.specs.Types.{Catalog, Rows}
 use Rattle.sql_engine.proofs.AskLaws.{asked_query_outcome, same_needs}

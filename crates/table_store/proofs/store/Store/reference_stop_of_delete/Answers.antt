@@ -22,4 +22,4 @@ delete_refusal-requires-clause-stand c = given_now (λ table. all_stand c.args.n
 pub returns : goal.returns
 returns c =
     ap (option_map (λ (own : Table). orphan_stop (is_among c.args.numbers.now) own (with_removed c.args.numbers.now own) (tables_now c.args.self.now))) (now_at c.args.table.now c.args.self.now c.in-Some.own.now c.in-Some.ensures.table)
-    ∙ ap (λ (o : Option StoreStop). Some o) (sym c.in_ok-later-in-Some.ensures)
+    ∙ ap (λ (o : Option StoreStop). Some o) (sym c.in_ok-reference_stop-in-Some.ensures)

@@ -19,4 +19,4 @@ insert_refusal-requires c = own_history c.args.table.now c.args.self.now c.in-So
 pub returns : goal.returns
 returns c =
     ap (option_map (λ (own : Table). missing_stop own.schema.foreign (numbered_rows own.next c.args.rows.now) (with_changed own.name (with_inserted c.args.rows.now) (tables_now c.args.self.now)))) (now_at c.args.table.now c.args.self.now c.in-Some.own.now c.in-Some.ensures.table)
-    ∙ ap (λ (o : Option StoreStop). Some o) (sym c.in_ok-later-in-Some.ensures)
+    ∙ ap (λ (o : Option StoreStop). Some o) (sym c.in_ok-reference_stop-in-Some.ensures)

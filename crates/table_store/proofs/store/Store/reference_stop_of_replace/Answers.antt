@@ -23,4 +23,4 @@ replace_refusal-requires-clause-stand c = given_now (λ table. had_rows c.args.r
 pub returns : goal.returns
 returns c =
     ap (option_map (λ (own : Table). option_or (missing_stop own.schema.foreign c.args.rows.now (with_changed own.name (with_replaced c.args.rows.now) (tables_now c.args.self.now))) (orphan_stop (is_of c.args.rows.now) own (with_replaced c.args.rows.now own) (tables_now c.args.self.now)))) (now_at c.args.table.now c.args.self.now c.in-Some.own.now c.in-Some.ensures.table)
-    ∙ ap (λ (o : Option StoreStop). Some o) (sym c.in_ok-later-in-Some.ensures)
+    ∙ ap (λ (o : Option StoreStop). Some o) (sym c.in_ok-reference_stop-in-Some.ensures)

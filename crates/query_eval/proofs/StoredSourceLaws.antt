@@ -26,8 +26,8 @@ use Rattle.core_parts.proofs.MaskLaws.{masks-pass}
 use Rattle.core_parts.specs.Masking.{AreMasks}
 use Rattle.sql_model.specs.declared.column_test.ColumnTest.{ColumnTest}
 use Rattle.query_eval.proofs.Agree.{value_first}
-use Rattle.query_eval.proofs.KeyedLaws.{keyed-rows}
-use Rattle.query_eval.proofs.LeavingLaws.{rows-left}
+use Rattle.query_eval.proofs.KeyLookupLaws.{keyed-rows}
+use Rattle.query_eval.proofs.TableScanLaws.{rows-left}
 use Rattle.query_eval.proofs.Widths.{all-wide}
 use Rattle.query_eval.proofs.Picks.{all-stand}
 use Rattle.query_eval.proofs.Probes.{value-next}
@@ -35,10 +35,10 @@ use Rattle.core_parts.specs.Conditions.{AreConditions}
 use Rattle.query_eval.specs.inner.Conditions.{AreOfCore}
 use Rattle.core_parts.specs.Fixing.{FixesKey}
 use Rattle.core_parts.specs.Conditions.{meets}
-use Rattle.query_eval.specs.Leaving.{row_passes}
+use Rattle.query_eval.specs.TableScan.{row_passes}
 use Rattle.query_eval.specs.Picking.{source_picks, ArePicked}
-use Rattle.query_eval.specs.Sourcing.{table_row, HaveWidths, TablesAreWide, are_kept, AreSources, AreWide, SourcesAreWide, LeavesPicked}
-use Rattle.query_eval.specs.Stored.{table_names, TellVersions, HasVersion, AreChosenOf, IsTaken, chosen_rows, columns_in, width_at, is_name, IsPlace, IsStored, AreStored}
+use Rattle.query_eval.specs.Sources.{table_row, HaveWidths, TablesAreWide, are_kept, AreSources, AreWide, SourcesAreWide, LeavesPicked}
+use Rattle.query_eval.specs.StoredSources.{table_names, TellVersions, HasVersion, AreChosenOf, IsTaken, chosen_rows, columns_in, width_at, is_name, IsPlace, IsStored, AreStored}
 use Rattle.query_eval.specs.declared.source.Source.{Source}
 use Rattle.query_eval.specs.declared.source.SourceRow.{SourceRow}
 use Rattle.sql_model.proofs.ValidTables.{table-parts}

@@ -8,7 +8,7 @@ use Rattle.core_parts.proofs.Lists.{take-mapped, drop-mapped}
 use Rattle.core_parts.proofs.Places.{places-append}
 use Rattle.group_eval.specs.Folding.{first_row, pick_environment, pick_environments, value_over, group_meaning}
 use Rattle.core_parts.specs.Placing.{own_places, other_places, IsPlaced}
-use Rattle.group_eval.specs.inner.Settling.{SettlesTo, first_meaning, IsSettled}
+use Rattle.group_eval.specs.inner.BoundAggregates.{BindsTo, first_meaning, IsBound}
 use Rattle.group_eval.specs.Types.{ColumnName, Expr, Fold, Operator, Value}
 use Rattle.core_parts.specs.declared.placed.BoundExpr.{BoundExpr}
 use Rattle.sql_model.proofs.Folds.{fold-Constant, fold-Column, fold-Negate, fold-Not, fold-Both, fold-IsNull, fold-Count, fold-Aggregate}
@@ -25,11 +25,11 @@ module _ (picks : List Pick) where
   all scope = pick_environments scope picks
 
   -- the same of equal expressions
-  pub as_forms : (e f s t : Expr) (l own new left : List ℕ) → e ≡ f → s ≡ t → SettlesTo picks f l own t new left → SettlesTo picks e l own s new left
+  pub as_forms : (e f s t : Expr) (l own new left : List ℕ) → e ≡ f → s ≡ t → BindsTo picks f l own t new left → BindsTo picks e l own s new left
   as_forms e f s t l own new left is made h =
-      subst (λ (x : Expr). SettlesTo picks e l own x new left) (sym made) (subst (λ (x : Expr). SettlesTo picks x l own t new left) (sym is) h)
+      subst (λ (x : Expr). BindsTo picks e l own x new left) (sym made) (subst (λ (x : Expr). BindsTo picks x l own t new left) (sym is) h)
 
-  pub settle-Constant : (v : Value) (l own : List ℕ) → SettlesTo picks (Constant v) l own (Constant v) own l
+  pub settle-Constant : (v : Value) (l own : List ℕ) → BindsTo picks (Constant v) l own (Constant v) own l
   settle-Constant v l own scope more is = (
     is ∙ ap (λ ns. places_in scope ns ++ more) (fold-Constant names_step v),
     sym (ap (λ ns. own ++ places_in scope ns) (fold-Constant names_step v) ∙ append-nil own),
@@ -43,7 +43,7 @@ module _ (picks : List Pick) where
   pub column_first : (scope : List InScope) (c : ColumnName) → first_meaning scope picks (Column c) ≡ group_meaning scope picks (Column c)
   column_first scope c = (λ j. fold-Column eval_step c j (first scope)) ∙ column picks scope c ∙ sym (λ j. fold-Column eval_step c j (all scope))
 
-  pub settle-Column : (c : ColumnName) (l own new left : List ℕ) → new ≡ own ++ take 1 l → left ≡ drop 1 l → SettlesTo picks (Column c) l own (Column c) new left
+  pub settle-Column : (c : ColumnName) (l own new left : List ℕ) → new ≡ own ++ take 1 l → left ≡ drop 1 l → BindsTo picks (Column c) l own (Column c) new left
   settle-Column c l own new left made rest scope more is =
       let here : l ≡ place_of scope c ∷ more = is ∙ ap (λ ns. places_in scope ns ++ more) (fold-Column names_step c) in (
         rest ∙ ap (drop 1) here,
@@ -51,7 +51,7 @@ module _ (picks : List Pick) where
         column_first scope c,
       )
 
-  pub settle-Negate : (e s : Expr) (l own new left : List ℕ) → SettlesTo picks e l own s new left → SettlesTo picks (Negate e) l own (Negate s) new left
+  pub settle-Negate : (e s : Expr) (l own new left : List ℕ) → BindsTo picks e l own s new left → BindsTo picks (Negate e) l own (Negate s) new left
   settle-Negate e s l own new left h scope more is =
       let inner = h scope more (is ∙ ap (λ ns. places_in scope ns ++ more) (fold-Negate names_step e)) in (
         inner.0,
@@ -59,7 +59,7 @@ module _ (picks : List Pick) where
         (λ j. fold-Negate eval_step s j (first scope)) ∙ ap (λ (m : Meaning). of_value (negation_of m.value)) inner.2 ∙ sym (λ j. fold-Negate eval_step e j (all scope)),
       )
 
-  pub settle-Not : (e s : Expr) (l own new left : List ℕ) → SettlesTo picks e l own s new left → SettlesTo picks (Not e) l own (Not s) new left
+  pub settle-Not : (e s : Expr) (l own new left : List ℕ) → BindsTo picks e l own s new left → BindsTo picks (Not e) l own (Not s) new left
   settle-Not e s l own new left h scope more is =
       let inner = h scope more (is ∙ ap (λ ns. places_in scope ns ++ more) (fold-Not names_step e)) in (
         inner.0,
@@ -67,7 +67,7 @@ module _ (picks : List Pick) where
         (λ j. fold-Not eval_step s j (first scope)) ∙ ap (λ (m : Meaning). of_truth (truth_not m.truth)) inner.2 ∙ sym (λ j. fold-Not eval_step e j (all scope)),
       )
 
-  pub settle-IsNull : (e s : Expr) (negative : Bool) (l own new left : List ℕ) → SettlesTo picks e l own s new left → SettlesTo picks (IsNull e negative) l own (IsNull s negative) new left
+  pub settle-IsNull : (e s : Expr) (negative : Bool) (l own new left : List ℕ) → BindsTo picks e l own s new left → BindsTo picks (IsNull e negative) l own (IsNull s negative) new left
   settle-IsNull e s negative l own new left h scope more is =
       let inner = h scope more (is ∙ ap (λ ns. places_in scope ns ++ more) (fold-IsNull names_step e negative)) in (
         inner.0,
@@ -75,8 +75,8 @@ module _ (picks : List Pick) where
         (λ j. fold-IsNull eval_step s negative j (first scope)) ∙ ap (λ (m : Meaning). of_truth (null_test negative m.value)) inner.2 ∙ sym (λ j. fold-IsNull eval_step e negative j (all scope)),
       )
 
-  pub settle-Both : (op : Operator) (a b s t : Expr) (l own mid after new left : List ℕ) → SettlesTo picks a l own s mid after → SettlesTo picks b after mid t new left
-      → SettlesTo picks (Both op a b) l own (Both op s t) new left
+  pub settle-Both : (op : Operator) (a b s t : Expr) (l own mid after new left : List ℕ) → BindsTo picks a l own s mid after → BindsTo picks b after mid t new left
+      → BindsTo picks (Both op a b) l own (Both op s t) new left
   settle-Both op a b s t l own mid after new left begun ended scope more is =
       let split : l ≡ places_in scope (names_in a) ++ (places_in scope (names_in b) ++ more) =
       is ∙ ap (λ ns. places_in scope ns ++ more) (fold-Both names_step op a b) ∙ places-append scope (names_in a) (names_in b) more in
@@ -93,7 +93,7 @@ module _ (picks : List Pick) where
             ∙ sym (λ j. fold-Both eval_step op a b j (all scope)),
       )
 
-  pub settle-Count : (f : Fold) (v : Value) (l own : List ℕ) → v ≡ number_value (pos (length picks)) → SettlesTo picks (Aggregate f None) l own (Constant v) own l
+  pub settle-Count : (f : Fold) (v : Value) (l own : List ℕ) → v ≡ number_value (pos (length picks)) → BindsTo picks (Aggregate f None) l own (Constant v) own l
   settle-Count f v l own is-count scope more is = (
     is ∙ ap (λ ns. places_in scope ns ++ more) (fold-Count names_step f),
     sym (ap (λ ns. own ++ places_in scope ns) (fold-Constant names_step v) ∙ append-nil own),
@@ -104,7 +104,7 @@ module _ (picks : List Pick) where
 
   pub settle-Aggregate : (f : Fold) (e : Expr) (v : Value) (l own taken left : List ℕ) → taken ≡ own_places e l → left ≡ other_places e l
       → ((scope : List InScope) → places_in scope (names_in e) ≡ taken → v ≡ aggregate_of f (known_values (map (value_over scope e) picks)))
-      → SettlesTo picks (Aggregate f (Some e)) l own (Constant v) own left
+      → BindsTo picks (Aggregate f (Some e)) l own (Constant v) own left
   settle-Aggregate f e v l own taken left at rest value scope more is =
       let here : l ≡ places_in scope (names_in e) ++ more = is ∙ ap (λ ns. places_in scope ns ++ more) (fold-Aggregate names_step f e) in
       let placed : places_in scope (names_in e) ≡ taken = sym (at ∙ ap (own_places e) here ∙ take-mapped (place_of scope) (names_in e) more) in (
@@ -115,20 +115,20 @@ module _ (picks : List Pick) where
             ∙ sym (λ j. fold-Aggregate eval_step f e j (all scope)),
       )
 
-  -- a placed expression and what it is settled to
-  pub settled_is : (e : Expr) (settled : BoundExpr) (places left : List ℕ) → SettlesTo picks e places [] settled.expr settled.places left
-      → (scope : List InScope) → places_in scope (names_in e) ≡ places → IsSettled scope picks e settled
-  settled_is e settled places left h scope placed =
+  -- a placed expression and what it is bound to
+  pub bound_is : (e : Expr) (bound : BoundExpr) (places left : List ℕ) → BindsTo picks e places [] bound.expr bound.places left
+      → (scope : List InScope) → places_in scope (names_in e) ≡ places → IsBound scope picks e bound
+  bound_is e bound places left h scope placed =
       let made = h scope [] (sym placed ∙ sym (append-nil (places_in scope (names_in e)))) in
       record { placed = sym made.1; same = made.2 }
 
--- what is read of a settled expression over the first row is read of the expression over the group
-pub settled_read : {V E : Type 0} (reads : Meaning → V) (picks : List Pick) (placed settled : BoundExpr) (row : List Value) (read : Result V E) → row ≡ first_row picks
-    → ((scope : List InScope) → IsPlaced scope placed → IsSettled scope picks placed.expr settled)
-    → IfOk read (λ v. (scope : List InScope) → IsPlaced scope settled → v ≡ reads (eval settled.expr (environment scope row ∷ [])))
+-- what is read of a bound expression over the first row is read of the expression over the group
+pub bound_read : {V E : Type 0} (reads : Meaning → V) (picks : List Pick) (placed bound : BoundExpr) (row : List Value) (read : Result V E) → row ≡ first_row picks
+    → ((scope : List InScope) → IsPlaced scope placed → IsBound scope picks placed.expr bound)
+    → IfOk read (λ v. (scope : List InScope) → IsPlaced scope bound → v ≡ reads (eval bound.expr (environment scope row ∷ [])))
     → IfOk read (λ v. (scope : List InScope) → IsPlaced scope placed → v ≡ reads (group_meaning scope picks placed.expr))
-settled_read reads picks placed settled row (Ok v) is settles made = λ scope there.
+bound_read reads picks placed bound row (Ok v) is settles made = λ scope there.
     made scope (settles scope there).placed
-    ∙ (λ j. reads (eval settled.expr (environment scope (is j) ∷ [])))
+    ∙ (λ j. reads (eval bound.expr (environment scope (is j) ∷ [])))
     ∙ ap reads (settles scope there).same
-settled_read reads picks placed settled row (Err e) is settles made = tt
+bound_read reads picks placed bound row (Err e) is settles made = tt

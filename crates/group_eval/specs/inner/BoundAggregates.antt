@@ -13,16 +13,16 @@ use Rattle.sql_model.specs.Scope.{InScope, places_in, environment}
 abbrev pub first_meaning : List InScope → List Pick → Expr → Meaning
 first_meaning scope picks expr = eval expr (environment scope (first_row picks) ∷ [])
 
--- in each scope: its places are taken from the front, those of the settled expression are appended, and the
--- settled expression means over the first row what the expression means over the group
-abbrev pub SettlesTo : List Pick → Expr → List ℕ → List ℕ → Expr → List ℕ → List ℕ → Type 0
-SettlesTo picks expr places own settled new left =
+-- in each scope: its places are taken from the front, those of the bound expression are appended, and the
+-- bound expression means over the first row what the expression means over the group
+abbrev pub BindsTo : List Pick → Expr → List ℕ → List ℕ → Expr → List ℕ → List ℕ → Type 0
+BindsTo picks expr places own bound new left =
     (scope : List InScope) (more : List ℕ) → places ≡ places_in scope (names_in expr) ++ more
     → (left ≡ more)
-    × (new ≡ own ++ places_in scope (names_in settled))
-    × (first_meaning scope picks settled ≡ group_meaning scope picks expr)
+    × (new ≡ own ++ places_in scope (names_in bound))
+    × (first_meaning scope picks bound ≡ group_meaning scope picks expr)
 
-pub record IsSettled (scope : List InScope) (picks : List Pick) (expr : Expr) (settled : BoundExpr)
+pub record IsBound (scope : List InScope) (picks : List Pick) (expr : Expr) (bound : BoundExpr)
     : Type 0 where
-  pub placed : IsPlaced scope settled
-  pub same : first_meaning scope picks settled.expr ≡ group_meaning scope picks expr
+  pub placed : IsPlaced scope bound
+  pub same : first_meaning scope picks bound.expr ≡ group_meaning scope picks expr
