@@ -8,8 +8,8 @@ ghost use Rattle.query_eval.specs.TableScan.{slot_at};
 ghost use Rattle.query_eval.specs.StoredSources.{HasVersion};
 ghost use Rattle.table_store.specs.Histories.{row_now};
 
-use crate::table_scan::add_slot;
 use crate::source::SourceRows;
+use crate::table_scan::add_slot;
 use ldv_value::List;
 use sql_model::RowKey;
 use std::alloc::{AllocError, Global};

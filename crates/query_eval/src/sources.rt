@@ -7,8 +7,8 @@ ghost use Rattle.core_parts.specs.Masking.{AreMasks};
 ghost use Rattle.query_eval.specs.StoredSources.{AreChosen, AreStored, HasVersion, IsPlace, IsStored, IsTaken};
 
 use crate::key_lookup::rows_of_key;
-use crate::table_scan::rows_left;
 use crate::source::{Source, SourceRows, Sources, width_with};
+use crate::table_scan::rows_left;
 use core_parts::{BoundExpr, fixed_key, masks_of};
 use ldv_value::{List, Names};
 use sql_model::{ColumnTest, FromItem, RowKey};

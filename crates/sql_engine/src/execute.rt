@@ -11,9 +11,9 @@ ghost use Rattle.table_store.specs.Histories.{tables_now};
 
 use crate::answer::{QueryAnswer, query_answer};
 use crate::asked_tables::tables_asked;
-use crate::recorded::{Recorded, refusal_change};
 use crate::marks::{TableMarks, marks_for};
 use crate::needs::needs_of;
+use crate::recorded::{Recorded, refusal_change};
 use dml_versions::{Change, delete, insert, update};
 use ldv_value::{List, Names, Values};
 use sql_check::{CheckStop, check_places};

@@ -3,10 +3,10 @@
 ghost use Rattle.sql_parse.specs.inner.Gives.{ReadsPart};
 ghost use Rattle.sql_model.specs.Texts.{reads_columns, reads_insert, reads_set, reads_update, reads_delete};
 
+use crate::error::ParseStop;
 use crate::expression::expression;
 use crate::part_list::{Part, parse_list, optional_expression};
 use crate::reader::Reader;
-use crate::error::ParseStop;
 use ldv_value::{Names, Utf8};
 use sql_model::{Delete, Exprs, Insert, Set, Update};
 use std::alloc::Global;

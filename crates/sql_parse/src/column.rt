@@ -3,8 +3,8 @@
 ghost use Rattle.sql_parse.specs.inner.Gives.{ReadsPart};
 ghost use Rattle.sql_model.specs.Columns.{column_after, reads_column};
 
-use crate::reader::Reader;
 use crate::error::ParseStop;
+use crate::reader::Reader;
 use ldv_value::Utf8;
 use sql_model::ColumnName;
 use std::alloc::Global;

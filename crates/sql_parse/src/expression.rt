@@ -7,10 +7,10 @@ ghost use Rattle.sql_model.specs.Expressions.{primary_expr, with_prefix, null_te
 ghost use Rattle.sql_model.specs.Expressions.{joined_within, goes_on, joins_more, within, reads_expr};
 ghost use Rattle.sql_model.specs.Reader.{repeat};
 
+use crate::error::ParseStop;
 use crate::opening::{inside_level, read_opening};
 use crate::operator::{joins, operator_level, right_of};
 use crate::reader::Reader;
-use crate::error::ParseStop;
 use ldv_value::MAX_DEPTH;
 use sql_model::{Expr, Infix, Opening, Operator, ParsedExpr, Prefix};
 use sqlite_items::Boxed;

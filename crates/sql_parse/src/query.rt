@@ -7,11 +7,11 @@ ghost use Rattle.sql_model.specs.Queries.{reads_order, reads_orders, bound_of, r
 ghost use Rattle.sql_model.specs.Queries.{reads_query};
 ghost use Rattle.sql_model.specs.Reader.{starts};
 
+use crate::error::ParseStop;
 use crate::part_list::{Part, parse_list};
 use crate::reader::{Reader, name_in};
 use crate::select::core;
 use crate::steps::{Steps, all_steps};
-use crate::error::ParseStop;
 use crate::token::{Lent, Lexeme};
 use ldv_value::{CopyItem, Value};
 use sql_model::{Cores, Order, OrderKey, Orders, Query};

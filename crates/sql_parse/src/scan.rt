@@ -15,8 +15,8 @@ ghost use Rattle.sql_model.specs.TextBytes.{is_blank, is_digit, is_upper, is_let
 ghost use Rattle.sql_model.specs.Tokens.{is_whole_symbol, begins_symbol, is_pair, short_symbol, with_digit};
 ghost use Rattle.sql_model.specs.Tokens.{word_token};
 
-use crate::given::placed_token;
 use crate::error::ParseStop;
+use crate::given::placed_token;
 use crate::token::{Lexeme, Tokens, number_token, symbol_token, text_token, word_token};
 use ldv_value::{Bytes, Values};
 use std::alloc::{AllocError, Global};

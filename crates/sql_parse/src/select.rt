@@ -5,11 +5,11 @@ ghost use Rattle.sql_parse.specs.inner.Gives.{ReadsPart};
 ghost use Rattle.sql_model.specs.Queries.{reads_alias, reads_item, reads_items, reads_group, core_end};
 ghost use Rattle.sql_model.specs.Queries.{core_rest, reads_core};
 
+use crate::error::ParseStop;
 use crate::expression::expression;
 use crate::part_list::{Part, parse_list, optional_expression};
 use crate::reader::Reader;
 use crate::source::all_sources;
-use crate::error::ParseStop;
 use ldv_value::{MAX_SOURCES, Utf8};
 use sql_model::{ColumnName, ColumnNames, Core, Expr, Exprs, Item, Items, Sources};
 use std::alloc::{AllocError, Global};

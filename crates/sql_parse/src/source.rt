@@ -5,10 +5,10 @@ ghost use Rattle.sql_parse.specs.inner.Gives.{ReadsPart};
 ghost use Rattle.sql_model.specs.Queries.{is_name, names, second_name, reads_source, plain_source};
 ghost use Rattle.sql_model.specs.Queries.{joined_source, another_source, reads_sources};
 
+use crate::error::ParseStop;
 use crate::expression::expression;
 use crate::reader::Reader;
 use crate::steps::{Steps, all_steps};
-use crate::error::ParseStop;
 use crate::token::{Lent, Lexeme};
 use ldv_value::Utf8;
 use sql_model::{Exprs, FromItem, FromItems, Sources, is_sql_name};

@@ -10,9 +10,9 @@ ghost use Rattle.table_store.specs.Stops.{all_stand, had_rows, are_sorted_number
 ghost use Rattle.table_store.specs.Stops.{is_among, with_changed, with_inserted, with_removed, with_replaced};
 
 use crate::children::{first_child, is_parent, lost_keys, refers_to};
+use crate::error::StoreStop;
 use crate::given::{keys_if, numbers_of};
 use crate::parents::missing_parent;
-use crate::error::StoreStop;
 use crate::store::Store;
 use crate::table::TableStore;
 use ldv_value::RowList;

@@ -26,9 +26,9 @@ ghost use Rattle.table_store.specs.StoreView.{store_at_start, no_table, are_sort
 ghost use Rattle.table_store.specs.TableView.{history_at_start};
 ghost use Rattle.table_store.specs.Types.{Null, Value};
 
+use crate::error::StoreStop;
 use crate::parent_rows::parents_of;
 use crate::refusals::{delete_refusal, insert_refusal, replace_refusal};
-use crate::error::StoreStop;
 use crate::table::TableStore;
 use ldv_value::{Cmp, Numbers, RowList, Values};
 use sql_model::{Catalog, Members, TableRow, TableRows, Tables};

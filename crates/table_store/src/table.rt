@@ -29,13 +29,13 @@ ghost use Rattle.table_store.specs.TableView.{history_at_start, kinds_in, AreTim
 use crate::change::{RowChange, removals, rewrites};
 use crate::child_index::{ChildIndex, add_all, index_of_rows, settle_all};
 use crate::claim::claim;
+use crate::error::StoreStop;
 use crate::given::numbers_of;
 use crate::index::{Index, held_number, index_of, number_by_slots};
 use crate::insert::{any_lacks_value, any_row_lacks_value, is_full, numbered_rows};
 use crate::nexts::{NextSince, nexts_at_start, last_since, next_as_of};
 use crate::rekey::claims_of;
 use crate::rows::Rows;
-use crate::error::StoreStop;
 use crate::table_rows::{rows_as_of, standing_rows};
 use ldv_value::{Cmp, Numbers, RowList, Utf8, Values};
 use sql_model::{Columns, RowKey, Schema, Table, TableRows};
