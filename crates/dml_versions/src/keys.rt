@@ -10,15 +10,15 @@ use std::alloc::{AllocError, Global};
 
 /// The key of all rows for which WHERE is True, if WHERE compares each of the key's columns by `=` with a
 /// constant. `places` are those of WHERE's columns.
-pub(crate) fn picked_key(
+pub(crate) fn key_of_condition(
     alloc: Global,
     schema: &Schema,
-    pick: &Option<Expr>,
+    condition: &Option<Expr>,
     places: &Places,
 ) -> Result<Option<Values>, AllocError>
-    ensures { IfOk result (λ fixed. IfSome fixed (FixesKey pick.now places.now schema.now.key)) }
+    ensures { IfOk result (λ fixed. IfSome fixed (FixesKey condition.now places.now schema.now.key)) }
 {
-    match pick {
+    match condition {
         None => Ok(None),
         Some(expr) => key_by(alloc, schema, expr, places),
     }

@@ -47,8 +47,8 @@ pub(crate) fn update(alloc: Global, reader: &mut Reader) -> Result<Update, Parse
     let table = reader.take_name(alloc)?;
     reader.expect("set")?;
     let sets = parse_list::<Set>(alloc, reader)?;
-    let pick = optional_expression(alloc, reader, "where")?;
-    Ok(Update { table, sets, pick })
+    let condition = optional_expression(alloc, reader, "where")?;
+    Ok(Update { table, sets, condition })
 }
 
 impl Part for Set {
@@ -68,6 +68,6 @@ pub(crate) fn delete(alloc: Global, reader: &mut Reader) -> Result<Delete, Parse
 {
     reader.expect("from")?;
     let table = reader.take_name(alloc)?;
-    let pick = optional_expression(alloc, reader, "where")?;
-    Ok(Delete { table, pick })
+    let condition = optional_expression(alloc, reader, "where")?;
+    Ok(Delete { table, condition })
 }

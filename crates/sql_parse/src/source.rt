@@ -27,7 +27,7 @@ pub(crate) fn all_sources(
     from.push(source)?;
     let first = Sources {
         from,
-        picks: Exprs::new(alloc),
+        conditions: Exprs::new(alloc),
     };
     all_steps(alloc, reader, most, first)
 }
@@ -71,9 +71,9 @@ fn plain_source(
     ensures { ReadsPart result reader.new (plain_source made reader.old) }
 {
     let source = source(alloc, reader)?;
-    let Sources { mut from, picks } = made;
+    let Sources { mut from, conditions } = made;
     from.push(source)?;
-    Ok((Sources { from, picks }, true))
+    Ok((Sources { from, conditions }, true))
 }
 
 fn joined_source(
@@ -85,14 +85,14 @@ fn joined_source(
 {
     let source = source(alloc, reader)?;
     reader.expect("on")?;
-    let pick = expression(alloc, reader)?;
+    let condition = expression(alloc, reader)?;
     let Sources {
         mut from,
-        mut picks,
+        mut conditions,
     } = made;
     from.push(source)?;
-    picks.push(pick)?;
-    Ok((Sources { from, picks }, true))
+    conditions.push(condition)?;
+    Ok((Sources { from, conditions }, true))
 }
 
 fn source(alloc: Global, reader: &mut Reader) -> Result<FromItem, ParseStop>
