@@ -7,7 +7,7 @@ ghost use Rattle.dml_versions.specs.Finding.{found_at, found_from};
 ghost use Rattle.sql_model.specs.Changes.{is_matched};
 ghost use Rattle.sql_model.specs.Scope.{InScope};
 ghost use Rattle.sql_model.specs.Tables.{are_keys_unique, row_values};
-ghost use Rattle.dml_versions.specs.inner.Fixing.{FixesKey};
+ghost use Rattle.dml_versions.specs.inner.Fixing.{WhereFixesKey};
 ghost use Rattle.dml_versions.specs.inner.Testing.{AreTests, AreExactTests};
 ghost use Rattle.table_store.specs.Histories.{table_now, no_history};
 ghost use Rattle.std.specs.Prelude.{ℕ, List as Items};
@@ -120,7 +120,7 @@ fn found_by_key(
     places: &Places,
 ) -> Result<FoundRows, AllocError>
     requires placed { IsConditionPlaced (scope_in table.now) condition.now places.now }
-    requires fixed { FixesKey condition.now places.now table.now.schema.key key.now.values }
+    requires fixed { WhereFixesKey condition.now places.now table.now.schema.key key.now.values }
     requires unique { are_keys_unique table.now.schema.key (row_values (table_now table.now)) ≡ true }
     ensures { IfOk result (λ found. found ≡ found_from (test_in table.now condition.now) table.now.slots 0) }
 {

@@ -1,7 +1,7 @@
 //! The key that WHERE fixes.
 
 ghost use Rattle.std.specs.Prelude.{◌≡◌, Some, IfOk, IfSome};
-ghost use Rattle.dml_versions.specs.inner.Fixing.{FixesKey};
+ghost use Rattle.dml_versions.specs.inner.Fixing.{WhereFixesKey};
 
 use core_parts::{conjuncts_of, fixed_key};
 use ldv_value::{Places, Values};
@@ -16,7 +16,7 @@ pub(crate) fn key_of_condition(
     condition: &Option<Expr>,
     places: &Places,
 ) -> Result<Option<Values>, AllocError>
-    ensures { IfOk result (λ fixed. IfSome fixed (FixesKey condition.now places.now schema.now.key)) }
+    ensures { IfOk result (λ fixed. IfSome fixed (WhereFixesKey condition.now places.now schema.now.key)) }
 {
     match condition {
         None => Ok(None),
@@ -31,7 +31,7 @@ fn key_by(
     expr: &Expr,
     places: &Places,
 ) -> Result<Option<Values>, AllocError>
-    ensures { IfOk result (λ fixed. IfSome fixed (FixesKey (Some expr.now) places.now schema.now.key)) }
+    ensures { IfOk result (λ fixed. IfSome fixed (WhereFixesKey (Some expr.now) places.now schema.now.key)) }
 {
     let conds = conjuncts_of(alloc, expr, places)?;
     let fixed = fixed_key(alloc, conds.items(), 0, schema)?;

@@ -7,7 +7,7 @@ use Rattle.dml_versions.specs.Finding.{IsConditionPlaced}
 use Rattle.dml_versions.specs.Types.{Expr, TableRow, Value}
 
 -- there is a key, and each row that WHERE matches has it
-abbrev pub FixesKey : Option Expr → List ℕ → List ℕ → List Value → Type 0
-FixesKey condition places key values = (0 < length key)
+abbrev pub WhereFixesKey : Option Expr → List ℕ → List ℕ → List Value → Type 0
+WhereFixesKey condition places key values = (0 < length key)
     × ((scope : List InScope) → IsConditionPlaced scope condition places
     → (row : TableRow) → is_matched scope condition row ≡ true → has_key key values row ≡ true)
