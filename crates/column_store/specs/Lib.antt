@@ -2,5 +2,4 @@ pub mod Cells
 pub mod Columns
 pub mod Flags
 pub mod IntCells
-pub mod LentCells
 pub mod Types

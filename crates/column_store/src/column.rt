@@ -7,9 +7,7 @@ ghost use Rattle.ldv_value.specs.Order.{order};
 ghost use Rattle.column_store.specs.Types.{Null};
 ghost use Rattle.ldv_value.specs.Cells.{int_value};
 ghost use Rattle.column_store.specs.Cells.{Cells, is_of_kind};
-ghost use Rattle.column_store.specs.LentCells.{lent_value};
 
-use crate::cell::Cell;
 use crate::int_column::IntColumn;
 use ldv_value::{CopyItem, Value};
 use std::alloc::{AllocError, Global};
@@ -68,18 +66,6 @@ impl Column {
                 let value = &values[slot];
                 value.copy_item(alloc)
             }
-        }
-    }
-
-    /// A cell, lent.
-    #[tactic(auto, using(crate::proofs::CellLaws::cell_rules))]
-    pub fn cell(&self, slot: usize) -> Cell<'_>
-        requires { slot < length self.now.items }
-        ensures { lent_value result ≡ slice_index_or self.now.items slot Null }
-    {
-        match &self.held {
-            Held::Ints(ints) => Cell::Number(ints.get(slot)),
-            Held::Texts(values) => Cell::Lent(&values[slot]),
         }
     }
 

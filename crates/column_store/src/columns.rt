@@ -5,12 +5,10 @@ ghost use Rattle.std.specs.Prelude.{length, slice_index_or, slice_set, OnOk, OnE
 ghost use Rattle.std.specs.Cmp.Lexicographic.{slice_cmp};
 ghost use Rattle.ldv_value.specs.Cells.{value_at};
 ghost use Rattle.ldv_value.specs.Order.{order};
-ghost use Rattle.column_store.specs.LentCells.{lent_value};
 ghost use Rattle.column_store.specs.Types.{Null};
 ghost use Rattle.column_store.specs.Columns.{no_cells, values_at, kinds_of, ArePushed, AreSet, AreLong};
 ghost use Rattle.column_store.specs.Columns.{FitColumns};
 
-use crate::cell::Cell;
 use crate::column::Column;
 use ldv_value::{List, Value, Values};
 use std::alloc::{AllocError, Global};
@@ -158,20 +156,6 @@ fn compare_at(columns: &Vec<Column>, slot: usize, place: usize, value: &Value) -
     }
     let column = &columns[place];
     column.compare_cell(slot, value)
-}
-
-/// The cell at a place, lent. Past the last column there is NULL.
-#[tactic(auto, using(crate::proofs::ColumnLaws::place_rules))]
-pub fn cell_at(columns: &Vec<Column>, slot: usize, place: usize) -> Cell<'_>
-    requires { (k : ℕ) → k < length columns.now.items
-        → slot < length (slice_index_or columns.now.items k no_cells).items }
-    ensures { lent_value result ≡ value_at (values_at columns.now.items slot) place }
-{
-    if place >= columns.len() {
-        return Cell::Number(None);
-    }
-    let column = &columns[place];
-    column.cell(slot)
 }
 
 /// Columns with no cells, one for each item of `texts`: of texts where it is true, and else of numbers.

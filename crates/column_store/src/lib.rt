@@ -5,17 +5,15 @@
 #![tactic(auto)]
 
 mod bits;
-mod cell;
 mod column;
 mod columns;
 mod grow;
 mod int_column;
 
 pub use bits::{Bits, drop_bit};
-pub use cell::Cell;
 pub use column::Column;
 pub use columns::{
-    cell_at, compare_cells, copy_cells, empty_columns, push_cells, reserve_cells, set_cells,
+    compare_cells, copy_cells, empty_columns, push_cells, reserve_cells, set_cells,
 };
 pub use grow::reserve_eighth;
 pub use int_column::IntColumn;

@@ -11,20 +11,22 @@ use Rattle.core_parts.proofs.FixingLaws.{at-index}
 use Rattle.core_parts.specs.Conditions.{meets}
 use Rattle.core_parts.specs.Constants.{IsConstant}
 use Rattle.core_parts.specs.Equality.{IsColumn}
-use Rattle.core_parts.specs.Masking.{AreMasks, IsFound, IsMask, IsTest, fits, passes, passes_all, passes_at, suits, commuted_cmp}
+use Rattle.core_parts.specs.Masking.{AreMasks, IsFound, IsMask, IsTest, passes_at, commuted_cmp}
 use Rattle.core_parts.specs.Placing.{AreAllPlaced}
 use Rattle.core_parts.specs.Types.{Column, Compare, Expr, Int, Null, Text, Value}
-use Rattle.core_parts.specs.declared.mask.Mask.{Mask}
-use Rattle.core_parts.specs.declared.mask.MaskTest.{MaskTest}
-use Rattle.core_parts.specs.declared.mask.MaskTest.TheVariants.{Compares, IsNull as TestsNull, IsNotNull}
 use Rattle.core_parts.specs.declared.placed.BoundExpr.{BoundExpr}
 use Rattle.ldv_value.specs.Order.{order, meets as meets_order, truth_of_bool, test_of, order_total}
 use Rattle.ldv_value.specs.declared.value.Cmp.{Cmp}
 use Rattle.ldv_value.specs.declared.value.Cmp.TheVariants.{Eq, Ne, Lt, Le, Gt, Ge}
 use Rattle.ldv_value.proofs.Booleans.{and-true, and-assoc}
+use Rattle.sql_model.specs.ColumnTests.{fits, passes, passes_all, suits}
 use Rattle.sql_model.specs.Meaning.{is_true, truth}
 use Rattle.ldv_value.specs.Cells.{value_at}
 use Rattle.sql_model.specs.Scope.{InScope, environment}
+use Rattle.sql_model.specs.declared.column_test.CellTest.{CellTest}
+use Rattle.sql_model.specs.declared.column_test.CellTest.TheVariants.{IsNull as TestsNull, IsNotNull}
+use Rattle.sql_model.specs.declared.column_test.CellTest.TheVariants.{Compare as Compares}
+use Rattle.sql_model.specs.declared.column_test.ColumnTest.{ColumnTest}
 use Rattle.sql_model.specs.declared.expr.Expr.TheVariants.{Both, IsNull}
 
 -- ---- comparisons
@@ -97,29 +99,29 @@ pub ruleset null_tests = (null_column, known_column)
 
 -- ---- masks
 
-pub mask-found : (cond : BoundExpr) (before column place : ℕ) (more : List ℕ) (columns : List Column) (test : MaskTest) (mask : Mask)
+pub mask-found : (cond : BoundExpr) (before column place : ℕ) (more : List ℕ) (columns : List Column) (test : CellTest) (mask : ColumnTest)
     → IsTest cond.expr test → cond.places ≡ place ∷ more → before + column ≡ place → mask ≡ record { column = column; test = test } → fits columns mask ≡ true
     → IsFound cond before columns mask
 mask-found cond before column place more columns test mask is places at made suit = record {
   fits = suit;
   is = λ scope row placed.
-      ap (λ (m : Mask). passes m.test (value_at row (before + m.column))) made
+      ap (λ (m : ColumnTest). passes m.test (value_at row (before + m.column))) made
       ∙ ap (λ (i : ℕ). passes test (value_at row i)) (at ∙ sym (first-place scope cond is.name place more is.names placed places))
       ∙ sym (is.same (environment scope row));
 }
 
-masks-joined : (P : Mask → Type 0) (masks : List Mask) (found : Option Mask) → AllByRecursion P masks → IfSome found P → AllByRecursion P (masks ++ option_to_list found)
+masks-joined : (P : ColumnTest → Type 0) (masks : List ColumnTest) (found : Option ColumnTest) → AllByRecursion P masks → IfSome found P → AllByRecursion P (masks ++ option_to_list found)
 masks-joined P [] None all one = tt
 masks-joined P [] (Some mask) all one = (one, tt)
 masks-joined P (m ∷ masks) found all one = (all.0, masks-joined P masks found all.1 one)
 
 -- the mask of one condition is one of all conditions
-pub masks-more : (conds rest : List BoundExpr) (i before : ℕ) (cond : BoundExpr) (columns : List Column) (masks : List Mask) (found : Option Mask) → drop i conds ≡ cond ∷ rest
+pub masks-more : (conds rest : List BoundExpr) (i before : ℕ) (cond : BoundExpr) (columns : List Column) (masks : List ColumnTest) (found : Option ColumnTest) → drop i conds ≡ cond ∷ rest
     → IfSome found (IsFound cond before columns) → AreMasks conds before columns masks → AreMasks conds before columns (masks ++ option_to_list found)
 masks-more conds rest i before cond columns masks found split is all =
     masks-joined (λ mask. (fits columns mask ≡ true) × IsMask conds before mask) masks found all (found-one found is)
   where
-    found-one : (o : Option Mask) → IfSome o (IsFound cond before columns) → IfSome o (λ mask. (fits columns mask ≡ true) × IsMask conds before mask)
+    found-one : (o : Option ColumnTest) → IfSome o (IsFound cond before columns) → IfSome o (λ mask. (fits columns mask ≡ true) × IsMask conds before mask)
     found-one None one = tt
     found-one (Some mask) one = (
       one.fits,
@@ -139,11 +141,11 @@ all-last p (y ∷ ys) x = by (p y) (all-last p ys x)
     by false rest = refl
 
 module _ (scope : List InScope) (before : ℕ) (row : List Value) where
-  abbrev one-passes : Mask → Bool
+  abbrev one-passes : ColumnTest → Bool
   one-passes mask = passes mask.test (value_at row (before + mask.column))
 
   -- a condition goes from those that are left to the masks
-  pub exact-more : (masks : List Mask) (mask : Mask) (cond : BoundExpr) (rest : List BoundExpr) (all : Bool)
+  pub exact-more : (masks : List ColumnTest) (mask : ColumnTest) (cond : BoundExpr) (rest : List BoundExpr) (all : Bool)
       → passes mask.test (value_at row (before + mask.column)) ≡ is_true (truth cond.expr (environment scope row))
       → (passes_at before masks row && meets scope (cond ∷ rest) row) ≡ all
       → (passes_at before (masks ++ mask ∷ []) row && meets scope rest row) ≡ all
@@ -153,22 +155,22 @@ module _ (scope : List InScope) (before : ℕ) (row : List Value) where
       ∙ ap (λ b. passes_at before masks row && (b && meets scope rest row)) same
       ∙ is
 
-  pub exact-end : (masks : List Mask) (left : List BoundExpr) (all : Bool) → left ≡ [] → (passes_at before masks row && meets scope left row) ≡ all → passes_at before masks row ≡ all
+  pub exact-end : (masks : List ColumnTest) (left : List BoundExpr) (all : Bool) → left ≡ [] → (passes_at before masks row && meets scope left row) ≡ all → passes_at before masks row ≡ all
   exact-end masks left all none is =
       sym (and-true (passes_at before masks row)) ∙ ap (λ (cs : List BoundExpr). passes_at before masks row && meets scope cs row) (sym none) ∙ is
 
-pub fit-more : (columns : List Column) (masks : List Mask) (mask : Mask) → AllByRecursion (λ m. fits columns m ≡ true) masks → fits columns mask ≡ true
+pub fit-more : (columns : List Column) (masks : List ColumnTest) (mask : ColumnTest) → AllByRecursion (λ m. fits columns m ≡ true) masks → fits columns mask ≡ true
     → AllByRecursion (λ m. fits columns m ≡ true) (masks ++ mask ∷ [])
 fit-more columns [] mask fit one = (one, tt)
 fit-more columns (m ∷ masks) mask fit one = (fit.0, fit-more columns masks mask fit.1 one)
 
-pub masks-fit : (conds : List BoundExpr) (before : ℕ) (columns : List Column) (masks : List Mask) → AreMasks conds before columns masks → AllByRecursion (λ mask. fits columns mask ≡ true) masks
+pub masks-fit : (conds : List BoundExpr) (before : ℕ) (columns : List Column) (masks : List ColumnTest) → AreMasks conds before columns masks → AllByRecursion (λ mask. fits columns mask ≡ true) masks
 masks-fit conds before columns [] are = tt
 masks-fit conds before columns (mask ∷ masks) are = (are.0.0, masks-fit conds before columns masks are.1)
 
 -- ---- a row passes the masks
 
-within : (columns : List Column) (mask : Mask) → fits columns mask ≡ true → mask.column < length columns
+within : (columns : List Column) (mask : ColumnTest) → fits columns mask ≡ true → mask.column < length columns
 within columns mask is = got columns mask.column is
   where
     got : (cs : List Column) (i : ℕ) → option_map_or (suits mask.test) (slice_get cs i) false ≡ true → i < length cs
@@ -179,7 +181,7 @@ within columns mask is = got columns mask.column is
 -- the row is a part of a whole over which the conditions are True, after its first values
 module _ (scope : List InScope) (conds : List BoundExpr) (placed : AreAllPlaced scope conds) (before : ℕ) (columns : List Column) (whole row : List Value)
     (there : (column : ℕ) → column < length columns → value_at whole (before + column) ≡ value_at row column) (met : meets scope conds whole ≡ true) where
-  pub masks-pass : (masks : List Mask) → AreMasks conds before columns masks → passes_all masks row ≡ true
+  pub masks-pass : (masks : List ColumnTest) → AreMasks conds before columns masks → passes_all masks row ≡ true
   masks-pass [] are = refl
   masks-pass (mask ∷ masks) are =
       let one : passes mask.test (value_at row mask.column) ≡ true =

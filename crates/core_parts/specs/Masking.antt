@@ -1,63 +1,40 @@
 -- Tests of single columns of a source that hold where conditions are True.
-use Rattle.std.specs.Prelude.{◌≡◌, ◌+◌, ℕ, List, [], ◌∷◌, Bool, true, false, not, slice_get}
+use Rattle.std.specs.Prelude.{◌≡◌, ◌+◌, ℕ, List, [], ◌∷◌, Bool, true}
 use Rattle.std.specs.List.{list_all, AllByRecursion}
-use Rattle.std.specs.Option.{option_map_or}
 use Rattle.core_parts.specs.Conditions.{meets}
 use Rattle.core_parts.specs.Placing.{IsPlaced, AreAllPlaced}
-use Rattle.core_parts.specs.Types.{Column, ColumnName, Expr, Int, Value}
-use Rattle.core_parts.specs.declared.mask.Mask.{Mask}
-use Rattle.core_parts.specs.declared.mask.MaskTest.{MaskTest}
-use Rattle.core_parts.specs.declared.mask.MaskTest.TheVariants.{Compares, IsNull, IsNotNull}
+use Rattle.core_parts.specs.Types.{Column, ColumnName, Expr, Value}
 use Rattle.core_parts.specs.declared.placed.BoundExpr.{BoundExpr}
-use Rattle.ldv_value.specs.Order.{test_of}
 use Rattle.ldv_value.specs.declared.value.Cmp.{Cmp}
 use Rattle.ldv_value.specs.declared.value.Cmp.TheVariants.{Eq, Ne, Lt, Le, Gt, Ge}
+use Rattle.sql_model.specs.ColumnTests.{fits, passes}
 use Rattle.sql_model.specs.Kinds.{names_in}
-use Rattle.sql_model.specs.Meaning.{Environment, is_null, is_true, truth}
+use Rattle.sql_model.specs.Meaning.{Environment, is_true, truth}
 use Rattle.ldv_value.specs.Cells.{value_at}
 use Rattle.sql_model.specs.Scope.{InScope, environment}
-
--- ---- masks
-
--- a value passes: its comparison with the number is True, or it is NULL, or it isn't NULL
-abbrev pub passes : MaskTest → Value → Bool
-passes (Compares op constant) value = is_true (test_of op value (Int constant))
-passes IsNull value = is_null value
-passes IsNotNull value = not (is_null value)
-
--- a comparison is of a column of numbers, and a test for NULL of any column
-abbrev pub suits : MaskTest → Column → Bool
-suits (Compares op constant) column = not column.text
-suits IsNull column = true
-suits IsNotNull column = true
-
-abbrev pub fits : List Column → Mask → Bool
-fits columns mask = option_map_or (suits mask.test) (slice_get columns mask.column) false
-
--- the values of a row pass each mask
-abbrev pub passes_all : List Mask → List Value → Bool
-passes_all masks values = list_all (λ mask. passes mask.test (value_at values mask.column)) masks
+use Rattle.sql_model.specs.declared.column_test.CellTest.{CellTest}
+use Rattle.sql_model.specs.declared.column_test.ColumnTest.{ColumnTest}
 
 -- ---- the masks of a source, whose columns come after `before` values of the joined row
 
 -- where all conditions are True, the value of the column passes
-abbrev pub IsMask : List BoundExpr → ℕ → Mask → Type 0
+abbrev pub IsMask : List BoundExpr → ℕ → ColumnTest → Type 0
 IsMask conds before mask = (scope : List InScope) (row : List Value) → AreAllPlaced scope conds
     → meets scope conds row ≡ true
     → passes mask.test (value_at row (before + mask.column)) ≡ true
 
 -- and each is of a column that it suits
-abbrev pub AreMasks : List BoundExpr → ℕ → List Column → List Mask → Type 0
+abbrev pub AreMasks : List BoundExpr → ℕ → List Column → List ColumnTest → Type 0
 AreMasks conds before columns masks =
     AllByRecursion (λ mask. (fits columns mask ≡ true) × IsMask conds before mask) masks
 
 -- the values of a joined row pass each mask of the source
-abbrev pub passes_at : ℕ → List Mask → List Value → Bool
+abbrev pub passes_at : ℕ → List ColumnTest → List Value → Bool
 passes_at before masks row =
     list_all (λ mask. passes mask.test (value_at row (before + mask.column))) masks
 
 -- each mask is of a column that it suits, and all conditions are True just where the values pass
-pub record AreExact (conds : List BoundExpr) (before : ℕ) (columns : List Column) (masks : List Mask)
+pub record AreExact (conds : List BoundExpr) (before : ℕ) (columns : List Column) (masks : List ColumnTest)
     : Type 0 where
   pub fit : AllByRecursion (λ mask. fits columns mask ≡ true) masks
   pub same : (scope : List InScope) (row : List Value) → AreAllPlaced scope conds
@@ -75,18 +52,18 @@ commuted_cmp Gt = Lt
 commuted_cmp Ge = Le
 
 -- the expression tests a column, which alone it names
-pub record IsTest (expr : Expr) (test : MaskTest) : Type 0 where
+pub record IsTest (expr : Expr) (test : CellTest) : Type 0 where
   pub name : ColumnName
   pub names : names_in expr ≡ name ∷ []
   pub same : (env : Environment) → is_true (truth expr env) ≡ passes test (env name)
 
 -- the condition is True just where the value of the column passes
-abbrev pub IsMaskOf : BoundExpr → ℕ → Mask → Type 0
+abbrev pub IsMaskOf : BoundExpr → ℕ → ColumnTest → Type 0
 IsMaskOf cond before mask = (scope : List InScope) (row : List Value) → IsPlaced scope cond
     → passes mask.test (value_at row (before + mask.column))
     ≡ is_true (truth cond.expr (environment scope row))
 
 -- and the column suits
-pub record IsFound (cond : BoundExpr) (before : ℕ) (columns : List Column) (mask : Mask) : Type 0 where
+pub record IsFound (cond : BoundExpr) (before : ℕ) (columns : List Column) (mask : ColumnTest) : Type 0 where
   pub fits : fits columns mask ≡ true
   pub is : IsMaskOf cond before mask

@@ -25,8 +25,9 @@ fn is_nameless(expr: &Expr) -> bool
     }
 }
 
-// The value of an expression over a row without a value, where it names no column.
-fn value_over_none(alloc: Global, expr: &Expr) -> Result<Value, AllocError>
+/// The value of an expression over a row without a value. Of one that names no column this is its value over
+/// every row; of another nothing is said.
+pub fn constant_value(alloc: Global, expr: &Expr) -> Result<Value, AllocError>
     ensures { IfOk result (IsValue expr.now [] []) }
 {
     let row = List::new(alloc);
@@ -44,6 +45,6 @@ pub fn constant_of(alloc: Global, expr: &Expr) -> Result<Option<Value>, AllocErr
     if !is_nameless(expr) {
         return Ok(None);
     }
-    let value = value_over_none(alloc, expr)?;
+    let value = constant_value(alloc, expr)?;
     Ok(Some(value))
 }

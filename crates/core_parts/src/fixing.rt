@@ -3,8 +3,8 @@
 ghost use Rattle.std.specs.Prelude.{◌≡◌, length, IfOk, IfSome};
 ghost use Rattle.ldv_value.specs.declared.value.Cmp.TheVariants.{Eq};
 ghost use Rattle.core_parts.specs.Fixing.{IsFixing, Fixes, AllFix, FixesColumn, FixesAll, FixesKey};
-ghost use Rattle.core_parts.specs.Equality.{IsColumn};
-ghost use Rattle.core_parts.specs.Types.{Compare};
+ghost use Rattle.core_parts.specs.Constants.{IsConstant};
+ghost use Rattle.core_parts.specs.Types.{Compare, Value as Given};
 ghost use Rattle.sql_model.specs.declared.expr.Expr.TheVariants.{Both};
 
 use crate::constants::constant_of;
@@ -143,35 +143,22 @@ fn constant_between(
 fn constant_beside(alloc: Global, left: &Expr, right: &Expr) -> Result<Option<Value>, AllocError>
     ensures { IfOk result (λ found. IfSome found (IsFixing (Both (Compare Eq) left.now right.now))) }
 {
+    match side_beside_column(left, right) {
+        None => Ok(None),
+        Some(side) => constant_of(alloc, side),
+    }
+}
+
+// The side of an equality whose other side is a column.
+fn side_beside_column<'a>(left: &'a Expr, right: &'a Expr) -> Option<&'a Expr>
+    ensures { IfSome result (λ side. (value : Given) → IsConstant side.now value
+        → IsFixing (Both (Compare Eq) left.now right.now) value) }
+{
     if is_column(left) {
-        return constant_after(alloc, left, right);
+        return Some(right);
     }
     if is_column(right) {
-        return constant_before(alloc, left, right);
+        return Some(left);
     }
-    Ok(None)
-}
-
-// A constant after a column.
-#[tactic(auto, using(crate::proofs::FixingLaws::column_constant))]
-fn constant_after(alloc: Global, left: &Expr, right: &Expr) -> Result<Option<Value>, AllocError>
-    requires { IsColumn left.now }
-    ensures { IfOk result (λ found. IfSome found (IsFixing (Both (Compare Eq) left.now right.now))) }
-{
-    match constant_of(alloc, right)? {
-        None => Ok(None),
-        Some(value) => Ok(Some(value)),
-    }
-}
-
-// A constant before a column.
-#[tactic(auto, using(crate::proofs::FixingLaws::constant_column))]
-fn constant_before(alloc: Global, left: &Expr, right: &Expr) -> Result<Option<Value>, AllocError>
-    requires { IsColumn right.now }
-    ensures { IfOk result (λ found. IfSome found (IsFixing (Both (Compare Eq) left.now right.now))) }
-{
-    match constant_of(alloc, left)? {
-        None => Ok(None),
-        Some(value) => Ok(Some(value)),
-    }
+    None
 }

@@ -17,13 +17,15 @@ mod refs_by;
 mod truths;
 
 pub use conditions::{conjuncts, conjuncts_of};
-pub use constants::constant_of;
+pub use constants::{constant_of, constant_value};
 pub use cores::{column_indexes, core_of, query_of};
 pub use equality::{is_column, is_equal_test};
 pub use fixing::fixed_key;
-pub use mask::{Mask, MaskTest, exact_masks, masks_of};
+pub use mask::{exact_masks, masks_of};
 pub use needs::{needed_by, needs_in_order, union_of_needs};
-pub use placed::{BoundExpr, placed_at, placed_items, take_place, take_places};
+pub use placed::{
+    BoundExpr, column_of_source, placed_at, placed_items, skip_places, take_place, take_places,
+};
 pub use refs::Refs;
 pub use refs_by::RefsBy;
 pub use truths::is_certain;

@@ -1,36 +1,19 @@
 //! Tests of single columns, by which the rows of a source can be chosen before conditions are evaluated.
 
-ghost use Rattle.std.specs.Prelude.{◌≡◌, ◌+◌, ◌++◌, option_to_list, IfOk, IfSome, OnOk, true};
+ghost use Rattle.std.specs.Prelude.{◌≡◌, ◌++◌, option_to_list, IfOk, IfSome, OnOk, true};
 ghost use Rattle.core_parts.specs.Constants.{IsConstant};
 ghost use Rattle.core_parts.specs.Equality.{IsColumn};
-ghost use Rattle.core_parts.specs.Masking.{AreMasks, AreExact, IsFound, IsTest, fits, suits, commuted_cmp};
+ghost use Rattle.core_parts.specs.Masking.{AreMasks, AreExact, IsFound, IsTest, commuted_cmp};
 ghost use Rattle.core_parts.specs.Types.{Compare, Int};
+ghost use Rattle.sql_model.specs.ColumnTests.{fits, suits};
 ghost use Rattle.sql_model.specs.declared.expr.Expr.TheVariants.{Both, IsNull};
 
 use crate::constants::constant_of;
 use crate::equality::is_column;
-use crate::placed::BoundExpr;
+use crate::placed::{BoundExpr, column_of_source};
 use ldv_value::{Cmp, Value};
-use sql_model::{Column, Columns, Expr, Operator};
+use sql_model::{CellTest, Column, ColumnTest, Columns, Expr, Operator};
 use std::alloc::{AllocError, Global};
-
-/// A test of a value.
-#[derive(Clone, Copy)]
-pub enum MaskTest {
-    /// Its comparison with the number is True.
-    Compares(Cmp, i64),
-    /// It is NULL.
-    IsNull,
-    /// It isn't NULL.
-    IsNotNull,
-}
-
-/// A test of the values in a column of a table, by the column's place from 0.
-#[derive(Clone, Copy)]
-pub struct Mask {
-    pub column: usize,
-    pub test: MaskTest,
-}
 
 /// The masks of a source: tests of single columns that hold in each joined row for which the conditions are
 /// True. The columns of the source come after `before` values of the joined row. A comparison is of a column
@@ -40,7 +23,7 @@ pub fn masks_of(
     conds: &[BoundExpr],
     before: u128,
     columns: &Columns,
-) -> Result<Vec<Mask>, AllocError>
+) -> Result<Vec<ColumnTest>, AllocError>
     ensures { IfOk result (λ masks. AreMasks conds.now before columns.now masks.items) }
 {
     let mut masks = Vec::new(alloc);
@@ -58,7 +41,7 @@ pub fn exact_masks(
     conds: &[BoundExpr],
     before: u128,
     columns: &Columns,
-) -> Result<Option<Vec<Mask>>, AllocError>
+) -> Result<Option<Vec<ColumnTest>>, AllocError>
     ensures { IfOk result (λ found.
         IfSome found (λ masks. AreExact conds.now before columns.now masks.items)) }
 {
@@ -74,7 +57,7 @@ pub fn exact_masks(
 }
 
 // Adds a mask, if there is one.
-fn add_mask(masks: &mut Vec<Mask>, mask: Option<Mask>) -> Result<(), AllocError>
+fn add_mask(masks: &mut Vec<ColumnTest>, mask: Option<ColumnTest>) -> Result<(), AllocError>
     ensures { OnOk result (masks.new.items ≡ masks.old.items ++ option_to_list mask) }
 {
     if let Some(mask) = mask {
@@ -89,35 +72,23 @@ fn mask_of(
     cond: &BoundExpr,
     before: u128,
     columns: &Columns,
-) -> Result<Option<Mask>, AllocError>
+) -> Result<Option<ColumnTest>, AllocError>
     ensures { IfOk result (λ found. IfSome found (IsFound cond.now before columns.now)) }
 {
     let Some(place) = cond.places.get(0) else {
         return Ok(None);
     };
-    let Some(column) = column_at(before, *place) else {
+    let Some(column) = column_of_source(before, *place) else {
         return Ok(None);
     };
     match test_of(alloc, &cond.expr)? {
         None => Ok(None),
-        Some(test) => Ok(fitting_mask(columns, Mask { column, test })),
-    }
-}
-
-// The column at a place of the joined row, of those after some values.
-fn column_at(before: u128, place: usize) -> Option<usize>
-    ensures { IfSome result (λ column. before + column ≡ place) }
-{
-    let place = place as u128;
-    if place < before {
-        None
-    } else {
-        Some((place - before) as usize)
+        Some(test) => Ok(fitting_mask(columns, ColumnTest { column, test })),
     }
 }
 
 // The mask, if its column suits.
-fn fitting_mask(columns: &Columns, mask: Mask) -> Option<Mask>
+fn fitting_mask(columns: &Columns, mask: ColumnTest) -> Option<ColumnTest>
     ensures { IfSome result (λ found. (found ≡ mask) × (fits columns.now mask ≡ true)) }
 {
     if fits(columns, mask) {
@@ -127,7 +98,7 @@ fn fitting_mask(columns: &Columns, mask: Mask) -> Option<Mask>
     }
 }
 
-fn fits(columns: &Columns, mask: Mask) -> bool
+fn fits(columns: &Columns, mask: ColumnTest) -> bool
     ensures { result ≡ fits columns.now mask }
 {
     match columns.get(mask.column) {
@@ -137,18 +108,18 @@ fn fits(columns: &Columns, mask: Mask) -> bool
 }
 
 // Whether a column can be tested so: only numbers are compared.
-fn suits(test: MaskTest, column: &Column) -> bool
+fn suits(test: CellTest, column: &Column) -> bool
     ensures { result ≡ suits test column.now }
 {
     match test {
-        MaskTest::Compares(_, _) => !column.text,
-        MaskTest::IsNull => true,
-        MaskTest::IsNotNull => true,
+        CellTest::Compare { .. } => !column.text,
+        CellTest::IsNull => true,
+        CellTest::IsNotNull => true,
     }
 }
 
 // The test of a column that an expression is.
-fn test_of(alloc: Global, expr: &Expr) -> Result<Option<MaskTest>, AllocError>
+fn test_of(alloc: Global, expr: &Expr) -> Result<Option<CellTest>, AllocError>
     ensures { IfOk result (λ found. IfSome found (IsTest expr.now)) }
 {
     match expr {
@@ -163,16 +134,16 @@ fn test_of(alloc: Global, expr: &Expr) -> Result<Option<MaskTest>, AllocError>
 
 // The test for NULL of what is a column.
 #[tactic(auto, using(crate::proofs::MaskLaws::null_tests))]
-fn null_test(inner: &Expr, negative: bool) -> Option<MaskTest>
+fn null_test(inner: &Expr, negative: bool) -> Option<CellTest>
     ensures { IfSome result (IsTest (IsNull inner.now negative)) }
 {
     if !is_column(inner) {
         return None;
     }
     if negative {
-        Some(MaskTest::IsNotNull)
+        Some(CellTest::IsNotNull)
     } else {
-        Some(MaskTest::IsNull)
+        Some(CellTest::IsNull)
     }
 }
 
@@ -182,7 +153,7 @@ fn comparison(
     test: Cmp,
     left: &Expr,
     right: &Expr,
-) -> Result<Option<MaskTest>, AllocError>
+) -> Result<Option<CellTest>, AllocError>
     ensures { IfOk result (λ found. IfSome found (IsTest (Both (Compare test) left.now right.now))) }
 {
     if is_column(left) {
@@ -200,13 +171,16 @@ fn number_after(
     test: Cmp,
     left: &Expr,
     right: &Expr,
-) -> Result<Option<MaskTest>, AllocError>
+) -> Result<Option<CellTest>, AllocError>
     requires { IsColumn left.now }
     ensures { IfOk result (λ found. IfSome found (IsTest (Both (Compare test) left.now right.now))) }
 {
     match number_of(alloc, right)? {
         None => Ok(None),
-        Some(number) => Ok(Some(MaskTest::Compares(test, number))),
+        Some(number) => Ok(Some(CellTest::Compare {
+            op: test,
+            constant: number,
+        })),
     }
 }
 
@@ -216,13 +190,16 @@ fn number_before(
     test: Cmp,
     left: &Expr,
     right: &Expr,
-) -> Result<Option<MaskTest>, AllocError>
+) -> Result<Option<CellTest>, AllocError>
     requires { IsColumn right.now }
     ensures { IfOk result (λ found. IfSome found (IsTest (Both (Compare test) left.now right.now))) }
 {
     match number_of(alloc, left)? {
         None => Ok(None),
-        Some(number) => Ok(Some(MaskTest::Compares(commuted_cmp(test), number))),
+        Some(number) => Ok(Some(CellTest::Compare {
+            op: commuted_cmp(test),
+            constant: number,
+        })),
     }
 }
 

@@ -1,6 +1,7 @@
 //! Expressions with the places of their columns.
 
-ghost use Rattle.std.specs.Prelude.{◌≡◌, ◌++◌, ◌-◌, ◌≤◌, drop, length, take, IfOk, OnErr, OnOk};
+ghost use Rattle.std.specs.Prelude.{◌≡◌, ◌+◌, ◌++◌, ◌-◌, ◌≤◌, drop, is_none, length, nat_lt, take};
+ghost use Rattle.std.specs.Prelude.{IfOk, IfSome, OnErr, OnOk};
 ghost use Rattle.core_parts.specs.Placing.{own_places, other_places, PlacesItems};
 
 use ldv_value::{CopyItem, List, Places};
@@ -27,15 +28,15 @@ pub fn take_places(
     ensures others { OnOk result (drop at.new places.now ≡ other_places expr.now (drop at.old places.now)) }
     ensures err { OnErr result ((own.new ≡ own.old) × (at.new ≡ at.old)) }
 {
-    let end = place_after(expr, places, *at);
+    let end = skip_places(expr, places, *at);
     add_between(places, *at, end, own)?;
     *at = end;
     Ok(())
 }
 
-// The index after the places that an expression takes of those from an index on.
+/// The index after the places that an expression takes of those from an index on.
 #[tactic(auto, using(crate::proofs::Names::own_forms))]
-fn place_after(expr: &Expr, places: &Places, at: usize) -> usize
+pub fn skip_places(expr: &Expr, places: &Places, at: usize) -> usize
     ensures onward { at ≤ result }
     ensures within { at ≤ length places.now → result ≤ length places.now }
     ensures others { drop result places.now ≡ other_places expr.now (drop at places.now) }
@@ -43,15 +44,15 @@ fn place_after(expr: &Expr, places: &Places, at: usize) -> usize
     match expr {
         Expr::Constant(_) => at,
         Expr::Column(_) => next_after(places, at),
-        Expr::Negate(inner) => place_after(inner.get(), places, at),
-        Expr::Not(inner) => place_after(inner.get(), places, at),
+        Expr::Negate(inner) => skip_places(inner.get(), places, at),
+        Expr::Not(inner) => skip_places(inner.get(), places, at),
         Expr::Both(_, left, right) => {
-            let middle = place_after(left.get(), places, at);
-            place_after(right.get(), places, middle)
+            let middle = skip_places(left.get(), places, at);
+            skip_places(right.get(), places, middle)
         }
-        Expr::IsNull(inner, _) => place_after(inner.get(), places, at),
+        Expr::IsNull(inner, _) => skip_places(inner.get(), places, at),
         Expr::Aggregate(_, None) => at,
-        Expr::Aggregate(_, Some(inner)) => place_after(inner.get(), places, at),
+        Expr::Aggregate(_, Some(inner)) => skip_places(inner.get(), places, at),
     }
 }
 
@@ -100,6 +101,20 @@ pub fn take_place(places: &Places, at: &mut usize, own: &mut Places) -> Result<(
             *at += 1;
             Ok(())
         }
+    }
+}
+
+/// A place of the joined row as that of a column of the source that comes after `before` values; `None` where
+/// it is one of these.
+pub fn column_of_source(before: u128, place: usize) -> Option<usize>
+    ensures none { is_none result ≡ nat_lt place before }
+    ensures at { IfSome result (λ column. before + column ≡ place) }
+{
+    let place = place as u128;
+    if place < before {
+        None
+    } else {
+        Some((place - before) as usize)
     }
 }
 

@@ -1,6 +1,6 @@
 //! References under keys.
 
-ghost use Rattle.std.specs.Prelude.{◌≡◌, ◌==◌, [], length, OnErr, OnOk, unwrap_or};
+ghost use Rattle.std.specs.Prelude.{◌≡◌, [], OnErr, OnOk, unwrap_or};
 ghost use Rattle.std.specs.Option.{option_map};
 ghost use Rattle.core_parts.specs.Listing.{listed, item_added};
 
@@ -32,16 +32,6 @@ impl<'a, K: Ord + Drop, X> RefsBy<'a, K, X> {
         ensures { unwrap_or (option_map (λ r. r.now) result) [] ≡ listed K.cmp self.now key.now }
     {
         self.map.get(key)
-    }
-
-    /// Whether there is none under a key.
-    pub fn has_none(&self, key: &K) -> bool
-        ensures { result ≡ (length (listed K.cmp self.now key.now) == 0) }
-    {
-        match self.get(key) {
-            None => true,
-            Some(items) => items.len() == 0,
-        }
     }
 
     /// Appends a reference to those under a key. On `AllocError` each key has those that it had.

@@ -7,12 +7,12 @@ use Rattle.core_parts.specs.declared.placed.BoundExpr.{BoundExpr}
 use Rattle.sql_model.specs.Kinds.{names_in}
 use Rattle.ldv_value.specs.Cells.{value_at}
 use Rattle.sql_model.specs.Scope.{InScope, places_in}
-use Rattle.dml_versions.specs.inner.Fixing.{FixesKey}
+use Rattle.dml_versions.specs.inner.Fixing.{WhereFixesKey}
 use Rattle.dml_versions.specs.Types.{Expr, Value}
 
 pub key-fixed : (expr : Expr) (places key : List ℕ) (width : ℕ) (conds : List BoundExpr) (values : List Value)
     → ((scope : List InScope) → places ≡ places_in scope (names_in expr) → AreConditions scope (expr ∷ []) conds)
-    → FixesBy conds 0 width key values → FixesKey (Some expr) places key values
+    → FixesBy conds 0 width key values → WhereFixesKey (Some expr) places key values
 key-fixed expr places key width conds values are fixed = (
   fixed.some,
   (λ scope placed row hit.

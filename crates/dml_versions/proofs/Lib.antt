@@ -14,6 +14,7 @@ pub mod NeedLaws
 pub mod NumberLaws
 pub mod ReferLaws
 pub mod RefuseLaws
+pub mod RefusedTables
 pub mod StandingLaws
 pub mod TableLaws
 pub mod TestLaws

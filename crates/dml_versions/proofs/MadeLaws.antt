@@ -11,7 +11,7 @@ use Rattle.ldv_value.proofs.Options.{none-some, same-some}
 use Rattle.sql_model.specs.Changes.{plain_value, given_value, is_given, value_given, new_values, sets_column, value_set, updated_value, updated_values, updated_row}
 use Rattle.sql_model.specs.Kinds.{names_in}
 use Rattle.sql_model.specs.Evaluation.{IsValue}
-use Rattle.sql_model.specs.Meaning.{eval, or_null}
+use Rattle.sql_model.specs.Meaning.{or_null}
 use Rattle.sql_model.specs.Scope.{InScope, same_text, environment, places_in}
 use Rattle.dml_versions.specs.inner.Making.{place_given, places_given, value_from, values_from, place_set, value_by_set, values_by_set, AreSetsPlaced, IsPlain, ArePlain}
 use Rattle.dml_versions.specs.Types.{Column, Expr, Set, TableRow, Update, Value}
@@ -108,10 +108,8 @@ values-updated scope sets columns values = by columns values
 -- ---- values by places
 
 -- the value of an expression that names no column
-pub plain_is : (expr : Expr) (row : List Value) (places : List ℕ) (value : Value) → row ≡ [] → places ≡ [] → IsPlain expr → IsValue expr row places value → value ≡ plain_value expr
-plain_is expr row places value no_row no_place plain is =
-    is [] (ap (places_in []) plain ∙ sym no_place)
-    ∙ ap (λ (r : List Value). (eval expr (environment [] r ∷ [])).value) no_row
+pub plain_is : (expr : Expr) (value : Value) → IsPlain expr → IsValue expr [] [] value → value ≡ plain_value expr
+plain_is expr value plain is = is [] (ap (places_in []) plain)
 
 -- what holds of all items holds of the one at a place
 one-of : {X : Type 0} (P : X → Type 0) (xs : List X) (place : ℕ) (x : X) → AllByRecursion P xs → Some x ≡ slice_get xs place → P x

@@ -286,6 +286,29 @@ with-parents store rows needs all members (Some own) are versions is = λ apart.
     (ap (map (need_by P)) same
     ∙ parents_read store (parents_in_db rows (tables_now store) own) (subst (AllByRecursion (IsAtVersion store)) same versions))
 
+-- ---- a table without foreign keys
+
+module _ (before after : List Table) where
+  none_referred : (rows : List TableRow) → parents_of before after [] rows ≡ []
+  none_referred [] = refl
+  none_referred (row ∷ rows) = none_referred rows
+
+united_alone : (needs : List Need) → union_of_needs needs [] ≡ needs
+united_alone [] = refl
+united_alone (need ∷ needs) = ap (λ (l : List Need). need ∷ l) (united_alone needs)
+
+-- its rows need no others
+pub no-parents : (store : StoreHistory) (rows : List TableRow) (needs : List Need) (t : Table) (o : Option Table) → o ≡ Some t → t.schema.foreign ≡ []
+    → IfSome o (λ own. are_apart rows own ≡ true → needs ≡ union_of_needs needs (needs_in_order (parent_needs store rows own)))
+no-parents store rows needs t None is none = tt
+no-parents store rows needs t (Some own) is none = λ apart.
+    let db : List Table = tables_now store in
+    let after : List Table = with_changed own.name (with_put rows) db in
+    let foreigns : own.schema.foreign ≡ [] = ap (λ (u : Table). u.schema.foreign) (same-some own t is) ∙ none in
+    let parents : parents_in_db rows db own ≡ [] = ap (λ (fs : List Foreign). parents_of db after fs rows) foreigns ∙ none_referred db after rows in
+    sym (ap (λ (os : List Origin). union_of_needs needs (needs_in_order (map (read_of (versions_now store)) (map (needed_by P) os)))) parents
+    ∙ united_alone needs)
+
 -- ---- rows that are put
 
 -- those that stood

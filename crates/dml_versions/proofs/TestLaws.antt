@@ -1,29 +1,26 @@
 -- The tests of single columns that WHERE makes, and the slots that they leave.
-use Rattle.std.proofs.Common.{◌≡◌, ◌∙◌, ap, sym, subst, refl, ℕ, zero, suc, ◌+◌, ◌-◌, ◌<◌, ◌≤◌, arith, Bool, true, false, ◌&&◌, List, [], ◌∷◌, ◌++◌, map, length, get_or, drop, append_assoc, append-nil, inl, inr, Option, Some, None}
-use Rattle.std.specs.Prelude.{filter, slice_get, IfSome}
-use Rattle.std.specs.List.{AllByRecursion}
+use Rattle.std.proofs.Common.{◌≡◌, ◌∙◌, ap, sym, refl, ℕ, zero, suc, ◌+◌, ◌-◌, ◌<◌, ◌≤◌, arith, Bool, true, false, ◌&&◌, List, [], ◌∷◌, ◌++◌, map, length, get_or, drop, append_assoc, append-nil, inl, inr, Option, Some, None}
+use Rattle.std.specs.Prelude.{filter, IfSome}
 use Rattle.std.specs.Option.{option_map_or, option_to_list}
 use Rattle.std.proofs.lemmas.Bool.{cases_Bool}
 use Rattle.std.proofs.Math.ListN.{drop_of_length-le}
 use Rattle.core_parts.proofs.MaskLaws.{masks-fit, masks-pass}
 use Rattle.core_parts.specs.Conditions.{AreConditions}
-use Rattle.core_parts.specs.Masking.{AreMasks, AreExact, fits, passes, passes_all, passes_at, suits as suits_mask}
-use Rattle.core_parts.specs.declared.mask.Mask.{Mask}
-use Rattle.core_parts.specs.declared.mask.MaskTest.{MaskTest}
-use Rattle.core_parts.specs.declared.mask.MaskTest.TheVariants as mask_test
+use Rattle.core_parts.specs.Masking.{AreMasks, AreExact, passes_at}
 use Rattle.core_parts.specs.declared.placed.BoundExpr.{BoundExpr}
 use Rattle.lanes.specs.Sets.{member, IsNext}
 use Rattle.ldv_value.proofs.Booleans.{true≢false}
+use Rattle.sql_model.specs.ColumnTests.{passes, passes_all}
 use Rattle.sql_model.specs.Kinds.{names_in}
 use Rattle.ldv_value.specs.Cells.{value_at}
 use Rattle.sql_model.specs.Scope.{InScope, places_in}
+use Rattle.sql_model.specs.declared.column_test.ColumnTest.{ColumnTest}
 use Rattle.table_store.proofs.GridLaws.{place_index}
-use Rattle.table_store.specs.CellTests.{AllFitColumns, cell_passes, passes_columns, slot_chosen, suits}
+use Rattle.table_store.specs.CellTests.{passes_columns, slot_chosen}
 use Rattle.table_store.specs.Histories.{RowHistory, no_history, row_now, rows_now}
-use Rattle.table_store.specs.declared.cell_test.ColumnTest.{ColumnTest}
 use Rattle.dml_versions.proofs.FoundLaws.{found-step}
 use Rattle.dml_versions.specs.Finding.{AllPass, CoverFound, found_at, found_from, found_row}
-use Rattle.dml_versions.specs.inner.Testing.{AreTests, AreExactTests, cell_test, column_test}
+use Rattle.dml_versions.specs.inner.Testing.{AreTests, AreExactTests}
 use Rattle.sql_model.specs.Changes.{is_matched}
 use Rattle.dml_versions.specs.Types.{Column, Expr, TableRow, Value}
 use Rattle.dml_versions.specs.declared.found.Found.{Found}
@@ -34,34 +31,16 @@ pub no_tests : (places : List ℕ) (columns : List Column) (tests : List ColumnT
 no_tests places columns [] none = record { fit = tt; pass = λ scope placed row hit. refl }
 no_tests places columns (test ∷ tests) none = cc
 
-suits_same : (test : MaskTest) (column : Column) → suits_mask test column ≡ suits (cell_test test) column
-suits_same (mask_test.Compares op constant) column = refl
-suits_same mask_test.IsNull column = refl
-suits_same mask_test.IsNotNull column = refl
-
-passes_same : (test : MaskTest) (value : Value) → passes test value ≡ cell_passes (cell_test test) value
-passes_same (mask_test.Compares op constant) value = refl
-passes_same mask_test.IsNull value = refl
-passes_same mask_test.IsNotNull value = refl
-
-fits_by : (test : MaskTest) (o : Option Column) → option_map_or (suits_mask test) o false ≡ true → option_map_or (suits (cell_test test)) o false ≡ true
-fits_by test None is = is
-fits_by test (Some column) is = sym (suits_same test column) ∙ is
-
-all_fit : (columns : List Column) (masks : List Mask) → AllByRecursion (λ mask. fits columns mask ≡ true) masks → AllFitColumns columns (map column_test masks)
-all_fit columns [] fit = tt
-all_fit columns (mask ∷ masks) fit = (fits_by mask.test (slice_get columns mask.column) fit.0, all_fit columns masks fit.1)
-
-all_pass : (row : TableRow) (masks : List Mask) → passes_all masks row.values ≡ passes_columns (map column_test masks) row
+-- over the values of a row they are the tests of a table
+all_pass : (row : TableRow) (tests : List ColumnTest) → passes_all tests row.values ≡ passes_columns tests row
 all_pass row [] = refl
-all_pass row (mask ∷ masks) =
-    λ j. (passes_same mask.test (value_at row.values mask.column) ∙ ap (cell_passes (cell_test mask.test)) (place_index row.values mask.column)) j && all_pass row masks j
+all_pass row (test ∷ tests) = λ j. ap (passes test.test) (place_index row.values test.column) j && all_pass row tests j
 
-pub tests-are : (expr : Expr) (places : List ℕ) (columns : List Column) (conds : List BoundExpr) (masks : List Mask)
+pub tests-are : (expr : Expr) (places : List ℕ) (columns : List Column) (conds : List BoundExpr) (masks : List ColumnTest)
     → ((scope : List InScope) → places ≡ places_in scope (names_in expr) → AreConditions scope (expr ∷ []) conds)
-    → AreMasks conds 0 columns masks → AreTests (Some expr) places columns (map column_test masks)
+    → AreMasks conds 0 columns masks → AreTests (Some expr) places columns masks
 tests-are expr places columns conds masks are found = record {
-  fit = all_fit columns masks (masks-fit conds 0 columns masks found);
+  fit = masks-fit conds 0 columns masks found;
   pass = λ scope placed row hit.
       let conditions = are scope (sym placed) in
       sym (all_pass row masks)
@@ -72,11 +51,7 @@ tests-are expr places columns conds masks are found = record {
 
 -- ---- tests that are exact
 
--- what holds of the value of an option, at that value
-pub value-is : {X : Type 0} (o : Option X) (x : X) (P : X → Type 0) → o ≡ Some x → IfSome o P → P x
-value-is {X = X} o x P is holds = subst (λ (p : Option X). IfSome p P) is holds
-
-from-first : (masks : List Mask) (row : List Value) → passes_all masks row ≡ passes_at 0 masks row
+from-first : (masks : List ColumnTest) (row : List Value) → passes_all masks row ≡ passes_at 0 masks row
 from-first [] row = refl
 from-first (mask ∷ masks) row =
     let same : mask.column ≡ 0 + mask.column = omega arith in
@@ -85,9 +60,9 @@ from-first (mask ∷ masks) row =
 pub no_tests_exact : (places : List ℕ) (tests : List ColumnTest) → AreExactTests None places tests
 no_tests_exact places tests scope placed row passed = refl
 
-module _ (expr : Expr) (places : List ℕ) (columns : List Column) (conds : List BoundExpr) (masks : List Mask)
+module _ (expr : Expr) (places : List ℕ) (columns : List Column) (conds : List BoundExpr) (masks : List ColumnTest)
     (are : (scope : List InScope) → places ≡ places_in scope (names_in expr) → AreConditions scope (expr ∷ []) conds) (exact : AreExact conds 0 columns masks) where
-  same-tests : (scope : List InScope) → places_in scope (names_in expr) ≡ places → (row : TableRow) → passes_columns (map column_test masks) row ≡ is_matched scope (Some expr) row
+  same-tests : (scope : List InScope) → places_in scope (names_in expr) ≡ places → (row : TableRow) → passes_columns masks row ≡ is_matched scope (Some expr) row
   same-tests scope placed row =
       let conditions = are scope (sym placed) in
       sym (all_pass row masks)
@@ -95,13 +70,13 @@ module _ (expr : Expr) (places : List ℕ) (columns : List Column) (conds : List
       ∙ exact.same scope row.values conditions.placed
       ∙ conditions.same row.values
 
-  pub exact-tests : AreTests (Some expr) places columns (map column_test masks)
+  pub exact-tests : AreTests (Some expr) places columns masks
   exact-tests = record {
-    fit = all_fit columns masks exact.fit;
+    fit = exact.fit;
     pass = λ scope placed row hit. same-tests scope placed row ∙ hit;
   }
 
-  pub exact-match : AreExactTests (Some expr) places (map column_test masks)
+  pub exact-match : AreExactTests (Some expr) places masks
   exact-match scope placed row passed = sym (same-tests scope placed row) ∙ passed
 
 -- ---- slots

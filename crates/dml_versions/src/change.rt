@@ -1,17 +1,19 @@
 //! What a change returns.
 
-ghost use Rattle.std.specs.Prelude.{◌≡◌, ◌+◌, ◌<◌, ◌^◌, Some, IfOk, length, map, nat_lt, false};
+ghost use Rattle.std.specs.Prelude.{◌≡◌, ◌+◌, ◌<◌, ◌^◌, Some, IfOk, IfSome, IsSome, length, map};
+ghost use Rattle.std.specs.Prelude.{nat_lt, false};
 ghost use Rattle.std.specs.List.{AllByRecursion};
 ghost use Rattle.ldv_value.specs.Limits.{max_next};
 ghost use Rattle.dml_versions.specs.Changing.{matched_change, inserted_change, refused_change};
 ghost use Rattle.dml_versions.specs.Changing.{refused_by, reply_alone, change_with_lists, IsChildThere};
 ghost use Rattle.dml_versions.specs.Needing.{inserted_member};
 ghost use Rattle.dml_versions.specs.Versions.{versions_now};
-ghost use Rattle.table_store.specs.Histories.{tables_now};
+ghost use Rattle.table_store.specs.Histories.{history_at, tables_now};
 ghost use Rattle.sql_model.specs.Changes.{numbered_rows};
 
 use crate::found::FoundRows;
 use crate::needs::{inserted_members, made_of, with_child_row, with_key_rows};
+use crate::tables::table_of;
 use ldv_value::{List, MAX_NEXT, RowList, Utf8};
 use sql_model::{Members, Needs, Reply, SqlRefusal};
 use std::alloc::{AllocError, Global};
@@ -123,9 +125,34 @@ fn made_within(alloc: Global, name: &Utf8, next: u32, rows: &RowList) -> Result<
     inserted_members(alloc, name, next, rows)
 }
 
-/// What a change of a table returns that the store refuses. `needs` are the rows that it matches, and `all`
-/// are these and the parents of new rows.
-pub(crate) fn refused_change(
+/// What a change returns that the store refuses, in place of what it would return else. `needs` are the rows
+/// that it matches.
+pub(crate) fn refused_by_store(
+    store: &Store,
+    name: &Utf8,
+    needs: Needs,
+    change: Change,
+    stop: StoreStop,
+) -> Result<Change, AllocError>
+    requires { IsSome (history_at name.now store.now) }
+    ensures { IfOk result (λ refused. IfSome (history_at name.now store.now)
+        (λ table. IsChildThere (tables_now store.now) stop
+        → refused_change (versions_now store.now) name.now table.slots needs change.needs stop
+        ≡ Some refused)) }
+{
+    let Change {
+        reply: _reply,
+        made: _made,
+        needs: all,
+    } = change;
+    let table = table_of(store, name);
+    let refused = refused_change(store, name, table, needs, all, stop)?;
+    Ok(refused)
+}
+
+// What a change of a table returns that the store refuses. `needs` are the rows that it matches, and `all`
+// are these and the parents of new rows.
+fn refused_change(
     store: &Store,
     name: &Utf8,
     table: &TableStore,

@@ -1,45 +1,44 @@
 //! The rows of a table for which WHERE is True.
 
-ghost use Rattle.std.specs.Prelude.{◌≡◌, ◌++◌, ◌+◌, ◌*◌, ◌^◌, ◌<◌, ◌≤◌, length, true, IfOk, OnOk};
+ghost use Rattle.std.specs.Prelude.{◌≡◌, ◌++◌, ◌^◌, ◌<◌, length, true, IfOk, OnOk};
 ghost use Rattle.std.specs.Prelude.{slice_index_or};
-ghost use Rattle.lanes.specs.Sets.{member};
-ghost use Rattle.dml_versions.specs.Finding.{AllPass, CoverFound, IsPickPlaced, Passes, scope_in, test_in};
+ghost use Rattle.dml_versions.specs.Finding.{AllPass, CoverFound, IsConditionPlaced, Passes, scope_in, test_in};
 ghost use Rattle.dml_versions.specs.Finding.{found_at, found_from};
 ghost use Rattle.sql_model.specs.Changes.{is_matched};
 ghost use Rattle.sql_model.specs.Scope.{InScope};
 ghost use Rattle.sql_model.specs.Tables.{are_keys_unique, row_values};
-ghost use Rattle.dml_versions.specs.inner.Fixing.{FixesKey};
+ghost use Rattle.dml_versions.specs.inner.Fixing.{WhereFixesKey};
 ghost use Rattle.dml_versions.specs.inner.Testing.{AreTests, AreExactTests};
 ghost use Rattle.table_store.specs.Histories.{table_now, no_history};
 ghost use Rattle.std.specs.Prelude.{ℕ, List as Items};
 
 use crate::found::{Found, FoundRows};
-use crate::keys::picked_key;
+use crate::keys::key_of_condition;
 use crate::needs::version_of;
-use crate::tested::picked_tests;
+use crate::tested::tests_of_condition;
 use core_parts::is_certain;
-use lanes::next_one;
+use lanes::{after_member, next_one};
 use ldv_value::{List, Places, Values};
-use sql_model::{Expr, RowKey, truth_of};
+use sql_model::{ColumnTest, Expr, RowKey, truth_of};
 use std::alloc::{AllocError, Global};
-use table_store::{ColumnTest, TableStore};
+use table_store::TableStore;
 
 /// The rows of a table for which WHERE is True, or missing, in the order of their numbers. `places` are those
 /// of WHERE's columns.
 pub(crate) fn found_rows(
     alloc: Global,
     table: &TableStore,
-    pick: &Option<Expr>,
+    condition: &Option<Expr>,
     places: &Places,
 ) -> Result<FoundRows, AllocError>
-    requires placed { IsPickPlaced (scope_in table.now) pick.now places.now }
+    requires placed { IsConditionPlaced (scope_in table.now) condition.now places.now }
     requires unique { are_keys_unique table.now.schema.key (row_values (table_now table.now)) ≡ true }
-    ensures { IfOk result (λ found. found ≡ found_from (test_in table.now pick.now) table.now.slots 0) }
+    ensures { IfOk result (λ found. found ≡ found_from (test_in table.now condition.now) table.now.slots 0) }
 {
-    let fixed = picked_key(alloc, table.schema(), pick, places)?;
+    let fixed = key_of_condition(alloc, table.schema(), condition, places)?;
     match fixed {
-        None => found_in_slots(alloc, table, pick, places),
-        Some(values) => found_by_key(alloc, table, &RowKey { values }, pick, places),
+        None => found_in_slots(alloc, table, condition, places),
+        Some(values) => found_by_key(alloc, table, &RowKey { values }, condition, places),
     }
 }
 
@@ -47,19 +46,19 @@ pub(crate) fn found_rows(
 fn found_in_slots(
     alloc: Global,
     table: &TableStore,
-    pick: &Option<Expr>,
+    condition: &Option<Expr>,
     places: &Places,
 ) -> Result<FoundRows, AllocError>
-    requires placed { IsPickPlaced (scope_in table.now) pick.now places.now }
-    ensures { IfOk result (λ found. found ≡ found_from (test_in table.now pick.now) table.now.slots 0) }
+    requires placed { IsConditionPlaced (scope_in table.now) condition.now places.now }
+    ensures { IfOk result (λ found. found ≡ found_from (test_in table.now condition.now) table.now.slots 0) }
 {
-    let made = picked_tests(alloc, &table.schema().columns, pick, places)?;
+    let made = tests_of_condition(alloc, &table.schema().columns, condition, places)?;
     let found = found_by_tests(
         alloc,
         table,
         made.tests.as_slice(),
         made.exact,
-        pick,
+        condition,
         places,
     )?;
     Ok(found)
@@ -70,16 +69,16 @@ fn found_by_tests(
     table: &TableStore,
     tests: &[ColumnTest],
     exact: bool,
-    pick: &Option<Expr>,
+    condition: &Option<Expr>,
     places: &Places,
 ) -> Result<FoundRows, AllocError>
-    requires placed { IsPickPlaced (scope_in table.now) pick.now places.now }
-    requires tests { AreTests pick.now places.now table.now.schema.columns tests.now }
-    requires exact { exact ≡ true → AreExactTests pick.now places.now tests.now }
-    ensures { IfOk result (λ found. found ≡ found_from (test_in table.now pick.now) table.now.slots 0) }
+    requires placed { IsConditionPlaced (scope_in table.now) condition.now places.now }
+    requires tests { AreTests condition.now places.now table.now.schema.columns tests.now }
+    requires exact { exact ≡ true → AreExactTests condition.now places.now tests.now }
+    ensures { IfOk result (λ found. found ≡ found_from (test_in table.now condition.now) table.now.slots 0) }
 {
     let words = table.choose_slots(alloc, tests)?;
-    let found = found_among(alloc, table, words.as_slice(), exact, pick, places)?;
+    let found = found_among(alloc, table, words.as_slice(), exact, condition, places)?;
     Ok(found)
 }
 
@@ -90,14 +89,14 @@ fn found_among(
     table: &TableStore,
     words: &[u64],
     exact: bool,
-    pick: &Option<Expr>,
+    condition: &Option<Expr>,
     places: &Places,
 ) -> Result<FoundRows, AllocError>
-    requires placed { IsPickPlaced (scope_in table.now) pick.now places.now }
+    requires placed { IsConditionPlaced (scope_in table.now) condition.now places.now }
     requires few { length words.now < 2 ^ 57 }
-    requires cover { CoverFound words.now (test_in table.now pick.now) table.now.slots }
-    requires exact { exact ≡ true → AllPass words.now (test_in table.now pick.now) table.now.slots }
-    ensures { IfOk result (λ found. found ≡ found_from (test_in table.now pick.now) table.now.slots 0) }
+    requires cover { CoverFound words.now (test_in table.now condition.now) table.now.slots }
+    requires exact { exact ≡ true → AllPass words.now (test_in table.now condition.now) table.now.slots }
+    ensures { IfOk result (λ found. found ≡ found_from (test_in table.now condition.now) table.now.slots 0) }
 {
     let mut found = List::new(alloc);
     let mut at = 0;
@@ -105,22 +104,11 @@ fn found_among(
         match next_one(words, at) {
             None => return Ok(found),
             Some(slot) => {
-                add_found(alloc, table, slot, exact, pick, places, &mut found)?;
-                at = after(words, slot);
+                add_found(alloc, table, slot, exact, condition, places, &mut found)?;
+                at = after_member(words, slot);
             }
         }
     }
-}
-
-// The slot after one that is set.
-#[tactic(auto, using(lanes::proofs::SetLaws::slot_within))]
-fn after(words: &[u64], slot: u64) -> u64
-    requires few { length words.now < 2 ^ 57 }
-    requires set { member words.now slot ≡ true }
-    ensures next { result ≡ slot + 1 }
-    ensures within { result ≤ 64 * length words.now }
-{
-    slot + 1
 }
 
 // The row with the key that WHERE fixes, if WHERE is True for it.
@@ -128,13 +116,13 @@ fn found_by_key(
     alloc: Global,
     table: &TableStore,
     key: &RowKey,
-    pick: &Option<Expr>,
+    condition: &Option<Expr>,
     places: &Places,
 ) -> Result<FoundRows, AllocError>
-    requires placed { IsPickPlaced (scope_in table.now) pick.now places.now }
-    requires fixed { FixesKey pick.now places.now table.now.schema.key key.now.values }
+    requires placed { IsConditionPlaced (scope_in table.now) condition.now places.now }
+    requires fixed { WhereFixesKey condition.now places.now table.now.schema.key key.now.values }
     requires unique { are_keys_unique table.now.schema.key (row_values (table_now table.now)) ≡ true }
-    ensures { IfOk result (λ found. found ≡ found_from (test_in table.now pick.now) table.now.slots 0) }
+    ensures { IfOk result (λ found. found ≡ found_from (test_in table.now condition.now) table.now.slots 0) }
 {
     table.tell_order();
     let mut found = List::new(alloc);
@@ -143,7 +131,7 @@ fn found_by_key(
         Some(number) => match table.slot_of(number) {
             None => unreachable!(),
             Some(slot) => {
-                add_found(alloc, table, slot, false, pick, places, &mut found)?;
+                add_found(alloc, table, slot, false, condition, places, &mut found)?;
                 Ok(found)
             }
         },
@@ -156,21 +144,21 @@ fn add_found(
     table: &TableStore,
     slot: u64,
     known: bool,
-    pick: &Option<Expr>,
+    condition: &Option<Expr>,
     places: &Places,
     found: &mut FoundRows,
 ) -> Result<(), AllocError>
-    requires placed { IsPickPlaced (scope_in table.now) pick.now places.now }
+    requires placed { IsConditionPlaced (scope_in table.now) condition.now places.now }
     requires known { known ≡ true
-        → Passes (test_in table.now pick.now) (slice_index_or table.now.slots slot no_history) }
+        → Passes (test_in table.now condition.now) (slice_index_or table.now.slots slot no_history) }
     ensures { OnOk result
-        (found.new ≡ found.old ++ found_at (test_in table.now pick.now) table.now.slots slot) }
+        (found.new ≡ found.old ++ found_at (test_in table.now condition.now) table.now.slots slot) }
 {
     match table.slot_row(slot) {
         None => Ok(()),
         Some(number) => {
             let values = table.row_values(slot)?;
-            if !is_met(alloc, known, pick, &values, places)? {
+            if !is_met(alloc, known, condition, &values, places)? {
                 return Ok(());
             }
             let version = version_of(table, number);
@@ -187,33 +175,35 @@ fn add_found(
 fn is_met(
     alloc: Global,
     known: bool,
-    pick: &Option<Expr>,
+    condition: &Option<Expr>,
     values: &Values,
     places: &Places,
 ) -> Result<bool, AllocError>
-    ensures { IfOk result (λ is. (scope : Items InScope) (number : ℕ) → IsPickPlaced scope pick.now places.now
+    ensures { IfOk result (λ is. (scope : Items InScope) (number : ℕ)
+        → IsConditionPlaced scope condition.now places.now
         → (known ≡ true
-        → is_matched scope pick.now (record { number = number; values = values.now }) ≡ true)
-        → is ≡ is_matched scope pick.now (record { number = number; values = values.now })) }
+        → is_matched scope condition.now (record { number = number; values = values.now }) ≡ true)
+        → is ≡ is_matched scope condition.now (record { number = number; values = values.now })) }
 {
     if known {
         return Ok(true);
     }
-    let met = meets(alloc, pick, values, places)?;
+    let met = meets(alloc, condition, values, places)?;
     Ok(met)
 }
 
 // Whether WHERE is True over a row, or missing.
 fn meets(
     alloc: Global,
-    pick: &Option<Expr>,
+    condition: &Option<Expr>,
     values: &Values,
     places: &Places,
 ) -> Result<bool, AllocError>
-    ensures { IfOk result (λ is. (scope : Items InScope) (number : ℕ) → IsPickPlaced scope pick.now places.now
-        → is ≡ is_matched scope pick.now (record { number = number; values = values.now })) }
+    ensures { IfOk result (λ is. (scope : Items InScope) (number : ℕ)
+        → IsConditionPlaced scope condition.now places.now
+        → is ≡ is_matched scope condition.now (record { number = number; values = values.now })) }
 {
-    match pick {
+    match condition {
         None => Ok(true),
         Some(expr) => Ok(is_certain(truth_of(alloc, expr, values, places)?)),
     }

@@ -1,6 +1,7 @@
 //! INSERT.
 
-ghost use Rattle.std.specs.Prelude.{◌≡◌, ◌+◌, ◌<◌, [], false, length, nat_lt, Some, IfOk, IsTrue, OnOk, OnErr};
+ghost use Rattle.std.specs.Prelude.{◌≡◌, ◌+◌, ◌^◌, ◌<◌, [], false, length, nat_lt, Some, IfOk, IsTrue, OnOk};
+ghost use Rattle.std.specs.Prelude.{OnErr};
 ghost use Rattle.std.specs.Option.{option_map};
 ghost use Rattle.ldv_value.specs.Limits.{max_next};
 ghost use Rattle.dml_versions.specs.Changing.{IsInsert, IsCheckedOver, IsChange, IsStoreAfter};
@@ -11,12 +12,12 @@ ghost use Rattle.sql_model.specs.Changes.{numbered_rows};
 ghost use Rattle.sql_model.specs.Scope.{table_at};
 ghost use Rattle.table_store.specs.Histories.{tables_now};
 
-use crate::change::{Change, inserted_change, refused_change};
-use crate::needs::{numbered_rows, parents_with};
+use crate::change::{Change, inserted_change, refused_by_store};
+use crate::needs::{needs_by_references, numbered_rows};
 use crate::rows::new_rows;
 use crate::statements::insert_of;
 use crate::tables::table_of;
-use ldv_value::{List, MAX_NEXT, RowList};
+use ldv_value::{List, MAX_NEXT, RowList, Utf8};
 use sql_model::{Checked, Insert, Needs};
 use std::alloc::{AllocError, Global};
 use table_store::Store;
@@ -49,14 +50,8 @@ pub fn insert(
     match store.insert_all(name, rows, time) {
         Ok(_first) => Ok(change),
         Err(stop) => {
-            let Change {
-                reply: _reply,
-                made: _made,
-                needs,
-            } = change;
-            let table = table_of(store, &insert.table);
             let none = List::new(alloc);
-            let refused = refused_change(store, &insert.table, table, none, needs, stop)?;
+            let refused = refused_by_store(store, &insert.table, none, change, stop)?;
             Ok(refused)
         }
     }
@@ -99,9 +94,29 @@ fn within_needs(
     if rows.len() > (MAX_NEXT - next) as usize {
         return Ok(List::new(alloc));
     }
+    let needs = new_row_needs(alloc, store, &insert.table, next, rows)?;
+    Ok(needs)
+}
+
+// The parents of new rows of a table, whose rows are copied only where it has a foreign key.
+fn new_row_needs(
+    alloc: Global,
+    store: &Store,
+    name: &Utf8,
+    next: u32,
+    rows: &RowList,
+) -> Result<Needs, AllocError>
+    requires next { option_map (λ table. table.next) (table_at name.now (tables_now store.now)) ≡ Some next }
+    requires fits { next + length rows.now < 2 ^ 32 }
+    ensures { IfOk result (HaveParents store.now name.now (numbered_rows next rows.now) []) }
+{
+    let table = table_of(store, name);
+    if table.schema().foreign.is_empty() {
+        return Ok(List::new(alloc));
+    }
     let given = numbered_rows(alloc, rows, next)?;
     let none = List::new(alloc);
-    let needs = parents_with(store, &insert.table, &given, &none)?;
+    let needs = needs_by_references(store, name, &given, &none)?;
     Ok(needs)
 }
 

@@ -1,7 +1,7 @@
 //! The key that WHERE fixes.
 
 ghost use Rattle.std.specs.Prelude.{◌≡◌, Some, IfOk, IfSome};
-ghost use Rattle.dml_versions.specs.inner.Fixing.{FixesKey};
+ghost use Rattle.dml_versions.specs.inner.Fixing.{WhereFixesKey};
 
 use core_parts::{conjuncts_of, fixed_key};
 use ldv_value::{Places, Values};
@@ -10,15 +10,15 @@ use std::alloc::{AllocError, Global};
 
 /// The key of all rows for which WHERE is True, if WHERE compares each of the key's columns by `=` with a
 /// constant. `places` are those of WHERE's columns.
-pub(crate) fn picked_key(
+pub(crate) fn key_of_condition(
     alloc: Global,
     schema: &Schema,
-    pick: &Option<Expr>,
+    condition: &Option<Expr>,
     places: &Places,
 ) -> Result<Option<Values>, AllocError>
-    ensures { IfOk result (λ fixed. IfSome fixed (FixesKey pick.now places.now schema.now.key)) }
+    ensures { IfOk result (λ fixed. IfSome fixed (WhereFixesKey condition.now places.now schema.now.key)) }
 {
-    match pick {
+    match condition {
         None => Ok(None),
         Some(expr) => key_by(alloc, schema, expr, places),
     }
@@ -31,7 +31,7 @@ fn key_by(
     expr: &Expr,
     places: &Places,
 ) -> Result<Option<Values>, AllocError>
-    ensures { IfOk result (λ fixed. IfSome fixed (FixesKey (Some expr.now) places.now schema.now.key)) }
+    ensures { IfOk result (λ fixed. IfSome fixed (WhereFixesKey (Some expr.now) places.now schema.now.key)) }
 {
     let conds = conjuncts_of(alloc, expr, places)?;
     let fixed = fixed_key(alloc, conds.items(), 0, schema)?;

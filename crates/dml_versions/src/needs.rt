@@ -7,8 +7,8 @@ ghost use Rattle.std.specs.List.{AllByRecursion, position_or_len};
 ghost use Rattle.std.specs.Option.{option_map, option_map_or};
 ghost use Rattle.sql_model.specs.Changes.{numbered_rows};
 ghost use Rattle.dml_versions.specs.Finding.{version_of};
-ghost use Rattle.dml_versions.specs.Needing.{need_found, updated_member, inserted_member, number_found, key_need};
-ghost use Rattle.dml_versions.specs.Needing.{put_need, put_some, with_key_rows, with_parent_rows};
+ghost use Rattle.dml_versions.specs.Needing.{need_found, updated_member, inserted_member, number_found};
+ghost use Rattle.dml_versions.specs.Needing.{key_need, put_need, put_some, with_key_rows, with_parent_rows};
 ghost use Rattle.dml_versions.specs.Needing.{child_need, with_child_row, HaveParents, IsRowThere};
 ghost use Rattle.dml_versions.specs.Versions.{versions_now};
 ghost use Rattle.sql_model.specs.Scope.{table_at};
@@ -16,6 +16,7 @@ ghost use Rattle.table_store.specs.Histories.{tables_now};
 ghost use Rattle.table_store.specs.Referring.{CanBePut};
 
 use crate::found::FoundRows;
+use crate::tables::table_of;
 use core_parts::{needed_by, needs_in_order, union_of_needs};
 use ldv_value::{List, Numbers, RowList, Utf8};
 use sql_model::{Member, Members, Need, Needs, Rule, TableRow, TableRows};
@@ -197,7 +198,7 @@ fn has_row_at(needs: &[Need], place: usize, row: u32) -> bool
 }
 
 /// Needs, and those of the parents of rows of a table, once these are put, where lists are kept; else none.
-pub(crate) fn with_parents(
+pub(crate) fn parent_needs_if(
     store: &Store,
     name: &Utf8,
     rows: &TableRows,
@@ -209,14 +210,34 @@ pub(crate) fn with_parents(
     ensures { IfOk result (λ all. IsTrue keep → HaveParents store.now name.now rows.now needs.now all) }
 {
     if keep {
-        parents_with(store, name, rows, needs)
+        parent_needs(store, name, rows, needs)
     } else {
         Ok(List::new(needs.allocator()))
     }
 }
 
-/// Needs, and those of the parents of rows of a table, once these are put.
-pub(crate) fn parents_with(
+// Needs, and those of the parents of rows of a table, once these are put. Where the table has no foreign key
+// nothing is looked up.
+fn parent_needs(
+    store: &Store,
+    name: &Utf8,
+    rows: &TableRows,
+    needs: &Needs,
+) -> Result<Needs, AllocError>
+    requires there { IsSome (table_at name.now (tables_now store.now)) }
+    requires put { IfSome (table_at name.now (tables_now store.now)) (CanBePut rows.now) }
+    ensures { IfOk result (HaveParents store.now name.now rows.now needs.now) }
+{
+    let table = table_of(store, name);
+    if table.schema().foreign.is_empty() {
+        return needs.copy();
+    }
+    let all = needs_by_references(store, name, rows, needs)?;
+    Ok(all)
+}
+
+/// Needs, and those of the parents of rows of a table by its foreign keys, once these rows are put.
+pub(crate) fn needs_by_references(
     store: &Store,
     name: &Utf8,
     rows: &TableRows,

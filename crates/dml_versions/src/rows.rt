@@ -6,8 +6,9 @@ ghost use Rattle.dml_versions.specs.inner.Making.{place_given, places_given, IsP
 ghost use Rattle.dml_versions.specs.inner.Making.{values_from};
 ghost use Rattle.sql_model.specs.Changes.{plain_value};
 
+use core_parts::constant_value;
 use ldv_value::{List, Names, RowList, Utf8, Value, Values};
-use sql_model::{Column, Expr, ExprRows, Exprs, value_of};
+use sql_model::{Column, Expr, ExprRows, Exprs};
 use std::alloc::{AllocError, Global};
 
 /// The values of the new rows of an INSERT.
@@ -117,14 +118,11 @@ fn value_from(alloc: Global, source: Option<usize>, exprs: &Exprs) -> Result<Val
 }
 
 // The value of an expression that names no column.
-#[tactic(auto, using(crate::proofs::MadeLaws::plain_is))]
 fn plain_value(alloc: Global, expr: &Expr) -> Result<Value, AllocError>
     requires { IsPlain expr.now }
     ensures { IfOk result (λ value. value ≡ plain_value expr.now) }
 {
-    let row = List::new(alloc);
-    let places = List::new(alloc);
-    let value = value_of(alloc, expr, &row, &places)?;
+    let value = constant_value(alloc, expr)?;
     Ok(value)
 }
 

@@ -1,15 +1,13 @@
 //! Tests of single columns that WHERE makes, by which a table chooses rows before WHERE is evaluated.
 
-ghost use Rattle.std.specs.Prelude.{◌≡◌, List as Items, Some, IfOk, map, true, false};
-ghost use Rattle.core_parts.specs.Masking.{AreMasks};
-ghost use Rattle.core_parts.specs.declared.mask.Mask.{Mask as Given};
-ghost use Rattle.dml_versions.specs.inner.Testing.{AreTests, AreExactTests, cell_test, column_test};
+ghost use Rattle.std.specs.Prelude.{◌≡◌, Some, IfOk, true, false};
+ghost use Rattle.core_parts.specs.Masking.{AreMasks, AreExact};
+ghost use Rattle.dml_versions.specs.inner.Testing.{AreTests, AreExactTests};
 
-use core_parts::{Mask, MaskTest, BoundExpr, conjuncts_of, exact_masks, masks_of};
+use core_parts::{BoundExpr, conjuncts_of, exact_masks, masks_of};
 use ldv_value::{List, Places};
-use sql_model::{Columns, Expr};
+use sql_model::{ColumnTest, Columns, Expr};
 use std::alloc::{AllocError, Global};
-use table_store::{CellTest, ColumnTest};
 
 /// Tests of columns that each row passes for which WHERE is True. Where they are exact, WHERE is True for
 /// each row that passes them.
@@ -20,17 +18,17 @@ pub(crate) struct WhereTests {
 }
 
 /// The tests of columns that WHERE makes; none where it is missing. `places` are those of WHERE's columns.
-pub(crate) fn picked_tests(
+pub(crate) fn tests_of_condition(
     alloc: Global,
     columns: &Columns,
-    pick: &Option<Expr>,
+    condition: &Option<Expr>,
     places: &Places,
 ) -> Result<WhereTests, AllocError>
-    ensures tests { IfOk result (λ made. AreTests pick.now places.now columns.now made.tests.items) }
+    ensures tests { IfOk result (λ made. AreTests condition.now places.now columns.now made.tests.items) }
     ensures exact { IfOk result (λ made. made.exact ≡ true
-        → AreExactTests pick.now places.now made.tests.items) }
+        → AreExactTests condition.now places.now made.tests.items) }
 {
-    match pick {
+    match condition {
         None => Ok(WhereTests {
             tests: Vec::new(alloc),
             exact: true,
@@ -52,10 +50,24 @@ fn tests_by(
         → AreExactTests (Some expr.now) places.now made.tests.items) }
 {
     let conds = conjuncts_of(alloc, expr, places)?;
-    let exact = exact_masks(alloc, conds.items(), 0, columns)?;
-    match exact {
-        None => some_tests(alloc, columns, &conds),
-        Some(masks) => exact_tests(alloc, masks.as_slice()),
+    let made = tests_of_conjuncts(alloc, columns, &conds)?;
+    Ok(made)
+}
+
+// The tests that conjuncts are, if each is one, and else those that some of them are.
+fn tests_of_conjuncts(
+    alloc: Global,
+    columns: &Columns,
+    conds: &List<BoundExpr>,
+) -> Result<WhereTests, AllocError>
+    ensures masks { IfOk result (λ made. made.exact ≡ false
+        → AreMasks conds.now 0 columns.now made.tests.items) }
+    ensures exact { IfOk result (λ made. made.exact ≡ true
+        → AreExact conds.now 0 columns.now made.tests.items) }
+{
+    match exact_masks(alloc, conds.items(), 0, columns)? {
+        None => some_tests(alloc, columns, conds),
+        Some(tests) => Ok(WhereTests { tests, exact: true }),
     }
 }
 
@@ -65,52 +77,12 @@ fn some_tests(
     columns: &Columns,
     conds: &List<BoundExpr>,
 ) -> Result<WhereTests, AllocError>
-    ensures tests { IfOk result (λ made. (masks : Items Given) × AreMasks conds.now 0 columns.now masks
-        × (made.tests.items ≡ map column_test masks)) }
+    ensures tests { IfOk result (λ made. AreMasks conds.now 0 columns.now made.tests.items) }
     ensures exact { IfOk result (λ made. made.exact ≡ false) }
 {
-    let masks = masks_of(alloc, conds.items(), 0, columns)?;
-    let tests = tests_of(alloc, masks.as_slice())?;
+    let tests = masks_of(alloc, conds.items(), 0, columns)?;
     Ok(WhereTests {
         tests,
         exact: false,
     })
-}
-
-// Tests that only rows pass for which WHERE is True.
-fn exact_tests(alloc: Global, masks: &[Mask]) -> Result<WhereTests, AllocError>
-    ensures { IfOk result (λ made. made.tests.items ≡ map column_test masks.now) }
-{
-    let tests = tests_of(alloc, masks)?;
-    Ok(WhereTests { tests, exact: true })
-}
-
-fn tests_of(alloc: Global, masks: &[Mask]) -> Result<Vec<ColumnTest>, AllocError>
-    ensures { IfOk result (λ tests. tests.items ≡ map column_test masks.now) }
-{
-    let mut tests = Vec::with_capacity(alloc, masks.len())?;
-    for mask in masks {
-        tests.push(column_test(*mask))?;
-    }
-    Ok(tests)
-}
-
-fn column_test(mask: Mask) -> ColumnTest
-    ensures { result ≡ column_test mask }
-{
-    ColumnTest {
-        column: mask.column as u64,
-        test: cell_test(mask.test),
-    }
-}
-
-// A condition's test of a value, as a table makes it.
-fn cell_test(test: MaskTest) -> CellTest
-    ensures { result ≡ cell_test test }
-{
-    match test {
-        MaskTest::Compares(op, constant) => CellTest::Compare { op, constant },
-        MaskTest::IsNull => CellTest::IsNull,
-        MaskTest::IsNotNull => CellTest::IsNotNull,
-    }
 }

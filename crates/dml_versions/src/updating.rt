@@ -6,10 +6,10 @@ ghost use Rattle.dml_versions.specs.Changing.{ArePrepared};
 ghost use Rattle.dml_versions.specs.Types.{TheUpdate};
 ghost use Rattle.table_store.specs.Histories.{tables_now};
 
-use crate::change::{Change, matched_change, refused_change};
+use crate::change::{Change, matched_change, refused_by_store};
 use crate::finding::found_rows;
 use crate::found::FoundRows;
-use crate::needs::{needs_of, with_parents};
+use crate::needs::{needs_of, parent_needs_if};
 use crate::places::update_places;
 use crate::statements::update_of;
 use crate::tables::table_of;
@@ -43,19 +43,13 @@ pub fn update(
     let prepared = prepare(checked, update, store)?;
     let Prepared { found, rows } = prepared;
     let needs = needs_of(alloc, &update.table, &found, keep)?;
-    let all = with_parents(store, &update.table, &rows, &needs, keep)?;
+    let all = parent_needs_if(store, &update.table, &rows, &needs, keep)?;
     let change = matched_change(alloc, &update.table, &found, all, keep)?;
     let name = update.table.as_str();
     match store.replace_all(name, rows, time) {
         Ok(()) => Ok(change),
         Err(stop) => {
-            let Change {
-                reply: _reply,
-                made: _made,
-                needs: all,
-            } = change;
-            let table = table_of(store, &update.table);
-            let refused = refused_change(store, &update.table, table, needs, all, stop)?;
+            let refused = refused_by_store(store, &update.table, needs, change, stop)?;
             Ok(refused)
         }
     }
@@ -78,7 +72,7 @@ fn prepare(checked: &Checked, update: &Update, store: &Store) -> Result<Prepared
     let places = update_places(alloc, update, column_indexes(checked, 0, &none))?;
     store.tell_formed();
     let table = table_of(store, &update.table);
-    let found = found_rows(alloc, table, &update.pick, &places.pick)?;
+    let found = found_rows(alloc, table, &update.condition, &places.condition)?;
     let columns = table.schema().columns.items();
     let rows = updated_rows(alloc, columns, update, &places.sets, &found)?;
     Ok(Prepared { found, rows })

@@ -7,10 +7,10 @@ use Rattle.core_parts.specs.Equality.{IsColumn}
 use Rattle.core_parts.specs.Placing.{IsPlaced}
 use Rattle.core_parts.specs.declared.placed.BoundExpr.{BoundExpr}
 use Rattle.lineage.specs.declared.answer.Pick.{Pick}
-use Rattle.group_eval.proofs.SettleLaws.{column_first}
+use Rattle.group_eval.proofs.BoundLaws.{column_first}
 use Rattle.group_eval.specs.inner.Columns.{value_in, IsValueAt}
 use Rattle.group_eval.specs.Folding.{pick_environment, pick_environments, value_over, group_meaning}
-use Rattle.group_eval.specs.inner.Settling.{first_meaning, IsSettled}
+use Rattle.group_eval.specs.inner.BoundAggregates.{first_meaning, IsBound}
 use Rattle.group_eval.specs.Types.{Expr, Fold, Value}
 use Rattle.sql_model.proofs.Folds.{fold-Column, fold-Count, fold-Aggregate}
 use Rattle.sql_model.specs.Kinds.{names_in, names_step}
@@ -40,7 +40,7 @@ values_at_place scope expr place same (pick ∷ picks) = λ j. same pick j ∷ v
 
 module _ (picks : List Pick) where
   -- a column means over the first row what it means over the group
-  pub column_read : (placed : BoundExpr) → IsColumn placed.expr → (scope : List InScope) → IsPlaced scope placed → IsSettled scope picks placed.expr placed
+  pub column_read : (placed : BoundExpr) → IsColumn placed.expr → (scope : List InScope) → IsPlaced scope placed → IsBound scope picks placed.expr placed
   column_read placed (name, is) scope at = record {
     placed = at;
     same = subst (λ (e : Expr). first_meaning scope picks e ≡ group_meaning scope picks e) (sym is) (column_first picks scope name);

@@ -1,6 +1,6 @@
 pub mod AddLaws
+pub mod BoundLaws
 pub mod ColumnLaws
 pub mod CoreLaws
 pub mod GroupLaws
-pub mod SettleLaws
 pub mod UnitingLaws

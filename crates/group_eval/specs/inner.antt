@@ -1,3 +1,3 @@
+pub mod BoundAggregates
 pub mod Columns
 pub mod Planning
-pub mod Settling

@@ -12,10 +12,10 @@ ghost use Rattle.core_parts.specs.Placing.{AreAllPlaced};
 ghost use Rattle.sql_model.specs.Scope.{InScope};
 
 use crate::columns::KnownColumn;
+use crate::group_value::{group_truth, group_value};
 use crate::groups::{KeyedGroup, groups_of};
 use crate::lineages::{add_lineages, lineage_of_picks};
 use crate::plan::{Plan, plan_of};
-use crate::bind_aggregates::{group_truth, group_value};
 use core_parts::{BoundExpr, Refs, core_of, is_certain, column_indexes};
 use ldv_value::{List, Values};
 use lineage::{Answer, Answers, LineageSet, Pick, Picks};

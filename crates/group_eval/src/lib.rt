@@ -3,7 +3,7 @@
 //! What it promises stands in `docs/GUARANTEES.md`, how it works in `docs/ARCHITECTURE.md`.
 #![tactic(auto)]
 
-mod bind_aggregates;
+mod group_value;
 mod columns;
 mod folds;
 mod grouping;

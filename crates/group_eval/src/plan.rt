@@ -1,6 +1,6 @@
 //! What is evaluated over the groups of a core.
 
-ghost use Rattle.std.specs.Prelude.{◌≡◌, ◌++◌, [], List as Items, ℕ, drop, IfOk, OnOk};
+ghost use Rattle.std.specs.Prelude.{◌≡◌, ◌++◌, [], List as Items, ℕ, drop, IfOk};
 ghost use Rattle.std.specs.Prelude.{option_to_list, unwrap_or};
 ghost use Rattle.std.specs.List.{flat_map};
 ghost use Rattle.group_eval.specs.inner.Planning.{AreItems, IsHaving, IsPlan};
@@ -8,7 +8,7 @@ ghost use Rattle.sql_model.specs.Kinds.{names_in};
 ghost use Rattle.sql_model.specs.Refusals.{core_names, items_of, names_of_items};
 ghost use Rattle.sql_model.specs.Scope.{InScope, places_in};
 
-use core_parts::{BoundExpr, placed_at, placed_items, take_place, take_places};
+use core_parts::{BoundExpr, placed_at, placed_items, skip_places, take_place};
 use ldv_value::{List, Places};
 use sql_model::{ColumnName, Core, Expr, Items as CoreItems};
 use std::alloc::{AllocError, Global};
@@ -41,21 +41,15 @@ fn planned_items(
 }
 
 // Passes the places of conditions over.
-fn skip_conditions(
-    alloc: Global,
-    conditions: &[Expr],
-    places: &Places,
-    at: &mut usize,
-) -> Result<(), AllocError>
-    ensures { OnOk result ((scope : Items InScope) (more : Items ℕ)
+fn skip_conditions(conditions: &[Expr], places: &Places, at: &mut usize)
+    ensures { (scope : Items InScope) (more : Items ℕ)
         → drop at.old places.now ≡ places_in scope (flat_map names_in conditions.now) ++ more
-        → drop at.new places.now ≡ more) }
+        → drop at.new places.now ≡ more }
 {
-    let mut passed = List::new(alloc);
     for condition in conditions {
-        take_places(condition, places, at, &mut passed)?;
+        let end = skip_places(condition, places, *at);
+        *at = end;
     }
-    Ok(())
 }
 
 // The places of columns.
@@ -100,7 +94,7 @@ pub(crate) fn plan_of(alloc: Global, core: &Core, places: &Places) -> Result<Pla
 {
     let mut at = 0;
     let items = planned_items(alloc, &core.items, places, &mut at)?;
-    skip_conditions(alloc, core.picks.items(), places, &mut at)?;
+    skip_conditions(core.conditions.items(), places, &mut at);
     let group = column_places(alloc, core.group.items(), places, &mut at)?;
     let having = plan_having(alloc, &core.having, places, &mut at)?;
     Ok(Plan {

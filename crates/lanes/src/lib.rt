@@ -10,7 +10,7 @@ mod plain;
 mod select;
 mod sets;
 
-pub use members::{count, next_one};
+pub use members::{after_member, count, next_one};
 pub use plain::{
     plain_and_into, plain_count, plain_minus_into, plain_next_one, plain_or_into, plain_select_i64,
 };

@@ -1,10 +1,10 @@
 //! The number of members of a set, and the next member.
 
 ghost use Rattle.std.specs.Prelude.{◌≡◌, ℕ, ◌+◌, ◌*◌, ◌^◌, ◌<◌, ◌≤◌, length, drop, sum_by, count_ones};
-ghost use Rattle.std.specs.Prelude.{slice_index, IsTrue};
+ghost use Rattle.std.specs.Prelude.{slice_index, true, IsTrue};
 ghost use Rattle.std.specs.Int.{bit_at};
 ghost use Rattle.std.specs.Simd.Lanes.{chunk};
-ghost use Rattle.lanes.specs.Sets.{size, IsNext, IsLowest};
+ghost use Rattle.lanes.specs.Sets.{member, size, IsNext, IsLowest};
 
 use std::simd::prelude::*;
 
@@ -57,6 +57,17 @@ pub fn next_one(a: &[u64], from: u64) -> Option<u64>
         Some(bit) => Some(place * 64 + bit),
         None => next_after(a, place as usize + 1),
     }
+}
+
+/// The number after a member, from which `next_one` finds the next.
+#[tactic(auto, using(crate::proofs::SetLaws::slot_within))]
+pub fn after_member(a: &[u64], number: u64) -> u64
+    requires few { length a.now < 2 ^ 57 }
+    requires set { member a.now number ≡ true }
+    ensures next { result ≡ number + 1 }
+    ensures within { result ≤ 64 * length a.now }
+{
+    number + 1
 }
 
 // The lowest bit that is set in a word, from a bit on.

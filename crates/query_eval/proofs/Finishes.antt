@@ -14,12 +14,12 @@ use Rattle.core_parts.proofs.CorePlaces.{statement-is}
 use Rattle.query_eval.specs.Finishing.{as_key, sort_columns, by_columns, IsLimited, IsFinished, rows_in_order}
 use Rattle.query_eval.specs.Merging.{lineage_of_answers}
 use Rattle.query_eval.specs.Types.{Checked, Order, Query, TheQuery}
-use Rattle.query_eval.specs.declared.finishing.Finished.{Finished}
+use Rattle.query_eval.specs.declared.order_limit.Finished.{Finished}
 use Rattle.query_eval.specs.declared.sort.SortColumn.{SortColumn}
 use Rattle.sql_model.specs.Needs.{Versions}
 use Rattle.sql_model.specs.Places.{core_places, order_places}
 use Rattle.sql_model.specs.QueryAnswer.{AnswerRow, SortKey, lineage_of, sort_key, order_by, sort_rows, limit_of, first_rows, other_rows}
-use Rattle.sql_model.specs.Refusals.{answer_titles}
+use Rattle.sql_model.specs.Refusals.{answer_columns}
 use Rattle.sql_model.specs.Sorting.{put_sorted, sorted_by}
 
 -- ---- the columns to sort by
@@ -93,7 +93,7 @@ pub finished-is : (checked : Checked) (own : Query) (answers : List Answer) (col
     → IsFinished checked answers finished
 finished-is checked own answers columns finished statement by limited query catalog names versions keep rows is stand =
     let same : own ≡ query = same-query own query (sym statement ∙ statement-is checked query catalog is) in
-    let titles : List (Option (List ℕ)) = answer_titles catalog query.cores in
+    let titles : List (Option (List ℕ)) = answer_columns catalog query.cores in
     let places : places_at checked (length query.cores) ≡ order_places titles query.order =
     ap (λ (c : Checked). places_at c (length query.cores)) is
     ∙ ap (λ (o : Option (List ℕ)). unwrap_or o []) (got-last (core_places catalog) query.cores (order_places titles query.order)) in

@@ -12,7 +12,7 @@ use Rattle.core_parts.specs.Conditions.{meets}
 use Rattle.core_parts.specs.Equality.{equals}
 use Rattle.query_eval.specs.inner.Joining.{combos, tests, is_ready, ready_conditions, later_conditions, extensions_left, extensions_of, extensions_of_all, EachHas, HasProbe, extensions_by_probe}
 use Rattle.core_parts.specs.Placing.{IsPlaced, AreAllPlaced}
-use Rattle.query_eval.specs.Sourcing.{joined_row_values, AreWide}
+use Rattle.query_eval.specs.Sources.{joined_row_values, AreWide}
 use Rattle.query_eval.specs.Types.{ColumnName, Value}
 use Rattle.core_parts.specs.declared.placed.BoundExpr.{BoundExpr}
 use Rattle.query_eval.specs.declared.probe.Probe.{Probe}

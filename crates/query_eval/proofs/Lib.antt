@@ -2,8 +2,7 @@ pub mod Absorbs
 pub mod Agree
 pub mod Finishes
 pub mod Indexes
-pub mod KeyedLaws
-pub mod LeavingLaws
+pub mod KeyLookupLaws
 pub mod Levels
 pub mod Merges
 pub mod Picks
@@ -11,5 +10,6 @@ pub mod Probes
 pub mod Product
 pub mod Projections
 pub mod SinglePicks
-pub mod StoredLaws
+pub mod StoredSourceLaws
+pub mod TableScanLaws
 pub mod Widths

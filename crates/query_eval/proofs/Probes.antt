@@ -7,7 +7,7 @@ use Rattle.query_eval.proofs.Levels.{joined_row_values-one}
 use Rattle.core_parts.proofs.Equalities.{equals-turned}
 use Rattle.core_parts.specs.Equality.{equals}
 use Rattle.query_eval.specs.inner.Joining.{IsBetween, IsEquality, IsProbeOf}
-use Rattle.query_eval.specs.Sourcing.{joined_row_values}
+use Rattle.query_eval.specs.Sources.{joined_row_values}
 use Rattle.query_eval.specs.Types.{ColumnName, Compare, Expr, Null, Value}
 use Rattle.core_parts.specs.declared.placed.BoundExpr.{BoundExpr}
 use Rattle.query_eval.specs.declared.probe.Probe.{Probe}

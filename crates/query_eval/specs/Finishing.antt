@@ -7,12 +7,12 @@ use Rattle.lineage.specs.declared.answer.Answer.{Answer}
 use Rattle.core_parts.specs.Checking.{IsChecked}
 use Rattle.query_eval.specs.Merging.{lineage_of_answers}
 use Rattle.query_eval.specs.Types.{Catalog, Checked, Order, Query}
-use Rattle.query_eval.specs.declared.finishing.Finished.{Finished}
+use Rattle.query_eval.specs.declared.order_limit.Finished.{Finished}
 use Rattle.query_eval.specs.declared.sort.SortColumn.{SortColumn}
 use Rattle.sql_model.specs.Needs.{Versions}
 use Rattle.sql_model.specs.QueryAnswer.{AnswerRow, SortKey, lineage_of, sort_key, order_by, sort_rows}
 use Rattle.sql_model.specs.QueryAnswer.{limit_of, first_rows, other_rows}
-use Rattle.sql_model.specs.Refusals.{answer_titles}
+use Rattle.sql_model.specs.Refusals.{answer_columns}
 
 -- ---- columns to sort by
 
@@ -41,7 +41,7 @@ pub record IsLimited (limit : Option ℕ) (answers : List Answer) (finished : Fi
 -- the rows of a query's cores, sorted
 abbrev pub rows_in_order : Query → Catalog → List AnswerRow → List AnswerRow
 rows_in_order query catalog rows = sort_rows
-    (map (sort_key (answer_titles catalog query.cores)) query.order) rows
+    (map (sort_key (answer_columns catalog query.cores)) query.order) rows
 
 -- the answers that LIMIT keeps of the sorted rows, and the lineage of those that it cuts
 abbrev pub IsFinished : Checked → List Answer → Finished → Type 0

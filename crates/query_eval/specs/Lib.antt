@@ -1,10 +1,10 @@
 pub mod Finishing
-pub mod Keyed
-pub mod Leaving
+pub mod KeyLookup
 pub mod Merging
 pub mod Picking
 pub mod Projecting
-pub mod Sourcing
-pub mod Stored
+pub mod Sources
+pub mod StoredSources
+pub mod TableScan
 pub mod Types
 pub mod inner

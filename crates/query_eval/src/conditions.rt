@@ -1,55 +1,40 @@
 //! The conjuncts of ON and WHERE.
 
-ghost use Rattle.std.specs.Prelude.{◌≡◌, ◌++◌, List as Items, ℕ, drop, IfOk, OnOk};
+ghost use Rattle.std.specs.Prelude.{◌≡◌, ◌++◌, List as Items, ℕ, drop, IfOk};
 ghost use Rattle.std.specs.List.{flat_map};
 ghost use Rattle.core_parts.specs.Checking.{HasCore};
 ghost use Rattle.core_parts.specs.Conditions.{Adds, AreConditions};
 ghost use Rattle.query_eval.specs.inner.Conditions.{AreOfCore};
 ghost use Rattle.sql_model.specs.Kinds.{names_in};
-ghost use Rattle.sql_model.specs.Refusals.{core_names, items_of, names_of_items};
+ghost use Rattle.sql_model.specs.Refusals.{core_names, names_of_items};
 ghost use Rattle.sql_model.specs.Scope.{InScope, places_in};
 
-use core_parts::{BoundExpr, conjuncts, core_of, column_indexes, take_places};
+use core_parts::{BoundExpr, column_indexes, conjuncts, core_of, skip_places};
 use ldv_value::{List, Places};
-use sql_model::{Checked, Core, Item};
+use sql_model::{Checked, Core, Item, items_of};
 use std::alloc::{AllocError, Global};
 
-// The items that are written; `*` is none.
-fn items_of(core: &Core) -> &[Item]
-    ensures { result.now ≡ items_of core.now }
-{
-    match &core.items {
-        None => &[],
-        Some(items) => items.items(),
-    }
-}
-
 // Passes the places of items over.
-fn skip_items(
-    alloc: Global,
-    items: &[Item],
-    places: &Places,
-    at: &mut usize,
-) -> Result<(), AllocError>
-    ensures { OnOk result ((scope : Items InScope) (more : Items ℕ)
+fn skip_items(items: &[Item], places: &Places, at: &mut usize)
+    ensures { (scope : Items InScope) (more : Items ℕ)
         → drop at.old places.now ≡ places_in scope (names_of_items items.now) ++ more
-        → drop at.new places.now ≡ more) }
+        → drop at.new places.now ≡ more }
 {
-    let mut passed = List::new(alloc);
     for item in items {
-        take_places(&item.expr, places, at, &mut passed)?;
+        let end = skip_places(&item.expr, places, *at);
+        *at = end;
     }
-    Ok(())
 }
 
 // The conjuncts of ON and WHERE of a core, with their places among those of the core.
 fn conditions_of(alloc: Global, core: &Core, places: &Places) -> Result<List<BoundExpr>, AllocError>
     ensures { IfOk result (λ conds. (scope : Items InScope)
-        → places.now ≡ places_in scope (core_names core.now) → AreConditions scope core.now.picks conds) }
+        → places.now ≡ places_in scope (core_names core.now)
+        → AreConditions scope core.now.conditions conds) }
 {
     let mut at = 0;
-    skip_items(alloc, items_of(core), places, &mut at)?;
-    conjuncts(alloc, core.picks.items(), places, at)
+    skip_items(items_of(core), places, &mut at);
+    conjuncts(alloc, core.conditions.items(), places, at)
 }
 
 /// The conjuncts of ON and WHERE of the core at a place, from 0.

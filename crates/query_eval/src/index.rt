@@ -4,7 +4,7 @@ ghost use Rattle.std.specs.Prelude.{◌≡◌, ◌++◌, ◌∷◌, [], List as 
 ghost use Rattle.std.specs.Prelude.{true, false, None, unwrap_or};
 ghost use Rattle.std.specs.Option.{option_map};
 ghost use Rattle.query_eval.specs.inner.Joining.{rows_listed, row_added, with_value, IsIndex};
-ghost use Rattle.query_eval.specs.Sourcing.{joined_row_values};
+ghost use Rattle.query_eval.specs.Sources.{joined_row_values};
 ghost use Rattle.query_eval.specs.Types.{Value as Seen, Null};
 ghost use Rattle.query_eval.specs.declared.source.SourceRow.{SourceRow as Given};
 ghost use Rattle.sql_model.specs.Meaning.{is_null};

@@ -11,7 +11,7 @@ ghost use Rattle.core_parts.specs.Conditions.{meets};
 ghost use Rattle.query_eval.specs.inner.Joining.{combos, tests, is_ready, ready_conditions, later_conditions, extensions_left, extensions_of};
 ghost use Rattle.query_eval.specs.inner.Joining.{extensions_of_all, EachHas, IsIndex, extensions_by_probe};
 ghost use Rattle.core_parts.specs.Placing.{IsPlaced, AreAllPlaced};
-ghost use Rattle.query_eval.specs.Sourcing.{joined_row_values, source_rows, AreWide, SourcesAreWide};
+ghost use Rattle.query_eval.specs.Sources.{joined_row_values, source_rows, AreWide, SourcesAreWide};
 ghost use Rattle.query_eval.specs.declared.source.SourceRow.{SourceRow as Given};
 ghost use Rattle.sql_model.specs.Meaning.{is_true, truth};
 ghost use Rattle.sql_model.specs.Scope.{InScope, environment};
@@ -329,7 +329,7 @@ struct Walk<'a> {
 }
 
 // Extends the prefixes by one source, and tests the conditions whose columns are all there then.
-fn step<'a>(alloc: Global, walk: Walk<'a>, source: &'a Source) -> Result<Walk<'a>, AllocError>
+fn join_source<'a>(alloc: Global, walk: Walk<'a>, source: &'a Source) -> Result<Walk<'a>, AllocError>
     requires { walk.width + 2 ^ 64 ≤ 2 ^ 128 }
     ensures width { IfOk result (λ new. new.width < walk.entry.width + 2 ^ 64) }
     ensures rows { IfOk result (λ new. (scope : Items InScope) → AreAllPlaced scope walk.entry.left
@@ -355,7 +355,7 @@ fn step<'a>(alloc: Global, walk: Walk<'a>, source: &'a Source) -> Result<Walk<'a
 }
 
 // The walk before the first source: one prefix, of no row.
-fn start<'a>(alloc: Global, conds: List<BoundExpr>) -> Result<Walk<'a>, AllocError>
+fn first_prefix<'a>(alloc: Global, conds: List<BoundExpr>) -> Result<Walk<'a>, AllocError>
     ensures prefixes { IfOk result (λ walk. walk.prefixes ≡ [] ∷ []) }
     ensures width { IfOk result (λ walk. walk.width ≡ 0) }
     ensures left { IfOk result (λ walk. walk.left ≡ conds) }
@@ -370,7 +370,7 @@ fn start<'a>(alloc: Global, conds: List<BoundExpr>) -> Result<Walk<'a>, AllocErr
 }
 
 // After the last source: the prefixes that meet the conditions that are left.
-fn finish<'a>(alloc: Global, walk: Walk<'a>) -> Result<Combinations<'a>, AllocError>
+fn last_combinations<'a>(alloc: Global, walk: Walk<'a>) -> Result<Combinations<'a>, AllocError>
     ensures { IfOk result (λ rows. (scope : Items InScope) → AreAllPlaced scope walk.entry.left
         → rows ≡ filter (tests scope walk.entry.left) walk.entry.prefixes) }
 {
@@ -432,9 +432,9 @@ pub(crate) fn join<'a>(
 {
     // There are fewer than 2^64 sources, which bounds the number of values.
     let _count = sources.len();
-    let mut walk = start(alloc, conds)?;
+    let mut walk = first_prefix(alloc, conds)?;
     for source in sources {
-        walk = step(alloc, walk, source)?;
+        walk = join_source(alloc, walk, source)?;
     }
-    finish(alloc, walk)
+    last_combinations(alloc, walk)
 }

@@ -3,20 +3,20 @@
 ghost use Rattle.std.specs.Prelude.{◌≡◌, ◌<◌, length, IfOk, Some};
 ghost use Rattle.std.specs.List.{AllByRecursion};
 ghost use Rattle.std.specs.Option.{option_and_then};
-ghost use Rattle.query_eval.specs.Keyed.{keyed_row, keyed_rows};
-ghost use Rattle.query_eval.specs.Leaving.{slot_at};
-ghost use Rattle.query_eval.specs.Stored.{HasVersion};
+ghost use Rattle.query_eval.specs.KeyLookup.{keyed_row, keyed_rows};
+ghost use Rattle.query_eval.specs.TableScan.{slot_at};
+ghost use Rattle.query_eval.specs.StoredSources.{HasVersion};
 ghost use Rattle.table_store.specs.Histories.{row_now};
 
-use crate::table_scan::add_slot;
 use crate::source::SourceRows;
+use crate::table_scan::add_slot;
 use ldv_value::List;
 use sql_model::RowKey;
 use std::alloc::{AllocError, Global};
 use table_store::TableStore;
 
 /// The row of a table that stands with a key; no row where none has it. The table has a key.
-#[tactic(auto, using(crate::proofs::KeyedLaws::keyed_known))]
+#[tactic(auto, using(crate::proofs::KeyLookupLaws::keyed_known))]
 pub(crate) fn rows_of_key(
     alloc: Global,
     table: &TableStore,
@@ -38,7 +38,7 @@ pub(crate) fn rows_of_key(
 }
 
 // The slot of the row that stands with a key.
-#[tactic(auto, using(crate::proofs::KeyedLaws::slot_rules))]
+#[tactic(auto, using(crate::proofs::KeyLookupLaws::slot_rules))]
 fn slot_of_key(table: &TableStore, key: &RowKey) -> Option<u64>
     requires { 0 < length table.now.schema.key }
     ensures { keyed_row key.now.values table.now

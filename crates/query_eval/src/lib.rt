@@ -5,7 +5,7 @@
 #![tactic(auto)]
 
 mod conditions;
-mod finishing;
+mod order_limit;
 mod index;
 mod joining;
 mod key_lookup;
@@ -20,7 +20,7 @@ mod source;
 mod sources;
 mod table_scan;
 
-pub use finishing::{Finished, finish};
+pub use order_limit::{Finished, finish};
 pub use lineages::united_set;
 pub use merging::merge;
 pub use picking::picked;

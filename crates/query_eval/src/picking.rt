@@ -5,7 +5,7 @@ ghost use Rattle.std.specs.FinMap.{empty};
 ghost use Rattle.core_parts.specs.Checking.{HasCore};
 ghost use Rattle.core_parts.specs.Placing.{AreAllPlaced};
 ghost use Rattle.query_eval.specs.Picking.{rows_added, kept_rows, pick_of, source_picks, ArePicked};
-ghost use Rattle.query_eval.specs.Sourcing.{SourcesAreWide};
+ghost use Rattle.query_eval.specs.Sources.{SourcesAreWide};
 ghost use Rattle.sql_model.specs.Scope.{InScope};
 
 use crate::conditions::core_conditions;
@@ -24,7 +24,7 @@ use table_store::Store;
 /// was checked against the store's catalog, and `core` the place of one of its cores, from 0. A table's place
 /// in the lineages is its place, from 0, among the names of all tables of the store. Where `keep` is false
 /// the lineages are empty.
-#[tactic(auto, using(crate::proofs::StoredLaws::stored_picks))]
+#[tactic(auto, using(crate::proofs::StoredSourceLaws::stored_picks))]
 pub fn picked(
     checked: &Checked,
     core: usize,

@@ -1,10 +1,10 @@
 //! The equality by which the rows of the next source are looked up.
 
-ghost use Rattle.std.specs.Prelude.{◌≡◌, ◌+◌, ◌<◌, IfSome, true};
+ghost use Rattle.std.specs.Prelude.{◌≡◌, ◌<◌, IfSome, true};
 ghost use Rattle.query_eval.specs.inner.Joining.{IsBetween, IsEquality, IsProbeOf, HasProbe};
 ghost use Rattle.query_eval.specs.inner.Joining.{is_equal_sign};
 
-use core_parts::{BoundExpr, is_column, is_equal_test};
+use core_parts::{BoundExpr, column_of_source, is_column, is_equal_test};
 use sql_model::{Expr, Operator};
 
 /// Two columns that are equal: one by its place in the joined row of the earlier sources, and one of the
@@ -58,13 +58,13 @@ fn probe_between(a: usize, b: usize, width: u128) -> Option<Probe>
     ensures { IfSome result (IsBetween a b width) }
 {
     if is_below(a, width) {
-        return match place_after(b, width) {
+        return match column_of_source(width, b) {
             None => None,
             Some(place) => Some(Probe { from: a, place }),
         };
     }
     if is_below(b, width) {
-        return match place_after(a, width) {
+        return match column_of_source(width, a) {
             None => None,
             Some(place) => Some(Probe { from: b, place }),
         };
@@ -76,18 +76,6 @@ fn is_below(place: usize, width: u128) -> bool
     ensures { result ≡ true → place < width }
 {
     (place as u128) < width
-}
-
-// A place of the joined row as a place of the next source, which comes after `width` values.
-fn place_after(place: usize, width: u128) -> Option<usize>
-    ensures { IfSome result (λ after. width + after ≡ place) }
-{
-    let place = place as u128;
-    if place < width {
-        None
-    } else {
-        Some((place - width) as usize)
-    }
 }
 
 // The probe that a condition is, if it is one. The earlier sources have `width` values.

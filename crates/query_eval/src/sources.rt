@@ -4,14 +4,14 @@ ghost use Rattle.std.specs.Prelude.{◌≡◌, IfOk, Some};
 ghost use Rattle.std.specs.List.{AllByRecursion};
 ghost use Rattle.std.specs.Option.{option_map};
 ghost use Rattle.core_parts.specs.Masking.{AreMasks};
-ghost use Rattle.query_eval.specs.Stored.{AreChosen, AreStored, HasVersion, IsPlace, IsStored, IsTaken};
+ghost use Rattle.query_eval.specs.StoredSources.{AreChosen, AreStored, HasVersion, IsPlace, IsStored, IsTaken};
 
 use crate::key_lookup::rows_of_key;
-use crate::table_scan::rows_left;
 use crate::source::{Source, SourceRows, Sources, width_with};
-use core_parts::{Mask, BoundExpr, fixed_key, masks_of};
+use crate::table_scan::rows_left;
+use core_parts::{BoundExpr, fixed_key, masks_of};
 use ldv_value::{List, Names};
-use sql_model::{FromItem, RowKey};
+use sql_model::{ColumnTest, FromItem, RowKey};
 use std::alloc::{AllocError, Global};
 use table_store::{Store, TableStore};
 
@@ -42,7 +42,7 @@ fn masks_in(
     held: &TableStore,
     conds: &[BoundExpr],
     before: u128,
-) -> Result<Vec<Mask>, AllocError>
+) -> Result<Vec<ColumnTest>, AllocError>
     ensures { IfOk result (λ masks. AreMasks conds.now before held.now.schema.columns masks.items) }
 {
     let masks = masks_of(alloc, conds, before, &held.schema().columns)?;
@@ -120,7 +120,7 @@ fn read_source(
 }
 
 // A source, from a store. Its columns come after `before` values of the joined row.
-#[tactic(auto, using(crate::proofs::StoredLaws::stored_is))]
+#[tactic(auto, using(crate::proofs::StoredSourceLaws::stored_is))]
 fn source_of(
     alloc: Global,
     store: &Store,
@@ -137,7 +137,7 @@ fn source_of(
 }
 
 /// The sources of a core, each with the rows that may be in a picked combination.
-#[tactic(auto, using(crate::proofs::StoredLaws::sources_end))]
+#[tactic(auto, using(crate::proofs::StoredSourceLaws::sources_end))]
 pub(crate) fn sources_of(
     alloc: Global,
     store: &Store,

@@ -1,67 +1,36 @@
 //! The rows of a table that masks leave: chosen by bits, and copied only then.
 
-ghost use Rattle.std.specs.Prelude.{◌≡◌, ◌++◌, ◌<◌, ◌≤◌, ◌^◌, ◌*◌, ◌+◌, [], ℕ, length, true, IfOk, OnOk};
+ghost use Rattle.std.specs.Prelude.{◌≡◌, ◌++◌, ◌<◌, ◌^◌, [], ℕ, length, IfOk, OnOk};
 ghost use Rattle.std.specs.Prelude.{Some, unwrap_or};
 ghost use Rattle.std.specs.List.{AllByRecursion};
 ghost use Rattle.std.specs.Option.{option_map, option_to_list};
 ghost use Rattle.lanes.specs.Sets.{member};
-ghost use Rattle.query_eval.specs.Leaving.{AllFit, cell_test, column_test, column_tests, slot_at};
-ghost use Rattle.query_eval.specs.Leaving.{slot_passes, rows_at_slots, source_row, rows_in, left_rows};
-ghost use Rattle.query_eval.specs.Stored.{HasVersion};
+ghost use Rattle.query_eval.specs.TableScan.{slot_at, slot_passes, rows_at_slots, source_row, rows_in};
+ghost use Rattle.query_eval.specs.TableScan.{left_rows};
+ghost use Rattle.query_eval.specs.StoredSources.{HasVersion};
+ghost use Rattle.table_store.specs.CellTests.{AllFitColumns};
 ghost use Rattle.table_store.specs.Histories.{history_of_row, row_now, version_now};
 
 use crate::source::{SourceRow, SourceRows};
-use core_parts::{Mask, MaskTest};
-use lanes::next_one;
+use lanes::{after_member, next_one};
 use ldv_value::List;
+use sql_model::ColumnTest;
 use std::alloc::{AllocError, Global};
-use table_store::{CellTest, ColumnTest, TableStore};
-
-// A mask's test of a value, as a table makes it.
-fn cell_test(test: MaskTest) -> CellTest
-    ensures { result ≡ cell_test test }
-{
-    match test {
-        MaskTest::Compares(op, constant) => CellTest::Compare { op, constant },
-        MaskTest::IsNull => CellTest::IsNull,
-        MaskTest::IsNotNull => CellTest::IsNotNull,
-    }
-}
-
-fn column_test(mask: Mask) -> ColumnTest
-    ensures { result ≡ column_test mask }
-{
-    ColumnTest {
-        column: mask.column as u64,
-        test: cell_test(mask.test),
-    }
-}
-
-// Masks as tests that a table makes.
-fn column_tests(alloc: Global, masks: &[Mask]) -> Result<Vec<ColumnTest>, AllocError>
-    ensures { IfOk result (λ tests. tests.items ≡ column_tests masks.now) }
-{
-    let mut tests = Vec::with_capacity(alloc, masks.len())?;
-    for mask in masks {
-        tests.push(column_test(*mask))?;
-    }
-    Ok(tests)
-}
+use table_store::TableStore;
 
 // The slots whose row stands and for which each mask passes, as bits.
-fn slots_passing(alloc: Global, table: &TableStore, masks: &[Mask]) -> Result<Vec<u64>, AllocError>
-    requires { AllFit table.now.schema.columns masks.now }
+fn slots_passing(alloc: Global, table: &TableStore, masks: &[ColumnTest]) -> Result<Vec<u64>, AllocError>
+    requires { AllFitColumns table.now.schema.columns masks.now }
     ensures few { IfOk result (λ words. length words.items < 2 ^ 57) }
     ensures members { IfOk result (λ words. (n : ℕ)
         → member words.items n ≡ slot_passes masks.now (slot_at table.now.slots n)) }
 {
-    let tests = column_tests(alloc, masks)?;
-    let words = table.choose_slots(alloc, tests.as_slice())?;
+    let words = table.choose_slots(alloc, masks)?;
     Ok(words)
 }
 
 // The version of the row in a slot, which stands.
-#[tactic(auto, using(crate::proofs::LeavingLaws::slot_stands))]
+#[tactic(auto, using(crate::proofs::TableScanLaws::slot_stands))]
 fn version_of(table: &TableStore, slot: u64, number: u32) -> u32
     requires { option_map (λ row. row.number) (row_now (slot_at table.now.slots slot)) ≡ Some number }
     ensures { result ≡ unwrap_or (version_now (history_of_row number table.now.slots)) 0 }
@@ -71,7 +40,7 @@ fn version_of(table: &TableStore, slot: u64, number: u32) -> u32
 }
 
 // Adds the row of a slot, which stands.
-#[tactic(auto, using(crate::proofs::LeavingLaws::made_rows))]
+#[tactic(auto, using(crate::proofs::TableScanLaws::made_rows))]
 fn add_row(
     table: &TableStore,
     rows: &mut SourceRows,
@@ -91,7 +60,7 @@ fn add_row(
 }
 
 /// Adds the row of a slot, where it stands.
-#[tactic(auto, using(crate::proofs::LeavingLaws::made_rows))]
+#[tactic(auto, using(crate::proofs::TableScanLaws::made_rows))]
 pub(crate) fn add_slot(
     table: &TableStore,
     rows: &mut SourceRows,
@@ -106,19 +75,8 @@ pub(crate) fn add_slot(
     }
 }
 
-// The slot after one that is set.
-#[tactic(auto, using(lanes::proofs::SetLaws::slot_within))]
-fn after(words: &[u64], slot: u64) -> u64
-    requires few { length words.now < 2 ^ 57 }
-    requires set { member words.now slot ≡ true }
-    ensures next { result ≡ slot + 1 }
-    ensures within { result ≤ 64 * length words.now }
-{
-    slot + 1
-}
-
 // The rows of the slots that are set.
-#[tactic(auto, using(crate::proofs::LeavingLaws::chosen_next, crate::proofs::LeavingLaws::chosen_end))]
+#[tactic(auto, using(crate::proofs::TableScanLaws::chosen_next, crate::proofs::TableScanLaws::chosen_end))]
 fn rows_chosen(alloc: Global, table: &TableStore, words: &[u64]) -> Result<SourceRows, AllocError>
     requires { length words.now < 2 ^ 57 }
     ensures { IfOk result (λ rows. rows
@@ -131,14 +89,14 @@ fn rows_chosen(alloc: Global, table: &TableStore, words: &[u64]) -> Result<Sourc
             None => return Ok(rows),
             Some(slot) => {
                 add_slot(table, &mut rows, slot)?;
-                at = after(words, slot);
+                at = after_member(words, slot);
             }
         }
     }
 }
 
 // The rows of a table that stand, in the order of their numbers.
-#[tactic(auto, using(crate::proofs::LeavingLaws::left_standing))]
+#[tactic(auto, using(crate::proofs::TableScanLaws::left_standing))]
 fn all_rows(alloc: Global, table: &TableStore) -> Result<SourceRows, AllocError>
     ensures { IfOk result (λ rows. rows ≡ left_rows [] table.now.slots) }
 {
@@ -147,9 +105,9 @@ fn all_rows(alloc: Global, table: &TableStore) -> Result<SourceRows, AllocError>
 }
 
 // The rows of a table that stand and for which each mask passes, in the order of their numbers.
-#[tactic(auto, using(crate::proofs::LeavingLaws::left_chosen))]
-fn rows_passing(alloc: Global, table: &TableStore, masks: &[Mask]) -> Result<SourceRows, AllocError>
-    requires { AllFit table.now.schema.columns masks.now }
+#[tactic(auto, using(crate::proofs::TableScanLaws::left_chosen))]
+fn rows_passing(alloc: Global, table: &TableStore, masks: &[ColumnTest]) -> Result<SourceRows, AllocError>
+    requires { AllFitColumns table.now.schema.columns masks.now }
     ensures { IfOk result (λ rows. rows ≡ left_rows masks.now table.now.slots) }
 {
     let words = slots_passing(alloc, table, masks)?;
@@ -157,8 +115,8 @@ fn rows_passing(alloc: Global, table: &TableStore, masks: &[Mask]) -> Result<Sou
     Ok(rows)
 }
 
-fn rows_by(alloc: Global, table: &TableStore, masks: &[Mask]) -> Result<SourceRows, AllocError>
-    requires { AllFit table.now.schema.columns masks.now }
+fn rows_by(alloc: Global, table: &TableStore, masks: &[ColumnTest]) -> Result<SourceRows, AllocError>
+    requires { AllFitColumns table.now.schema.columns masks.now }
     ensures { IfOk result (λ rows. rows ≡ left_rows masks.now table.now.slots) }
 {
     match masks {
@@ -169,13 +127,13 @@ fn rows_by(alloc: Global, table: &TableStore, masks: &[Mask]) -> Result<SourceRo
 
 /// The rows of a table that stand and for which each mask passes, in the order of their numbers. The masks
 /// suit their columns.
-#[tactic(auto, using(crate::proofs::LeavingLaws::left_known))]
+#[tactic(auto, using(crate::proofs::TableScanLaws::left_known))]
 pub(crate) fn rows_left(
     alloc: Global,
     table: &TableStore,
-    masks: &[Mask],
+    masks: &[ColumnTest],
 ) -> Result<SourceRows, AllocError>
-    requires { AllFit table.now.schema.columns masks.now }
+    requires { AllFitColumns table.now.schema.columns masks.now }
     ensures rows { IfOk result (λ rows. rows ≡ left_rows masks.now table.now.slots) }
     ensures versions { IfOk result (AllByRecursion (HasVersion (Some table.now))) }
 {

@@ -5,8 +5,8 @@ ghost use Rattle.sql_check.specs.Gives.{GivesChecked, GivesPlaces};
 
 use crate::clash::has_type_clash;
 use crate::columns::has_unknown_column;
-use crate::places::places_of;
 use crate::error::CheckStop;
+use crate::places::places_of;
 use crate::tables::has_unknown_table;
 use ldv_value::{CopyItem, PlaceLists};
 use sql_model::{Catalog, Checked, Statement};

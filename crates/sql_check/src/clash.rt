@@ -4,19 +4,20 @@ ghost use Rattle.std.specs.Prelude.{◌≡◌, ◌&&◌, IfOk, Some, option_to_l
 ghost use Rattle.std.specs.List.{list_all, list_any};
 ghost use Rattle.ldv_value.specs.declared.value.Value.TheVariants.{Int};
 ghost use Rattle.sql_model.specs.Kinds.{is_condition};
-ghost use Rattle.sql_model.specs.Refusals.{is_pick, is_having, counts, counts_joined, conditions_fit};
-ghost use Rattle.sql_model.specs.Refusals.{is_limit, query_clashes, takes, set_fits, pick_fits};
+ghost use Rattle.sql_model.specs.Refusals.{is_row_condition, is_having, counts, counts_joined, conditions_fit};
+ghost use Rattle.sql_model.specs.Refusals.{is_limit, query_clashes, takes, set_fits, condition_fits};
 ghost use Rattle.sql_model.specs.Refusals.{update_clashes, clashes};
 
 use crate::aggregate::counts;
 use crate::duplicate::has_duplicate;
 use crate::kinds::{are_comparable, group_kind, is_logical, kind_of_column, row_kind};
-use crate::core_names::items_of;
 use crate::scope::{Entry, column_at, columns_of, own_scope};
 use crate::union::query_kinds;
 use crate::values::insert_clashes;
 use ldv_value::Value;
-use sql_model::{Catalog, Column, Core, Expr, Item, Kind, Query, Set, Statement, Update};
+use sql_model::{
+    Catalog, Column, Core, Expr, Item, Kind, Query, Set, Statement, Update, items_of,
+};
 use std::alloc::{AllocError, Global};
 
 /// Whether kinds or counts don't fit, in an expression, a condition, a UNION, LIMIT or a change.
@@ -39,7 +40,7 @@ pub(crate) fn has_type_clash(
         }
         Statement::Delete(delete) => {
             let scope = own_scope(alloc, &delete.table, catalog)?;
-            Ok(!pick_fits(&scope, &delete.pick))
+            Ok(!condition_fits(&scope, &delete.condition))
         }
     }
 }
@@ -80,8 +81,8 @@ fn is_condition(kind: Option<Kind>) -> bool
     }
 }
 
-fn is_pick(scope: &[Entry], expr: &Expr) -> bool
-    ensures { result ≡ is_pick scope.now expr.now }
+fn is_row_condition(scope: &[Entry], expr: &Expr) -> bool
+    ensures { result ≡ is_row_condition scope.now expr.now }
 {
     is_condition(row_kind(scope, expr))
 }
@@ -96,14 +97,14 @@ fn is_having(scope: &[Entry], expr: &Expr) -> bool
 pub(crate) fn conditions_fit(scope: &[Entry], core: &Core) -> bool
     ensures { result ≡ conditions_fit scope.now core.now }
 {
-    picks_fit(scope, core.picks.items())
+    are_row_conditions(scope, core.conditions.items())
         && (having_fits(scope, &core.having) && !counts_joined(core))
 }
 
-fn picks_fit(scope: &[Entry], picks: &[Expr]) -> bool
-    ensures { result ≡ list_all (is_pick scope.now) picks.now }
+fn are_row_conditions(scope: &[Entry], conditions: &[Expr]) -> bool
+    ensures { result ≡ list_all (is_row_condition scope.now) conditions.now }
 {
-    picks.iter().all(|pick| is_pick(scope, pick))
+    conditions.iter().all(|condition| is_row_condition(scope, condition))
 }
 
 #[tactic(auto, using(crate::proofs::Mapped::last_test))]
@@ -165,9 +166,9 @@ fn update_clashes(
 
 fn update_fits(update: &Update, columns: &[Column], scope: &[Entry]) -> bool
     ensures { result ≡ (list_all (set_fits columns.now scope.now) update.now.sets
-        && pick_fits scope.now update.now.pick) }
+        && condition_fits scope.now update.now.condition) }
 {
-    sets_fit(columns, scope, update.sets.items()) && pick_fits(scope, &update.pick)
+    sets_fit(columns, scope, update.sets.items()) && condition_fits(scope, &update.condition)
 }
 
 fn sets_fit(columns: &[Column], scope: &[Entry], sets: &[Set]) -> bool
@@ -187,11 +188,11 @@ fn set_fits(columns: &[Column], scope: &[Entry], set: &Set) -> bool
 }
 
 #[tactic(auto, using(crate::proofs::Mapped::last_test))]
-fn pick_fits(scope: &[Entry], pick: &Option<Expr>) -> bool
-    ensures { result ≡ pick_fits scope.now pick.now }
+fn condition_fits(scope: &[Entry], condition: &Option<Expr>) -> bool
+    ensures { result ≡ condition_fits scope.now condition.now }
 {
-    match pick {
+    match condition {
         None => true,
-        Some(expr) => is_pick(scope, expr),
+        Some(expr) => is_row_condition(scope, expr),
     }
 }

@@ -4,13 +4,13 @@ ghost use Rattle.std.specs.Prelude.{◌≡◌, ◌||◌, ◌&&◌, ◌++◌, IfO
 ghost use Rattle.std.specs.List.{list_all, list_any, range_with_len};
 ghost use Rattle.sql_model.specs.Kinds.{names_in, outer_names};
 ghost use Rattle.sql_model.specs.Refusals.{groups, item_places, having_places, lacks_in_scope};
-ghost use Rattle.sql_model.specs.Refusals.{answer_titles, core_lacks_column, is_order_key};
+ghost use Rattle.sql_model.specs.Refusals.{answer_columns, core_lacks_column, is_order_key};
 ghost use Rattle.sql_model.specs.Refusals.{query_lacks_column, insert_lacks_column};
 ghost use Rattle.sql_model.specs.Refusals.{update_lacks_column, lacks_column};
 ghost use Rattle.sql_model.specs.Scope.{has_column, resolves, places_in};
 ghost use Rattle.sql_check.specs.inner.Sources.{is_among, all_among};
 
-use crate::output_column::{OutputColumn, answer_titles, is_order_key};
+use crate::answer_column::{AnswerColumn, answer_columns, is_order_key};
 use crate::core_names::{core_resolves, exprs_resolve, groups, names_of, optional_resolves};
 use crate::scope::{Entry, columns_of, has_column, own_scope, place_of, scope_of};
 use crate::walk::{all_among, all_resolve, is_among};
@@ -43,7 +43,7 @@ pub(crate) fn has_unknown_column(
         }
         Statement::Delete(delete) => {
             let scope = own_scope(alloc, &delete.table, catalog)?;
-            Ok(!optional_resolves(&scope, &delete.pick))
+            Ok(!optional_resolves(&scope, &delete.condition))
         }
     }
 }
@@ -65,12 +65,12 @@ fn lack_order_key(
     order: &[Order],
 ) -> Result<bool, AllocError>
     ensures { IfOk result (λ lacks. lacks
-        ≡ not (list_all (λ part. is_order_key (answer_titles catalog.now cores.now) part.key) order.now)) }
+        ≡ not (list_all (λ part. is_order_key (answer_columns catalog.now cores.now) part.key) order.now)) }
 {
     match order {
         [] => Ok(false),
         _ => {
-            let titles = answer_titles(alloc, catalog, cores)?;
+            let titles = answer_columns(alloc, catalog, cores)?;
             Ok(!are_order_keys(&titles, order))
         }
     }
@@ -165,7 +165,7 @@ fn is_having_grouped(scope: &[Entry], grouped: &[usize], having: &Option<Expr>) 
     }
 }
 
-fn are_order_keys(titles: &[OutputColumn], order: &[Order]) -> bool
+fn are_order_keys(titles: &[AnswerColumn], order: &[Order]) -> bool
     ensures { result ≡ list_all (λ part. is_order_key titles.now part.key) order.now }
 {
     order.iter().all(|part| is_order_key(titles, &part.key))
@@ -196,7 +196,7 @@ fn update_lacks_column(update: &Update, columns: &[Column], scope: &[Entry]) -> 
     ensures { result ≡ update_lacks_column update.now columns.now scope.now }
 {
     !sets_have_column(columns, update.sets.items())
-        || !(sets_resolve(scope, update.sets.items()) && optional_resolves(scope, &update.pick))
+        || !(sets_resolve(scope, update.sets.items()) && optional_resolves(scope, &update.condition))
 }
 
 fn sets_have_column(columns: &[Column], sets: &[Set]) -> bool

@@ -3,24 +3,14 @@
 ghost use Rattle.std.specs.Prelude.{◌≡◌, ◌&&◌, [], unwrap_or, option_to_list};
 ghost use Rattle.std.specs.List.{flat_map, list_all, list_any};
 ghost use Rattle.sql_model.specs.Kinds.{has_aggregate, names_in};
-ghost use Rattle.sql_model.specs.Refusals.{items_of, groups, core_names};
+ghost use Rattle.sql_model.specs.Refusals.{groups, core_names};
 ghost use Rattle.sql_model.specs.Scope.{resolves};
 
 use crate::aggregate::has_aggregate;
 use crate::scope::{Entry, resolves};
 use crate::walk::all_resolve;
 use ldv_value::{Names, Utf8};
-use sql_model::{ColumnName, Core, Expr, Item};
-
-/// The items that are written; `*` is none.
-pub(crate) fn items_of(core: &Core) -> &[Item]
-    ensures { result.now ≡ items_of core.now }
-{
-    match &core.items {
-        None => &[],
-        Some(items) => items.items(),
-    }
-}
+use sql_model::{ColumnName, Core, Expr, Item, items_of};
 
 /// The columns that an INSERT names.
 pub(crate) fn names_of(columns: &Option<Names>) -> &[Utf8]
@@ -51,7 +41,7 @@ pub(crate) fn core_resolves(scope: &[Entry], core: &Core) -> bool
     ensures { result ≡ list_all (resolves scope.now) (core_names core.now) }
 {
     items_resolve(scope, items_of(core))
-        && (exprs_resolve(scope, core.picks.items())
+        && (exprs_resolve(scope, core.conditions.items())
             && (names_resolve(scope, core.group.items()) && optional_resolves(scope, &core.having)))
 }
 

@@ -12,7 +12,7 @@ mod core_names;
 mod duplicate;
 mod error;
 mod kinds;
-mod output_column;
+mod answer_column;
 mod places;
 mod scope;
 mod tables;

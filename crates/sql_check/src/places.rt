@@ -4,16 +4,15 @@ ghost use Rattle.std.specs.Prelude.{◌≡◌, ◌++◌, [], ◌∷◌, IfOk, On
 ghost use Rattle.std.specs.List.{flat_map};
 ghost use Rattle.sql_model.specs.Kinds.{names_in};
 ghost use Rattle.sql_model.specs.Places.{core_places, order_places, query_places, places_of};
-ghost use Rattle.sql_model.specs.Refusals.{answer_titles, update_names, delete_names, names_of_items};
+ghost use Rattle.sql_model.specs.Refusals.{answer_columns, update_names, delete_names, names_of_items};
 ghost use Rattle.sql_model.specs.Scope.{places_in};
 
-use crate::output_column::{OutputColumn, answer_titles, key_place};
-use crate::core_names::items_of;
+use crate::answer_column::{AnswerColumn, answer_columns, key_place};
 use crate::scope::{Entry, own_scope, place_of, scope_of};
 use crate::walk::push_places;
 use ldv_value::{List, PlaceLists, Places};
 use sql_model::{
-    Catalog, ColumnName, Core, Delete, Expr, Item, Order, Query, Set, Statement, Update,
+    Catalog, ColumnName, Core, Delete, Expr, Item, Order, Query, Set, Statement, Update, items_of,
 };
 use std::alloc::{AllocError, Global};
 
@@ -64,12 +63,12 @@ fn key_places(
     order: &[Order],
 ) -> Result<Places, AllocError>
     ensures { IfOk result (λ places. places
-        ≡ order_places (answer_titles catalog.now cores.now) order.now) }
+        ≡ order_places (answer_columns catalog.now cores.now) order.now) }
 {
     match order {
         [] => Ok(List::new(alloc)),
         _ => {
-            let titles = answer_titles(alloc, catalog, cores)?;
+            let titles = answer_columns(alloc, catalog, cores)?;
             order_places(alloc, &titles, order)
         }
     }
@@ -96,7 +95,7 @@ fn core_places(alloc: Global, core: &Core, catalog: &Catalog) -> Result<Places, 
     let scope = scope_of(alloc, core.from.items(), catalog)?;
     let mut places = Vec::new(alloc);
     push_item_places(&mut places, &scope, items_of(core))?;
-    push_expr_places(&mut places, &scope, core.picks.items())?;
+    push_expr_places(&mut places, &scope, core.conditions.items())?;
     push_name_places(&mut places, &scope, core.group.items())?;
     push_optional_places(&mut places, &scope, &core.having)?;
     Ok(List::of_vec(places))
@@ -108,7 +107,7 @@ fn update_places(alloc: Global, scope: &[Entry], update: &Update) -> Result<Plac
 {
     let mut places = Vec::new(alloc);
     push_set_places(&mut places, scope, update.sets.items())?;
-    push_optional_places(&mut places, scope, &update.pick)?;
+    push_optional_places(&mut places, scope, &update.condition)?;
     Ok(List::of_vec(places))
 }
 
@@ -116,7 +115,7 @@ fn delete_places(alloc: Global, scope: &[Entry], delete: &Delete) -> Result<Plac
     ensures { IfOk result (λ places. places ≡ places_in scope.now (delete_names delete.now)) }
 {
     let mut places = Vec::new(alloc);
-    push_optional_places(&mut places, scope, &delete.pick)?;
+    push_optional_places(&mut places, scope, &delete.condition)?;
     Ok(List::of_vec(places))
 }
 
@@ -188,7 +187,7 @@ fn push_optional_places(
 
 fn order_places(
     alloc: Global,
-    titles: &[OutputColumn],
+    titles: &[AnswerColumn],
     order: &[Order],
 ) -> Result<Places, AllocError>
     ensures { IfOk result (λ places. places ≡ order_places titles.now order.now) }

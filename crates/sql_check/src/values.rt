@@ -7,9 +7,9 @@ ghost use Rattle.sql_model.specs.Refusals.{insert_clashes};
 ghost use Rattle.sql_model.specs.Scope.{is_column};
 
 use crate::clash::takes;
+use crate::core_names::names_of;
 use crate::duplicate::has_duplicate;
 use crate::kinds::row_kind;
-use crate::core_names::names_of;
 use crate::scope::column_at;
 use ldv_value::{Names, Utf8};
 use sql_model::{Column, Expr, Exprs, Insert};

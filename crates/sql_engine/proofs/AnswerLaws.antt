@@ -17,12 +17,12 @@ use Rattle.lineage.proofs.RowLaws.{answers-append, answers-values, kept_origins-
 use Rattle.query_eval.specs.Finishing.{IsFinished}
 use Rattle.query_eval.specs.Picking.{ArePicked}
 use Rattle.query_eval.specs.Projecting.{IsProjected}
-use Rattle.query_eval.specs.Stored.{table_names}
-use Rattle.query_eval.specs.declared.finishing.Finished.{Finished}
+use Rattle.query_eval.specs.StoredSources.{table_names}
+use Rattle.query_eval.specs.declared.order_limit.Finished.{Finished}
 use Rattle.sql_engine.proofs.StoreLaws.{tell_versions}
 use Rattle.sql_engine.specs.inner.Answering.{IsKept, AreRows, IsEvaluated, IsAsked, IsCore, AreUnited, AreAll, hidden_lineage, IsHidden, IsAnswer, IsAnswered, values_of}
 use Rattle.sql_engine.specs.Types.{Answer, Checked, Core, Pick, Query, StoreHistory, Table, TheQuery}
-use Rattle.sql_engine.specs.declared.answered.Answered.{Answered}
+use Rattle.sql_engine.specs.declared.answer.QueryAnswer.{QueryAnswer}
 use Rattle.sql_engine.specs.declared.cores.CoreRows.{CoreRows}
 use Rattle.sql_model.specs.Needs.{sums_up}
 use Rattle.sql_model.specs.QueryAnswer.{Origin, AnswerRow, once, union_answers, rows_in_scope, rejected_in_scope, picked, core_rows, union_rows, rejected, answer, cut, lineage_of, limit_of, merge}

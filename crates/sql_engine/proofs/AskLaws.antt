@@ -11,7 +11,7 @@ use Rattle.dml_versions.specs.Changing.{IsChange, IsCheckedOver, IsStoreAfter}
 use Rattle.sql_model.specs.Tables.{AreWellFormed}
 use Rattle.dml_versions.specs.Versions.{versions_now, updates_of, updates_in}
 use Rattle.dml_versions.specs.declared.change.Change.{Change}
-use Rattle.query_eval.specs.Stored.{table_names}
+use Rattle.query_eval.specs.StoredSources.{table_names}
 use Rattle.run_model.specs.SqlDatabase.{SqlDatabase, initial_database, db_after, lists_of, answer_of, sql_base}
 use Rattle.run_model.specs.Database.{Gives, asked_by}
 use Rattle.run_model.specs.declared.database.Asker.{Asker}
@@ -19,12 +19,12 @@ use Rattle.sql_model.specs.Texts.{statement_of}
 use Rattle.sql_engine.proofs.NeedLaws.{needs_are}
 use Rattle.sql_engine.proofs.StoreLaws.{answer_named, hidden_named, sorted_names}
 use Rattle.sql_engine.specs.inner.Answering.{IsAnswer, IsAnswered, hidden_lineage}
-use Rattle.sql_engine.specs.Asking.{database, lists_in, IsDone, IsOutcome, refusal_change, done_of}
+use Rattle.sql_engine.specs.Asking.{database, lists_in, IsRecorded, IsOutcome, refusal_change, recorded_of}
 use Rattle.sql_engine.specs.inner.Listing.{is_in, names_first, tables_asked, needs_of}
 use Rattle.sql_laws.proofs.DatabaseLaws.{database_law}
 use Rattle.sql_engine.specs.Types.{Catalog, Checked, H, L, Member, Need, Query, Reply, Rows, SqlRefusal, Statement, StoreHistory, Syntax, Table, TheQuery, TheInsert, TheUpdate, TheDelete, Value}
-use Rattle.sql_engine.specs.declared.answered.Answered.{Answered}
-use Rattle.sql_engine.specs.declared.done.Done.{Done}
+use Rattle.sql_engine.specs.declared.answer.QueryAnswer.{QueryAnswer}
+use Rattle.sql_engine.specs.declared.recorded.Recorded.{Recorded}
 use Rattle.sql_model.proofs.Equations.{reply_is, need_is, made_is, updated_is, after_is, table_schema}
 use Rattle.sql_model.specs.Changes.{or_else, change_refusal}
 use Rattle.sql_model.specs.ForeignKeys.{with_parents}
@@ -74,7 +74,7 @@ paired (t ∷ db) = ap suc (paired db)
 -- what is recorded of a statement, from what it gives
 pub outcome_done : (s : Statement) (keep : Bool) (old new : StoreHistory) (change : Change) (tables : List (List ℕ))
     → IsOutcome s keep old new change → (IsTrue keep → tables ≡ tables_asked s change.needs (catalog_of (tables_now old)))
-    → IsDone (Some s) keep old new (done_of change tables)
+    → IsRecorded (Some s) keep old new (recorded_of change tables)
 outcome_done s keep old new change tables is told = record {
   reply = is.reply;
   after = is.after;
@@ -126,7 +126,7 @@ module _ (s : Statement) (store : StoreHistory) (keep : Bool) (refusal : SqlRefu
   }
 
 -- what no statement is
-pub syntax_done : (store : StoreHistory) (keep : Bool) → IsDone None keep store store (done_of (refusal_change Syntax) [])
+pub syntax_done : (store : StoreHistory) (keep : Bool) → IsRecorded None keep store store (recorded_of (refusal_change Syntax) [])
 syntax_done store keep = record {
   reply = sym (reply_by None store (Some Syntax) refl);
   after = after_by None store (Some Syntax) refl refl refl;
@@ -139,7 +139,7 @@ syntax_done store keep = record {
 
 -- ---- queries
 
-module _ (query : Query) (store : StoreHistory) (keep : Bool) (made : Answered)
+module _ (query : Query) (store : StoreHistory) (keep : Bool) (made : QueryAnswer)
     (check : check_refusal (TheQuery query) (catalog_of (tables_now store)) ≡ None)
     (formed : AreWellFormed (tables_now store))
     (is : IsAnswer store keep query made) where
@@ -193,7 +193,7 @@ change_outcome s store new keep time change is after = record {
 
 -- ---- a query that was checked
 
-pub asked_query_outcome : (checked : Checked) (store : StoreHistory) (keep : Bool) (made : Answered)
+pub asked_query_outcome : (checked : Checked) (store : StoreHistory) (keep : Bool) (made : QueryAnswer)
     → IsQuery checked.statement → IsCheckedOver (tables_now store) checked → AreWellFormed (tables_now store)
     → IsAnswered checked store keep made
     → IsOutcome checked.statement keep store store
@@ -274,17 +274,17 @@ started_is tables store made now = λ j. record {
 
 -- ---- the relation
 
-pub gives : (statement : Option Statement) (keep : Bool) (old new : StoreHistory) (done : Done) → IsDone statement keep old new done
+pub gives : (statement : Option Statement) (keep : Bool) (old new : StoreHistory) (done : Recorded) → IsRecorded statement keep old new done
     → answer_of statement (database old) ≡ Gives done.reply (database new) (lists_of statement (database old))
 gives statement keep old new done is = λ j. Gives (sym is.reply j) (sym is.after j) (lists_of statement (database old))
 
 -- the same where the store and the text are seen through others
-module _ (old seen new : StoreHistory) (text given : List ℕ) (params : List Value) (keep : Bool) (done : Done)
-    (same_store : old ≡ seen) (same_text : text ≡ given) (is : IsDone (statement_of text params) keep old new done) where
-  seen_done : IsDone (statement_of given params) keep seen new done
+module _ (old seen new : StoreHistory) (text given : List ℕ) (params : List Value) (keep : Bool) (done : Recorded)
+    (same_store : old ≡ seen) (same_text : text ≡ given) (is : IsRecorded (statement_of text params) keep old new done) where
+  seen_done : IsRecorded (statement_of given params) keep seen new done
   seen_done =
-      subst (λ (t : List ℕ). IsDone (statement_of t params) keep seen new done) same_text
-      (subst (λ (s : StoreHistory). IsDone (statement_of text params) keep s new done) same_store is)
+      subst (λ (t : List ℕ). IsRecorded (statement_of t params) keep seen new done) same_text
+      (subst (λ (s : StoreHistory). IsRecorded (statement_of text params) keep s new done) same_store is)
 
   pub seen_gives : (who : Asker) → sql_base (database seen) (asked_by who given params)
       ≡ Gives done.reply (database new) (lists_of (statement_of given params) (database seen))

@@ -15,8 +15,8 @@ use Rattle.sql_engine.proofs.LeastTables.{close-least}
 use Rattle.sql_engine.specs.inner.Listing.{is_in, is_text, names_table, names_first}
 use Rattle.sql_engine.specs.inner.Taking.{is_taken, is_waiting, is_done, taken_mark, first_mark, raised_at, with_name, with_unless, with_more, with_reads, with_parents_of, foreigns_at, marks_with_parents, AreDistinct, AllSound, AreTaken, name_taken, refers_to, AreClosed, IsTaken, AreMarks}
 use Rattle.sql_engine.specs.Types.{Catalog, Need, Schema, Statement}
-use Rattle.sql_engine.specs.declared.tables.Mark.{Mark}
-use Rattle.sql_engine.specs.declared.tables.Mark.TheVariants.{Left, Taken, Done}
+use Rattle.sql_engine.specs.declared.marks.Mark.{Mark}
+use Rattle.sql_engine.specs.declared.marks.Mark.TheVariants.{Left, Taken, Done}
 use Rattle.sql_model.specs.ForeignKeys.{NamedSchema, with_parents}
 use Rattle.sql_model.specs.Refusals.{tables_of}
 use Rattle.sql_model.specs.Scope.{same_text}

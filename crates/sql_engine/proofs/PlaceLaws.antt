@@ -5,7 +5,7 @@ use Rattle.std.specs.List.{SwappedAt}
 use Rattle.std.proofs.lemmas.List.{take_all}
 use Rattle.std.proofs.lemmas.List.Filters.{FiltersInPlace, FiltersInPlace-more_no, FiltersInPlace-more_swap}
 use Rattle.sql_engine.specs.inner.Taking.{InPlace, is_taken}
-use Rattle.sql_engine.specs.declared.tables.Mark.{Mark}
+use Rattle.sql_engine.specs.declared.marks.Mark.{Mark}
 
 module _ (test : List ℕ → Bool) (all : List (List ℕ)) where
   to_filters : (now : List (List ℕ)) (kept place : ℕ) → InPlace test all now kept place → FiltersInPlace test all now kept place

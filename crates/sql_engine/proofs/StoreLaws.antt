@@ -10,8 +10,8 @@ use Rattle.dml_versions.proofs.StandingLaws.{updates-are}
 use Rattle.dml_versions.specs.Versions.{versions_now, updates_in}
 use Rattle.ldv_value.proofs.Booleans.{and-parts, or-right}
 use Rattle.ldv_value.proofs.SameBytes.{bytes_eq-true, bytes_eq-itself}
-use Rattle.query_eval.proofs.StoredLaws.{names-sorted}
-use Rattle.query_eval.specs.Stored.{table_names, version_in, TellVersions}
+use Rattle.query_eval.proofs.StoredSourceLaws.{names-sorted}
+use Rattle.query_eval.specs.StoredSources.{table_names, version_in, TellVersions}
 use Rattle.sql_engine.proofs.NeedLaws.{AreNamedIn}
 use Rattle.sql_engine.specs.inner.Answering.{hidden_lineage}
 use Rattle.sql_engine.specs.Types.{Query, StoreHistory, Table}

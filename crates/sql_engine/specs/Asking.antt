@@ -4,7 +4,7 @@ use Rattle.dml_versions.specs.declared.change.Change.{Change}
 use Rattle.dml_versions.specs.Versions.{versions_now}
 use Rattle.run_model.specs.SqlDatabase.{SqlDatabase, db_after, lists_of}
 use Rattle.sql_engine.specs.Types.{Lists, Refused, SqlRefusal, Statement, StoreHistory}
-use Rattle.sql_engine.specs.declared.done.Done.{Done}
+use Rattle.sql_engine.specs.declared.recorded.Recorded.{Recorded}
 use Rattle.sql_model.specs.Needs.{made_by, need_of, read_of}
 use Rattle.sql_model.specs.Statements.{reply_of}
 use Rattle.table_store.specs.Histories.{tables_now}
@@ -13,12 +13,12 @@ use Rattle.table_store.specs.Histories.{tables_now}
 abbrev pub database : StoreHistory → SqlDatabase
 database store = record { tables = tables_now store; versions = versions_now store }
 
-abbrev pub lists_in : Done → Lists
-lists_in done = record { tables = done.tables; reads = done.reads; made = done.made }
+abbrev pub lists_in : Recorded → Lists
+lists_in done = record { tables = done.tables; reads = done.needs; made = done.made }
 
 -- the reply to the statement that a text is, or to a text that is none, the lists where they are kept, and
 -- the database after it
-pub record IsDone (statement : Option Statement) (keep : Bool) (old new : StoreHistory) (done : Done)
+pub record IsRecorded (statement : Option Statement) (keep : Bool) (old new : StoreHistory) (done : Recorded)
     : Type 0 where
   pub reply : done.reply ≡ reply_of statement (tables_now old)
   pub after : database new ≡ db_after statement (database old)
@@ -40,6 +40,6 @@ pub record IsOutcome (statement : Statement) (keep : Bool) (old new : StoreHisto
 abbrev pub refusal_change : SqlRefusal → Change
 refusal_change refusal = record { reply = Refused refusal; made = []; needs = [] }
 
-abbrev pub done_of : Change → List (List ℕ) → Done
-done_of change tables =
-    record { reply = change.reply; tables = tables; reads = change.needs; made = change.made }
+abbrev pub recorded_of : Change → List (List ℕ) → Recorded
+recorded_of change tables =
+    record { reply = change.reply; tables = tables; needs = change.needs; made = change.made }

@@ -7,8 +7,8 @@ ghost use Rattle.sql_engine.specs.Asking.{database, lists_in};
 ghost use Rattle.sql_model.specs.Tables.{have_distinct_columns};
 ghost use Rattle.sql_model.specs.Tables.{is_database};
 
-use crate::asking::execute;
-use crate::done::Done;
+use crate::execute::execute;
+use crate::recorded::Recorded;
 use ldv_value::{Utf8, Values};
 use run_model::{Act, Asker, Database, Event, Stop, Tracer};
 use sql_model::{Reply, Tables};
@@ -54,19 +54,19 @@ impl Engine {
 }
 
 // The reply to a statement that was asked, and its event.
-fn asked_event(who: &Asker, done: Done) -> (Reply, Event)
+fn asked_event(who: &Asker, done: Recorded) -> (Reply, Event)
     ensures { result ≡ (done.reply, asked_event who.now (lists_in done)) }
 {
-    let Done {
+    let Recorded {
         reply,
         tables,
-        reads,
+        needs,
         made,
     } = done;
     let act = Act::Asked {
         statement: who.statement,
         tables,
-        reads,
+        reads: needs,
         made,
     };
     let event = Event {

@@ -3,12 +3,14 @@
 //! What it promises stands in `docs/GUARANTEES.md`, how it works in `docs/ARCHITECTURE.md`.
 #![tactic(auto)]
 
-mod answered;
-mod asking;
+mod answer;
+mod asked_tables;
+mod execute;
 mod cores;
-mod done;
+mod recorded;
 mod engine;
+mod marks;
+mod named_tables;
 mod needs;
-mod tables;
 
 pub use engine::Engine;

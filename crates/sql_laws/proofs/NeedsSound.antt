@@ -23,7 +23,7 @@ use Rattle.sql_model.specs.QueryAnswer.{Origin, AnswerRow, answer_values, lineag
 use Rattle.sql_model.specs.Changes.{key_clash, table_after, is_matched, matched, new_rows, had_row}
 use Rattle.sql_model.specs.Needs.{NeededRow, needed_by, is_same_row, is_earlier_row, put_row, sorted_needs, lineage_rows, matched_row, matched_rows, sums_up, cut_rows, hidden_rows, clash_rows, key_row, key_rows, parent_rows, child_row, child_rows, accepted_needs, needs_by, need_of}
 use Rattle.sql_model.specs.References.{reference, has_key as has_foreign_key, Child, Orphan, first_in, is_lost, orphan_by, orphans_of, other_rows as other_rows_of, child_of, children, orphans, is_changed, parents_in, parents_by, parents_of, tables_after, first_orphan, parents_needed}
-use Rattle.sql_model.specs.Refusals.{groups, answer_titles}
+use Rattle.sql_model.specs.Refusals.{groups, answer_columns}
 use Rattle.sql_model.specs.Scope.{InScope, same_text, table_at, is_table, rows_of, catalog_of, scope_of, own_scope}
 use Rattle.sql_model.specs.Sorting.{put_sorted, sorted_by}
 use Rattle.sql_model.specs.Statements.{target, refusal_of}
@@ -97,7 +97,7 @@ module _ (P : List ℕ → ℕ → Type 0) (db : List Table) (sound : (name : Li
 
   picked_good : (core : Core) → AllByRecursion (AllOf core.from) (picked core db)
   picked_good core =
-      all_filter (AllOf core.from) (λ rows. meets_all core.picks (row_environment (scope_of core.from (catalog_of db)) rows))
+      all_filter (AllOf core.from) (λ rows. meets_all core.conditions (row_environment (scope_of core.from (catalog_of db)) rows))
       (combinations core.from db) (combinations_good core.from)
 
   -- ---- groups
@@ -173,7 +173,7 @@ module _ (P : List ℕ → ℕ → Type 0) (db : List Table) (sound : (name : Li
 
   sorted_good : (query : Query) → AllByRecursion Row (sorted_rows query db)
   sorted_good query =
-      all_sorted Row (λ a b. order_by (map (sort_key (answer_titles (catalog_of db) query.cores)) query.order) a.values b.values)
+      all_sorted Row (λ a b. order_by (map (sort_key (answer_columns (catalog_of db) query.cores)) query.order) a.values b.values)
       (union_rows db query.cores) (union_good query.cores)
 
   first_good : (limit : Option ℕ) (rows : List AnswerRow) → AllByRecursion Row rows → AllByRecursion Row (first_rows limit rows)
@@ -262,8 +262,8 @@ module _ (P : List ℕ → ℕ → Type 0) (db : List Table) (sound : (name : Li
       → AllByRecursion (λ row. P t.name row.number) (matched s catalog t)
   matched_of (TheQuery query) catalog t h = tt
   matched_of (TheInsert insert) catalog t h = tt
-  matched_of (TheUpdate update) catalog t h = all_filter (λ row. P t.name row.number) (is_matched (own_scope update.table catalog) update.pick) t.rows h
-  matched_of (TheDelete delete) catalog t h = all_filter (λ row. P t.name row.number) (is_matched (own_scope delete.table catalog) delete.pick) t.rows h
+  matched_of (TheUpdate update) catalog t h = all_filter (λ row. P t.name row.number) (is_matched (own_scope update.table catalog) update.condition) t.rows h
+  matched_of (TheDelete delete) catalog t h = all_filter (λ row. P t.name row.number) (is_matched (own_scope delete.table catalog) delete.condition) t.rows h
 
   matched_good : (s : Statement) (catalog : Catalog) (o : Option Table) → TableGood o → AllByRecursion Needed (matched_rows s catalog o)
   matched_good s catalog None h = tt

@@ -8,7 +8,7 @@ use Rattle.sql_laws.specs.Types.{L, H, Rows, SqlRefusal, Core, Query, TheQuery, 
 use Rattle.sql_model.specs.QueryAnswer.{Origin, AnswerRow, answer_values, lineage_of, rejected, union_rows, SortKey, sort_key, order_by, sort_rows, sorted_rows, limit_of, first_rows, other_rows, answer, cut}
 use Rattle.sql_model.specs.Needs.{NeededRow, needed_by, sorted_needs, lineage_rows, has_merging, sums_up, cut_rows, hidden_rows, accepted_needs, needs_by, need_of}
 use Rattle.sql_laws.specs.QueryLaw.{Keep, cut_tables, KeepsNeeded, SameQuery, QueryLaw}
-use Rattle.sql_model.specs.Refusals.{groups, answer_titles}
+use Rattle.sql_model.specs.Refusals.{groups, answer_columns}
 use Rattle.sql_model.specs.Scope.{catalog_of}
 use Rattle.sql_model.specs.Statements.{refusal_of, reply_or}
 use Rattle.sql_model.proofs.Equations.{reply_is, need_is, refused_needs}
@@ -36,10 +36,10 @@ module _ (query : Query) (db : List Table) (keep : Keep) where
   limit = limit_of query.limit
 
   abbrev keys : List Table → List SortKey
-  keys tables = map (sort_key (answer_titles (catalog_of tables) query.cores)) query.order
+  keys tables = map (sort_key (answer_columns (catalog_of tables) query.cores)) query.order
 
   keys_same : keys small ≡ keys db
-  keys_same = λ j. map (sort_key (answer_titles (catalog_same keep db j) query.cores)) query.order
+  keys_same = λ j. map (sort_key (answer_columns (catalog_same keep db j) query.cores)) query.order
 
   -- all rows of a list stay
   abbrev Stay : List AnswerRow → Type 0

@@ -123,12 +123,12 @@ module _ (read : ℕ → List Token → Option (ParsedExpr × List Token)) where
   joined IsNull d ts = null_test d ts
 
   abbrev pub joined_within : ℕ → Infix → ParsedExpr → List Token → Option (ParsedExpr × List Token)
-  joined_within limit joint d ts = only_if (nat_le d.depth limit) (joined joint d ts)
+  joined_within limit sign d ts = only_if (nat_le d.depth limit) (joined sign d ts)
 
   -- one more operator, where one follows
   abbrev pub goes_on : ℕ → Option Infix → ParsedExpr → List Token → Option ((ParsedExpr × Bool) × List Token)
   goes_on limit None d ts = Some ((d, false), ts)
-  goes_on limit (Some joint) d ts = joined_within limit joint d (tail ts) >>= λ r. Some ((r.0, true), r.1)
+  goes_on limit (Some sign) d ts = joined_within limit sign d (tail ts) >>= λ r. Some ((r.0, true), r.1)
 
   abbrev pub joins_more : ℕ → ℕ → ParsedExpr → List Token → Option ((ParsedExpr × Bool) × List Token)
   joins_more limit least d ts = goes_on limit (joins least d.level ts) d ts

@@ -1,5 +1,6 @@
 pub mod Changes
 pub mod Codes
+pub mod ColumnTests
 pub mod Columns
 pub mod Evaluation
 pub mod Expressions

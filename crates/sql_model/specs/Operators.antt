@@ -28,8 +28,8 @@ abbrev pub comparison_infix : List ℕ → Option Infix
 comparison_infix w = comparison_of w >>= λ cmp. Some (Both (Compare cmp))
 
 -- what the word or symbol is between operands
-abbrev pub joint_in : List ℕ → Option Infix
-joint_in w =
+abbrev pub infix_in : List ℕ → Option Infix
+infix_in w =
     if pointwise nat_eq w (codes "or") then Some (Both Or)
     else if pointwise nat_eq w (codes "and") then Some (Both And)
     else if pointwise nat_eq w (codes "is") then Some IsNull
@@ -38,12 +38,12 @@ joint_in w =
     else if pointwise nat_eq w (codes "*") then Some (Both Multiply)
     else comparison_infix w
 
-abbrev pub joint_of : List Token → Option Infix
-joint_of [] = None
-joint_of (Word w ∷ ts) = joint_in w
-joint_of (Number z ∷ ts) = None
-joint_of (Quoted t ∷ ts) = None
-joint_of (Given v ∷ ts) = None
+abbrev pub infix_of : List Token → Option Infix
+infix_of [] = None
+infix_of (Word w ∷ ts) = infix_in w
+infix_of (Number z ∷ ts) = None
+infix_of (Quoted t ∷ ts) = None
+infix_of (Given v ∷ ts) = None
 
 abbrev pub level_of : Infix → ℕ
 level_of (Both op) = operator_level op
@@ -55,7 +55,7 @@ left_of IsNull = 5
 
 -- it may go on with an operand of this level, where a whole of at least the least level is read
 abbrev pub may_join : ℕ → ℕ → Infix → Bool
-may_join least level joint = nat_le least (level_of joint) && nat_le (left_of joint) level
+may_join least level sign = nat_le least (level_of sign) && nat_le (left_of sign) level
 
 abbrev pub joins : ℕ → ℕ → List Token → Option Infix
-joins least level ts = joint_of ts >>= λ joint. only_if (may_join least level joint) (Some joint)
+joins least level ts = infix_of ts >>= λ sign. only_if (may_join least level sign) (Some sign)

@@ -3,7 +3,7 @@ use Rattle.std.specs.Prelude.{ℕ, ◌-◌, List, [], ◌∷◌, ◌++◌, map, 
 use Rattle.std.specs.List.{position_or_len}
 use Rattle.sql_model.specs.Types.{Catalog, Checked, SqlRefusal, Core, Order, OrderKey, Name, Place, Query}
 use Rattle.sql_model.specs.Types.{Statement, TheQuery, TheInsert, TheUpdate, TheDelete}
-use Rattle.sql_model.specs.Refusals.{core_names, update_names, delete_names, answer_titles, is_titled}
+use Rattle.sql_model.specs.Refusals.{core_names, update_names, delete_names, answer_columns, has_name}
 use Rattle.sql_model.specs.Refusals.{check_refusal}
 use Rattle.sql_model.specs.Scope.{scope_of, own_scope, places_in}
 
@@ -13,7 +13,7 @@ core_places catalog core = places_in (scope_of core.from catalog) (core_names co
 
 -- the place of an answer column
 abbrev pub key_place : List (Option (List ℕ)) → OrderKey → ℕ
-key_place titles (Name name) = position_or_len (is_titled name) titles
+key_place titles (Name name) = position_or_len (has_name name) titles
 key_place titles (Place place) = place - 1
 
 abbrev pub order_places : List (Option (List ℕ)) → List Order → List ℕ
@@ -22,7 +22,8 @@ order_places titles order = map (λ part. key_place titles part.key) order
 -- a list for each core, and one for ORDER BY
 abbrev pub query_places : Query → Catalog → List (List ℕ)
 query_places query catalog =
-    map (core_places catalog) query.cores ++ order_places (answer_titles catalog query.cores) query.order ∷ []
+    map (core_places catalog) query.cores
+    ++ order_places (answer_columns catalog query.cores) query.order ∷ []
 
 -- any other statement has one list, of places in the table's row; an INSERT that is accepted names no
 -- column in its values

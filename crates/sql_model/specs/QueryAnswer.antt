@@ -14,7 +14,7 @@ use Rattle.sql_model.specs.Types.{Query, Table, TableRow}
 use Rattle.ldv_value.specs.Order.{order}
 use Rattle.sql_model.specs.Keys.{same_values}
 use Rattle.sql_model.specs.Places.{key_place}
-use Rattle.sql_model.specs.Refusals.{groups, answer_titles}
+use Rattle.sql_model.specs.Refusals.{groups, answer_columns}
 use Rattle.ldv_value.specs.Cells.{value_at}
 use Rattle.sql_model.specs.Scope.{InScope, table_at, rows_of, catalog_of, scope_of, environment}
 use Rattle.sql_model.specs.Meaning.{Environment, eval, truth, is_true}
@@ -60,7 +60,7 @@ combination_rows (item ∷ from) [] = []
 combination_rows (item ∷ from) (row ∷ rows) = origin item row ∷ combination_rows from rows
 
 abbrev pub meets_all : List Expr → Environment → Bool
-meets_all picks env = list_all (λ e. is_true (truth e env)) picks
+meets_all conditions env = list_all (λ e. is_true (truth e env)) conditions
 
 abbrev pub row_environment : List InScope → Combination → Environment
 row_environment scope rows = environment scope (joined_values rows)
@@ -68,7 +68,7 @@ row_environment scope rows = environment scope (joined_values rows)
 -- those for which each ON condition and WHERE are True over the whole joined row
 abbrev pub picked : Core → List Table → List Combination
 picked core db =
-    filter (λ rows. meets_all core.picks (row_environment (scope_of core.from (catalog_of db)) rows))
+    filter (λ rows. meets_all core.conditions (row_environment (scope_of core.from (catalog_of db)) rows))
     (combinations core.from db)
 
 -- ---- rows of the same values; NULL is the same as NULL
@@ -203,7 +203,7 @@ sort_rows keys rows = sorted_by (λ a b. order_by keys a.values b.values) rows
 
 abbrev pub sorted_rows : Query → List Table → List AnswerRow
 sorted_rows query db =
-    sort_rows (map (sort_key (answer_titles (catalog_of db) query.cores)) query.order)
+    sort_rows (map (sort_key (answer_columns (catalog_of db) query.cores)) query.order)
     (union_rows db query.cores)
 
 -- how many rows LIMIT keeps, where it isn't refused

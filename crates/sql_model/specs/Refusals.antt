@@ -51,15 +51,15 @@ names_of_items items = flat_map (λ item. names_in item.expr) items
 abbrev pub core_names : Core → List ColumnName
 core_names core =
     names_of_items (items_of core)
-    ++ (flat_map names_in core.picks ++ (core.group ++ flat_map names_in (option_to_list core.having)))
+    ++ (flat_map names_in core.conditions ++ (core.group ++ flat_map names_in (option_to_list core.having)))
 
 -- those of an UPDATE or DELETE
 abbrev pub update_names : Update → List ColumnName
 update_names update =
-    flat_map (λ set. names_in set.expr) update.sets ++ flat_map names_in (option_to_list update.pick)
+    flat_map (λ set. names_in set.expr) update.sets ++ flat_map names_in (option_to_list update.condition)
 
 abbrev pub delete_names : Delete → List ColumnName
-delete_names delete = flat_map names_in (option_to_list delete.pick)
+delete_names delete = flat_map names_in (option_to_list delete.condition)
 
 abbrev pub insert_names : Insert → List ColumnName
 insert_names insert = flat_map (flat_map names_in) insert.rows
@@ -109,32 +109,32 @@ abbrev pub core_lacks_column : Catalog → Core → Bool
 core_lacks_column catalog core = lacks_in_scope (scope_of core.from catalog) core
 
 -- the AS name, or the name of an item that is a column
-abbrev pub title_of : Option (List ℕ) → Expr → Option (List ℕ)
-title_of (Some name) expr = Some name
-title_of None expr = own_name expr
+abbrev pub item_name : Option (List ℕ) → Expr → Option (List ℕ)
+item_name (Some name) expr = Some name
+item_name None expr = own_name expr
 
-abbrev pub item_titles : List InScope → Option (List Item) → List (Option (List ℕ))
-item_titles scope None = map (λ entry. Some entry.column.name) scope
-item_titles scope (Some items) = map (λ item. title_of item.name item.expr) items
+abbrev pub item_columns : List InScope → Option (List Item) → List (Option (List ℕ))
+item_columns scope None = map (λ entry. Some entry.column.name) scope
+item_columns scope (Some items) = map (λ item. item_name item.name item.expr) items
 
 -- the names of the answer columns, which are those of the first core
-abbrev pub answer_titles : Catalog → List Core → List (Option (List ℕ))
-answer_titles catalog [] = []
-answer_titles catalog (core ∷ cores) = item_titles (scope_of core.from catalog) core.items
+abbrev pub answer_columns : Catalog → List Core → List (Option (List ℕ))
+answer_columns catalog [] = []
+answer_columns catalog (core ∷ cores) = item_columns (scope_of core.from catalog) core.items
 
-abbrev pub is_titled : List ℕ → Option (List ℕ) → Bool
-is_titled name None = false
-is_titled name (Some title) = same_text title name
+abbrev pub has_name : List ℕ → Option (List ℕ) → Bool
+has_name name None = false
+has_name name (Some title) = same_text title name
 
 -- the name of exactly one answer column, or the number of one
 abbrev pub is_order_key : List (Option (List ℕ)) → OrderKey → Bool
-is_order_key titles (Name name) = length (filter (is_titled name) titles) == 1
+is_order_key titles (Name name) = length (filter (has_name name) titles) == 1
 is_order_key titles (Place place) = nat_le 1 place && nat_le place (length titles)
 
 abbrev pub query_lacks_column : Query → Catalog → Bool
 query_lacks_column query catalog =
     list_any (core_lacks_column catalog) query.cores
-    || not (list_all (λ order. is_order_key (answer_titles catalog query.cores) order.key) query.order)
+    || not (list_all (λ order. is_order_key (answer_columns catalog query.cores) order.key) query.order)
 
 -- VALUES has no scope
 abbrev pub insert_lacks_column : Insert → List Column → Bool
@@ -158,8 +158,8 @@ lacks_column (TheDelete delete) catalog = has_unresolved_name
 
 -- ---- code 4
 
-abbrev pub is_pick : List InScope → Expr → Bool
-is_pick scope expr = is_condition (row_kind scope expr)
+abbrev pub is_row_condition : List InScope → Expr → Bool
+is_row_condition scope expr = is_condition (row_kind scope expr)
 
 abbrev pub is_having : List InScope → Expr → Bool
 is_having scope expr = is_condition (group_kind scope expr)
@@ -177,7 +177,7 @@ counts_joined core =
 
 abbrev pub conditions_fit : List InScope → Core → Bool
 conditions_fit scope core =
-    list_all (is_pick scope) core.picks
+    list_all (is_row_condition scope) core.conditions
     && (list_all (is_having scope) (option_to_list core.having) && not (counts_joined core))
 
 -- of a value that is in an answer, stored or inserted
@@ -278,20 +278,20 @@ takes_set (Some column) k = takes column k
 abbrev pub set_fits : List Column → List InScope → Set → Bool
 set_fits columns scope set = takes_set (find (is_column set.column) columns) (row_kind scope set.expr)
 
-abbrev pub pick_fits : List InScope → Option Expr → Bool
-pick_fits scope pick = list_all (is_pick scope) (option_to_list pick)
+abbrev pub condition_fits : List InScope → Option Expr → Bool
+condition_fits scope condition = list_all (is_row_condition scope) (option_to_list condition)
 
 abbrev pub update_clashes : Update → List Column → List InScope → Bool
 update_clashes update columns scope =
     repeats same_text (map (λ set. set.column) update.sets)
-    || not (list_all (set_fits columns scope) update.sets && pick_fits scope update.pick)
+    || not (list_all (set_fits columns scope) update.sets && condition_fits scope update.condition)
 
 abbrev pub clashes : Statement → Catalog → Bool
 clashes (TheQuery query) catalog = query_clashes query catalog
 clashes (TheInsert insert) catalog = insert_clashes insert (columns_of (schema_at insert.table catalog))
 clashes (TheUpdate update) catalog =
     update_clashes update (columns_of (schema_at update.table catalog)) (own_scope update.table catalog)
-clashes (TheDelete delete) catalog = not (pick_fits (own_scope delete.table catalog) delete.pick)
+clashes (TheDelete delete) catalog = not (condition_fits (own_scope delete.table catalog) delete.condition)
 
 -- ---- the first of the three
 

@@ -6,6 +6,7 @@
 
 mod arithmetic;
 mod catalog;
+mod column_test;
 mod expr;
 mod foreign;
 mod key;
@@ -26,6 +27,7 @@ mod unique;
 mod value;
 
 pub use catalog::{Catalog, Checked};
+pub use column_test::{CellTest, ColumnTest};
 pub use expr::{ColumnName, ColumnNames, Expr, ExprRows, Exprs, Fold, Operator};
 pub use foreign::{MAX_FOREIGN, NamedSchema, have_parents};
 pub use key::{RowKey, value_at};
@@ -43,7 +45,7 @@ pub use schema::{
 pub use sql_names::is_sql_name;
 pub use statement::{
     Core, Cores, Delete, FromItem, FromItems, Insert, Item, Items, Order, OrderKey, Orders, Query,
-    Set, Sets, Statement, Update,
+    Set, Sets, Statement, Update, items_of,
 };
 pub use table::{
     Column, Columns, Foreign, Foreigns, Schema, Schemas, Table, TableRow, TableRows, Tables,

@@ -8,8 +8,8 @@ ghost use Rattle.sql_model.specs.Tables.{foreign_key_test, foreign_test, key_not
 ghost use Rattle.sql_model.specs.Tables.{schema_test};
 
 use crate::foreign::MAX_FOREIGN;
-use crate::sql_names::is_sql_name;
 use crate::repeats::has_twice;
+use crate::sql_names::is_sql_name;
 use crate::table::{Columns, Foreigns, Schema};
 use ldv_value::{MAX_COLUMNS, Places};
 use std::alloc::{AllocError, Global};

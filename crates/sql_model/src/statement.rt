@@ -1,6 +1,7 @@
 //! Statements.
 
 ghost use Rattle.std.specs.Prelude.{◌≡◌, IfOk};
+ghost use Rattle.sql_model.specs.Refusals.{items_of};
 
 use crate::expr::{ColumnNames, Expr, ExprRows, Exprs, copy_text};
 use ldv_value::{CopyItem, List, Names, Utf8, Value};
@@ -38,11 +39,21 @@ pub struct Core {
     pub items: Option<Items>,
     pub from: FromItems,
     /// The ON conditions and then WHERE, in the order of the text.
-    pub picks: Exprs,
+    pub conditions: Exprs,
     /// The columns of GROUP BY.
     pub group: ColumnNames,
     /// The condition of HAVING.
     pub having: Option<Expr>,
+}
+
+/// The items of a core that are written; `*` is none.
+pub fn items_of(core: &Core) -> &[Item]
+    ensures { result.now ≡ items_of core.now }
+{
+    match &core.items {
+        None => &[],
+        Some(items) => items.items(),
+    }
 }
 
 /// An item of a SELECT, with its AS name.
@@ -91,7 +102,7 @@ pub struct Update {
     pub table: Utf8,
     pub sets: Sets,
     /// The condition of WHERE.
-    pub pick: Option<Expr>,
+    pub condition: Option<Expr>,
 }
 
 /// A column that UPDATE sets, and its new value.
@@ -106,7 +117,7 @@ pub struct Set {
 pub struct Delete {
     pub table: Utf8,
     /// The condition of WHERE.
-    pub pick: Option<Expr>,
+    pub condition: Option<Expr>,
 }
 
 /// Cores.
@@ -184,7 +195,7 @@ impl CopyItem for Core {
             distinct: self.distinct,
             items: copy_items(&self.items)?,
             from: self.from.copy()?,
-            picks: self.picks.copy()?,
+            conditions: self.conditions.copy()?,
             group: self.group.copy()?,
             having: copy_expr(alloc, &self.having)?,
         })
@@ -251,7 +262,7 @@ impl CopyItem for Update {
         Ok(Update {
             table: self.table.copy()?,
             sets: self.sets.copy()?,
-            pick: copy_expr(alloc, &self.pick)?,
+            condition: copy_expr(alloc, &self.condition)?,
         })
     }
 }
@@ -260,7 +271,7 @@ impl CopyItem for Delete {
     fn copy_item(&self, alloc: Global) -> Result<Self, AllocError> {
         Ok(Delete {
             table: self.table.copy()?,
-            pick: copy_expr(alloc, &self.pick)?,
+            condition: copy_expr(alloc, &self.condition)?,
         })
     }
 }

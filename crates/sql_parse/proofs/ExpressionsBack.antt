@@ -28,9 +28,9 @@ use Rattle.sql_model.specs.Expressions.{word_opening, opening, inside_level, wit
 use Rattle.ldv_value.specs.Options.{◌>>=◌, only_if}
 use Rattle.sql_model.specs.Grammar.{word, fold_word, GoesNotOn, GoesOnWith, Writes, IsName, IsConstant, IsColumn, IsExpr}
 use Rattle.sql_model.specs.Levels.{operator_level, operator_left, right_of}
-use Rattle.sql_model.specs.Operators.{joint_of, level_of, left_of, may_join, joins}
+use Rattle.sql_model.specs.Operators.{infix_of, level_of, left_of, may_join, joins}
 use Rattle.sql_model.specs.Reader.{starts, tail, repeat}
-use Rattle.sql_parse.proofs.ExpressionsLaw.{JointWrites, begins, form_level, joint_sound, starts_is, text_is}
+use Rattle.sql_parse.proofs.ExpressionsLaw.{InfixWrites, begins, form_level, infix_sound, starts_is, text_is}
 use Rattle.ldv_value.proofs.Options.{same-some}
 use Rattle.sql_parse.proofs.Repeat.{after, repeat_suc}
 use Rattle.sql_parse.proofs.Within.{within_suc}
@@ -39,15 +39,15 @@ use Rattle.sql_parse.proofs.Laws.{name_read}
 -- ---- what stands after an expression
 
 -- Tokens with which no expression goes on that is read to this least level: they begin with no dot and with
--- no joint of that level or a higher one.
+-- no sign of that level or a higher one.
 pub record Ends (least : ℕ) (rest : List Token) : Type 0 where
   pub no_dot : starts (codes ".") rest ≡ false
-  pub below : (j : Infix) → joint_of rest ≡ Some j → level_of j < least
+  pub below : (j : Infix) → infix_of rest ≡ Some j → level_of j < least
 
 pub ends_more : (m n : ℕ) (rest : List Token) → m ≤ n → Ends m rest → Ends n rest
 ends_more m n rest le ends = record { no_dot = ends.no_dot; below = λ j h. let few : level_of j < m = ends.below j h in omega arith }
 
--- no joint has the level of NOT, nor one as high as that of a minus
+-- no sign has the level of NOT, nor one as high as that of a minus
 none_as_not : (j : Infix) → level_of j < 4 → level_of j < 3
 none_as_not (Both Or) h = omega arith
 none_as_not (Both And) h = omega arith
@@ -66,14 +66,14 @@ none_as_minus (Both Subtract) = omega arith
 none_as_minus (Both Multiply) = omega arith
 none_as_minus IsNull = omega arith
 
-some_joint_level : (j : Infix) → 1 ≤ level_of j
-some_joint_level (Both Or) = omega arith
-some_joint_level (Both And) = omega arith
-some_joint_level (Both (Compare c)) = omega arith
-some_joint_level (Both Add) = omega arith
-some_joint_level (Both Subtract) = omega arith
-some_joint_level (Both Multiply) = omega arith
-some_joint_level IsNull = omega arith
+some_infix_level : (j : Infix) → 1 ≤ level_of j
+some_infix_level (Both Or) = omega arith
+some_infix_level (Both And) = omega arith
+some_infix_level (Both (Compare c)) = omega arith
+some_infix_level (Both Add) = omega arith
+some_infix_level (Both Subtract) = omega arith
+some_infix_level (Both Multiply) = omega arith
+some_infix_level IsNull = omega arith
 
 level_left : (j : Infix) → level_of j ≤ left_of j
 level_left (Both Or) = omega arith
@@ -92,44 +92,44 @@ level_right Add = refl
 level_right Subtract = refl
 level_right Multiply = refl
 
-comparison_read : (c : Cmp) (t : Token) (ts : List Token) → Writes (Compare c) t → joint_of (t ∷ ts) ≡ Some (Both (Compare c))
-comparison_read Eq t ts h = ap (λ u. joint_of (u ∷ ts)) h
-comparison_read Ne t ts h = elim h [ inl one ↦ ap (λ u. joint_of (u ∷ ts)) one | inr other ↦ ap (λ u. joint_of (u ∷ ts)) other ]
-comparison_read Lt t ts h = ap (λ u. joint_of (u ∷ ts)) h
-comparison_read Le t ts h = ap (λ u. joint_of (u ∷ ts)) h
-comparison_read Gt t ts h = ap (λ u. joint_of (u ∷ ts)) h
-comparison_read Ge t ts h = ap (λ u. joint_of (u ∷ ts)) h
+comparison_read : (c : Cmp) (t : Token) (ts : List Token) → Writes (Compare c) t → infix_of (t ∷ ts) ≡ Some (Both (Compare c))
+comparison_read Eq t ts h = ap (λ u. infix_of (u ∷ ts)) h
+comparison_read Ne t ts h = elim h [ inl one ↦ ap (λ u. infix_of (u ∷ ts)) one | inr other ↦ ap (λ u. infix_of (u ∷ ts)) other ]
+comparison_read Lt t ts h = ap (λ u. infix_of (u ∷ ts)) h
+comparison_read Le t ts h = ap (λ u. infix_of (u ∷ ts)) h
+comparison_read Gt t ts h = ap (λ u. infix_of (u ∷ ts)) h
+comparison_read Ge t ts h = ap (λ u. infix_of (u ∷ ts)) h
 
--- what is written as a joint is read as one
-joint_read : (j : Infix) (t : Token) (ts : List Token) → JointWrites j t → joint_of (t ∷ ts) ≡ Some j
-joint_read (Both Or) t ts h = ap (λ u. joint_of (u ∷ ts)) h
-joint_read (Both And) t ts h = ap (λ u. joint_of (u ∷ ts)) h
-joint_read (Both (Compare c)) t ts h = comparison_read c t ts h
-joint_read (Both Add) t ts h = ap (λ u. joint_of (u ∷ ts)) h
-joint_read (Both Subtract) t ts h = ap (λ u. joint_of (u ∷ ts)) h
-joint_read (Both Multiply) t ts h = ap (λ u. joint_of (u ∷ ts)) h
-joint_read IsNull t ts h = ap (λ u. joint_of (u ∷ ts)) h
+-- what is written as a sign is read as one
+infix_read : (j : Infix) (t : Token) (ts : List Token) → InfixWrites j t → infix_of (t ∷ ts) ≡ Some j
+infix_read (Both Or) t ts h = ap (λ u. infix_of (u ∷ ts)) h
+infix_read (Both And) t ts h = ap (λ u. infix_of (u ∷ ts)) h
+infix_read (Both (Compare c)) t ts h = comparison_read c t ts h
+infix_read (Both Add) t ts h = ap (λ u. infix_of (u ∷ ts)) h
+infix_read (Both Subtract) t ts h = ap (λ u. infix_of (u ∷ ts)) h
+infix_read (Both Multiply) t ts h = ap (λ u. infix_of (u ∷ ts)) h
+infix_read IsNull t ts h = ap (λ u. infix_of (u ∷ ts)) h
 
-joint_no_dot : (j : Infix) (ts : List Token) → joint_of ts ≡ Some j → starts (codes ".") ts ≡ false
-joint_no_dot j ts is = false_from_ne_true (starts (codes ".") ts) (λ dot.
-    let none : None ≡ Some j = sym (ap joint_of (starts_is (codes ".") ts dot)) ∙ is in cc)
+infix_no_dot : (j : Infix) (ts : List Token) → infix_of ts ≡ Some j → starts (codes ".") ts ≡ false
+infix_no_dot j ts is = false_from_ne_true (starts (codes ".") ts) (λ dot.
+    let none : None ≡ Some j = sym (ap infix_of (starts_is (codes ".") ts dot)) ∙ is in cc)
 
-joint_ends : (j : Infix) (ts : List Token) (least : ℕ) → joint_of ts ≡ Some j → level_of j < least → Ends least ts
-joint_ends j ts least is le = record {
-  no_dot = joint_no_dot j ts is;
+infix_ends : (j : Infix) (ts : List Token) (least : ℕ) → infix_of ts ≡ Some j → level_of j < least → Ends least ts
+infix_ends j ts least is le = record {
+  no_dot = infix_no_dot j ts is;
   below = λ i h. let same : j ≡ i = same-some j i (sym is ∙ h) in subst (λ (k : Infix). level_of k < least) same le;
 }
 
-may_not_join : (least level : ℕ) (o : Option Infix) → ((j : Infix) → o ≡ Some j → level_of j < least) → (o >>= λ joint. only_if (may_join least level joint) (Some joint)) ≡ None
+may_not_join : (least level : ℕ) (o : Option Infix) → ((j : Infix) → o ≡ Some j → level_of j < least) → (o >>= λ sign. only_if (may_join least level sign) (Some sign)) ≡ None
 may_not_join least level None few = refl
 may_not_join least level (Some j) few = ap (λ b. only_if b (Some j)) (and_left _ _ (lt-leb least (level_of j) (few j refl)))
 
 joins_none : (least level : ℕ) (rest : List Token) → Ends least rest → joins least level rest ≡ None
-joins_none least level rest ends = may_not_join least level (joint_of rest) ends.below
+joins_none least level rest ends = may_not_join least level (infix_of rest) ends.below
 
-joins_some : (least level : ℕ) (j : Infix) (ts : List Token) → joint_of ts ≡ Some j → least ≤ level_of j → left_of j ≤ level → joins least level ts ≡ Some j
+joins_some : (least level : ℕ) (j : Infix) (ts : List Token) → infix_of ts ≡ Some j → least ≤ level_of j → left_of j ≤ level → joins least level ts ≡ Some j
 joins_some least level j ts is le left =
-    ap (λ o. o >>= λ joint. only_if (may_join least level joint) (Some joint)) is
+    ap (λ o. o >>= λ sign. only_if (may_join least level sign) (Some sign)) is
     ∙ ap (λ a. only_if (a && nat_le (left_of j) level) (Some j)) (le-leb least (level_of j) le)
     ∙ ap (λ b. only_if b (Some j)) (le-leb (left_of j) level left)
 
@@ -138,15 +138,15 @@ joins_some least level j ts is le left =
 abbrev pub deep : ℕ → ℕ → Expr → ParsedExpr
 deep level depth e = record { expr = e; depth = depth; level = level }
 
--- the first operand, and then so many joints
+-- the first operand, and then so many signs
 abbrev pub joined_up : ℕ → ℕ → ℕ → List Token → Option (ParsedExpr × List Token)
 joined_up m least k ts = operand (within m) least ts >>= λ r. repeat (joins_more (within m) m least) k r.0 r.1
 
--- after some joints, fewer than it is deep, an expression in front of the rest is whole
+-- after some signs, fewer than it is deep, an expression in front of the rest is whole
 pub record Reached (m least level depth : ℕ) (ts : List Token) (e : Expr) (rest : List Token) : Type 0 where
-  pub joints : ℕ
-  pub few : joints < depth
-  pub made : (k : ℕ) → joined_up m least (joints + k) ts ≡ repeat (joins_more (within m) m least) k (deep level depth e) rest
+  pub signs : ℕ
+  pub few : signs < depth
+  pub made : (k : ℕ) → joined_up m least (signs + k) ts ≡ repeat (joins_more (within m) m least) k (deep level depth e) rest
 
 pub record Readable (level depth : ℕ) (front : List Token) (e : Expr) : Type 0 where
   pub some_depth : 1 ≤ depth
@@ -160,19 +160,19 @@ pub read_whole : (level depth : ℕ) (front : List Token) (e : Expr) → Readabl
 read_whole level depth front e is zero least rest shallow low ends = let some : 1 ≤ depth = is.some_depth in absurd (omega arith)
 read_whole level depth front e is (suc m) least rest shallow low ends =
     let there : Reached m least level depth (front ++ rest) e rest = is.reaches m least rest shallow low (ends_more least (suc level) rest (omega (arith, low)) ends) in
-    let few : there.joints < depth = there.few in
-    let left : suc m ≡ there.joints + suc (m - there.joints) = omega (arith, few, shallow) in
+    let few : there.signs < depth = there.few in
+    let left : suc m ≡ there.signs + suc (m - there.signs) = omega (arith, few, shallow) in
     let stops : joins_more (within m) m least (deep level depth e) rest ≡ Some ((deep level depth e, false), rest) = ap (λ o. goes_on (within m) m o (deep level depth e) rest) (joins_none least level rest ends) in
     within_suc m least (front ++ rest)
     ∙ ap (λ k. joined_up m least k (front ++ rest)) left
-    ∙ there.made (suc (m - there.joints))
-    ∙ repeat_suc (joins_more (within m) m least) (m - there.joints) (deep level depth e) rest
-    ∙ ap (after (joins_more (within m) m least) (m - there.joints)) stops
+    ∙ there.made (suc (m - there.signs))
+    ∙ repeat_suc (joins_more (within m) m least) (m - there.signs) (deep level depth e) rest
+    ∙ ap (after (joins_more (within m) m least) (m - there.signs)) stops
 
 -- what is one operand is whole at once
 at_once : (m least level depth : ℕ) (ts : List Token) (e : Expr) (rest : List Token) → 0 < depth → operand (within m) least ts ≡ Some (deep level depth e, rest) → Reached m least level depth ts e rest
 at_once m least level depth ts e rest some h = record {
-  joints = 0;
+  signs = 0;
   few = some;
   made = λ k. ap (λ o. o >>= λ r. repeat (joins_more (within m) m least) (0 + k) r.0 r.1) h ∙ ap (λ n. repeat (joins_more (within m) m least) n (deep level depth e) rest) (zero-add k);
 }
@@ -340,48 +340,48 @@ form_readable w level depth ts e inside is = record {
       (form_operand w level depth ts e m least rest inside is (omega (arith, shallow)) low ends);
 }
 
--- ---- joints after an expression
+-- ---- signs after an expression
 
-joint_steps : (m least : ℕ) (j : Infix) (d made : ParsedExpr) (ts rest : List Token) → joins least d.level ts ≡ Some j → d.depth ≤ m → joined (within m) j d (tail ts) ≡ Some (made, rest)
+infix_steps : (m least : ℕ) (j : Infix) (d made : ParsedExpr) (ts rest : List Token) → joins least d.level ts ≡ Some j → d.depth ≤ m → joined (within m) j d (tail ts) ≡ Some (made, rest)
     → joins_more (within m) m least d ts ≡ Some ((made, true), rest)
-joint_steps m least j d made ts rest joining shallow h =
+infix_steps m least j d made ts rest joining shallow h =
     ap (λ o. goes_on (within m) m o d ts) joining
     ∙ ap (λ b. only_if b (joined (within m) j d (tail ts)) >>= λ r. Some ((r.0, true), r.1)) (le-leb d.depth m shallow)
     ∙ ap (λ o. o >>= λ r. Some ((r.0, true), r.1)) h
 
--- one joint more
+-- one sign more
 one_more : (m least level depth : ℕ) (ts : List Token) (a : Expr) (after_word : List Token) (i n : ℕ) (e : Expr) (rest : List Token) → Reached m least level depth ts a after_word → depth < n
     → joins_more (within m) m least (deep level depth a) after_word ≡ Some ((deep i n e, true), rest) → Reached m least i n ts e rest
 one_more m least level depth ts a after_word i n e rest left deeper h = record {
-  joints = suc left.joints;
-  few = let few : left.joints < depth = left.few in omega arith;
+  signs = suc left.signs;
+  few = let few : left.signs < depth = left.few in omega arith;
   made = λ k.
-      let turns : suc left.joints + k ≡ left.joints + suc k = omega arith in
+      let turns : suc left.signs + k ≡ left.signs + suc k = omega arith in
       ap (λ t. joined_up m least t ts) turns
       ∙ left.made (suc k)
       ∙ repeat_suc (joins_more (within m) m least) k (deep level depth a) after_word
       ∙ ap (after (joins_more (within m) m least) k) h;
 }
 
--- what a joint makes of an operand in front of it
+-- what a sign makes of an operand in front of it
 abbrev pub JoinedAs : Infix → ParsedExpr → List Token → ℕ → Expr → Type 0
 JoinedAs j d back depth e = (m : ℕ) (rest : List Token) → depth ≤ suc m → Ends (suc (level_of j)) rest → joined (within m) j d (back ++ rest) ≡ Some (deep (level_of j) depth e, rest)
 
-joint_readable : (j : Infix) (t : Token) (level depth : ℕ) (front : List Token) (a : Expr) (back : List Token) (n : ℕ) (e : Expr) → JointWrites j t → left_of j ≤ level
+infix_readable : (j : Infix) (t : Token) (level depth : ℕ) (front : List Token) (a : Expr) (back : List Token) (n : ℕ) (e : Expr) → InfixWrites j t → left_of j ≤ level
     → Readable level depth front a → depth < n → JoinedAs j (deep level depth a) back n e → Readable (level_of j) n (front ++ t ∷ back) e
-joint_readable j t level depth front a back n e writes left is deeper joins_as = record {
+infix_readable j t level depth front a back n e writes left is deeper joins_as = record {
   some_depth = let some : 1 ≤ depth = is.some_depth in omega arith;
-  some_level = some_joint_level j;
+  some_level = some_infix_level j;
   no_star = λ rest. ap (starts (codes "*")) (append_assoc front (t ∷ back) rest) ∙ is.no_star (t ∷ (back ++ rest));
   reaches = λ m least rest shallow low ends.
       let after_word : List Token = t ∷ (back ++ rest) in
-      let reads : joint_of after_word ≡ Some j = joint_read j t (back ++ rest) writes in
+      let reads : infix_of after_word ≡ Some j = infix_read j t (back ++ rest) writes in
       let weak : level_of j ≤ left_of j = level_left j in
       let there : Reached m least level depth (front ++ after_word) a after_word =
-      is.reaches m least after_word (omega (arith, shallow, deeper)) (omega (arith, low, weak, left)) (joint_ends j after_word (suc level) reads (omega (arith, weak, left))) in
+      is.reaches m least after_word (omega (arith, shallow, deeper)) (omega (arith, low, weak, left)) (infix_ends j after_word (suc level) reads (omega (arith, weak, left))) in
       let joining : joins least level after_word ≡ Some j = joins_some least level j after_word reads low left in
       let step : joins_more (within m) m least (deep level depth a) after_word ≡ Some ((deep (level_of j) n e, true), rest) =
-      joint_steps m least j (deep level depth a) (deep (level_of j) n e) after_word rest joining (omega (arith, shallow, deeper)) (joins_as m rest shallow ends) in
+      infix_steps m least j (deep level depth a) (deep (level_of j) n e) after_word rest joining (omega (arith, shallow, deeper)) (joins_as m rest shallow ends) in
       subst (λ (l : List Token). Reached m least (level_of j) n l e rest) (sym (append_assoc front (t ∷ back) rest))
       (one_more m least level depth (front ++ after_word) a after_word (level_of j) n e rest there deeper step);
 }
@@ -390,17 +390,17 @@ pair_readable : (op : Operator) (t : Token) (l m : ℕ) (xs : List Token) (a : E
     → operator_left op ≤ l → Readable l m xs a → right_of op ≤ k → Readable k n ys b
     → Readable (operator_level op) (max m n + 1) (xs ++ t ∷ ys) (expr.Both op a b)
 pair_readable op t l m xs a k n ys b writes left left_is right right_is =
-    joint_readable (Both op) t l m xs a ys (max m n + 1) (expr.Both op a b) writes left left_is (omega arith) (λ limit rest shallow ends.
+    infix_readable (Both op) t l m xs a ys (max m n + 1) (expr.Both op a b) writes left left_is (omega arith) (λ limit rest shallow ends.
     ap (λ o. o >>= λ r. Some (pair op (deep l m a) r.0, r.1))
     (read_whole k n ys b right_is limit (right_of op) rest (omega (arith, shallow)) right (subst (λ (least : ℕ). Ends least rest) (sym (level_right op)) ends)))
 
 null_readable : (level depth : ℕ) (ts : List Token) (e : Expr) → 5 ≤ level → Readable level depth ts e → Readable 4 (depth + 1) (ts ++ word "is" ∷ word "null" ∷ []) (expr.IsNull e false)
 null_readable level depth ts e left is =
-    joint_readable IsNull (word "is") level depth ts e (word "null" ∷ []) (depth + 1) (expr.IsNull e false) refl left is (omega arith) (λ m rest shallow ends. refl)
+    infix_readable IsNull (word "is") level depth ts e (word "null" ∷ []) (depth + 1) (expr.IsNull e false) refl left is (omega arith) (λ m rest shallow ends. refl)
 
 not_null_readable : (level depth : ℕ) (ts : List Token) (e : Expr) → 5 ≤ level → Readable level depth ts e → Readable 4 (depth + 1) (ts ++ word "is" ∷ word "not" ∷ word "null" ∷ []) (expr.IsNull e true)
 not_null_readable level depth ts e left is =
-    joint_readable IsNull (word "is") level depth ts e (word "not" ∷ word "null" ∷ []) (depth + 1) (expr.IsNull e true) refl left is (omega arith) (λ m rest shallow ends. refl)
+    infix_readable IsNull (word "is") level depth ts e (word "not" ∷ word "null" ∷ []) (depth + 1) (expr.IsNull e true) refl left is (omega arith) (λ m rest shallow ends. refl)
 
 -- ---- all expressions
 
@@ -434,17 +434,17 @@ within_back level depth front e n least rest is shallow low ends = read_whole le
 
 -- ---- what goes on with no expression
 
-sign_goes_on : (j : Infix) (t : Token) → JointWrites j t → GoesOnWith t
+sign_goes_on : (j : Infix) (t : Token) → InfixWrites j t → GoesOnWith t
 sign_goes_on (Both op) t h = inl (op, h)
 sign_goes_on IsNull t h = inr (inl h)
 
 first_is : (s t : Token) (xs ys : List Token) → s ∷ xs ≡ t ∷ ys → s ≡ t
 first_is s t xs ys h = cc
 
-joint_goes_on : (t : Token) (ts : List Token) (j : Infix) → joint_of (t ∷ ts) ≡ Some j → GoesOnWith t
-joint_goes_on t ts j h =
-    let sign : (s : Token) × (t ∷ ts ≡ s ∷ ts) × JointWrites j s = joint_sound (t ∷ ts) j h in
-    sign_goes_on j t (subst (JointWrites j) (sym (first_is t sign.0 ts ts sign.1)) sign.2)
+infix_goes_on : (t : Token) (ts : List Token) (j : Infix) → infix_of (t ∷ ts) ≡ Some j → GoesOnWith t
+infix_goes_on t ts j h =
+    let sign : (s : Token) × (t ∷ ts ≡ s ∷ ts) × InfixWrites j s = infix_sound (t ∷ ts) j h in
+    sign_goes_on j t (subst (InfixWrites j) (sym (first_is t sign.0 ts ts sign.1)) sign.2)
 
 dot_goes_on : (t : Token) (ts : List Token) → starts (codes ".") (t ∷ ts) ≡ true → GoesOnWith t
 dot_goes_on t ts h = inr (inr (first_is t (word ".") ts ts (starts_is (codes ".") (t ∷ ts) h)))
@@ -453,20 +453,20 @@ ends_all : (rest : List Token) → GoesNotOn rest → Ends 1 rest
 ends_all [] h = record { no_dot = refl; below = λ j is. let none : None ≡ Some j = is in cc }
 ends_all (t ∷ ts) h = record {
   no_dot = false_from_ne_true _ (λ dot. h (dot_goes_on t ts dot));
-  below = λ j is. absurd (h (joint_goes_on t ts j is));
+  below = λ j is. absurd (h (infix_goes_on t ts j is));
 }
 
-goes_off : (t : Token) (ts : List Token) → joint_of (t ∷ ts) ≡ None → starts (codes ".") (t ∷ ts) ≡ false → GoesOnWith t → ⊥
-goes_off t ts no_joint no_dot on = elim on [
-  | inl operator ↦ let none : None ≡ Some (Both operator.0) = sym no_joint ∙ joint_read (Both operator.0) t ts operator.1 in cc
-  | inr (inl is) ↦ let none : None ≡ Some IsNull = sym no_joint ∙ joint_read IsNull t ts is in cc
+goes_off : (t : Token) (ts : List Token) → infix_of (t ∷ ts) ≡ None → starts (codes ".") (t ∷ ts) ≡ false → GoesOnWith t → ⊥
+goes_off t ts no_infix no_dot on = elim on [
+  | inl operator ↦ let none : None ≡ Some (Both operator.0) = sym no_infix ∙ infix_read (Both operator.0) t ts operator.1 in cc
+  | inr (inl is) ↦ let none : None ≡ Some IsNull = sym no_infix ∙ infix_read IsNull t ts is in cc
   | inr (inr dot) ↦ let none : false ≡ true = sym no_dot ∙ ap (λ u. starts (codes ".") (u ∷ ts)) dot in cc
 ]
 
--- tokens that begin with neither a joint nor a dot; of tokens whose first is known, both premises compute
-pub goes_not_on : (rest : List Token) → joint_of rest ≡ None → starts (codes ".") rest ≡ false → GoesNotOn rest
-goes_not_on [] no_joint no_dot = tt
-goes_not_on (t ∷ ts) no_joint no_dot = goes_off t ts no_joint no_dot
+-- tokens that begin with neither a sign nor a dot; of tokens whose first is known, both premises compute
+pub goes_not_on : (rest : List Token) → infix_of rest ≡ None → starts (codes ".") rest ≡ false → GoesNotOn rest
+goes_not_on [] no_infix no_dot = tt
+goes_not_on (t ∷ ts) no_infix no_dot = goes_off t ts no_infix no_dot
 
 -- ---- the law
 

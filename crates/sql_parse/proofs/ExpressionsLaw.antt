@@ -20,7 +20,7 @@ use Rattle.sql_model.specs.declared.reading.Prefix.TheVariants.{Not, Minus, Brac
 use Rattle.sql_model.specs.declared.reading.Infix.{Infix}
 use Rattle.sql_model.specs.declared.reading.Infix.TheVariants.{Both, IsNull}
 use Rattle.sql_model.specs.Levels.{right_of}
-use Rattle.sql_model.specs.Operators.{comparison_of, comparison_infix, joint_in, joint_of, level_of, left_of, may_join, joins}
+use Rattle.sql_model.specs.Operators.{comparison_of, comparison_infix, infix_in, infix_of, level_of, left_of, may_join, joins}
 use Rattle.sql_model.specs.declared.expr.Operator.{Operator}
 use Rattle.sql_model.specs.declared.expr.Operator.TheVariants.{Add, Subtract, Multiply, Compare, And, Or}
 use Rattle.ldv_value.specs.declared.value.Cmp.{Cmp}
@@ -205,9 +205,9 @@ module _ (read : ℕ → List Token → Option (ParsedExpr × List Token)) (soun
 
 -- ---- what follows an operand
 
-abbrev pub JointWrites : Infix → Token → Type 0
-JointWrites (Both op) t = Writes op t
-JointWrites IsNull t = t ≡ word "is"
+abbrev pub InfixWrites : Infix → Token → Type 0
+InfixWrites (Both op) t = Writes op t
+InfixWrites IsNull t = t ≡ word "is"
 
 comparison_sound : (w : List ℕ) (c : Cmp) → comparison_of w ≡ Some c → Writes (Compare c) (Word w)
 comparison_sound w c h =
@@ -220,41 +220,41 @@ comparison_sound w c h =
     choose _ _ _ c h6 (λ is made. subst (λ (k : Cmp). Writes (Compare k) (Word w)) (same-some _ _ made) (ap Word (text_is w (codes ">=") is))) (λ h7.
     (let none : None ≡ Some c = h7 in cc))))))))
 
-compared_sound : (w : List ℕ) (j : Infix) → comparison_infix w ≡ Some j → JointWrites j (Word w)
+compared_sound : (w : List ℕ) (j : Infix) → comparison_infix w ≡ Some j → InfixWrites j (Word w)
 compared_sound w j h =
     let b : (c : Cmp) × (comparison_of w ≡ Some c) × (Some (Both (Compare c)) ≡ Some j) = bind-some (comparison_of w) (λ c. Some (Both (Compare c))) j h in
-    subst (λ (k : Infix). JointWrites k (Word w)) (same-some _ _ b.2) (comparison_sound w b.0 b.1)
+    subst (λ (k : Infix). InfixWrites k (Word w)) (same-some _ _ b.2) (comparison_sound w b.0 b.1)
 
-joint_in_sound : (w : List ℕ) (j : Infix) → joint_in w ≡ Some j → JointWrites j (Word w)
-joint_in_sound w j h =
-    choose _ _ _ j h (λ is made. subst (λ (k : Infix). JointWrites k (Word w)) (same-some _ _ made) (ap Word (text_is w (codes "or") is))) (λ h1.
-    choose _ _ _ j h1 (λ is made. subst (λ (k : Infix). JointWrites k (Word w)) (same-some _ _ made) (ap Word (text_is w (codes "and") is))) (λ h2.
-    choose _ _ _ j h2 (λ is made. subst (λ (k : Infix). JointWrites k (Word w)) (same-some _ _ made) (ap Word (text_is w (codes "is") is))) (λ h3.
-    choose _ _ _ j h3 (λ is made. subst (λ (k : Infix). JointWrites k (Word w)) (same-some _ _ made) (ap Word (text_is w (codes "+") is))) (λ h4.
-    choose _ _ _ j h4 (λ is made. subst (λ (k : Infix). JointWrites k (Word w)) (same-some _ _ made) (ap Word (text_is w (codes "-") is))) (λ h5.
-    choose _ _ _ j h5 (λ is made. subst (λ (k : Infix). JointWrites k (Word w)) (same-some _ _ made) (ap Word (text_is w (codes "*") is))) (λ h6.
+infix_in_sound : (w : List ℕ) (j : Infix) → infix_in w ≡ Some j → InfixWrites j (Word w)
+infix_in_sound w j h =
+    choose _ _ _ j h (λ is made. subst (λ (k : Infix). InfixWrites k (Word w)) (same-some _ _ made) (ap Word (text_is w (codes "or") is))) (λ h1.
+    choose _ _ _ j h1 (λ is made. subst (λ (k : Infix). InfixWrites k (Word w)) (same-some _ _ made) (ap Word (text_is w (codes "and") is))) (λ h2.
+    choose _ _ _ j h2 (λ is made. subst (λ (k : Infix). InfixWrites k (Word w)) (same-some _ _ made) (ap Word (text_is w (codes "is") is))) (λ h3.
+    choose _ _ _ j h3 (λ is made. subst (λ (k : Infix). InfixWrites k (Word w)) (same-some _ _ made) (ap Word (text_is w (codes "+") is))) (λ h4.
+    choose _ _ _ j h4 (λ is made. subst (λ (k : Infix). InfixWrites k (Word w)) (same-some _ _ made) (ap Word (text_is w (codes "-") is))) (λ h5.
+    choose _ _ _ j h5 (λ is made. subst (λ (k : Infix). InfixWrites k (Word w)) (same-some _ _ made) (ap Word (text_is w (codes "*") is))) (λ h6.
     compared_sound w j h6))))))
 
-pub joint_sound : (ts : List Token) (j : Infix) → joint_of ts ≡ Some j → (t : Token) × (ts ≡ t ∷ tail ts) × JointWrites j t
-joint_sound [] j h = cc
-joint_sound (Word w ∷ ts) j h = (Word w, refl, joint_in_sound w j h)
-joint_sound (Number z ∷ ts) j h = cc
-joint_sound (Quoted t ∷ ts) j h = cc
-joint_sound (Given v ∷ ts) j h = cc
+pub infix_sound : (ts : List Token) (j : Infix) → infix_of ts ≡ Some j → (t : Token) × (ts ≡ t ∷ tail ts) × InfixWrites j t
+infix_sound [] j h = cc
+infix_sound (Word w ∷ ts) j h = (Word w, refl, infix_in_sound w j h)
+infix_sound (Number z ∷ ts) j h = cc
+infix_sound (Quoted t ∷ ts) j h = cc
+infix_sound (Given v ∷ ts) j h = cc
 
 -- what stands next joins an operand of this level
 pub record Joins (least level : ℕ) (ts : List Token) (j : Infix) : Type 0 where
   pub sign : Token
   pub cut : ts ≡ sign ∷ tail ts
-  pub writes : JointWrites j sign
+  pub writes : InfixWrites j sign
   pub least_holds : least ≤ level_of j
   pub left_holds : left_of j ≤ level
 
 joins_sound : (least level : ℕ) (ts : List Token) (j : Infix) → joins least level ts ≡ Some j → Joins least level ts j
 joins_sound least level ts j h =
-    let b : (i : Infix) × (joint_of ts ≡ Some i) × (only_if (may_join least level i) (Some i) ≡ Some j) = bind-some (joint_of ts) (λ i. only_if (may_join least level i) (Some i)) j h in
+    let b : (i : Infix) × (infix_of ts ≡ Some i) × (only_if (may_join least level i) (Some i) ≡ Some j) = bind-some (infix_of ts) (λ i. only_if (may_join least level i) (Some i)) j h in
     let c : (may_join least level b.0 ≡ true) × (Some b.0 ≡ Some j) = only_if-some (may_join least level b.0) (Some b.0) j b.2 in
-    let s : (t : Token) × (ts ≡ t ∷ tail ts) × JointWrites b.0 t = joint_sound ts b.0 b.1 in
+    let s : (t : Token) × (ts ≡ t ∷ tail ts) × InfixWrites b.0 t = infix_sound ts b.0 b.1 in
     let m : (nat_le least (level_of b.0) ≡ true) × (nat_le (left_of b.0) level ≡ true) = and-parts _ _ c.0 in
     subst (Joins least level ts) (same-some _ _ c.1) (record { sign = s.0; cut = s.1; writes = s.2; least_holds = leb-true _ _ m.0; left_holds = leb-true _ _ m.1 })
 
@@ -266,7 +266,7 @@ right_bound Add = omega arith
 right_bound Subtract = omega arith
 right_bound Multiply = omega arith
 
--- what an operand in front and a joint make of the rest
+-- what an operand in front and a sign make of the rest
 abbrev pub Joined : Infix → Token → List Token → List Token → ParsedExpr × List Token → Type 0
 Joined j t front ts q = (back : List Token) × (ts ≡ back ++ q.1) × IsExpr q.0.level q.0.depth (front ++ t ∷ back) q.0.expr × (q.0.level ≡ level_of j)
 
@@ -305,7 +305,7 @@ none_added : (least : ℕ) (d : ParsedExpr) (front ts : List Token) → IsExpr d
 none_added least d front ts is level = record { back = []; cut = refl; is = subst (λ (l : List Token). IsExpr d.level d.depth l d.expr) (sym (append-nil front)) is; level = level }
 
 module _ (read : ℕ → List Token → Option (ParsedExpr × List Token)) (sound : (l : ℕ) (ts : List Token) (q : ParsedExpr × List Token) → l ≤ 7 → read l ts ≡ Some q → Reading l ts q) where
-  joined_sound : (j : Infix) (d : ParsedExpr) (t : Token) (front ts : List Token) (q : ParsedExpr × List Token) → IsExpr d.level d.depth front d.expr → left_of j ≤ d.level → JointWrites j t
+  joined_sound : (j : Infix) (d : ParsedExpr) (t : Token) (front ts : List Token) (q : ParsedExpr × List Token) → IsExpr d.level d.depth front d.expr → left_of j ≤ d.level → InfixWrites j t
       → joined read j d ts ≡ Some q → Joined j t front ts q
   joined_sound (Both op) d t front ts q is left writes h =
       let b : (r : ParsedExpr × List Token) × (read (right_of op) ts ≡ Some r) × (Some (pair op d r.0, r.1) ≡ Some q) = bind-some (read (right_of op) ts) (λ r. Some (pair op d r.0, r.1)) q h in

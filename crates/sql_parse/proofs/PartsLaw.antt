@@ -19,7 +19,7 @@ use Rattle.sql_model.specs.Expressions.{reads_expr}
 use Rattle.ldv_value.specs.Options.{◌>>=◌}
 use Rattle.sql_model.specs.Grammar.{word, fold_word, IsName, IsConstant, IsColumn, IsExpr}
 use Rattle.sql_model.specs.GrammarOfStatements.{Then, After, Only, Optionally, IsCommaList, IsNameToken, IsExpression, IsColumnAt, IsItem, AreItems, AreColumns, IsTuple}
-use Rattle.sql_model.specs.Operators.{joint_in, joint_of}
+use Rattle.sql_model.specs.Operators.{infix_in, infix_of}
 use Rattle.sql_model.specs.Parts.{list_of_parts, reads_tuple}
 use Rattle.sql_model.specs.Queries.{reads_item, reads_items}
 use Rattle.sql_model.specs.Reader.{starts, after_word}
@@ -35,20 +35,20 @@ use Rattle.ldv_value.proofs.Options.{is_none-true}
 -- ---- expressions
 
 -- the word begins no operator
-abbrev pub no_joint : List ℕ → Bool
-no_joint w = is_none (joint_in w)
+abbrev pub no_infix : List ℕ → Bool
+no_infix w = is_none (infix_in w)
 
-ends_joint : (ws : List (List ℕ)) (rest : List Token) → all_words no_joint ws ≡ true → ends_by ws rest ≡ true → joint_of rest ≡ None
-ends_joint ws [] all h = refl
-ends_joint ws (Word w ∷ ts) all h = is_none-true (joint_in w) (among_all no_joint ws w all h)
-ends_joint ws (Number z ∷ ts) all h = absurd (false≢true h)
-ends_joint ws (Quoted t ∷ ts) all h = absurd (false≢true h)
-ends_joint ws (Given v ∷ ts) all h = absurd (false≢true h)
+ends_infix : (ws : List (List ℕ)) (rest : List Token) → all_words no_infix ws ≡ true → ends_by ws rest ≡ true → infix_of rest ≡ None
+ends_infix ws [] all h = refl
+ends_infix ws (Word w ∷ ts) all h = is_none-true (infix_in w) (among_all no_infix ws w all h)
+ends_infix ws (Number z ∷ ts) all h = absurd (false≢true h)
+ends_infix ws (Quoted t ∷ ts) all h = absurd (false≢true h)
+ends_infix ws (Given v ∷ ts) all h = absurd (false≢true h)
 
-pub expr_law : (ws : List (List ℕ)) → all_words no_joint ws ≡ true → lacks (codes ".") ws ≡ true → Law IsExpression ws reads_expr
-expr_law ws joints dots = record {
+pub expr_law : (ws : List (List ℕ)) → all_words no_infix ws ≡ true → lacks (codes ".") ws ≡ true → Law IsExpression ws reads_expr
+expr_law ws signs dots = record {
   sound = λ ts e rest h. let p = expression_sound ts e rest h in (p.0, p.1, (p.2, p.3, p.4, p.5));
-  complete = λ front rest e form ends. expression_back form.0 form.1 front e rest form.3 form.2 (goes_not_on rest (ends_joint ws rest joints ends) (ends_lack (codes ".") ws rest dots ends));
+  complete = λ front rest e form ends. expression_back form.0 form.1 front e rest form.3 form.2 (goes_not_on rest (ends_infix ws rest signs ends) (ends_lack (codes ".") ws rest dots ends));
 }
 
 -- the words with which an expression may begin, beside names
@@ -153,9 +153,9 @@ inside_law ws f law = then_law law (λ a. after_law ")" (nothing_law (f a) ws)) 
 only_close : {X : Type 0} (x y : X) (ts : List Token) → After ")" (λ ts. (x ≡ y) × (ts ≡ [])) ts → (x ≡ y) × Only ")" ts
 only_close x y ts (more, e, (same, none)) = (same, e ∙ ap (λ (l : List Token). word ")" ∷ l) none)
 
-pub exprs_law : (ws : List (List ℕ)) → all_words no_joint (comma ∷ ws) ≡ true → lacks (codes ".") (comma ∷ ws) ≡ true → lacks comma ws ≡ true → all_words (among (comma ∷ ws)) ws ≡ true
+pub exprs_law : (ws : List (List ℕ)) → all_words no_infix (comma ∷ ws) ≡ true → lacks (codes ".") (comma ∷ ws) ≡ true → lacks comma ws ≡ true → all_words (among (comma ∷ ws)) ws ≡ true
     → Law (λ es ts. IsCommaList IsExpression es ts) ws (λ ts. list_of_parts reads_expr ts)
-exprs_law ws joints dots lack less = listed_law ws (expr_law (comma ∷ ws) joints dots) expr_filled lack less
+exprs_law ws signs dots lack less = listed_law ws (expr_law (comma ∷ ws) signs dots) expr_filled lack less
 
 tuple_to : (es : List Expr) (ts : List Token) → After "(" (λ ts. (a : List Expr) × Then (λ ts. IsCommaList IsExpression a ts) (λ ts. After ")" (λ ts. (es ≡ a) × (ts ≡ [])) ts) ts) ts → IsTuple es ts
 tuple_to es ts (more, e, (a, (front, back, is, list, close))) =

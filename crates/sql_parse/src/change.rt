@@ -3,10 +3,10 @@
 ghost use Rattle.sql_parse.specs.inner.Gives.{ReadsPart};
 ghost use Rattle.sql_model.specs.Texts.{reads_columns, reads_insert, reads_set, reads_update, reads_delete};
 
+use crate::error::ParseStop;
 use crate::expression::expression;
 use crate::part_list::{Part, parse_list, optional_expression};
 use crate::reader::Reader;
-use crate::error::ParseStop;
 use ldv_value::{Names, Utf8};
 use sql_model::{Delete, Exprs, Insert, Set, Update};
 use std::alloc::Global;
@@ -16,7 +16,7 @@ pub(crate) fn insert(alloc: Global, reader: &mut Reader) -> Result<Insert, Parse
     ensures { ReadsPart result reader.new (reads_insert reader.old) }
 {
     reader.expect("into")?;
-    let table = reader.name(alloc)?;
+    let table = reader.take_name(alloc)?;
     let columns = columns(alloc, reader)?;
     reader.expect("values")?;
     let rows = parse_list::<Exprs>(alloc, reader)?;
@@ -44,18 +44,18 @@ fn columns(alloc: Global, reader: &mut Reader) -> Result<Option<Names>, ParseSto
 pub(crate) fn update(alloc: Global, reader: &mut Reader) -> Result<Update, ParseStop>
     ensures { ReadsPart result reader.new (reads_update reader.old) }
 {
-    let table = reader.name(alloc)?;
+    let table = reader.take_name(alloc)?;
     reader.expect("set")?;
     let sets = parse_list::<Set>(alloc, reader)?;
-    let pick = optional_expression(alloc, reader, "where")?;
-    Ok(Update { table, sets, pick })
+    let condition = optional_expression(alloc, reader, "where")?;
+    Ok(Update { table, sets, condition })
 }
 
 impl Part for Set {
     ghost reads = { reads_set };
 
     fn read(alloc: Global, reader: &mut Reader) -> Result<Self, ParseStop> {
-        let column = reader.name(alloc)?;
+        let column = reader.take_name(alloc)?;
         reader.expect("=")?;
         let expr = expression(alloc, reader)?;
         Ok(Set { column, expr })
@@ -67,7 +67,7 @@ pub(crate) fn delete(alloc: Global, reader: &mut Reader) -> Result<Delete, Parse
     ensures { ReadsPart result reader.new (reads_delete reader.old) }
 {
     reader.expect("from")?;
-    let table = reader.name(alloc)?;
-    let pick = optional_expression(alloc, reader, "where")?;
-    Ok(Delete { table, pick })
+    let table = reader.take_name(alloc)?;
+    let condition = optional_expression(alloc, reader, "where")?;
+    Ok(Delete { table, condition })
 }

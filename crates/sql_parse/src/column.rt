@@ -3,8 +3,8 @@
 ghost use Rattle.sql_parse.specs.inner.Gives.{ReadsPart};
 ghost use Rattle.sql_model.specs.Columns.{column_after, reads_column};
 
-use crate::reader::Reader;
 use crate::error::ParseStop;
+use crate::reader::Reader;
 use ldv_value::Utf8;
 use sql_model::ColumnName;
 use std::alloc::Global;
@@ -13,7 +13,7 @@ use std::alloc::Global;
 pub(crate) fn column(alloc: Global, reader: &mut Reader) -> Result<ColumnName, ParseStop>
     ensures { ReadsPart result reader.new (reads_column reader.old) }
 {
-    let name = reader.name(alloc)?;
+    let name = reader.take_name(alloc)?;
     column_after(alloc, reader, name)
 }
 
@@ -27,7 +27,7 @@ pub(crate) fn column_after(
 {
     if reader.starts(".") {
         reader.skip();
-        let second = reader.name(alloc)?;
+        let second = reader.take_name(alloc)?;
         return Ok(ColumnName {
             table: Some(name),
             name: second,

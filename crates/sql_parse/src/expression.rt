@@ -7,10 +7,10 @@ ghost use Rattle.sql_model.specs.Expressions.{primary_expr, with_prefix, null_te
 ghost use Rattle.sql_model.specs.Expressions.{joined_within, goes_on, joins_more, within, reads_expr};
 ghost use Rattle.sql_model.specs.Reader.{repeat};
 
+use crate::error::ParseStop;
 use crate::opening::{inside_level, read_opening};
 use crate::operator::{joins, operator_level, right_of};
 use crate::reader::Reader;
-use crate::error::ParseStop;
 use ldv_value::MAX_DEPTH;
 use sql_model::{Expr, Infix, Opening, Operator, ParsedExpr, Prefix};
 use sqlite_items::Boxed;
@@ -121,9 +121,9 @@ fn joins_more(
 {
     match joins(reader, least, left.level) {
         None => Ok((left, false)),
-        Some(joint) => {
+        Some(sign) => {
             reader.skip();
-            let left = joined_within(alloc, reader, limit, joint, left)?;
+            let left = joined_within(alloc, reader, limit, sign, left)?;
             Ok((left, true))
         }
     }
@@ -136,17 +136,17 @@ fn joined_within(
     alloc: Global,
     reader: &mut Reader,
     limit: usize,
-    joint: Infix,
+    sign: Infix,
     left: ParsedExpr,
 ) -> Result<ParsedExpr, ParseStop>
     requires { limit < max_depth }
-    ensures read { ReadsPart result reader.new (joined_within (within limit) limit joint left reader.old) }
+    ensures read { ReadsPart result reader.new (joined_within (within limit) limit sign left reader.old) }
     ensures depth { IfOk result (λ deep. deep.depth ≤ limit + 1) }
 {
     if left.depth > limit {
         return Err(ParseStop::Syntax);
     }
-    match joint {
+    match sign {
         Infix::IsNull => null_test(alloc, reader, left),
         Infix::Both(operator) => {
             let right = within(alloc, reader, limit, right_of(operator))?;

@@ -3,8 +3,8 @@
 ghost use Rattle.sql_parse.specs.inner.Gives.{GivesParsed};
 ghost use Rattle.sql_model.specs.Texts.{placed_token};
 
-use crate::reader::is_word;
 use crate::error::ParseStop;
+use crate::reader::is_word;
 use crate::token::{Lent, Lexeme};
 use ldv_value::Values;
 

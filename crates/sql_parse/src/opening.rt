@@ -6,8 +6,8 @@ ghost use Rattle.sql_model.specs.Expressions.{negation, fold_opening, count_insi
 ghost use Rattle.sql_model.specs.Expressions.{column_opening, word_opening, opens, opening, inside_level};
 
 use crate::column::column_after;
-use crate::reader::{Reader, name_in};
 use crate::error::ParseStop;
+use crate::reader::{Reader, name_in};
 use crate::token::{Lent, Lexeme};
 use ldv_value::{CopyItem, Value};
 use sql_model::{Expr, Fold, Opening, Prefix};
@@ -21,7 +21,7 @@ pub(crate) fn read_opening(
 ) -> Result<Opening, ParseStop>
     ensures { ReadsPart result reader.new (opening least reader.old) }
 {
-    let token = reader.token()?;
+    let token = reader.take_token()?;
     opens(alloc, reader, least, token)
 }
 

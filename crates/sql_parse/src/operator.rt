@@ -3,7 +3,7 @@
 ghost use Rattle.std.specs.Prelude.{◌≡◌, ◌∷◌, List};
 ghost use Rattle.sql_model.specs.declared.token.Token.{Token};
 ghost use Rattle.sql_model.specs.Levels.{operator_level, operator_left, right_of};
-ghost use Rattle.sql_model.specs.Operators.{comparison_of, comparison_infix, joint_in, joint_of, level_of, left_of};
+ghost use Rattle.sql_model.specs.Operators.{comparison_of, comparison_infix, infix_in, infix_of, level_of, left_of};
 ghost use Rattle.sql_model.specs.Operators.{may_join, joins};
 
 use crate::reader::Reader;
@@ -15,37 +15,37 @@ use sql_model::{Infix, Operator};
 pub(crate) fn joins(reader: &Reader, least: u8, level: u8) -> Option<Infix>
     ensures { result ≡ joins least level reader.now }
 {
-    let joint = next_joint(reader)?;
-    if may_join(least, level, joint) {
-        Some(joint)
+    let sign = next_infix(reader)?;
+    if may_join(least, level, sign) {
+        Some(sign)
     } else {
         None
     }
 }
 
-fn next_joint(reader: &Reader) -> Option<Infix>
-    ensures { result ≡ joint_of reader.now }
+fn next_infix(reader: &Reader) -> Option<Infix>
+    ensures { result ≡ infix_of reader.now }
 {
     match reader.peek() {
         None => None,
-        Some(token) => joint_at(token),
+        Some(token) => infix_at(token),
     }
 }
 
 // What a token is between operands.
-fn joint_at(token: &Lexeme) -> Option<Infix>
-    ensures { (more : List Token) → result ≡ joint_of (token.now ∷ more) }
+fn infix_at(token: &Lexeme) -> Option<Infix>
+    ensures { (more : List Token) → result ≡ infix_of (token.now ∷ more) }
 {
     match token.as_lent() {
-        Lent::Word(word) => joint_in(*word),
+        Lent::Word(word) => infix_in(*word),
         Lent::Number(_) => None,
         Lent::Quoted(_) => None,
         Lent::Given(_) => None,
     }
 }
 
-fn joint_in(word: &str) -> Option<Infix>
-    ensures { result ≡ joint_in word.now }
+fn infix_in(word: &str) -> Option<Infix>
+    ensures { result ≡ infix_in word.now }
 {
     if word == "or" {
         Some(Infix::Both(Operator::Or))
@@ -93,17 +93,17 @@ fn comparison(word: &str) -> Option<Cmp>
     }
 }
 
-fn may_join(least: u8, level: u8, joint: Infix) -> bool
-    ensures { result ≡ may_join least level joint }
+fn may_join(least: u8, level: u8, sign: Infix) -> bool
+    ensures { result ≡ may_join least level sign }
 {
-    least <= level_of(joint) && left_of(joint) <= level
+    least <= level_of(sign) && left_of(sign) <= level
 }
 
 /// The level of what an infix operator, or IS, makes.
-pub(crate) fn level_of(joint: Infix) -> u8
-    ensures { result ≡ level_of joint }
+pub(crate) fn level_of(sign: Infix) -> u8
+    ensures { result ≡ level_of sign }
 {
-    match joint {
+    match sign {
         Infix::Both(operator) => operator_level(operator),
         Infix::IsNull => 4,
     }
@@ -123,11 +123,11 @@ pub(crate) fn operator_level(operator: Operator) -> u8
     }
 }
 
-// The least level of the operand before a joint.
-fn left_of(joint: Infix) -> u8
-    ensures { result ≡ left_of joint }
+// The least level of the operand before a sign.
+fn left_of(sign: Infix) -> u8
+    ensures { result ≡ left_of sign }
 {
-    match joint {
+    match sign {
         Infix::Both(operator) => operator_left(operator),
         Infix::IsNull => 5,
     }

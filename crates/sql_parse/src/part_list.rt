@@ -9,10 +9,10 @@ ghost use Rattle.sql_model.specs.Parts.{another, list_of_parts, reads_tuple, rea
 ghost use Rattle.sql_model.specs.Reader.{reads_name};
 
 use crate::column::column;
+use crate::error::ParseStop;
 use crate::expression::expression;
 use crate::reader::Reader;
 use crate::steps::{Steps, all_steps};
-use crate::error::ParseStop;
 use ldv_value::{List, Utf8};
 use sql_model::{ColumnName, Expr, Exprs};
 use std::alloc::Global;
@@ -58,7 +58,7 @@ impl Part for Utf8 {
     ghost reads = { reads_name };
 
     fn read(alloc: Global, reader: &mut Reader) -> Result<Self, ParseStop> {
-        reader.name(alloc)
+        reader.take_name(alloc)
     }
 }
 

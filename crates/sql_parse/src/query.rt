@@ -7,11 +7,11 @@ ghost use Rattle.sql_model.specs.Queries.{reads_order, reads_orders, bound_of, r
 ghost use Rattle.sql_model.specs.Queries.{reads_query};
 ghost use Rattle.sql_model.specs.Reader.{starts};
 
+use crate::error::ParseStop;
 use crate::part_list::{Part, parse_list};
 use crate::reader::{Reader, name_in};
 use crate::select::core;
 use crate::steps::{Steps, all_steps};
-use crate::error::ParseStop;
 use crate::token::{Lent, Lexeme};
 use ldv_value::{CopyItem, Value};
 use sql_model::{Cores, Order, OrderKey, Orders, Query};
@@ -103,7 +103,7 @@ fn take_direction(reader: &mut Reader) -> bool
 fn key(alloc: Global, reader: &mut Reader) -> Result<OrderKey, ParseStop>
     ensures { ReadsPart result reader.new (reads_key reader.old) }
 {
-    let token = reader.token()?;
+    let token = reader.take_token()?;
     let key = key_of(alloc, token)?;
     Ok(key)
 }
@@ -148,7 +148,7 @@ fn limit(alloc: Global, reader: &mut Reader) -> Result<Option<Value>, ParseStop>
 fn parse_bound(alloc: Global, reader: &mut Reader) -> Result<Option<Value>, ParseStop>
     ensures { ReadsPart result reader.new (reads_bound reader.old) }
 {
-    let token = reader.token()?;
+    let token = reader.take_token()?;
     let value = bound_of(alloc, token)?;
     Ok(Some(value))
 }

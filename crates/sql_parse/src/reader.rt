@@ -98,7 +98,7 @@ impl<'a> Reader<'a> {
     }
 
     /// Takes the next token; `Syntax` where none is left.
-    pub fn token(&mut self) -> Result<Lexeme<'a>, ParseStop>
+    pub fn take_token(&mut self) -> Result<Lexeme<'a>, ParseStop>
         ensures { ReadsPart result self.new (reads_token self.old) }
     {
         match self.tokens.get(self.place) {
@@ -112,10 +112,10 @@ impl<'a> Reader<'a> {
     }
 
     /// Takes the next token, which must be a name.
-    pub fn name(&mut self, alloc: Global) -> Result<Utf8, ParseStop>
+    pub fn take_name(&mut self, alloc: Global) -> Result<Utf8, ParseStop>
         ensures { ReadsPart result self.new (reads_name self.old) }
     {
-        let token = self.token()?;
+        let token = self.take_token()?;
         name_of(alloc, token)
     }
 }

@@ -10,10 +10,10 @@ ghost use Rattle.sql_model.specs.TextBytes.{lower_case_of};
 ghost use Rattle.sql_model.specs.Texts.{reads_statement, is_end, whole_statement, statement_of};
 
 use crate::change::{delete, insert, update};
+use crate::error::ParseStop;
 use crate::query::query;
 use crate::reader::Reader;
 use crate::scan::{lower_case, tokens};
-use crate::error::ParseStop;
 use ldv_value::Values;
 use sql_model::Statement;
 use std::alloc::Global;

@@ -16,8 +16,8 @@ ghost use Rattle.sql_model.specs.TextBytes.{is_blank, is_upper, is_letter, lower
 ghost use Rattle.sql_model.specs.Tokens.{is_whole_symbol, begins_symbol, is_pair, short_symbol, with_digit};
 ghost use Rattle.sql_model.specs.Tokens.{word_token};
 
-use crate::given::placed_token;
 use crate::error::ParseStop;
+use crate::given::placed_token;
 use crate::token::{Lexeme, Tokens, number_token, symbol_token, text_token, word_token};
 use ldv_value::{Bytes, Values};
 use std::alloc::{AllocError, Global};
@@ -101,19 +101,19 @@ fn lexeme_at<'a>(
     ensures within { IfOk result (λ r. r.1 ≤ length text.now) }
 {
     let b = text[at];
-    if letter(b) {
+    if is_letter(b) {
         return word(text, lower, at);
     }
-    if digit(b) {
+    if is_digit(b) {
         return number(text, at);
     }
     if b == b'\'' {
         return quoted_text(alloc, text, at);
     }
-    if symbol_begins(b) {
+    if begins_symbol(b) {
         return symbol(text, at);
     }
-    if whole_symbol(b) {
+    if is_whole_symbol(b) {
         return single_symbol(text, at);
     }
     Err(ParseStop::Syntax)
@@ -286,7 +286,7 @@ fn is_blank_at(text: &[u8], at: usize) -> bool
     ensures within { IsTrue result → at < length text.now }
     ensures full { result ≡ false → at < length text.now → is_blank (slice_index text.now at) ≡ false }
 {
-    at < text.len() && blank(text[at])
+    at < text.len() && is_blank(text[at])
 }
 
 #[tactic(auto, unfolding(crate::specs::inner::Lexing::inside_at))]
@@ -294,7 +294,7 @@ fn is_inside_at(text: &[u8], at: usize) -> bool
     ensures test { result ≡ inside_at text.now at }
     ensures within { IsTrue result → at < length text.now }
 {
-    at < text.len() && inside(text[at])
+    at < text.len() && is_inside(text[at])
 }
 
 #[tactic(auto, unfolding(crate::specs::inner::Lexing::digit_at))]
@@ -303,14 +303,14 @@ fn is_digit_at(text: &[u8], at: usize) -> bool
     ensures within { IsTrue result → at < length text.now }
     ensures digit { IsTrue result → IsTrue (is_digit (slice_index text.now at)) }
 {
-    at < text.len() && digit(text[at])
+    at < text.len() && is_digit(text[at])
 }
 
 #[tactic(auto, unfolding(crate::specs::inner::Lexing::letter_at))]
 fn is_letter_at(text: &[u8], at: usize) -> bool
     ensures { result ≡ letter_at text.now at }
 {
-    at < text.len() && letter(text[at])
+    at < text.len() && is_letter(text[at])
 }
 
 #[tactic(auto, unfolding(crate::specs::inner::Lexing::quote_at))]
@@ -328,7 +328,7 @@ fn is_pair_at(text: &[u8], at: usize) -> bool
     ensures test { result ≡ pair_at text.now at }
     ensures within { IsTrue result → at + 1 < length text.now }
 {
-    at + 1 < text.len() && pair(text[at], text[at + 1])
+    at + 1 < text.len() && is_pair(text[at], text[at + 1])
 }
 
 fn value(b: u8) -> u64
@@ -345,13 +345,13 @@ fn with_digit(number: u64, b: u8) -> u64
     number.saturating_mul(10).saturating_add(value(b))
 }
 
-fn blank(b: u8) -> bool
+fn is_blank(b: u8) -> bool
     ensures { result ≡ is_blank b }
 {
     b == b' ' || b == b'\t' || b == b'\n' || b == b'\r'
 }
 
-fn digit(b: u8) -> bool
+fn is_digit(b: u8) -> bool
     ensures { result ≡ is_digit b }
 {
     b'0' <= b && b <= b'9'
@@ -363,16 +363,16 @@ fn is_upper(b: u8) -> bool
     b'A' <= b && b <= b'Z'
 }
 
-fn letter(b: u8) -> bool
+fn is_letter(b: u8) -> bool
     ensures { result ≡ is_letter b }
 {
     is_upper(b) || b'a' <= b && b <= b'z' || b == b'_'
 }
 
-fn inside(b: u8) -> bool
+fn is_inside(b: u8) -> bool
     ensures { result ≡ is_inside b }
 {
-    letter(b) || digit(b)
+    is_letter(b) || is_digit(b)
 }
 
 fn fold(b: u8) -> u8
@@ -381,7 +381,7 @@ fn fold(b: u8) -> u8
     if is_upper(b) { b + 32 } else { b }
 }
 
-fn whole_symbol(b: u8) -> bool
+fn is_whole_symbol(b: u8) -> bool
     ensures { result ≡ is_whole_symbol b }
 {
     b == b'?'
@@ -396,13 +396,13 @@ fn whole_symbol(b: u8) -> bool
         || b == b';'
 }
 
-fn symbol_begins(b: u8) -> bool
+fn begins_symbol(b: u8) -> bool
     ensures { result ≡ begins_symbol b }
 {
     b == b'<' || b == b'>' || b == b'!'
 }
 
-fn pair(a: u8, b: u8) -> bool
+fn is_pair(a: u8, b: u8) -> bool
     ensures { result ≡ is_pair a b }
 {
     b == b'=' || a == b'<' && b == b'>'

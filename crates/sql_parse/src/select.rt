@@ -5,11 +5,11 @@ ghost use Rattle.sql_parse.specs.inner.Gives.{ReadsPart};
 ghost use Rattle.sql_model.specs.Queries.{reads_alias, reads_item, reads_items, reads_group, core_end};
 ghost use Rattle.sql_model.specs.Queries.{core_rest, reads_core};
 
+use crate::error::ParseStop;
 use crate::expression::expression;
 use crate::part_list::{Part, parse_list, optional_expression};
 use crate::reader::Reader;
 use crate::source::all_sources;
-use crate::error::ParseStop;
 use ldv_value::{MAX_SOURCES, Utf8};
 use sql_model::{ColumnName, ColumnNames, Core, Expr, Exprs, Item, Items, Sources};
 use std::alloc::{AllocError, Global};
@@ -49,27 +49,27 @@ fn core_end(
 ) -> Result<Core, ParseStop>
     ensures { ReadsPart result reader.new (core_end joined_all distinct items sources reader.old) }
 {
-    let pick = optional_expression(alloc, reader, "where")?;
+    let condition = optional_expression(alloc, reader, "where")?;
     let group = group(alloc, reader)?;
     let having = optional_expression(alloc, reader, "having")?;
-    let Sources { from, mut picks } = sources;
-    add(&mut picks, pick)?;
+    let Sources { from, mut conditions } = sources;
+    add(&mut conditions, condition)?;
     Ok(Core {
         joined_all,
         distinct,
         items,
         from,
-        picks,
+        conditions,
         group,
         having,
     })
 }
 
-fn add(picks: &mut Exprs, pick: Option<Expr>) -> Result<(), AllocError>
-    ensures { OnOk result (picks.new ≡ picks.old ++ option_to_list pick) }
+fn add(conditions: &mut Exprs, condition: Option<Expr>) -> Result<(), AllocError>
+    ensures { OnOk result (conditions.new ≡ conditions.old ++ option_to_list condition) }
 {
-    if let Some(pick) = pick {
-        picks.push(pick)?;
+    if let Some(condition) = condition {
+        conditions.push(condition)?;
     }
     Ok(())
 }
@@ -113,6 +113,6 @@ fn alias(alloc: Global, reader: &mut Reader) -> Result<Option<Utf8>, ParseStop>
         return Ok(None);
     }
     reader.skip();
-    let name = reader.name(alloc)?;
+    let name = reader.take_name(alloc)?;
     Ok(Some(name))
 }

@@ -5,10 +5,10 @@ ghost use Rattle.sql_parse.specs.inner.Gives.{ReadsPart};
 ghost use Rattle.sql_model.specs.Queries.{is_name, names, second_name, reads_source, plain_source};
 ghost use Rattle.sql_model.specs.Queries.{joined_source, another_source, reads_sources};
 
+use crate::error::ParseStop;
 use crate::expression::expression;
 use crate::reader::Reader;
 use crate::steps::{Steps, all_steps};
-use crate::error::ParseStop;
 use crate::token::{Lent, Lexeme};
 use ldv_value::Utf8;
 use sql_model::{Exprs, FromItem, FromItems, Sources, is_sql_name};
@@ -27,7 +27,7 @@ pub(crate) fn all_sources(
     from.push(source)?;
     let first = Sources {
         from,
-        picks: Exprs::new(alloc),
+        conditions: Exprs::new(alloc),
     };
     all_steps(alloc, reader, most, first)
 }
@@ -71,9 +71,9 @@ fn plain_source(
     ensures { ReadsPart result reader.new (plain_source made reader.old) }
 {
     let source = source(alloc, reader)?;
-    let Sources { mut from, picks } = made;
+    let Sources { mut from, conditions } = made;
     from.push(source)?;
-    Ok((Sources { from, picks }, true))
+    Ok((Sources { from, conditions }, true))
 }
 
 fn joined_source(
@@ -85,20 +85,20 @@ fn joined_source(
 {
     let source = source(alloc, reader)?;
     reader.expect("on")?;
-    let pick = expression(alloc, reader)?;
+    let condition = expression(alloc, reader)?;
     let Sources {
         mut from,
-        mut picks,
+        mut conditions,
     } = made;
     from.push(source)?;
-    picks.push(pick)?;
-    Ok((Sources { from, picks }, true))
+    conditions.push(condition)?;
+    Ok((Sources { from, conditions }, true))
 }
 
 fn source(alloc: Global, reader: &mut Reader) -> Result<FromItem, ParseStop>
     ensures { ReadsPart result reader.new (reads_source reader.old) }
 {
-    let table = reader.name(alloc)?;
+    let table = reader.take_name(alloc)?;
     let name = second_name(alloc, reader, &table)?;
     Ok(FromItem { table, name })
 }
@@ -109,10 +109,10 @@ fn second_name(alloc: Global, reader: &mut Reader, table: &Utf8) -> Result<Utf8,
 {
     if reader.starts("as") {
         reader.skip();
-        return reader.name(alloc);
+        return reader.take_name(alloc);
     }
     if names(reader) {
-        return reader.name(alloc);
+        return reader.take_name(alloc);
     }
     let name = table.copy()?;
     Ok(name)

@@ -5,8 +5,8 @@ ghost use Rattle.sql_model.specs.declared.token.Token.{Token};
 ghost use Rattle.sql_parse.specs.inner.Gives.{ReadsPart};
 ghost use Rattle.sql_model.specs.Reader.{repeat};
 
-use crate::reader::Reader;
 use crate::error::ParseStop;
+use crate::reader::Reader;
 use std::alloc::Global;
 
 /// What is read in steps, each of which adds a part to what is made so far.

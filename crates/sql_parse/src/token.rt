@@ -8,12 +8,9 @@ ghost use Rattle.sql_parse.specs.inner.LentTokens.{token_of};
 ghost use Rattle.sql_model.specs.Tokens.{word_token, number_token, text_token, symbol_token};
 
 use crate::error::ParseStop;
-use ldv_value::{Bytes, List, TEXT_LIMIT, Utf8, Value};
+use ldv_value::{Bytes, List, NAME_LIMIT, TEXT_LIMIT, Utf8, Value};
 use std::alloc::AllocError;
 use std::marker::Model;
-
-/// The most bytes of a word.
-const WORD_LIMIT: usize = 63;
 
 /// What a token is. Words and the values of parameters stay where they are.
 #[derive(Drop)]
@@ -86,7 +83,7 @@ impl<'a> Lexeme<'a> {
 pub(crate) fn word_token<'a>(bytes: &'a [u8]) -> Result<Lexeme<'a>, ParseStop>
     ensures { GivesParsed result (word_token bytes.now) }
 {
-    if bytes.len() > WORD_LIMIT {
+    if bytes.len() > NAME_LIMIT {
         return Err(ParseStop::Syntax);
     }
     symbol_token(bytes)

@@ -3,10 +3,10 @@ use Rattle.std.proofs.Common.{◌≡◌, ◌∙◌, sym, ap, refl, ℕ, Bool, tr
 use Rattle.std.specs.Prelude.{slice_get}
 use Rattle.std.specs.List.{list_all}
 use Rattle.std.specs.Option.{option_map, option_map_or}
+use Rattle.sql_model.specs.declared.column_test.ColumnTest.{ColumnTest}
 use Rattle.table_store.specs.CellTests.{passes_column, passes_columns, slot_tested, slot_chosen}
 use Rattle.table_store.specs.Histories.{RowHistory, row_now}
 use Rattle.table_store.specs.Types.{Column, TableRow}
-use Rattle.table_store.specs.declared.cell_test.ColumnTest.{ColumnTest}
 
 -- a column of INT can be scanned
 pub compare_fits : (columns : List Column) (place : ℕ) → option_map_or (λ (column : Column). not column.text) (slice_get columns place) false ≡ true

@@ -19,9 +19,9 @@ ghost use Rattle.table_store.specs.Types.{Value};
 ghost use Rattle.table_store.specs.declared.error.StoreStop.TheVariants.{HasChild};
 
 use crate::child_rows::first_child_in;
+use crate::error::StoreStop;
 use crate::given::is_given;
 use crate::index::key_of;
-use crate::error::StoreStop;
 use crate::table::TableStore;
 use ldv_value::Values;
 use sql_model::{Foreign, RowKey, refers_to_none};

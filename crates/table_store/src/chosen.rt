@@ -3,12 +3,13 @@
 ghost use Rattle.std.specs.Prelude.{◌≡◌, ◌&&◌, ℕ, ◌+◌, ◌*◌, ◌/◌, ◌^◌, ◌<◌, IfOk, length, slice_index_or, true};
 ghost use Rattle.std.specs.List.{list_all};
 ghost use Rattle.lanes.specs.Sets.{member};
-ghost use Rattle.table_store.specs.CellTests.{fits_column, AllFitColumns, slot_tested, slot_chosen};
+ghost use Rattle.sql_model.specs.ColumnTests.{fits};
+ghost use Rattle.table_store.specs.CellTests.{AllFitColumns, slot_tested, slot_chosen};
 ghost use Rattle.table_store.specs.Histories.{no_history};
 
-use crate::cell_test::{CellTest, ColumnTest};
 use crate::table::TableStore;
 use lanes::and_into;
+use sql_model::{CellTest, ColumnTest};
 use std::alloc::{AllocError, Global};
 
 impl TableStore {
@@ -48,15 +49,15 @@ fn keep_passing(table: &TableStore, tests: &[ColumnTest], words: &mut [u64], sca
 
 // Sets the bits of just the slots whose row passes a test of a column.
 #[tactic(auto, using(crate::proofs::ChosenLaws::compare_fits))]
-fn scan_by(table: &TableStore, column: u64, test: CellTest, words: &mut [u64])
-    requires fits { fits_column table.now.schema.columns (record { column = column; test = test }) ≡ true }
+fn scan_by(table: &TableStore, column: usize, test: CellTest, words: &mut [u64])
+    requires fit { fits table.now.schema.columns (record { column = column; test = test }) ≡ true }
     requires long { length words.old ≡ (length table.now.slots + 63) / 64 }
     ensures { (n : ℕ) → member words.new n ≡ slot_tested (record { column = column; test = test })
         (slice_index_or table.now.slots n no_history) }
 {
     match test {
-        CellTest::Compare { op, constant } => table.scan(column, op, constant, words),
-        CellTest::IsNull => table.scan_nulls(column, true, words),
-        CellTest::IsNotNull => table.scan_nulls(column, false, words),
+        CellTest::Compare { op, constant } => table.scan(column as u64, op, constant, words),
+        CellTest::IsNull => table.scan_nulls(column as u64, true, words),
+        CellTest::IsNotNull => table.scan_nulls(column as u64, false, words),
     }
 }

@@ -17,10 +17,10 @@ ghost use Rattle.table_store.specs.inner.IndexView.{held_in};
 ghost use Rattle.table_store.specs.KeyIndex.{AreHeld, AreIndexed};
 ghost use Rattle.table_store.specs.Stops.{StopsAs};
 
+use crate::error::StoreStop;
 use crate::high_keys::HighKeys;
 use crate::index::{Index, has_key_at, key_of};
 use crate::rows::Rows;
-use crate::error::StoreStop;
 use ldv_value::{Places, Values};
 use sql_model::RowKey;
 use std::alloc::{AllocError, Global};

@@ -9,16 +9,14 @@ ghost use Rattle.lanes.specs.Sets.{member};
 ghost use Rattle.ldv_value.specs.Order.{order};
 ghost use Rattle.table_store.specs.Types.{Null};
 ghost use Rattle.sql_model.specs.Keys.{values_at};
-ghost use Rattle.ldv_value.specs.Cells.{value_at};
-ghost use Rattle.column_store.specs.LentCells.{lent_value};
 ghost use Rattle.table_store.specs.inner.Grid.{IsRising, Slot, no_slot, fits_kinds, are_of_kinds, AreNumberedFrom};
 ghost use Rattle.table_store.specs.inner.Grid.{next_after, new_slot, slot_null, slot_passes};
 
 use crate::push::push_rows;
 use crate::scan::{keep_nulls_at, select};
 use column_store::{
-    Bits, Cell, Column, cell_at, compare_cells, copy_cells, empty_columns, reserve_cells,
-    reserve_eighth, set_cells,
+    Bits, Column, compare_cells, copy_cells, empty_columns, reserve_cells, reserve_eighth,
+    set_cells,
 };
 use lanes::and_into;
 use ldv_value::{Cmp, Places, Values};
@@ -123,14 +121,6 @@ impl Grid {
         ensures { IfOk result (λ values. values ≡ (slice_index_or self.now.slots slot no_slot).values) }
     {
         copy_cells(alloc, &self.columns, slot)
-    }
-
-    /// The last value in a column of the row in a slot, lent. Past the last column there is NULL.
-    pub(crate) fn cell(&self, slot: usize, column: usize) -> Cell<'_>
-        requires { slot < length self.now.slots }
-        ensures { lent_value result ≡ value_at (slice_index_or self.now.slots slot no_slot).values column }
-    {
-        cell_at(&self.columns, slot, column)
     }
 
     /// How the key of the row in a slot compares to values, in the order of keys.

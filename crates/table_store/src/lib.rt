@@ -5,7 +5,6 @@
 #![tactic(auto)]
 
 mod apply;
-mod cell_test;
 mod chains;
 mod change;
 mod child_index;
@@ -35,8 +34,6 @@ mod store;
 mod table;
 mod table_rows;
 
-pub use cell_test::{CellTest, ColumnTest};
-pub use column_store::Cell;
 pub use error::StoreStop;
 pub use store::Store;
 pub use table::TableStore;

@@ -12,9 +12,9 @@ ghost use Rattle.table_store.specs.Histories.{table_now, tables_now};
 ghost use Rattle.table_store.specs.Referring.{parent_stop};
 ghost use Rattle.table_store.specs.Stops.{are_sorted_numbers};
 
+use crate::error::StoreStop;
 use crate::given::is_given;
 use crate::index::key_of;
-use crate::error::StoreStop;
 use crate::store::Store;
 use crate::table::TableStore;
 use ldv_value::Values;

@@ -10,9 +10,9 @@ ghost use Rattle.table_store.specs.Stops.{all_stand, had_rows, are_sorted_number
 ghost use Rattle.table_store.specs.Stops.{is_among, with_changed, with_inserted, with_removed, with_replaced};
 
 use crate::children::{first_child, is_parent, lost_keys, refers_to};
+use crate::error::StoreStop;
 use crate::given::{keys_if, numbers_of};
 use crate::parents::missing_parent;
-use crate::error::StoreStop;
 use crate::store::Store;
 use crate::table::TableStore;
 use ldv_value::RowList;
@@ -27,7 +27,7 @@ pub(crate) fn insert_refusal(
     rows: &RowList,
 ) -> Result<Option<StoreStop>, AllocError>
     requires { history_at own.now.name store.now ≡ Some own.now }
-    ensures { IfOk result (λ later. later
+    ensures { IfOk result (λ reference_stop. reference_stop
         ≡ missing_stop own.now.schema.foreign (numbered_rows (table_now own.now).next rows.now)
         (with_changed own.now.name (with_inserted rows.now) (tables_now store.now))) }
 {
@@ -35,8 +35,8 @@ pub(crate) fn insert_refusal(
     store.tell_formed();
     let referred = refers_to(own, own.name());
     let keys = keys_if(alloc, referred, &own.schema().key, rows.items())?;
-    let later = missing_parent(alloc, store, own, &keys, &[], rows.items())?;
-    Ok(later)
+    let reference_stop = missing_parent(alloc, store, own, &keys, &[], rows.items())?;
+    Ok(reference_stop)
 }
 
 /// What references refuse new values of rows of a table for.
@@ -48,7 +48,7 @@ pub(crate) fn replace_refusal(
     requires there { history_at own.now.name store.now ≡ Some own.now }
     requires sorted { are_sorted_rows rows.now ≡ true }
     requires stand { had_rows rows.now (table_now own.now) ≡ true }
-    ensures { IfOk result (λ later. later ≡ option_or
+    ensures { IfOk result (λ reference_stop. reference_stop ≡ option_or
         (missing_stop own.now.schema.foreign rows.now
         (with_changed own.now.name (with_replaced rows.now) (tables_now store.now)))
         (orphan_stop (is_of rows.now) (table_now own.now) (with_replaced rows.now (table_now own.now))
@@ -77,7 +77,8 @@ pub(crate) fn delete_refusal(
     requires there { history_at own.now.name store.now ≡ Some own.now }
     requires sorted { are_sorted_numbers numbers.now ≡ true }
     requires stand { all_stand numbers.now (table_now own.now) ≡ true }
-    ensures { IfOk result (λ later. later ≡ orphan_stop (is_among numbers.now) (table_now own.now)
+    ensures { IfOk result (λ reference_stop. reference_stop
+        ≡ orphan_stop (is_among numbers.now) (table_now own.now)
         (with_removed numbers.now (table_now own.now)) (tables_now store.now)) }
 {
     store.tell_formed();
@@ -95,7 +96,7 @@ fn lost_child(
     keys: &BTreeSet<RowKey>,
 ) -> Result<Option<StoreStop>, AllocError>
     requires { are_sorted_numbers numbers.now ≡ true }
-    ensures { IfOk result (λ later. later ≡ (if length own.now.schema.key == 0 then None
+    ensures { IfOk result (λ reference_stop. reference_stop ≡ (if length own.now.schema.key == 0 then None
         else option_map child_stop
         (orphan_in_tables (is_among numbers.now) own.now.name
         (loses (in_set keys.now) numbers.now (table_now own.now)) store.now.tables))) }

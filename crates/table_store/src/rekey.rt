@@ -14,9 +14,9 @@ ghost use Rattle.table_store.specs.KeyIndex.{AreHeld, AreIndexed};
 ghost use Rattle.table_store.specs.Stops.{are_sorted_rows, replaced_by, StopsAs};
 
 use crate::clash::{Clash, earlier_clash, first_clash};
+use crate::error::StoreStop;
 use crate::index::{Index, has_key_at, held_number, key_of};
 use crate::rows::Rows;
-use crate::error::StoreStop;
 use ldv_value::Places;
 use sql_model::{RowKey, TableRow};
 use std::alloc::{AllocError, Global};

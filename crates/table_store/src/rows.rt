@@ -8,8 +8,6 @@ ghost use Rattle.std.specs.Cmp.Lexicographic.{slice_cmp};
 ghost use Rattle.lanes.specs.Sets.{member};
 ghost use Rattle.ldv_value.specs.Order.{order};
 ghost use Rattle.sql_model.specs.Keys.{values_at};
-ghost use Rattle.ldv_value.specs.Cells.{value_at};
-ghost use Rattle.column_store.specs.LentCells.{lent_value};
 ghost use Rattle.table_store.specs.Scans.{null_passes, passes_test};
 ghost use Rattle.table_store.specs.Types.{Null};
 ghost use Rattle.row_version.specs.History.{write_at, current_values, as_of, version};
@@ -23,7 +21,6 @@ use crate::chains::Chains;
 use crate::change::RowChange;
 use crate::grid::Grid;
 use crate::room::make_room;
-use column_store::Cell;
 use ldv_value::{Cmp, Places, Values};
 use sql_model::TableRows;
 use std::alloc::{AllocError, Global};
@@ -96,17 +93,6 @@ impl Rows {
             ≡ current_values (slice_index_or self.now.slots slot no_history).changes) }
     {
         self.grid.copy_values(alloc, slot)
-    }
-
-    /// The value that the row in a slot, which stands, has in a column, lent. Past the last column there is
-    /// NULL.
-    pub(crate) fn cell(&self, slot: usize, column: usize) -> Cell<'_>
-        requires within { slot < length self.now.slots }
-        requires stands { IsSome (current_values (slice_index_or self.now.slots slot no_history).changes) }
-        ensures { Some (lent_value result) ≡ option_map (λ values. value_at values column)
-            (current_values (slice_index_or self.now.slots slot no_history).changes) }
-    {
-        self.grid.cell(slot, column)
     }
 
     /// A copy of the values that the row in a slot had after a time.

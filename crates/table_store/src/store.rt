@@ -6,11 +6,10 @@ ghost use Rattle.std.specs.Prelude.{length, map, slice_get, slice_index_or, slic
 ghost use Rattle.std.specs.List.{AllByRecursion, list_all};
 ghost use Rattle.std.specs.Option.{option_map, option_map_or, option_and_then, option_or};
 ghost use Rattle.lanes.specs.Sets.{member};
-ghost use Rattle.row_version.specs.History.{current_values};
 ghost use Rattle.ldv_value.specs.Sorted.{text_precedes};
 ghost use Rattle.sql_model.specs.Scope.{catalog_of, table_at};
 ghost use Rattle.sql_model.specs.Tables.{AreWellFormed, have_distinct_columns, is_database, is_valid_table};
-ghost use Rattle.table_store.specs.Scans.{null_passes, passes_test};
+ghost use Rattle.table_store.specs.Scans.{passes_test};
 ghost use Rattle.table_store.specs.Histories.{history_at, is_history, table_now, tables_now, last_since};
 ghost use Rattle.table_store.specs.Histories.{rows_after, next_number_after, AreKeptBefore, changed_at};
 ghost use Rattle.table_store.specs.Histories.{table_with_rows, table_with_values, table_without, version_now, history_of_row};
@@ -27,9 +26,9 @@ ghost use Rattle.table_store.specs.StoreView.{store_at_start, no_table, are_sort
 ghost use Rattle.table_store.specs.TableView.{history_at_start};
 ghost use Rattle.table_store.specs.Types.{Null, Value};
 
+use crate::error::StoreStop;
 use crate::parent_rows::parents_of;
 use crate::refusals::{delete_refusal, insert_refusal, replace_refusal};
-use crate::error::StoreStop;
 use crate::table::TableStore;
 use ldv_value::{Cmp, Numbers, RowList, Values};
 use sql_model::{Catalog, Members, TableRow, TableRows, Tables};
@@ -190,21 +189,6 @@ impl Store {
         }
     }
 
-    /// A copy of the values of the row in a slot of a table; the table is there, and the row stands now.
-    pub fn row_values(&self, table: &str, slot: u64) -> Result<Values, AllocError>
-        requires there { IsSome (table_at table.now (tables_now self.now)) }
-        requires stands { IfSome (history_at table.now self.now)
-            (λ history. IsSome (current_values (slice_index_or history.slots slot no_history).changes)) }
-        ensures { IfOk result (λ values. option_map
-            (λ history. current_values (slice_index_or history.slots slot no_history).changes)
-            (history_at table.now self.now) ≡ Some (Some values)) }
-    {
-        match self.table(table) {
-            Some(held) => held.row_values(slot),
-            None => unreachable!(),
-        }
-    }
-
     /// Sets the bits of the slots of a table whose row stands and has a number in the column that compares
     /// so to the constant, and clears all others. The table is there, the column is of INT, and the mask
     /// has a word for each 64 slots, rounded up.
@@ -223,25 +207,6 @@ impl Store {
     {
         match self.table(table) {
             Some(held) => held.scan(column, op, constant, mask),
-            None => unreachable!(),
-        }
-    }
-
-    /// Sets the bits of the slots of a table whose row stands and has NULL in the column, or, where `is_null`
-    /// is false, another value, and clears all others. Past the last column there is NULL. The table is
-    /// there, and the mask has a word for each 64 slots, rounded up.
-    pub fn scan_nulls(&self, table: &str, column: u64, is_null: bool, mask: &mut [u64])
-        requires there { IsSome (table_at table.now (tables_now self.now)) }
-        requires mask { IfSome (history_at table.now self.now)
-            (λ history. length mask.old ≡ (length history.slots + 63) / 64) }
-        ensures { (n : ℕ)
-            → option_map (λ history. option_map_or
-            (λ row. null_passes is_null (slice_index_or row.values column Null))
-            (row_now (slice_index_or history.slots n no_history)) false) (history_at table.now self.now)
-            ≡ Some (member mask.new n) }
-    {
-        match self.table(table) {
-            Some(held) => held.scan_nulls(column, is_null, mask),
             None => unreachable!(),
         }
     }
@@ -291,8 +256,8 @@ impl Store {
         match place_in(&self.tables, table) {
             None => unreachable!(),
             Some(place) => {
-                let later = self.later_of_insert(table, &rows)?;
-                match insert_in(&mut self.tables, place, rows, later, time) {
+                let reference_stop = self.reference_stop_of_insert(table, &rows)?;
+                match insert_in(&mut self.tables, place, rows, reference_stop, time) {
                     Err(stop) => Err(stop),
                     Ok(first) => {
                         self.time = time;
@@ -328,8 +293,8 @@ impl Store {
         match place_in(&self.tables, table) {
             None => unreachable!(),
             Some(place) => {
-                let later = self.later_of_replace(table, rows.items())?;
-                match replace_in(&mut self.tables, place, rows, later, time) {
+                let reference_stop = self.reference_stop_of_replace(table, rows.items())?;
+                match replace_in(&mut self.tables, place, rows, reference_stop, time) {
                     Err(stop) => Err(stop),
                     Ok(()) => {
                         self.time = time;
@@ -361,8 +326,8 @@ impl Store {
         match place_in(&self.tables, table) {
             None => unreachable!(),
             Some(place) => {
-                let later = self.later_of_delete(table, numbers.items())?;
-                match delete_in(&mut self.tables, place, numbers, later, time) {
+                let reference_stop = self.reference_stop_of_delete(table, numbers.items())?;
+                match delete_in(&mut self.tables, place, numbers, reference_stop, time) {
                     Err(stop) => Err(stop),
                     Ok(()) => {
                         self.time = time;
@@ -374,24 +339,24 @@ impl Store {
     }
 
     // What references refuse new rows for, which comes after what the rows' own table refuses them for.
-    fn later_of_insert(&self, table: &str, rows: &RowList) -> Result<Option<StoreStop>, AllocError>
+    fn reference_stop_of_insert(&self, table: &str, rows: &RowList) -> Result<Option<StoreStop>, AllocError>
         requires { IsSome (table_at table.now (tables_now self.now)) }
-        ensures { IfOk result (λ later. option_map
+        ensures { IfOk result (λ reference_stop. option_map
             (λ own. missing_stop own.schema.foreign (numbered_rows own.next rows.now)
             (with_changed own.name (with_inserted rows.now) (tables_now self.now)))
-            (table_at table.now (tables_now self.now)) ≡ Some later) }
+            (table_at table.now (tables_now self.now)) ≡ Some reference_stop) }
     {
         match self.table(table) {
             None => unreachable!(),
             Some(own) => {
-                let later = insert_refusal(self, own, rows)?;
-                Ok(later)
+                let reference_stop = insert_refusal(self, own, rows)?;
+                Ok(reference_stop)
             }
         }
     }
 
     // What references refuse new values of rows for.
-    fn later_of_replace(
+    fn reference_stop_of_replace(
         &self,
         table: &str,
         rows: &[TableRow],
@@ -400,36 +365,36 @@ impl Store {
         requires sorted { are_sorted_rows rows.now ≡ true }
         requires stand { IfSome (table_at table.now (tables_now self.now))
             (λ table. had_rows rows.now table ≡ true) }
-        ensures { IfOk result (λ later. option_map
+        ensures { IfOk result (λ reference_stop. option_map
             (λ own. option_or (missing_stop own.schema.foreign rows.now
             (with_changed own.name (with_replaced rows.now) (tables_now self.now)))
             (orphan_stop (is_of rows.now) own (with_replaced rows.now own) (tables_now self.now)))
-            (table_at table.now (tables_now self.now)) ≡ Some later) }
+            (table_at table.now (tables_now self.now)) ≡ Some reference_stop) }
     {
         match self.table(table) {
             None => unreachable!(),
             Some(own) => {
-                let later = replace_refusal(self, own, rows)?;
-                Ok(later)
+                let reference_stop = replace_refusal(self, own, rows)?;
+                Ok(reference_stop)
             }
         }
     }
 
     // What references refuse to drop rows for.
-    fn later_of_delete(&self, table: &str, numbers: &[u32]) -> Result<Option<StoreStop>, AllocError>
+    fn reference_stop_of_delete(&self, table: &str, numbers: &[u32]) -> Result<Option<StoreStop>, AllocError>
         requires there { IsSome (table_at table.now (tables_now self.now)) }
         requires sorted { are_sorted_numbers numbers.now ≡ true }
         requires stand { IfSome (table_at table.now (tables_now self.now))
             (λ table. all_stand numbers.now table ≡ true) }
-        ensures { IfOk result (λ later. option_map
+        ensures { IfOk result (λ reference_stop. option_map
             (λ own. orphan_stop (is_among numbers.now) own (with_removed numbers.now own)
-            (tables_now self.now)) (table_at table.now (tables_now self.now)) ≡ Some later) }
+            (tables_now self.now)) (table_at table.now (tables_now self.now)) ≡ Some reference_stop) }
     {
         match self.table(table) {
             None => unreachable!(),
             Some(own) => {
-                let later = delete_refusal(self, own, numbers)?;
-                Ok(later)
+                let reference_stop = delete_refusal(self, own, numbers)?;
+                Ok(reference_stop)
             }
         }
     }
@@ -483,14 +448,15 @@ fn insert_in(
     tables: &mut Vec<TableStore>,
     place: usize,
     rows: RowList,
-    later: Option<StoreStop>,
+    reference_stop: Option<StoreStop>,
     time: u32,
 ) -> Result<u32, StoreStop>
     requires within { place < length tables.old.items }
     requires later { last_since (slice_index_or tables.old.items place no_table).nexts < time }
     requires shape { have_shape rows (table_now (slice_index_or tables.old.items place no_table)) ≡ true }
     ensures stop { StopsAs (option_or
-        (insert_stop rows (table_now (slice_index_or tables.old.items place no_table))) later) result }
+        (insert_stop rows (table_now (slice_index_or tables.old.items place no_table)))
+        reference_stop) result }
     ensures first { IfOk result (λ first. first
         ≡ (table_now (slice_index_or tables.old.items place no_table)).next) }
     ensures ok { OnOk result (tables.new.items
@@ -499,7 +465,7 @@ fn insert_in(
     ensures err { OnErr result (tables.new.items ≡ tables.old.items) }
 {
     let held = &mut tables[place];
-    held.insert_all(rows, later, time)
+    held.insert_all(rows, reference_stop, time)
 }
 
 // Gives rows of the table at a place other values.
@@ -507,7 +473,7 @@ fn replace_in(
     tables: &mut Vec<TableStore>,
     place: usize,
     rows: TableRows,
-    later: Option<StoreStop>,
+    reference_stop: Option<StoreStop>,
     time: u32,
 ) -> Result<(), StoreStop>
     requires within { place < length tables.old.items }
@@ -517,7 +483,8 @@ fn replace_in(
     requires sorted { are_sorted_rows rows ≡ true }
     requires stand { had_rows rows (table_now (slice_index_or tables.old.items place no_table)) ≡ true }
     ensures stop { StopsAs (option_or
-        (replace_stop rows (table_now (slice_index_or tables.old.items place no_table))) later) result }
+        (replace_stop rows (table_now (slice_index_or tables.old.items place no_table)))
+        reference_stop) result }
     ensures ok { OnOk result (tables.new.items
         ≡ slice_set tables.old.items place
         (table_with_values time rows (slice_index_or tables.old.items place no_table))) }
@@ -527,7 +494,7 @@ fn replace_in(
     ensures err { OnErr result (tables.new.items ≡ tables.old.items) }
 {
     let held = &mut tables[place];
-    held.replace_all(rows, later, time)
+    held.replace_all(rows, reference_stop, time)
 }
 
 // Drops rows of the table at a place.
@@ -535,7 +502,7 @@ fn delete_in(
     tables: &mut Vec<TableStore>,
     place: usize,
     numbers: &Numbers,
-    later: Option<StoreStop>,
+    reference_stop: Option<StoreStop>,
     time: u32,
 ) -> Result<(), StoreStop>
     requires within { place < length tables.old.items }
@@ -543,14 +510,14 @@ fn delete_in(
     requires sorted { are_sorted_numbers numbers.now ≡ true }
     requires stand { all_stand numbers.now (table_now (slice_index_or tables.old.items place no_table))
         ≡ true }
-    ensures stop { StopsAs later result }
+    ensures stop { StopsAs reference_stop result }
     ensures ok { OnOk result (tables.new.items
         ≡ slice_set tables.old.items place
         (table_without time numbers.now (slice_index_or tables.old.items place no_table))) }
     ensures err { OnErr result (tables.new.items ≡ tables.old.items) }
 {
     let held = &mut tables[place];
-    held.delete_all(numbers, later, time)
+    held.delete_all(numbers, reference_stop, time)
 }
 
 // The tables, as a store has them at time 0.

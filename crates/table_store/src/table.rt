@@ -7,10 +7,8 @@ ghost use Rattle.std.specs.Option.{option_map, option_map_or, option_or, option_
 ghost use Rattle.std.specs.List.{filter_map};
 ghost use Rattle.lanes.specs.Sets.{member};
 ghost use Rattle.row_version.specs.History.{current_values, version};
-ghost use Rattle.ldv_value.specs.Cells.{value_at};
 ghost use Rattle.sql_model.specs.Tables.{is_valid_table};
 ghost use Rattle.sql_model.specs.References.{has_key};
-ghost use Rattle.column_store.specs.LentCells.{lent_value};
 ghost use Rattle.table_store.specs.Scans.{null_passes, passes_test};
 ghost use Rattle.table_store.specs.inner.ChildPairs.{no_foreign, refers, IsNextOf};
 ghost use Rattle.table_store.specs.Types.{Null};
@@ -31,15 +29,14 @@ ghost use Rattle.table_store.specs.TableView.{history_at_start, kinds_in, AreTim
 use crate::change::{RowChange, removals, rewrites};
 use crate::child_index::{ChildIndex, add_all, index_of_rows, settle_all};
 use crate::claim::claim;
+use crate::error::StoreStop;
 use crate::given::numbers_of;
 use crate::index::{Index, held_number, index_of, number_by_slots};
 use crate::insert::{any_lacks_value, any_row_lacks_value, is_full, numbered_rows};
 use crate::nexts::{NextSince, nexts_at_start, last_since, next_as_of};
 use crate::rekey::claims_of;
 use crate::rows::Rows;
-use crate::error::StoreStop;
 use crate::table_rows::{rows_as_of, standing_rows};
-use column_store::Cell;
 use ldv_value::{Cmp, Numbers, RowList, Utf8, Values};
 use sql_model::{Columns, RowKey, Schema, Table, TableRows};
 use std::alloc::{AllocError, Global};
@@ -212,17 +209,6 @@ impl TableStore {
         self.rows.copy_values(self.name.allocator(), slot as usize)
     }
 
-    /// The value in a column, by its place from 0, of the row in a slot, which stands; NULL past the last
-    /// column. It is lent, and no row is copied.
-    #[tactic(auto, using(crate::proofs::TableLaws::slot_rules))]
-    pub fn cell(&self, slot: u64, column: u64) -> Cell<'_>
-        requires { IsSome (current_values (slice_index_or self.now.slots slot no_history).changes) }
-        ensures { Some (lent_value result) ≡ option_map (λ values. value_at values column)
-            (current_values (slice_index_or self.now.slots slot no_history).changes) }
-    {
-        self.rows.cell(slot as usize, column as usize)
-    }
-
     /// Sets the bits of the slots whose row stands and has a number in the column that compares so to the
     /// constant, and clears all others. The column is of INT, and the mask has a word for each 64 slots,
     /// rounded up.
@@ -259,13 +245,6 @@ impl TableStore {
             ≡ is_some (row_now (slice_index_or self.now.slots n no_history)) }
     {
         self.rows.standing_slots()
-    }
-
-    /// There are fewer than 2^32 slots. The call does nothing; it lends this to the caller.
-    pub fn tell_few(&self)
-        ensures { length self.now.slots < 2 ^ 32 }
-    {
-        let _standing = self.rows.standing_slots();
     }
 
     /// The version of a row: how often it has changed. `None` where it doesn't stand now.
@@ -336,17 +315,17 @@ impl TableStore {
 
     /// Adds rows at a time, numbered from the number of the next row on, and returns that number. The time
     /// is later than that of each earlier change, and each row has a value for each column, of its kind.
-    /// NotNull, KeyTaken, Full: what the rows refuse, in this order, and then `later`; NoMemory: out of
-    /// memory. The table is then as it was.
+    /// NotNull, KeyTaken, Full: what the rows refuse, in this order, and then `reference_stop`; NoMemory: out
+    /// of memory. The table is then as it was.
     pub(crate) fn insert_all(
         &mut self,
         rows: RowList,
-        later: Option<StoreStop>,
+        reference_stop: Option<StoreStop>,
         time: u32,
     ) -> Result<u32, StoreStop>
         requires later { last_since self.old.nexts < time }
         requires shape { list_all (has_shape self.old.schema.columns) rows ≡ true }
-        ensures stop { StopsAs (option_or (insert_stop rows (table_now self.old)) later) result }
+        ensures stop { StopsAs (option_or (insert_stop rows (table_now self.old)) reference_stop) result }
         ensures first { IfOk result (λ first. first ≡ last_next_number self.old.nexts) }
         ensures ok { OnOk result (self.new ≡ table_with_rows time rows self.old) }
         ensures err { OnErr result (self.new ≡ self.old) }
@@ -371,7 +350,7 @@ impl TableStore {
         if is_full(next, rows.len()) {
             return Err(StoreStop::Full);
         }
-        match later {
+        match reference_stop {
             None => {}
             Some(stop) => return Err(stop),
         }
@@ -389,18 +368,18 @@ impl TableStore {
     /// Gives the rows of these numbers other values at a time. The time is later than that of each earlier
     /// change. The rows are sorted by number, each has the number of a row that stands and a value for each
     /// column, of its kind. NotNull, KeyTaken: what the rows refuse, in this order, where keys are those of
-    /// the table afterwards, and then `later`; NoMemory: out of memory. The table is then as it was.
+    /// the table afterwards, and then `reference_stop`; NoMemory: out of memory. The table is then as it was.
     pub(crate) fn replace_all(
         &mut self,
         rows: TableRows,
-        later: Option<StoreStop>,
+        reference_stop: Option<StoreStop>,
         time: u32,
     ) -> Result<(), StoreStop>
         requires later { last_since self.old.nexts < time }
         requires shape { have_shape (values_of rows) (table_now self.old) ≡ true }
         requires sorted { are_sorted_rows rows ≡ true }
         requires stand { had_rows rows (table_now self.old) ≡ true }
-        ensures stop { StopsAs (option_or (replace_stop rows (table_now self.old)) later) result }
+        ensures stop { StopsAs (option_or (replace_stop rows (table_now self.old)) reference_stop) result }
         ensures ok { OnOk result (self.new ≡ table_with_values time rows self.old) }
         ensures now { OnOk result (table_now (table_with_values time rows self.old)
             ≡ with_replaced rows (table_now self.old)) }
@@ -420,7 +399,7 @@ impl TableStore {
             Ok(claims) => claims,
             Err(stop) => return Err(stop),
         };
-        match later {
+        match reference_stop {
             None => {}
             Some(stop) => return Err(stop),
         }
@@ -449,22 +428,22 @@ impl TableStore {
     }
 
     /// Drops the rows of these numbers at a time. The time is later than that of each earlier change. The
-    /// numbers are sorted, and each is that of a row that stands. `later` is returned; NoMemory: out of
-    /// memory. The table is then as it was.
+    /// numbers are sorted, and each is that of a row that stands. `reference_stop` is returned; NoMemory: out
+    /// of memory. The table is then as it was.
     pub(crate) fn delete_all(
         &mut self,
         numbers: &Numbers,
-        later: Option<StoreStop>,
+        reference_stop: Option<StoreStop>,
         time: u32,
     ) -> Result<(), StoreStop>
         requires later { last_since self.old.nexts < time }
         requires sorted { are_sorted_numbers numbers.now ≡ true }
         requires stand { all_stand numbers.now (table_now self.old) ≡ true }
-        ensures stop { StopsAs later result }
+        ensures stop { StopsAs reference_stop result }
         ensures ok { OnOk result (self.new ≡ table_without time numbers.now self.old) }
         ensures err { OnErr result (self.new ≡ self.old) }
     {
-        match later {
+        match reference_stop {
             None => {}
             Some(stop) => return Err(stop),
         }

@@ -13,7 +13,7 @@ use Rattle.sql_model.proofs.ValidTables.{table-parts}
 use Rattle.sql_model.specs.Keys.{same_values}
 use Rattle.sql_model.specs.Meaning.{eval}
 use Rattle.sql_model.specs.QueryAnswer.{AnswerRow, SortKey, answer_values, Combination, combinations, joined_values, picked, meets_all, row_environment, distinct_values, merged_row, merge, has_key, groups_of, environments, is_kept, first_values, item_values, group_row, one_combination, rows_in_scope, once, core_rows, union_answers, rows_after, union_rows, order_by, sort_rows, limit_of, first_rows, answer, answer_rows, sort_key}
-use Rattle.sql_model.specs.Refusals.{groups, answer_titles}
+use Rattle.sql_model.specs.Refusals.{groups, answer_columns}
 use Rattle.sql_model.specs.Scope.{InScope, is_table, table_at, rows_of, catalog_of, scope_of}
 use Rattle.sql_model.specs.Sorting.{put_sorted, sorted_by}
 use Rattle.sql_model.specs.Tables.{fits, each_value, is_row, is_valid_table}
@@ -204,7 +204,7 @@ module _ (db : List Table) (tables : AllByRecursion NarrowTable db) where
   core_fit core good =
       let scope : List InScope = scope_of core.from (catalog_of db) in
       let few : length core.from ≤ 8 = good.sources in
-      let joined : AllJoined (length core.from) (picked core db) = all_filter (Joined (length core.from)) (λ rows. meets_all core.picks (row_environment scope rows)) (combinations core.from db) (joined_all core.from db tables) in
+      let joined : AllJoined (length core.from) (picked core db) = all_filter (Joined (length core.from)) (λ rows. meets_all core.conditions (row_environment scope rows)) (combinations core.from db) (joined_all core.from db tables) in
       once_fit core.distinct (rows_in_scope scope core (picked core db)) (scope_fit (length core.from) few scope core good (picked core db) joined)
 
   after_fit : (rows : List AnswerRow) → Answers rows → (cores : List Core) → AllByRecursion GoodCore cores
@@ -223,7 +223,7 @@ module _ (db : List Table) (tables : AllByRecursion NarrowTable db) where
 
   narrow_answer : (query : Query) → AllByRecursion GoodCore query.cores → AllByRecursion Fitting (answer_rows query db)
   narrow_answer query good =
-      let keys : List SortKey = map (sort_key (answer_titles (catalog_of db) query.cores)) query.order in
+      let keys : List SortKey = map (sort_key (answer_columns (catalog_of db) query.cores)) query.order in
       let rows : List AnswerRow = union_rows db query.cores in
       let sorted : Answers (sort_rows keys rows) = all_sorted FittingRow (λ a b. order_by keys a.values b.values) rows (union_fit query.cores good) in
       values_of_fit (answer query db) (first_rows_fit (limit_of query.limit) (sort_rows keys rows) sorted)

@@ -1,36 +1,23 @@
 -- Tests of single columns that WHERE makes.
 use Rattle.std.specs.Prelude.{◌≡◌, ℕ, List, true, Option}
-use Rattle.core_parts.specs.declared.mask.Mask.{Mask}
-use Rattle.core_parts.specs.declared.mask.MaskTest.{MaskTest}
-use Rattle.core_parts.specs.declared.mask.MaskTest.TheVariants as mask_test
-use Rattle.dml_versions.specs.Finding.{IsPickPlaced}
+use Rattle.dml_versions.specs.Finding.{IsConditionPlaced}
 use Rattle.dml_versions.specs.Types.{Column, Expr, TableRow}
 use Rattle.sql_model.specs.Changes.{is_matched}
 use Rattle.sql_model.specs.Scope.{InScope}
+use Rattle.sql_model.specs.declared.column_test.ColumnTest.{ColumnTest}
 use Rattle.table_store.specs.CellTests.{AllFitColumns, passes_columns}
-use Rattle.table_store.specs.declared.cell_test.CellTest.{CellTest}
-use Rattle.table_store.specs.declared.cell_test.CellTest.TheVariants.{Compare, IsNull, IsNotNull}
-use Rattle.table_store.specs.declared.cell_test.ColumnTest.{ColumnTest}
-
--- a condition's test of a value, as a table makes it
-abbrev pub cell_test : MaskTest → CellTest
-cell_test (mask_test.Compares op constant) = Compare op constant
-cell_test mask_test.IsNull = IsNull
-cell_test mask_test.IsNotNull = IsNotNull
-
-abbrev pub column_test : Mask → ColumnTest
-column_test mask = record { column = mask.column; test = cell_test mask.test }
 
 -- a table with these columns can make the tests, and each row that WHERE matches passes them
-pub record AreTests (pick : Option Expr) (places : List ℕ) (columns : List Column) (tests : List ColumnTest)
-    : Type 0 where
+pub record AreTests (condition : Option Expr) (places : List ℕ) (columns : List Column)
+    (tests : List ColumnTest) : Type 0 where
   pub fit : AllFitColumns columns tests
-  pub pass : (scope : List InScope) → IsPickPlaced scope pick places → (row : TableRow)
-      → is_matched scope pick row ≡ true
+  pub pass : (scope : List InScope) → IsConditionPlaced scope condition places → (row : TableRow)
+      → is_matched scope condition row ≡ true
       → passes_columns tests row ≡ true
 
 -- WHERE matches each row that passes them
 abbrev pub AreExactTests : Option Expr → List ℕ → List ColumnTest → Type 0
-AreExactTests pick places tests = (scope : List InScope) → IsPickPlaced scope pick places → (row : TableRow)
+AreExactTests condition places tests = (scope : List InScope) → IsConditionPlaced scope condition places
+    → (row : TableRow)
     → passes_columns tests row ≡ true
-    → is_matched scope pick row ≡ true
+    → is_matched scope condition row ≡ true

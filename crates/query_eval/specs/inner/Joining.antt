@@ -8,7 +8,7 @@ use Rattle.core_parts.specs.Conditions.{meets}
 use Rattle.core_parts.specs.Equality.{equals, is_equal_test}
 use Rattle.core_parts.specs.Listing.{listed, item_added}
 use Rattle.core_parts.specs.Placing.{IsPlaced}
-use Rattle.query_eval.specs.Sourcing.{joined_row_values}
+use Rattle.query_eval.specs.Sources.{joined_row_values}
 use Rattle.query_eval.specs.Types.{ColumnName, Operator, Add, Subtract, Multiply, Compare, And, Or}
 use Rattle.query_eval.specs.Types.{Expr, Value}
 use Rattle.sql_model.specs.declared.expr.Expr.TheVariants.{Both, Column}

@@ -6,9 +6,9 @@ use Rattle.dml_versions.specs.Versions.{versions_now}
 use Rattle.lineage.specs.Lineage.{Lineage, IsUnion}
 use Rattle.lineage.specs.Rows.{kept_origins, joined_row, AnswersStandFor, PicksStandFor}
 use Rattle.lineage.specs.StandsFor.{StandsFor}
-use Rattle.query_eval.specs.Stored.{table_names}
+use Rattle.query_eval.specs.StoredSources.{table_names}
 use Rattle.sql_engine.specs.Types.{Answer, Catalog, Checked, Core, Pick, Query, StoreHistory, Table, Value}
-use Rattle.sql_engine.specs.declared.answered.Answered.{Answered}
+use Rattle.sql_engine.specs.declared.answer.QueryAnswer.{QueryAnswer}
 use Rattle.sql_engine.specs.declared.cores.CoreRows.{CoreRows}
 use Rattle.sql_model.specs.Needs.{Versions, sums_up}
 use Rattle.sql_model.specs.QueryAnswer.{Origin, AnswerRow, Combination, rows_in_scope, rejected_in_scope}
@@ -84,12 +84,12 @@ IsHidden true rejected cut hidden = IsUnion rejected cut hidden
 IsHidden false rejected cut hidden = hidden ≡ rejected
 
 -- the values of the answer, its lineage and that of the hidden rows
-pub record IsAnswer (store : StoreHistory) (keep : Bool) (query : Query) (made : Answered) : Type 0 where
+pub record IsAnswer (store : StoreHistory) (keep : Bool) (query : Query) (made : QueryAnswer) : Type 0 where
   pub rows : made.rows ≡ answer_rows query (tables_now store)
   pub lineage : IsKept store keep made.lineage (lineage_of (answer query (tables_now store)))
   pub hidden : IsKept store keep made.hidden (hidden_lineage query (tables_now store))
 
-abbrev pub IsAnswered : Checked → StoreHistory → Bool → Answered → Type 0
+abbrev pub IsAnswered : Checked → StoreHistory → Bool → QueryAnswer → Type 0
 IsAnswered checked store keep made = (query : Query)
     → IsAsked checked store query
     → IsAnswer store keep query made

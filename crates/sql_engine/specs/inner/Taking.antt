@@ -5,9 +5,9 @@ use Rattle.std.specs.List.{list_any, position}
 use Rattle.std.specs.Option.{option_map_or}
 use Rattle.sql_engine.specs.inner.Listing.{is_in, is_text, names_table}
 use Rattle.sql_engine.specs.Types.{Catalog, Need, Schema, Statement}
-use Rattle.sql_engine.specs.declared.tables.Mark.{Mark}
-use Rattle.sql_engine.specs.declared.tables.Mark.TheVariants.{Left, Taken, Done}
-use Rattle.sql_engine.specs.declared.tables.Taking.{Taking}
+use Rattle.sql_engine.specs.declared.marks.Mark.{Mark}
+use Rattle.sql_engine.specs.declared.marks.Mark.TheVariants.{Left, Taken, Done}
+use Rattle.sql_engine.specs.declared.marks.TableMarks.{TableMarks}
 use Rattle.sql_model.specs.ForeignKeys.{with_parents}
 use Rattle.sql_model.specs.Scope.{same_text}
 use Rattle.sql_model.specs.declared.table.Foreign.{Foreign}
@@ -39,7 +39,7 @@ taken_mark Done = Done
 abbrev pub first_mark : Statement → List ℕ → Mark
 first_mark statement name = if names_table statement name then Taken else Left
 
-pub record IsFresh (statement : Statement) (names : List (List ℕ)) (taking : Taking) : Type 0 where
+pub record IsFresh (statement : Statement) (names : List (List ℕ)) (taking : TableMarks) : Type 0 where
   pub names_are : taking.names ≡ names
   pub marks_are : taking.marks.items ≡ map (first_mark statement) names
 

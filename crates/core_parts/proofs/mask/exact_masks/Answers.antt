@@ -5,18 +5,19 @@ use Rattle.std.proofs.lemmas.List.{drop_all}
 use Rattle.ldv_value.proofs.Places.{drop_item}
 use Rattle.core_parts.proofs.MaskLaws.{exact-more, exact-end, fit-more}
 use Rattle.core_parts.specs.Conditions.{meets}
-use Rattle.core_parts.specs.Masking.{IsFound, fits, passes_at}
+use Rattle.core_parts.specs.Masking.{IsFound, passes_at}
 use Rattle.core_parts.specs.Placing.{AreAllPlaced}
-use Rattle.core_parts.specs.declared.mask.Mask.{Mask}
+use Rattle.sql_model.specs.ColumnTests.{fits}
+use Rattle.sql_model.specs.declared.column_test.ColumnTest.{ColumnTest}
 use Rattle.core_parts.specs.declared.placed.BoundExpr.{BoundExpr}
 use Rattle.core_parts.proofs.mask.exact_masks.Goals as goal
 
 pub loop-cond-init : goal.loop-cond-init
 loop-cond-init c = record {
-  fit = subst (AllByRecursion (λ (mask : Mask). fits c.args.columns.now mask ≡ true)) (sym c.new-masks.ensures.items) tt;
+  fit = subst (AllByRecursion (λ (mask : ColumnTest). fits c.args.columns.now mask ≡ true)) (sym c.new-masks.ensures.items) tt;
   same = λ scope row placed. (
     placed,
-    ap (λ (masks : List Mask). passes_at c.args.before masks row && meets scope c.args.conds.now row) c.new-masks.ensures.items,
+    ap (λ (masks : List ColumnTest). passes_at c.args.before masks row && meets scope c.args.conds.now row) c.new-masks.ensures.items,
   );
 }
 
@@ -26,19 +27,19 @@ loop-cond-preserved c =
     let before = c.args.before in
     let i = c.loop-cond.cond-index in
     let cond : BoundExpr = c.cond-item.result in
-    let mask : Mask = c.in-Some.mask in
+    let mask : ColumnTest = c.in-Some.mask in
     let masks = c.loop-cond.masks.items in
     let split : drop i conds ≡ cond ∷ drop (i + 1) conds = drop_item conds i cond c.loop-cond-test.true c.cond-item.is in
     let pushed : c.push.new.self.items ≡ masks ++ mask ∷ [] = search rules in
-    let found : IsFound cond before c.args.columns.now mask = subst (λ (o : Option Mask). IfSome o (IsFound cond before c.args.columns.now)) c.in-Some.is c.in_ok-found.ensures in
+    let found : IsFound cond before c.args.columns.now mask = subst (λ (o : Option ColumnTest). IfSome o (IsFound cond before c.args.columns.now)) c.in-Some.is c.in_ok-found.ensures in
     record {
-      fit = subst (AllByRecursion (λ (m : Mask). fits c.args.columns.now m ≡ true)) (sym pushed)
+      fit = subst (AllByRecursion (λ (m : ColumnTest). fits c.args.columns.now m ≡ true)) (sym pushed)
           (fit-more c.args.columns.now masks mask c.loop-cond.invariant.fit found.fits);
       same = λ scope row all.
           let left = c.loop-cond.invariant.same scope row all in
           let placed : AreAllPlaced scope (cond ∷ drop (i + 1) conds) = subst (AreAllPlaced scope) split left.0 in (
             placed.1,
-            ap (λ (ms : List Mask). passes_at before ms row && meets scope (drop (i + 1) conds) row) pushed
+            ap (λ (ms : List ColumnTest). passes_at before ms row && meets scope (drop (i + 1) conds) row) pushed
                 ∙ exact-more scope before row masks mask cond (drop (i + 1) conds) (meets scope conds row) (found.is scope row placed.0)
                 (ap (λ (cs : List BoundExpr). passes_at before masks row && meets scope cs row) (sym split) ∙ left.1),
           );

@@ -1,9 +1,10 @@
 use Rattle.std.proofs.Common.{◌≡◌, ◌&&◌, List, drop, true}
 use Rattle.std.specs.List.{AllByRecursion}
 use Rattle.core_parts.specs.Conditions.{meets}
-use Rattle.core_parts.specs.Masking.{fits, passes_at}
+use Rattle.core_parts.specs.Masking.{passes_at}
 use Rattle.core_parts.specs.Placing.{AreAllPlaced}
 use Rattle.core_parts.specs.Types.{Value}
+use Rattle.sql_model.specs.ColumnTests.{fits}
 use Rattle.sql_model.specs.Scope.{InScope}
 use Rattle.core_parts.proofs.mask.exact_masks.Given as goal
 

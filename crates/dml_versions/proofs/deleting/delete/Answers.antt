@@ -2,7 +2,6 @@ use Rattle.std.proofs.Common.{◌≡◌, ◌+◌, ◌<◌, ◌^◌, ℕ, List, [
 use Rattle.std.specs.Prelude.{filter, IsSome, IfSome, Err}
 use Rattle.std.specs.List.{AllByRecursion}
 use Rattle.std.specs.Option.{option_and_then}
-use Rattle.ldv_value.proofs.Options.{same-some}
 use Rattle.sql_model.specs.Scope.{table_at}
 use Rattle.table_store.specs.Histories.{tables_now, table_now, rows_now, history_at, changed_at, table_without}
 use Rattle.table_store.specs.Referring.{delete_refusal}
@@ -11,8 +10,9 @@ use Rattle.dml_versions.proofs.AfterLaws.{all_needed}
 use Rattle.dml_versions.proofs.DeleteLaws.{delete-sorted, delete-stand, delete-needs, delete-own, delete-same, delete-child, delete-refused, delete-kept, delete-change, delete-after}
 use Rattle.dml_versions.proofs.EntryLaws.{check-of, there-of, versions-fit}
 use Rattle.dml_versions.proofs.KeptLaws.{change_with_lists-change, change_with_lists-over, change_with_lists-needs, refused-over, refused-change_with_lists}
+use Rattle.dml_versions.proofs.RefusedTables.{told-here}
 use Rattle.dml_versions.proofs.TableLaws.{table-now, history-some}
-use Rattle.dml_versions.specs.Changing.{IsChange, IsStoreAfter, IsChildThere, matched_change, refused_change}
+use Rattle.dml_versions.specs.Changing.{IsChange, IsStoreAfter, matched_change, refused_change}
 use Rattle.dml_versions.specs.Finding.{test_in, found_row}
 use Rattle.dml_versions.specs.Needing.{need_found, number_found}
 use Rattle.dml_versions.specs.Types.{Need, Statement, TheDelete, Table, StoreHistory}
@@ -25,7 +25,7 @@ matched_change-requires c =
     let f = c.in_ok-found.ensures in
     subst (λ (l : List Found). AllByRecursion (λ row. row.version + 1 < 2 ^ 32) l) (sym f.found_is)
     (versions-fit c.args.store.now.time f.table.slots f.held.timed c.args.time c.requires.later (omega arith)
-    (filter (test_in f.table c.delete_of-delete.result.now.pick) (rows_now f.table.slots)))
+    (filter (test_in f.table c.delete_of-delete.result.now.condition) (rows_now f.table.slots)))
 
 pub delete_all-requires-clause-there : goal.delete_all-requires-clause-there
 delete_all-requires-clause-there c =
@@ -82,8 +82,8 @@ returns-in-Ok-clause-after c =
 
 -- ---- refused
 
-pub table_of-table-requires : goal.table_of-table-requires
-table_of-table-requires c =
+pub refused_by_store-requires : goal.refused_by_store-requires
+refused_by_store-requires c =
     let delete = c.delete_of-delete.result.now in
     subst (λ (store : StoreHistory). IsSome (history_at delete.table store)) (sym c.in-Err.ensures.err)
     (history-some delete.table c.args.store.now
@@ -100,17 +100,14 @@ returns-clause-change c =
     let given = c.in_ok-change.change.needs in
     let refused = c.in_ok-refused-in-Err.refused in
     let whole = all_needed (TheDelete delete) old in
-    let others : List Need = map (need_found delete.table) (map (found_row f.table.slots) (filter (test_in f.table delete.pick) (rows_now f.table.slots))) in
+    let others : List Need = map (need_found delete.table) (map (found_row f.table.slots) (filter (test_in f.table delete.condition) (rows_now f.table.slots))) in
     let check = check-of (tables_now old) c.args.checked.now c.requires.checked (TheDelete delete) c.delete_of-delete.ensures in
     let stops : StopsAs {X = Unit {0}} (option_and_then (delete_refusal (map number_found found) (tables_now old)) (table_at delete.table (tables_now old))) (Err at) =
     subst (λ (n : List ℕ). StopsAs {X = Unit {0}} (option_and_then (delete_refusal (map number_found found) (tables_now old)) (table_at n (tables_now old))) (Err at)) c.as_str-name.ensures
     (subst (λ (l : List ℕ). StopsAs {X = Unit {0}} (option_and_then (delete_refusal l (tables_now old)) (table_at c.as_str-name.result.now (tables_now old))) (Err at)) c.in_ok-numbers.ensures c.in-Err.ensures.stop) in
-    let same : c.table_of-table.result.now ≡ f.table =
-    same-some c.table_of-table.result.now f.table (sym c.table_of-table.ensures.found ∙ ap (history_at delete.table) c.in-Err.ensures.err ∙ f.there) in
-    let told : IsChildThere (tables_now c.delete_all.new.self) at → refused_change (versions_now c.delete_all.new.self) delete.table f.table.slots [] given at ≡ Some refused = λ child.
-    (λ j. refused_change (versions_now c.delete_all.new.self) delete.table (sym same j).slots (sym c.new-none.ensures j) given at) ∙ c.in_ok-refused-in-Err.ensures child in
     let made : refused_change (versions_now old) delete.table f.table.slots [] given at ≡ Some refused =
-    subst (λ (st : StoreHistory). IsChildThere (tables_now st) at → refused_change (versions_now st) delete.table f.table.slots [] given at ≡ Some refused) c.in-Err.ensures.err told
+    ap (λ (none : List Need). refused_change (versions_now old) delete.table f.table.slots none given at) (sym c.new-none.ensures)
+    ∙ told-here delete.table c.delete_all.new.self old f.table c.new-none.result given at refused c.in-Err.ensures.err f.there c.in_ok-refused-in-Err.ensures
     (delete-child old delete f.table f.there f.held.order formed found f.found_is check (Unit {0}) at stops) in
     let over = refused-over (versions_now old) delete.table f.table.slots [] others given whole at refused made in
     subst (λ (s : Statement). IsChange s c.args.keep old refused) (sym c.delete_of-delete.ensures)
@@ -135,12 +132,9 @@ returns-clause-after c =
     let stops : StopsAs {X = Unit {0}} (option_and_then (delete_refusal (map number_found found) (tables_now old)) (table_at delete.table (tables_now old))) (Err at) =
     subst (λ (n : List ℕ). StopsAs {X = Unit {0}} (option_and_then (delete_refusal (map number_found found) (tables_now old)) (table_at n (tables_now old))) (Err at)) c.as_str-name.ensures
     (subst (λ (l : List ℕ). StopsAs {X = Unit {0}} (option_and_then (delete_refusal l (tables_now old)) (table_at c.as_str-name.result.now (tables_now old))) (Err at)) c.in_ok-numbers.ensures c.in-Err.ensures.stop) in
-    let same : c.table_of-table.result.now ≡ f.table =
-    same-some c.table_of-table.result.now f.table (sym c.table_of-table.ensures.found ∙ ap (history_at delete.table) c.in-Err.ensures.err ∙ f.there) in
-    let told : IsChildThere (tables_now c.delete_all.new.self) at → refused_change (versions_now c.delete_all.new.self) delete.table f.table.slots [] given at ≡ Some refused = λ child.
-    (λ j. refused_change (versions_now c.delete_all.new.self) delete.table (sym same j).slots (sym c.new-none.ensures j) given at) ∙ c.in_ok-refused-in-Err.ensures child in
     let made : refused_change (versions_now old) delete.table f.table.slots [] given at ≡ Some refused =
-    subst (λ (st : StoreHistory). IsChildThere (tables_now st) at → refused_change (versions_now st) delete.table f.table.slots [] given at ≡ Some refused) c.in-Err.ensures.err told
+    ap (λ (none : List Need). refused_change (versions_now old) delete.table f.table.slots none given at) (sym c.new-none.ensures)
+    ∙ told-here delete.table c.delete_all.new.self old f.table c.new-none.result given at refused c.in-Err.ensures.err f.there c.in_ok-refused-in-Err.ensures
     (delete-child old delete f.table f.there f.held.order formed found f.found_is check (Unit {0}) at stops) in
     subst (λ (s : Statement). IsStoreAfter s c.args.time old c.delete_all.new.self) (sym c.delete_of-delete.ensures)
     (delete-kept old delete f.table f.there f.held.order formed found f.found_is check (Unit {0}) at stops [] given refused made

@@ -11,9 +11,10 @@ use Rattle.dml_versions.proofs.AfterLaws.{all_needed}
 use Rattle.dml_versions.proofs.EntryLaws.{check-of, there-of}
 use Rattle.dml_versions.proofs.InsertLaws.{insert-shape, insert-fits, insert-fine, insert-needs, insert-change, insert-after, insert-child, insert-refused, insert-same, insert-kept}
 use Rattle.dml_versions.proofs.KeptLaws.{change_with_lists-change, change_with_lists-over, change_with_lists-needs, same-own, refused-over, refused-change_with_lists}
+use Rattle.dml_versions.proofs.RefusedTables.{told-here}
 use Rattle.dml_versions.proofs.TableLaws.{table-now, history-some}
-use Rattle.dml_versions.specs.Changing.{IsChange, IsStoreAfter, IsChildThere, inserted_change, refused_change}
-use Rattle.dml_versions.specs.Types.{Statement, TheInsert, Table, StoreHistory}
+use Rattle.dml_versions.specs.Changing.{IsChange, IsStoreAfter, inserted_change, refused_change}
+use Rattle.dml_versions.specs.Types.{Need, Statement, TheInsert, Table, StoreHistory}
 use Rattle.dml_versions.specs.Versions.{versions_now}
 use Rattle.dml_versions.proofs.inserting.insert.Goals as goal
 
@@ -89,8 +90,8 @@ returns-in-Ok-clause-after c =
 
 -- ---- refused
 
-pub table_of-table-requires : goal.table_of-table-requires
-table_of-table-requires c =
+pub refused_by_store-requires : goal.refused_by_store-requires
+refused_by_store-requires c =
     let insert = c.insert_of-insert.result.now in
     subst (λ (store : StoreHistory). IsSome (history_at insert.table store)) (sym c.in-Err.ensures.err)
     (history-some insert.table c.args.store.now
@@ -115,12 +116,9 @@ returns-in_ok-refused-in-Err-clause-change c =
     let later : old.time ≤ c.args.time = omega (arith, c.requires.later) in
     let next : c.next_at-next.result ≡ t.next =
     same-some c.next_at-next.result t.next (sym (c.next_at-next.ensures.last later) ∙ ap (option_map (λ (table : Table). table.next)) there) in
-    let same : c.table_of-table.result.now ≡ f.table =
-    same-some c.table_of-table.result.now f.table (sym c.table_of-table.ensures.found ∙ ap (history_at insert.table) c.in-Err.ensures.err ∙ f.there) in
-    let told : IsChildThere (tables_now c.insert_all.new.self) at → refused_change (versions_now c.insert_all.new.self) insert.table f.table.slots [] given at ≡ Some refused = λ child.
-    (λ j. refused_change (versions_now c.insert_all.new.self) insert.table (sym same j).slots (sym c.new-none.ensures j) given at) ∙ c.in_ok-refused-in-Err.ensures child in
     let made : refused_change (versions_now old) insert.table f.table.slots [] given at ≡ Some refused =
-    subst (λ (st : StoreHistory). IsChildThere (tables_now st) at → refused_change (versions_now st) insert.table f.table.slots [] given at ≡ Some refused) c.in-Err.ensures.err told
+    ap (λ (none : List Need). refused_change (versions_now old) insert.table f.table.slots none given at) (sym c.new-none.ensures)
+    ∙ told-here insert.table c.insert_all.new.self old f.table c.new-none.result given at refused c.in-Err.ensures.err f.there c.in_ok-refused-in-Err.ensures
     (insert-child old insert f.table f.there f.held.order formed check rows f.rows_are ℕ at stops) in
     let over = refused-over (versions_now old) insert.table f.table.slots [] [] given whole at refused made in
     subst (λ (s : Statement). IsChange s c.args.keep old refused) (sym c.insert_of-insert.ensures)
@@ -144,12 +142,9 @@ returns-in_ok-refused-in-Err-clause-after c =
     let given = c.in_ok-change.change.needs in
     let check = check-of (tables_now old) c.args.checked.now c.requires.checked (TheInsert insert) c.insert_of-insert.ensures in
     let stops = subst (λ (n : List ℕ). StopsAs {X = ℕ} (option_and_then (insert_refusal rows (tables_now old)) (table_at n (tables_now old))) (Err at)) c.as_str-name.ensures c.in-Err.ensures.stop in
-    let same : c.table_of-table.result.now ≡ f.table =
-    same-some c.table_of-table.result.now f.table (sym c.table_of-table.ensures.found ∙ ap (history_at insert.table) c.in-Err.ensures.err ∙ f.there) in
-    let told : IsChildThere (tables_now c.insert_all.new.self) at → refused_change (versions_now c.insert_all.new.self) insert.table f.table.slots [] given at ≡ Some refused = λ child.
-    (λ j. refused_change (versions_now c.insert_all.new.self) insert.table (sym same j).slots (sym c.new-none.ensures j) given at) ∙ c.in_ok-refused-in-Err.ensures child in
     let made : refused_change (versions_now old) insert.table f.table.slots [] given at ≡ Some refused =
-    subst (λ (st : StoreHistory). IsChildThere (tables_now st) at → refused_change (versions_now st) insert.table f.table.slots [] given at ≡ Some refused) c.in-Err.ensures.err told
+    ap (λ (none : List Need). refused_change (versions_now old) insert.table f.table.slots none given at) (sym c.new-none.ensures)
+    ∙ told-here insert.table c.insert_all.new.self old f.table c.new-none.result given at refused c.in-Err.ensures.err f.there c.in_ok-refused-in-Err.ensures
     (insert-child old insert f.table f.there f.held.order c.tell_formed.ensures check rows f.rows_are ℕ at stops) in
     subst (λ (s : Statement). IsStoreAfter s c.args.time old c.insert_all.new.self) (sym c.insert_of-insert.ensures)
     (insert-kept old insert f.table f.there f.held.order c.tell_formed.ensures check rows f.rows_are ℕ at stops [] given refused made

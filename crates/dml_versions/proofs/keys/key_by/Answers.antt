@@ -4,7 +4,7 @@ use Rattle.core_parts.proofs.Lists.{IfSome-weaker}
 use Rattle.core_parts.specs.Fixing.{FixesKey as FixesBy}
 use Rattle.core_parts.specs.declared.placed.BoundExpr.{BoundExpr}
 use Rattle.dml_versions.proofs.FixingLaws.{key-fixed}
-use Rattle.dml_versions.specs.inner.Fixing.{FixesKey}
+use Rattle.dml_versions.specs.inner.Fixing.{WhereFixesKey}
 use Rattle.dml_versions.proofs.keys.key_by.Goals as goal
 
 pub returns : goal.returns
@@ -13,6 +13,6 @@ returns c =
     let places = c.args.places.now in
     let schema = c.args.schema.now in
     let conds = c.in_ok-conds.conds in
-    IfSome-weaker c.in_ok-fixed.fixed (FixesBy conds 0 (length schema.columns) schema.key) (FixesKey (Some expr) places schema.key)
+    IfSome-weaker c.in_ok-fixed.fixed (FixesBy conds 0 (length schema.columns) schema.key) (WhereFixesKey (Some expr) places schema.key)
     (λ values is. key-fixed expr places schema.key (length schema.columns) conds values c.in_ok-conds.ensures is)
     (subst (λ (l : List BoundExpr). IfSome c.in_ok-fixed.fixed (FixesBy l 0 (length schema.columns) schema.key)) c.items.ensures c.in_ok-fixed.ensures)

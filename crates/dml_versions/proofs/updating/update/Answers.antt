@@ -2,7 +2,6 @@ use Rattle.std.proofs.Common.{◌≡◌, ◌+◌, ◌<◌, ◌^◌, ℕ, List, m
 use Rattle.std.specs.Prelude.{filter, IsSome, IfSome, IsTrue, Err}
 use Rattle.std.specs.List.{AllByRecursion}
 use Rattle.std.specs.Option.{option_and_then}
-use Rattle.ldv_value.proofs.Options.{same-some}
 use Rattle.sql_model.specs.Scope.{table_at}
 use Rattle.table_store.specs.Histories.{tables_now, table_now, rows_now, history_at, changed_at, table_with_values}
 use Rattle.table_store.specs.Stops.{with_changed, with_replaced, have_shape, values_of, had_rows, StopsAs}
@@ -10,9 +9,10 @@ use Rattle.table_store.specs.Referring.{replace_refusal}
 use Rattle.dml_versions.proofs.AfterLaws.{all_needed}
 use Rattle.dml_versions.proofs.EntryLaws.{check-of, there-of, versions-fit}
 use Rattle.dml_versions.proofs.KeptLaws.{change_with_lists-change, change_with_lists-over, change_with_lists-needs, same-own, refused-over, refused-change_with_lists}
+use Rattle.dml_versions.proofs.RefusedTables.{told-here}
 use Rattle.dml_versions.proofs.TableLaws.{table-now, history-some}
 use Rattle.dml_versions.proofs.UpdateLaws.{update-shape, update-sorted, update-stand, update-put, update-own, update-needs, update-fine, update-change, update-after, update-child, update-refused, update-same, update-kept}
-use Rattle.dml_versions.specs.Changing.{IsChange, IsStoreAfter, IsChildThere, matched_change, refused_change}
+use Rattle.dml_versions.specs.Changing.{IsChange, IsStoreAfter, matched_change, refused_change}
 use Rattle.dml_versions.specs.Finding.{test_in, found_row}
 use Rattle.dml_versions.specs.Needing.{need_found}
 use Rattle.dml_versions.specs.Versions.{versions_now}
@@ -25,14 +25,14 @@ matched_change-requires c =
     let f = c.in_ok-prepared.ensures in
     subst (λ (l : List Found). AllByRecursion (λ row. row.version + 1 < 2 ^ 32) l) (sym f.found_is)
     (versions-fit c.args.store.now.time f.table.slots f.held.timed c.args.time c.requires.later (omega arith)
-    (filter (test_in f.table c.update_of-update.result.now.pick) (rows_now f.table.slots)))
+    (filter (test_in f.table c.update_of-update.result.now.condition) (rows_now f.table.slots)))
 
-pub with_parents-requires-clause-there : goal.with_parents-requires-clause-there
-with_parents-requires-clause-there c =
+pub parent_needs_if-requires-clause-there : goal.parent_needs_if-requires-clause-there
+parent_needs_if-requires-clause-there c =
     there-of (tables_now c.args.store.now) c.args.checked.now c.requires.checked (TheUpdate c.update_of-update.result.now) c.update_of-update.ensures tt
 
-pub with_parents-requires-clause-put : goal.with_parents-requires-clause-put
-with_parents-requires-clause-put c =
+pub parent_needs_if-requires-clause-put : goal.parent_needs_if-requires-clause-put
+parent_needs_if-requires-clause-put c =
     let f = c.in_ok-prepared.ensures in
     let update = c.update_of-update.result.now in
     let old = c.args.store.now in
@@ -111,8 +111,8 @@ returns-in-Ok-clause-after c =
 
 -- ---- refused
 
-pub table_of-table-requires : goal.table_of-table-requires
-table_of-table-requires c =
+pub refused_by_store-requires : goal.refused_by_store-requires
+refused_by_store-requires c =
     let update = c.update_of-update.result.now in
     subst (λ (store : StoreHistory). IsSome (history_at update.table store)) (sym c.in-Err.ensures.err)
     (history-some update.table c.args.store.now
@@ -131,15 +131,11 @@ returns-clause-change c =
     let given = c.in_ok-change.change.needs in
     let refused = c.in_ok-refused-in-Err.refused in
     let whole = all_needed (TheUpdate update) old in
-    let others : List Need = map (need_found update.table) (map (found_row f.table.slots) (filter (test_in f.table update.pick) (rows_now f.table.slots))) in
+    let others : List Need = map (need_found update.table) (map (found_row f.table.slots) (filter (test_in f.table update.condition) (rows_now f.table.slots))) in
     let check = check-of (tables_now old) c.args.checked.now c.requires.checked (TheUpdate update) c.update_of-update.ensures in
     let stops = subst (λ (n : List ℕ). StopsAs {X = Unit {0}} (option_and_then (replace_refusal rows (tables_now old)) (table_at n (tables_now old))) (Err at)) c.as_str-name.ensures c.in-Err.ensures.stop in
-    let same : c.table_of-table.result.now ≡ f.table =
-    same-some c.table_of-table.result.now f.table (sym c.table_of-table.ensures.found ∙ ap (history_at update.table) c.in-Err.ensures.err ∙ f.there) in
-    let told : IsChildThere (tables_now c.replace_all.new.self) at → refused_change (versions_now c.replace_all.new.self) update.table f.table.slots needs given at ≡ Some refused = λ child.
-    (λ j. refused_change (versions_now c.replace_all.new.self) update.table (sym same j).slots needs given at) ∙ c.in_ok-refused-in-Err.ensures child in
     let made : refused_change (versions_now old) update.table f.table.slots needs given at ≡ Some refused =
-    subst (λ (st : StoreHistory). IsChildThere (tables_now st) at → refused_change (versions_now st) update.table f.table.slots needs given at ≡ Some refused) c.in-Err.ensures.err told
+    told-here update.table c.replace_all.new.self old f.table needs given at refused c.in-Err.ensures.err f.there c.in_ok-refused-in-Err.ensures
     (update-child old update f.table f.there f.held.order formed check found rows f.found_is f.rows_are (Unit {0}) at stops) in
     let over = refused-over (versions_now old) update.table f.table.slots needs others given whole at refused made in
     subst (λ (s : Statement). IsChange s c.args.keep old refused) (sym c.update_of-update.ensures)
@@ -164,12 +160,8 @@ returns-clause-after c =
     let refused = c.in_ok-refused-in-Err.refused in
     let check = check-of (tables_now old) c.args.checked.now c.requires.checked (TheUpdate update) c.update_of-update.ensures in
     let stops = subst (λ (n : List ℕ). StopsAs {X = Unit {0}} (option_and_then (replace_refusal rows (tables_now old)) (table_at n (tables_now old))) (Err at)) c.as_str-name.ensures c.in-Err.ensures.stop in
-    let same : c.table_of-table.result.now ≡ f.table =
-    same-some c.table_of-table.result.now f.table (sym c.table_of-table.ensures.found ∙ ap (history_at update.table) c.in-Err.ensures.err ∙ f.there) in
-    let told : IsChildThere (tables_now c.replace_all.new.self) at → refused_change (versions_now c.replace_all.new.self) update.table f.table.slots needs given at ≡ Some refused = λ child.
-    (λ j. refused_change (versions_now c.replace_all.new.self) update.table (sym same j).slots needs given at) ∙ c.in_ok-refused-in-Err.ensures child in
     let made : refused_change (versions_now old) update.table f.table.slots needs given at ≡ Some refused =
-    subst (λ (st : StoreHistory). IsChildThere (tables_now st) at → refused_change (versions_now st) update.table f.table.slots needs given at ≡ Some refused) c.in-Err.ensures.err told
+    told-here update.table c.replace_all.new.self old f.table needs given at refused c.in-Err.ensures.err f.there c.in_ok-refused-in-Err.ensures
     (update-child old update f.table f.there f.held.order formed check found rows f.found_is f.rows_are (Unit {0}) at stops) in
     subst (λ (s : Statement). IsStoreAfter s c.args.time old c.replace_all.new.self) (sym c.update_of-update.ensures)
     (update-kept old update f.table f.there f.held.order formed check found rows f.found_is f.rows_are (Unit {0}) at stops needs given refused made

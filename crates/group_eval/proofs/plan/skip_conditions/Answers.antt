@@ -8,5 +8,5 @@ pub loop-condition-preserved : goal.loop-condition-preserved
 loop-condition-preserved c = λ scope more is.
     let all = c.args.conditions.now in
     let i = c.loop-condition.condition-index in
-    item-passed scope (λ (e : Expr). e) all i c.condition-item.result (drop c.loop-condition.at c.args.places.now) (drop c.take_places.new.at c.args.places.now) more
-    (drop_item all i c.condition-item.result c.loop-condition-test.true c.condition-item.is) (c.loop-condition.invariant scope more is) c.in_ok-take_places.ensures.others
+    item-passed scope (λ (e : Expr). e) all i c.condition-item.result (drop c.loop-condition.at c.args.places.now) (drop c.skip_places-end.result c.args.places.now) more
+    (drop_item all i c.condition-item.result c.loop-condition-test.true c.condition-item.is) (c.loop-condition.invariant scope more is) c.skip_places-end.ensures.others

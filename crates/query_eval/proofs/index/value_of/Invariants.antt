@@ -1,5 +1,5 @@
 use Rattle.std.proofs.Common.{◌≡◌, map, length}
-use Rattle.query_eval.specs.Sourcing.{joined_row_values}
+use Rattle.query_eval.specs.Sources.{joined_row_values}
 use Rattle.ldv_value.specs.Cells.{value_at}
 use Rattle.query_eval.proofs.index.value_of.Given as goal
 

@@ -1,6 +1,6 @@
 use Rattle.std.proofs.Common.{◌≡◌, ◌∙◌, ap, ◌++◌, List, map, append_assoc}
 use Rattle.query_eval.specs.inner.Joining.{extensions_of, extensions_by_probe, with_value}
-use Rattle.query_eval.specs.Sourcing.{joined_row_values}
+use Rattle.query_eval.specs.Sources.{joined_row_values}
 use Rattle.query_eval.specs.declared.source.SourceRow.{SourceRow}
 use Rattle.ldv_value.specs.Cells.{value_at}
 use Rattle.query_eval.proofs.joining.extend_found.Goals as goal

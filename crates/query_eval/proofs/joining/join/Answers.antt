@@ -5,7 +5,7 @@ use Rattle.std.proofs.lemmas.Result.{IfOk-weaker}
 use Rattle.ldv_value.proofs.Places.{drop_item}
 use Rattle.query_eval.specs.inner.Joining.{combos, tests, extensions_left, EachHas}
 use Rattle.core_parts.specs.Placing.{AreAllPlaced}
-use Rattle.query_eval.specs.Sourcing.{source_rows, SourcesAreWide}
+use Rattle.query_eval.specs.Sources.{source_rows, SourcesAreWide}
 use Rattle.query_eval.specs.declared.source.Source.{Source}
 use Rattle.sql_model.specs.Scope.{InScope}
 use Rattle.query_eval.proofs.Levels.{first-step, last-step}
@@ -51,7 +51,7 @@ returns c =
     let sources = c.args.sources.now in
     let walk = c.loop-source.walk in
     let done : drop c.loop-source.source-index sources ≡ [] = drop_all c.loop-source.source-index sources (omega (arith, c.loop-source-test.false)) in
-    IfOk-weaker c.finish.result
+    IfOk-weaker c.last_combinations.result
     (λ rows. (scope : List InScope) → AreAllPlaced scope walk.left → rows ≡ filter (tests scope walk.left) walk.prefixes)
     (λ rows. (scope : List InScope) → AreAllPlaced scope c.args.conds → SourcesAreWide sources → rows ≡ filter (tests scope c.args.conds) (combos (map source_rows sources)))
     (λ rows is scope all wide.
@@ -60,4 +60,4 @@ returns c =
     ∙ sym (last-step scope walk.left walk.prefixes)
     ∙ ap (λ (ss : List Source). extensions_left scope walk.left walk.prefixes (map source_rows ss)) (sym done)
     ∙ inv.3)
-    c.finish.ensures
+    c.last_combinations.ensures

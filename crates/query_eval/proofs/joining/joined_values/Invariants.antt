@@ -1,5 +1,5 @@
 use Rattle.std.proofs.Common.{◌≡◌, ◌++◌, drop, map}
-use Rattle.query_eval.specs.Sourcing.{joined_row_values}
+use Rattle.query_eval.specs.Sources.{joined_row_values}
 use Rattle.query_eval.proofs.joining.joined_values.Given as goal
 
 abbrev pub invariant-loop-row : goal.invariant-loop-row

@@ -1,8 +1,8 @@
 use Rattle.std.proofs.Common.{◌≡◌, subst, List, rules}
 use Rattle.core_parts.specs.declared.placed.BoundExpr.{BoundExpr}
-use Rattle.query_eval.specs.Stored.{AreStored}
+use Rattle.query_eval.specs.StoredSources.{AreStored}
 use Rattle.query_eval.specs.Types.{FromItem}
-use Rattle.query_eval.proofs.StoredLaws.{stored-picked}
+use Rattle.query_eval.proofs.StoredSourceLaws.{stored-picked}
 use Rattle.query_eval.proofs.picking.picked.Goals as goal
 
 pub returns : goal.returns

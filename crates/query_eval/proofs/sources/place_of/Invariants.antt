@@ -1,6 +1,6 @@
 use Rattle.std.proofs.Common.{◌≡◌, drop}
 use Rattle.std.specs.List.{list_any}
-use Rattle.query_eval.specs.Stored.{is_name}
+use Rattle.query_eval.specs.StoredSources.{is_name}
 use Rattle.query_eval.proofs.sources.place_of.Given as goal
 
 abbrev pub invariant-loop-place : goal.invariant-loop-place

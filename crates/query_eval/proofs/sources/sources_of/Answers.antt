@@ -1,4 +1,4 @@
-use Rattle.query_eval.proofs.StoredLaws.{sources_none}
+use Rattle.query_eval.proofs.StoredSourceLaws.{sources_none}
 use Rattle.query_eval.proofs.sources.sources_of.Goals as goal
 
 pub returns : goal.returns

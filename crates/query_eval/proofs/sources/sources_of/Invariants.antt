@@ -1,5 +1,5 @@
 use Rattle.std.proofs.Common.{◌+◌, ◌*◌, ◌^◌, ◌≤◌, List, ◌++◌, length}
-use Rattle.query_eval.specs.Stored.{AreStored}
+use Rattle.query_eval.specs.StoredSources.{AreStored}
 use Rattle.query_eval.specs.declared.source.Source.{Source}
 use Rattle.query_eval.proofs.sources.sources_of.Given as goal
 

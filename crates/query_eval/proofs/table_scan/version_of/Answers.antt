@@ -1,4 +1,4 @@
-use Rattle.query_eval.proofs.LeavingLaws.{version-told}
+use Rattle.query_eval.proofs.TableScanLaws.{version-told}
 use Rattle.table_store.specs.Histories.{last_next_number}
 use Rattle.query_eval.proofs.table_scan.version_of.Goals as goal
 

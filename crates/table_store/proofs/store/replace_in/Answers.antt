@@ -10,4 +10,4 @@ pub returns-clause-stop : goal.returns-clause-stop
 returns-clause-stop c =
     let tables = c.args.tables.now.items in
     let item : c.index_mut-held.result.now ≡ get_or tables c.args.place no_table = get_or_read tables _ _ c.requires.within c.index_mut-held.ensures.value no_table in
-    subst (λ (t : TableHistory). StopsAs (option_or (replace_stop c.args.rows (table_now t)) c.args.later) c.replace_all.result) item c.replace_all.ensures.stop
+    subst (λ (t : TableHistory). StopsAs (option_or (replace_stop c.args.rows (table_now t)) c.args.reference_stop) c.replace_all.result) item c.replace_all.ensures.stop

@@ -83,10 +83,10 @@ returns-in-Ok-clause-stop c =
     let at : o ≡ Some (table_now there) = at_place a.catalog tables a.time c.self.invariant c.args.self.now c.self.view_is c.args.table.now place found c.args.time c.requires.later in
     let rest : Table → Option StoreStop = λ (own : Table). orphan_stop (is_among c.args.numbers.now) own (with_removed c.args.numbers.now own) db in
     let told : Table → Option StoreStop = λ (own : Table). orphan_stop (is_among c.items.result.now) own (with_removed c.items.result.now own) db in
-    let same : rest (table_now there) ≡ c.in_ok-later-in-Some.later =
+    let same : rest (table_now there) ≡ c.in_ok-reference_stop-in-Some.reference_stop =
     (λ j. orphan_stop (is_among (sym c.items.ensures j)) (table_now there) (with_removed (sym c.items.ensures j) (table_now there)) db)
-    ∙ later_is told o (table_now there) c.in_ok-later-in-Some.later at c.in_ok-later-in-Some.ensures in
-    alone_is rest o (table_now there) c.in_ok-later-in-Some.later at same ∙ c.in-Ok.ensures.stop
+    ∙ later_is told o (table_now there) c.in_ok-reference_stop-in-Some.reference_stop at c.in_ok-reference_stop-in-Some.ensures in
+    alone_is rest o (table_now there) c.in_ok-reference_stop-in-Some.reference_stop at same ∙ c.in-Ok.ensures.stop
 
 pub returns-in-Err-clause-stop : goal.returns-in-Err-clause-stop
 returns-in-Err-clause-stop c =
@@ -100,7 +100,7 @@ returns-in-Err-clause-stop c =
     let at : o ≡ Some (table_now there) = at_place a.catalog tables a.time c.self.invariant c.args.self.now c.self.view_is c.args.table.now place found c.args.time c.requires.later in
     let rest : Table → Option StoreStop = λ (own : Table). orphan_stop (is_among c.args.numbers.now) own (with_removed c.args.numbers.now own) db in
     let told : Table → Option StoreStop = λ (own : Table). orphan_stop (is_among c.items.result.now) own (with_removed c.items.result.now own) db in
-    let same : rest (table_now there) ≡ c.in_ok-later-in-Some.later =
+    let same : rest (table_now there) ≡ c.in_ok-reference_stop-in-Some.reference_stop =
     (λ j. orphan_stop (is_among (sym c.items.ensures j)) (table_now there) (with_removed (sym c.items.ensures j) (table_now there)) db)
-    ∙ later_is told o (table_now there) c.in_ok-later-in-Some.later at c.in_ok-later-in-Some.ensures in
-    subst (λ (due : Option StoreStop). StopsAs {X = Unit {0}} due (Err c.in-Err.stop)) (sym (alone_is rest o (table_now there) c.in_ok-later-in-Some.later at same)) c.in-Err.ensures.stop
+    ∙ later_is told o (table_now there) c.in_ok-reference_stop-in-Some.reference_stop at c.in_ok-reference_stop-in-Some.ensures in
+    subst (λ (due : Option StoreStop). StopsAs {X = Unit {0}} due (Err c.in-Err.stop)) (sym (alone_is rest o (table_now there) c.in_ok-reference_stop-in-Some.reference_stop at same)) c.in-Err.ensures.stop

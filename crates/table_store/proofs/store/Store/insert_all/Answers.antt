@@ -48,7 +48,7 @@ invariant_of-self-in-Ok c =
     let there : TableHistory = get_or tables place no_table in
     let valid = valid_there a.catalog tables a.time c.self.invariant c.args.table.now place found.0 found.1 in
     after_stored a.catalog tables a.time c.self.invariant c.args.self.now c.self.view_is c.args.table.now place found c.args.time c.requires.later (table_with_rows c.args.time c.args.rows) (insert_is c.args.time c.args.rows) c.insert_in.new.tables.items c.in-Ok.ensures.ok
-    (ap is_valid_table (inserted_now c.args.time c.args.rows there) ∙ inserted_valid (table_now there) valid c.args.rows (given_there a.catalog tables a.time c.self.invariant c.args.self.now c.self.view_is c.args.table.now place found c.args.time c.requires.later (λ table. have_shape c.args.rows table ≡ true) c.requires.shape) (or_none (insert_stop c.args.rows (table_now there)) c.in_ok-later-in-Some.later c.in-Ok.ensures.stop).0)
+    (ap is_valid_table (inserted_now c.args.time c.args.rows there) ∙ inserted_valid (table_now there) valid c.args.rows (given_there a.catalog tables a.time c.self.invariant c.args.self.now c.self.view_is c.args.table.now place found c.args.time c.requires.later (λ table. have_shape c.args.rows table ≡ true) c.requires.shape) (or_none (insert_stop c.args.rows (table_now there)) c.in_ok-reference_stop-in-Some.reference_stop c.in-Ok.ensures.stop).0)
 
 pub returns-in-Ok-clause-ok : goal.returns-in-Ok-clause-ok
 returns-in-Ok-clause-ok c =
@@ -86,8 +86,8 @@ returns-in-Ok-clause-stop c =
     let o : Option Table = table_at c.args.table.now db in
     let at : o ≡ Some (table_now there) = at_place a.catalog tables a.time c.self.invariant c.args.self.now c.self.view_is c.args.table.now place found c.args.time c.requires.later in
     let rest : Table → Option StoreStop = λ (own : Table). missing_stop own.schema.foreign (numbered_rows own.next c.args.rows) (with_changed own.name (with_inserted c.args.rows) db) in
-    let same : rest (table_now there) ≡ c.in_ok-later-in-Some.later = later_is rest o (table_now there) c.in_ok-later-in-Some.later at c.in_ok-later-in-Some.ensures in
-    whole_none (insert_stop c.args.rows) rest o (table_now there) c.in_ok-later-in-Some.later at same c.in-Ok.ensures.stop
+    let same : rest (table_now there) ≡ c.in_ok-reference_stop-in-Some.reference_stop = later_is rest o (table_now there) c.in_ok-reference_stop-in-Some.reference_stop at c.in_ok-reference_stop-in-Some.ensures in
+    whole_none (insert_stop c.args.rows) rest o (table_now there) c.in_ok-reference_stop-in-Some.reference_stop at same c.in-Ok.ensures.stop
 
 pub returns-in-Err-clause-stop : goal.returns-in-Err-clause-stop
 returns-in-Err-clause-stop c =
@@ -100,8 +100,8 @@ returns-in-Err-clause-stop c =
     let o : Option Table = table_at c.args.table.now db in
     let at : o ≡ Some (table_now there) = at_place a.catalog tables a.time c.self.invariant c.args.self.now c.self.view_is c.args.table.now place found c.args.time c.requires.later in
     let rest : Table → Option StoreStop = λ (own : Table). missing_stop own.schema.foreign (numbered_rows own.next c.args.rows) (with_changed own.name (with_inserted c.args.rows) db) in
-    let same : rest (table_now there) ≡ c.in_ok-later-in-Some.later = later_is rest o (table_now there) c.in_ok-later-in-Some.later at c.in_ok-later-in-Some.ensures in
-    whole_stops (ℕ) (insert_stop c.args.rows) rest o (table_now there) c.in_ok-later-in-Some.later c.in-Err.stop at same c.in-Err.ensures.stop
+    let same : rest (table_now there) ≡ c.in_ok-reference_stop-in-Some.reference_stop = later_is rest o (table_now there) c.in_ok-reference_stop-in-Some.reference_stop at c.in_ok-reference_stop-in-Some.ensures in
+    whole_stops (ℕ) (insert_stop c.args.rows) rest o (table_now there) c.in_ok-reference_stop-in-Some.reference_stop c.in-Err.stop at same c.in-Err.ensures.stop
 
 pub returns-in-Err-clause-childless : goal.returns-in-Err-clause-childless
 returns-in-Err-clause-childless c = λ child row key is.
@@ -114,9 +114,9 @@ returns-in-Err-clause-childless c = λ child row key is.
     let o : Option Table = table_at c.args.table.now db in
     let at : o ≡ Some (table_now there) = at_place a.catalog tables a.time c.self.invariant c.args.self.now c.self.view_is c.args.table.now place found c.args.time c.requires.later in
     let rest : Table → Option StoreStop = λ (own : Table). missing_stop own.schema.foreign (numbered_rows own.next c.args.rows) (with_changed own.name (with_inserted c.args.rows) db) in
-    let same : rest (table_now there) ≡ c.in_ok-later-in-Some.later = later_is rest o (table_now there) c.in_ok-later-in-Some.later at c.in_ok-later-in-Some.ensures in
+    let same : rest (table_now there) ≡ c.in_ok-reference_stop-in-Some.reference_stop = later_is rest o (table_now there) c.in_ok-reference_stop-in-Some.reference_stop at c.in_ok-reference_stop-in-Some.ensures in
     childless child row key c.args.rows db o c.in-Err.stop
-    (whole_stops (ℕ) (insert_stop c.args.rows) rest o (table_now there) c.in_ok-later-in-Some.later c.in-Err.stop at same c.in-Err.ensures.stop)
+    (whole_stops (ℕ) (insert_stop c.args.rows) rest o (table_now there) c.in_ok-reference_stop-in-Some.reference_stop c.in-Err.stop at same c.in-Err.ensures.stop)
     (same_error (Err c.in-Err.stop) (Err (HasChild child row key)) c.in-Err.stop (HasChild child row key) refl refl is)
 
 pub returns-in-Ok-clause-first : goal.returns-in-Ok-clause-first

@@ -52,7 +52,7 @@ invariant_of-self-in-Ok c =
     let there : TableHistory = get_or tables place no_table in
     let valid = valid_there a.catalog tables a.time c.self.invariant c.args.table.now place found.0 found.1 in
     after_stored a.catalog tables a.time c.self.invariant c.args.self.now c.self.view_is c.args.table.now place found c.args.time c.requires.later (table_with_values c.args.time c.args.rows) (replace_is c.args.time c.args.rows) c.replace_in.new.tables.items c.in-Ok.ensures.ok
-    (ap is_valid_table c.in-Ok.ensures.now ∙ replaced_valid (table_now there) valid c.args.rows (given_there a.catalog tables a.time c.self.invariant c.args.self.now c.self.view_is c.args.table.now place found c.args.time c.requires.later (λ table. have_shape (values_of c.args.rows) table ≡ true) c.requires.shape) (or_none (replace_stop c.args.rows (table_now there)) c.in_ok-later-in-Some.later c.in-Ok.ensures.stop).0)
+    (ap is_valid_table c.in-Ok.ensures.now ∙ replaced_valid (table_now there) valid c.args.rows (given_there a.catalog tables a.time c.self.invariant c.args.self.now c.self.view_is c.args.table.now place found c.args.time c.requires.later (λ table. have_shape (values_of c.args.rows) table ≡ true) c.requires.shape) (or_none (replace_stop c.args.rows (table_now there)) c.in_ok-reference_stop-in-Some.reference_stop c.in-Ok.ensures.stop).0)
 
 pub returns-in-Ok-clause-ok : goal.returns-in-Ok-clause-ok
 returns-in-Ok-clause-ok c =
@@ -92,10 +92,10 @@ returns-in-Ok-clause-stop c =
     let rest : Table → Option StoreStop = λ (own : Table). option_or (missing_stop own.schema.foreign c.args.rows (with_changed own.name (with_replaced c.args.rows) db)) (orphan_stop (is_of c.args.rows) own (with_replaced c.args.rows own) db) in
     let told : List TableRow → Table → Option StoreStop = λ (rows : List TableRow) (own : Table).
     option_or (missing_stop own.schema.foreign rows (with_changed own.name (with_replaced rows) db)) (orphan_stop (is_of rows) own (with_replaced rows own) db) in
-    let same : rest (table_now there) ≡ c.in_ok-later-in-Some.later =
+    let same : rest (table_now there) ≡ c.in_ok-reference_stop-in-Some.reference_stop =
     ap (λ (rows : List TableRow). told rows (table_now there)) (sym c.items.ensures)
-    ∙ later_is (told c.items.result.now) o (table_now there) c.in_ok-later-in-Some.later at c.in_ok-later-in-Some.ensures in
-    whole_none (replace_stop c.args.rows) rest o (table_now there) c.in_ok-later-in-Some.later at same c.in-Ok.ensures.stop
+    ∙ later_is (told c.items.result.now) o (table_now there) c.in_ok-reference_stop-in-Some.reference_stop at c.in_ok-reference_stop-in-Some.ensures in
+    whole_none (replace_stop c.args.rows) rest o (table_now there) c.in_ok-reference_stop-in-Some.reference_stop at same c.in-Ok.ensures.stop
 
 pub returns-in-Err-clause-stop : goal.returns-in-Err-clause-stop
 returns-in-Err-clause-stop c =
@@ -110,7 +110,7 @@ returns-in-Err-clause-stop c =
     let rest : Table → Option StoreStop = λ (own : Table). option_or (missing_stop own.schema.foreign c.args.rows (with_changed own.name (with_replaced c.args.rows) db)) (orphan_stop (is_of c.args.rows) own (with_replaced c.args.rows own) db) in
     let told : List TableRow → Table → Option StoreStop = λ (rows : List TableRow) (own : Table).
     option_or (missing_stop own.schema.foreign rows (with_changed own.name (with_replaced rows) db)) (orphan_stop (is_of rows) own (with_replaced rows own) db) in
-    let same : rest (table_now there) ≡ c.in_ok-later-in-Some.later =
+    let same : rest (table_now there) ≡ c.in_ok-reference_stop-in-Some.reference_stop =
     ap (λ (rows : List TableRow). told rows (table_now there)) (sym c.items.ensures)
-    ∙ later_is (told c.items.result.now) o (table_now there) c.in_ok-later-in-Some.later at c.in_ok-later-in-Some.ensures in
-    whole_stops (Unit {0}) (replace_stop c.args.rows) rest o (table_now there) c.in_ok-later-in-Some.later c.in-Err.stop at same c.in-Err.ensures.stop
+    ∙ later_is (told c.items.result.now) o (table_now there) c.in_ok-reference_stop-in-Some.reference_stop at c.in_ok-reference_stop-in-Some.ensures in
+    whole_stops (Unit {0}) (replace_stop c.args.rows) rest o (table_now there) c.in_ok-reference_stop-in-Some.reference_stop c.in-Err.stop at same c.in-Err.ensures.stop

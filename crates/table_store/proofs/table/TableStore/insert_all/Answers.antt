@@ -32,7 +32,7 @@ returns-then-any_lacks_value-clause-stop c =
     let made : TableHistory = record { name = a.name; schema = a.schema; slots = a.rows.slots; nexts = nexts_of a.nexts.items } in
     let same : list_any (λ values. list_any refuses_null (zip made.schema.columns values)) rows ≡ c.any_lacks_value.result =
     (λ j. list_any (λ values. list_any refuses_null (zip (sym c.items.ensures j) values)) (sym c.items-2.ensures j)) ∙ sym c.any_lacks_value.ensures in
-    ap (λ (o : Option StoreStop). option_or o c.args.later)
+    ap (λ (o : Option StoreStop). option_or o c.args.reference_stop)
     (subst (λ (t : TableHistory). insert_stop rows (table_now t) ≡ Some NotNull) c.self.view_is (null_stop rows made (same ∙ c.if-any_lacks_value.true)))
 
 pub returns-in-Err-clause-stop : goal.returns-in-Err-clause-stop
@@ -47,7 +47,7 @@ returns-in-Err-clause-stop c =
     let order : AreInOrder made.slots next = subst (λ (n : ℕ). AreInOrder a.rows.slots n) (sym c.next-next.ensures) c.tell_order.ensures.order in
     let whole : insert_stop rows (table_now made) ≡ option_or (claim_stop a.schema.key next (clash_by a.schema.key (rows_now a.rows.slots ++ numbered_rows next c.items-3.result.now))) (stop_if (nat_lt max_next (next + length rows)) Full) =
     insert_stop_by rows made next c.items-3.result.now held (index_alike a.index) order c.self.invariant.indexed (c.next-next.ensures ∙ sym c.self.invariant.next) c.items-3.ensures (same ∙ c.if-any_lacks_value.false) in
-    stop_before ℕ ℕ (insert_stop rows (table_now c.args.self.now)) c.args.later c.in-Err.stop
+    stop_before ℕ ℕ (insert_stop rows (table_now c.args.self.now)) c.args.reference_stop c.in-Err.stop
     (subst (λ (t : TableHistory). StopsAs {X = ℕ} (insert_stop rows (table_now t)) (Err c.in-Err.stop)) c.self.view_is
     (subst (λ (o : Option StoreStop). StopsAs {X = ℕ} o (Err c.in-Err.stop)) (sym whole)
     (stop_first (Unit {0}) ℕ (claim_stop a.schema.key next (clash_by a.schema.key (rows_now a.rows.slots ++ numbered_rows next c.items-3.result.now))) (stop_if (nat_lt max_next (next + length rows)) Full) c.in-Err.stop c.in-Err.ensures.stop)))
@@ -65,7 +65,7 @@ returns-then-is_full-clause-stop c =
     let whole : insert_stop rows (table_now made) ≡ option_or (claim_stop a.schema.key next (clash_by a.schema.key (rows_now a.rows.slots ++ numbered_rows next c.items-3.result.now))) (stop_if (nat_lt max_next (next + length rows)) Full) =
     insert_stop_by rows made next c.items-3.result.now held (index_alike a.index) order c.self.invariant.indexed (c.next-next.ensures ∙ sym c.self.invariant.next) c.items-3.ensures (same ∙ c.if-any_lacks_value.false) in
     let full : nat_lt max_next (next + length rows) ≡ c.is_full.result = ap (λ (n : ℕ). nat_lt max_next (next + n)) (sym c.len.ensures) ∙ sym c.is_full.ensures in
-    ap (λ (o : Option StoreStop). option_or o c.args.later)
+    ap (λ (o : Option StoreStop). option_or o c.args.reference_stop)
     (subst (λ (t : TableHistory). insert_stop rows (table_now t) ≡ Some Full) c.self.view_is
     (whole ∙ ap (λ (o : Option StoreStop). option_or o (stop_if (nat_lt max_next (next + length rows)) Full)) c.in-Ok.ensures.stop ∙ ap (λ b. stop_if b Full) (full ∙ c.if-is_full.true)))
 
@@ -85,7 +85,7 @@ returns-in-Some-clause-stop c =
     let none : insert_stop rows (table_now c.args.self.now) ≡ None =
     subst (λ (t : TableHistory). insert_stop rows (table_now t) ≡ None) c.self.view_is
     (whole ∙ ap (λ (o : Option StoreStop). option_or o (stop_if (nat_lt max_next (next + length rows)) Full)) c.in-Ok.ensures.stop ∙ ap (λ b. stop_if b Full) (full ∙ c.if-is_full.false)) in
-    stop_later ℕ (insert_stop rows (table_now c.args.self.now)) c.args.later c.in-Some.stop none c.in-Some.is
+    stop_later ℕ (insert_stop rows (table_now c.args.self.now)) c.args.reference_stop c.in-Some.stop none c.in-Some.is
 
 pub returns-clause-stop : goal.returns-clause-stop
 returns-clause-stop c =
@@ -103,7 +103,7 @@ returns-clause-stop c =
     let none : insert_stop rows (table_now c.args.self.now) ≡ None =
     subst (λ (t : TableHistory). insert_stop rows (table_now t) ≡ None) c.self.view_is
     (whole ∙ ap (λ (o : Option StoreStop). option_or o (stop_if (nat_lt max_next (next + length rows)) Full)) c.in-Ok.ensures.stop ∙ ap (λ b. stop_if b Full) (full ∙ c.if-is_full.false)) in
-    ap (λ (o : Option StoreStop). option_or o c.args.later) none ∙ c.in-None.is
+    ap (λ (o : Option StoreStop). option_or o c.args.reference_stop) none ∙ c.in-None.is
 
 pub add_rows-requires-clause-numbered : goal.add_rows-requires-clause-numbered
 add_rows-requires-clause-numbered c =

@@ -61,7 +61,7 @@ returns-in-Err-clause-stop c =
     let given = c.items-3.ensures in
     let stop = subst (λ (l : List TableRow). StopsAs {X = Unit {0}} (both_stop a.schema.key (clash_by a.schema.key (map (replaced_by l) (rows_now a.rows.slots)))) (Err c.in-Err.stop)) given
     (stop_as Index (Unit {0}) (both_stop a.schema.key (clash_by a.schema.key (map (replaced_by c.items-3.result.now) (rows_now a.rows.slots)))) c.in-Err.stop c.in-Err.ensures.stop) in
-    stop_before (Unit {0}) (Unit {0}) (replace_stop c.args.rows (table_now c.args.self.now)) c.args.later c.in-Err.stop
+    stop_before (Unit {0}) (Unit {0}) (replace_stop c.args.rows (table_now c.args.self.now)) c.args.reference_stop c.in-Err.stop
     (subst (λ (t : TableHistory). StopsAs {X = Unit {0}} (replace_stop c.args.rows (table_now t)) (Err c.in-Err.stop)) c.self.view_is
     (subst (λ (o : Option StoreStop). StopsAs {X = Unit {0}} o (Err c.in-Err.stop)) (sym (replace_stop_is c.args.rows made lacks)) stop))
 
@@ -74,7 +74,7 @@ returns-in-Some-clause-stop c =
     let none = subst (λ (l : List TableRow). both_stop a.schema.key (clash_by a.schema.key (map (replaced_by l) (rows_now a.rows.slots))) ≡ None) given c.in-Ok.ensures.stop in
     let own : replace_stop c.args.rows (table_now c.args.self.now) ≡ None =
     subst (λ (t : TableHistory). replace_stop c.args.rows (table_now t) ≡ None) c.self.view_is (replace_stop_is c.args.rows made lacks ∙ none) in
-    stop_later (Unit {0}) (replace_stop c.args.rows (table_now c.args.self.now)) c.args.later c.in-Some.stop own c.in-Some.is
+    stop_later (Unit {0}) (replace_stop c.args.rows (table_now c.args.self.now)) c.args.reference_stop c.in-Some.stop own c.in-Some.is
 
 pub returns-clause-stop : goal.returns-clause-stop
 returns-clause-stop c =
@@ -85,7 +85,7 @@ returns-clause-stop c =
     let none = subst (λ (l : List TableRow). both_stop a.schema.key (clash_by a.schema.key (map (replaced_by l) (rows_now a.rows.slots))) ≡ None) given c.in-Ok.ensures.stop in
     let own : replace_stop c.args.rows (table_now c.args.self.now) ≡ None =
     subst (λ (t : TableHistory). replace_stop c.args.rows (table_now t) ≡ None) c.self.view_is (replace_stop_is c.args.rows made lacks ∙ none) in
-    ap (λ (o : Option StoreStop). option_or o c.args.later) own ∙ c.in-None.is
+    ap (λ (o : Option StoreStop). option_or o c.args.reference_stop) own ∙ c.in-None.is
 
 pub invariant_of-self : goal.invariant_of-self
 invariant_of-self c =

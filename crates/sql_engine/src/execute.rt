@@ -1,0 +1,191 @@
+//! A text that is asked over a store: parsed, checked, executed, with the lists that are recorded of it.
+
+ghost use Rattle.std.specs.Prelude.{◌≡◌, ◌<◌, ◌≤◌, length, Some, Ok, IfOk, OnOk, OnErr, IsTrue};
+ghost use Rattle.core_parts.specs.Checking.{IsQuery};
+ghost use Rattle.dml_versions.specs.Changing.{IsCheckedOver};
+ghost use Rattle.sql_engine.specs.Asking.{IsRecorded, IsOutcome, recorded_of};
+ghost use Rattle.sql_engine.specs.inner.Listing.{tables_asked};
+ghost use Rattle.sql_engine.specs.inner.Taking.{AreDistinct, IsFresh};
+ghost use Rattle.sql_model.specs.Texts.{statement_of};
+ghost use Rattle.table_store.specs.Histories.{tables_now};
+
+use crate::answer::{QueryAnswer, query_answer};
+use crate::asked_tables::tables_asked;
+use crate::marks::{TableMarks, marks_for};
+use crate::needs::needs_of;
+use crate::recorded::{Recorded, refusal_change};
+use dml_versions::{Change, delete, insert, update};
+use ldv_value::{List, Names, Values};
+use sql_check::{CheckStop, check_places};
+use sql_model::{Catalog, Checked, Needs, Reply, SqlRefusal, Statement};
+use sql_parse::{ParseStop, parse};
+use std::alloc::{AllocError, Global};
+use table_store::Store;
+
+// Memory for the tables that a statement asks, where events are kept.
+fn room_for(
+    alloc: Global,
+    names: &Names,
+    statement: &Statement,
+    keep: bool,
+) -> Result<TableMarks, AllocError>
+    ensures { IfOk result (λ taking. IsTrue keep → IsFresh statement.now names.now taking) }
+{
+    if keep {
+        marks_for(alloc, names, statement)
+    } else {
+        marks_for(alloc, &List::new(alloc), statement)
+    }
+}
+
+// The tables that a statement asks, where events are kept.
+fn tables_of(
+    taking: TableMarks,
+    statement: &Statement,
+    reads: &Needs,
+    catalog: &Catalog,
+    keep: bool,
+) -> Names
+    requires fresh { IsTrue keep → IsFresh statement.now catalog.now.names taking }
+    requires paired { length catalog.now.names ≡ length catalog.now.schemas }
+    requires distinct { AreDistinct catalog.now.names }
+    ensures { IsTrue keep → result ≡ tables_asked statement.now reads.now catalog.now }
+{
+    if keep {
+        tables_asked(taking, statement, reads.items(), catalog)
+    } else {
+        List::new(reads.allocator())
+    }
+}
+
+// Answers a query that was checked.
+fn execute_query(
+    alloc: Global,
+    checked: &Checked,
+    store: &Store,
+    keep: bool,
+) -> Result<Change, AllocError>
+    requires query { IsQuery checked.now.statement }
+    requires checked { IsCheckedOver (tables_now store.now) checked.now }
+    ensures { IfOk result (IsOutcome checked.now.statement keep store.now store.now) }
+{
+    let QueryAnswer {
+        rows,
+        lineage,
+        hidden,
+    } = query_answer(alloc, checked, store, keep)?;
+    store.tell_formed();
+    let names = &store.catalog().names;
+    Ok(Change {
+        reply: Reply::Rows(rows),
+        made: List::new(alloc),
+        needs: needs_of(alloc, names, &lineage, &hidden)?,
+    })
+}
+
+// What a statement gives, with the tables that it asks.
+fn recorded_of(change: Change, tables: Names) -> Recorded
+    ensures { result ≡ recorded_of change tables }
+{
+    Recorded {
+        reply: change.reply,
+        tables,
+        needs: change.needs,
+        made: change.made,
+    }
+}
+
+// Executes a statement that was checked.
+#[tactic(auto, using(crate::proofs::AskLaws::change_outcome))]
+fn execute_checked(
+    alloc: Global,
+    checked: &Checked,
+    store: &mut Store,
+    time: u32,
+    keep: bool,
+) -> Result<Change, AllocError>
+    requires checked { IsCheckedOver (tables_now store.old) checked.now }
+    requires later { store.old.time < time }
+    ensures outcome { IfOk result (IsOutcome checked.now.statement keep store.old store.new) }
+    ensures latest { OnOk result (store.new.time ≤ time) }
+    ensures err { OnErr result (store.new ≡ store.old) }
+{
+    match &checked.statement {
+        Statement::Query(_) => execute_query(alloc, checked, store, keep),
+        Statement::Insert(_) => insert(checked, store, time, keep),
+        Statement::Update(_) => update(checked, store, time, keep),
+        Statement::Delete(_) => delete(checked, store, time, keep),
+    }
+}
+
+// Checks a statement, and executes it where it isn't refused. The statement is given back.
+fn asked_or_refused(
+    alloc: Global,
+    statement: Statement,
+    store: &mut Store,
+    time: u32,
+    keep: bool,
+) -> Result<(Change, Statement), AllocError>
+    requires later { store.old.time < time }
+    ensures outcome { IfOk result (λ r. IsOutcome statement keep store.old store.new r.0) }
+    ensures statement { IfOk result (λ r. r.1 ≡ statement) }
+    ensures latest { OnOk result (store.new.time ≤ time) }
+    ensures err { OnErr result (store.new ≡ store.old) }
+{
+    match check_places(alloc, &statement, store.catalog()) {
+        Ok(places) => {
+            let checked = Checked { statement, places };
+            let change = execute_checked(alloc, &checked, store, time, keep)?;
+            Ok((change, checked.statement))
+        }
+        Err(CheckStop::NoTable) => Ok((refusal_change(alloc, SqlRefusal::NoTable), statement)),
+        Err(CheckStop::NoColumn) => Ok((refusal_change(alloc, SqlRefusal::NoColumn), statement)),
+        Err(CheckStop::TypeClash) => Ok((refusal_change(alloc, SqlRefusal::TypeClash), statement)),
+        Err(CheckStop::NoMemory) => Err(AllocError),
+    }
+}
+
+// Executes a statement, and lists the tables that it asks. Once it has run, nothing can fail.
+fn execute_statement(
+    alloc: Global,
+    statement: Statement,
+    store: &mut Store,
+    time: u32,
+    keep: bool,
+) -> Result<Recorded, AllocError>
+    requires later { store.old.time < time }
+    ensures done { IfOk result (IsRecorded (Some statement) keep store.old store.new) }
+    ensures latest { OnOk result (store.new.time ≤ time) }
+    ensures err { OnErr result (store.new ≡ store.old) }
+{
+    store.tell_formed();
+    let room = room_for(alloc, &store.catalog().names, &statement, keep)?;
+    let (change, asked) = asked_or_refused(alloc, statement, store, time, keep)?;
+    let tables = tables_of(room, &asked, &change.needs, store.catalog(), keep);
+    Ok(recorded_of(change, tables))
+}
+
+/// Answers a text with its parameters over the tables of a store at a time, which is later than that of the
+/// store's last change. Where `keep` is false, no lineage is made. On `AllocError` the store is as it was.
+pub(crate) fn execute(
+    alloc: Global,
+    store: &mut Store,
+    text: &str,
+    params: &Values,
+    time: u32,
+    keep: bool,
+) -> Result<Recorded, AllocError>
+    requires later { store.old.time < time }
+    ensures done { IfOk result (IsRecorded (statement_of text.now params.now) keep store.old store.new) }
+    ensures latest { OnOk result (store.new.time ≤ time) }
+    ensures err { OnErr result (store.new ≡ store.old) }
+{
+    match parse(alloc, text, params) {
+        Ok(statement) => execute_statement(alloc, statement, store, time, keep),
+        Err(ParseStop::Syntax) => Ok(recorded_of(
+            refusal_change(alloc, SqlRefusal::Syntax),
+            List::new(alloc),
+        )),
+        Err(ParseStop::NoMemory) => Err(AllocError),
+    }
+}
