@@ -9,12 +9,12 @@ use Rattle.run_model.specs.Types.{Instr}
 use Rattle.run_model.specs.declared.package.Mode.{Mode}
 use Rattle.run_model.specs.declared.package.Mode.TheVariants.{Included, Excluded}
 use Rattle.run_model.specs.declared.package.Package.{Package}
-use Rattle.package_layout.specs.RunPackages.{expanded_package}
+use Rattle.package_layout.specs.CompactPackages.{expanded_package}
 use Rattle.package_layout.specs.Valid.{reading}
 use Rattle.package_layout.specs.Version.{version_of}
 use Rattle.package_layout.specs.Whole.{spelling}
 use Rattle.package_layout.specs.declared.version.Version.{Version}
-use Rattle.package_layout.specs.declared.run_package.RunPackage.{RunPackage}
+use Rattle.package_layout.specs.declared.compact_package.CompactPackage.{CompactPackage}
 use Rattle.replay_db.specs.TableAt.{table_by_mode}
 use Rattle.replay_log.specs.Replays.{CanReplay}
 use Rattle.ldv_top.specs.Due.{due_outcome, outcome_due, due_divergence, due_log, replayed_as, replayed_package, due_replay}
@@ -24,7 +24,7 @@ use Rattle.ldv_top.specs.DueOfTables.{table_due, tabled_package, due_table}
 use Rattle.ldv_top.specs.DueParts.{due_of_reading, due_spelling}
 use Rattle.ldv_top.proofs.RecordLaws.{not_too_long}
 
-module _ (r : RunPackage) where
+module _ (r : CompactPackage) where
   abbrev bare : Package
   bare = r.bare
 

@@ -11,9 +11,9 @@ use Rattle.package_layout.specs.declared.damage.DamageKind.{DamageKind}
 use Rattle.package_layout.specs.declared.damage.DamageKind.TheVariants.{Form}
 use Rattle.package_layout.specs.declared.layout.PackageStop.{PackageStop}
 use Rattle.package_layout.specs.declared.layout.PackageStop.TheVariants as package_stops
-use Rattle.package_layout.specs.declared.run_package.RunPackage.{RunPackage}
+use Rattle.package_layout.specs.declared.compact_package.CompactPackage.{CompactPackage}
 use Rattle.package_layout.specs.Fields.{◌>>=◌, both_at, sized_at}
-use Rattle.package_layout.specs.RunPackages.{expanded_package}
+use Rattle.package_layout.specs.CompactPackages.{expanded_package}
 use Rattle.package_layout.specs.Valid.{reading}
 use Rattle.ldv_top.specs.declared.exit.Exit.TheVariants.{TooLong, Damaged, NoSuch, Clash}
 use Rattle.ldv_top.specs.DueParts.{DueOutput, due_refusal, due_spelling, is_too_long}
@@ -37,7 +37,7 @@ pair_reading (Some pair) = both_read (reading pair.0) (reading pair.1)
 pair_reading None = Err Form
 
 -- the result is the pair that is due, its traces kept as runs, or memory ran out
-abbrev pub PairReadsAs : Result (RunPackage × RunPackage) PackageStop
+abbrev pub PairReadsAs : Result (CompactPackage × CompactPackage) PackageStop
     → Result (Package × Package) DamageKind → Type 0
 PairReadsAs (Ok pair) due = due ≡ Ok (expanded_package pair.0, expanded_package pair.1)
 PairReadsAs (Err (package_stops.Damaged kind)) due = due ≡ Err kind

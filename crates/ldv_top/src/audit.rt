@@ -11,7 +11,7 @@ ghost use Rattle.ldv_top.specs.DueOfAudits.{audited_package, due_audit, included
 
 use crate::response::Response;
 use ldv_value::{Bytes, append_number};
-use package_layout::{PackageStop, read_runs};
+use package_layout::{PackageStop, read_compact};
 use replay_db::{AuditStop, Verdict, audit, package_law};
 use run_model::{Mode, Package};
 use std::alloc::{AllocError, Global};
@@ -36,7 +36,7 @@ fn bytes_response(alloc: Global, budget: u32, input: &[u8]) -> Result<Response, 
     ensures { IfOk result (λ response. response_due response ≡ due_audit budget input.now) }
 {
     package_law();
-    match read_runs(alloc, input) {
+    match read_compact(alloc, input) {
         Ok(package) => audited_response(alloc, budget, input, &package.bare),
         Err(PackageStop::Damaged(kind)) => Ok(Response::Damaged(kind)),
         Err(PackageStop::NoMemory) => Err(AllocError),

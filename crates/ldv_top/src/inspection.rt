@@ -15,7 +15,7 @@ ghost use Rattle.ldv_top.specs.declared.command.Report.TheVariants.{Depends, Fil
 
 use crate::command::Report;
 use crate::numbers::number_within;
-use crate::reading::{read_package_of, read_runs_of};
+use crate::reading::{read_package_of, read_compact_of};
 use crate::response::Response;
 use crate::word_stop::WordStop;
 use inspect::{InspectStop, depends_text, files_text, rows_text, trace_text, why_text};
@@ -131,7 +131,7 @@ fn rows_response(alloc: Global, input: Bytes) -> Result<Response, AllocError>
     requires short { length input ≤ input_limit }
     ensures { IfOk result (λ response. response_due response ≡ due_inspect Rows input) }
 {
-    match read_runs_of(alloc, input) {
+    match read_compact_of(alloc, input) {
         Ok(package) => Ok(Response::Written(rows_text(alloc, &package.bare)?)),
         Err(PackageStop::Damaged(kind)) => Ok(Response::Damaged(kind)),
         Err(PackageStop::NoMemory) => Err(AllocError),
@@ -142,7 +142,7 @@ fn files_response(alloc: Global, input: Bytes) -> Result<Response, AllocError>
     requires short { length input ≤ input_limit }
     ensures { IfOk result (λ response. response_due response ≡ due_inspect Files input) }
 {
-    match read_runs_of(alloc, input) {
+    match read_compact_of(alloc, input) {
         Ok(package) => Ok(Response::Written(files_text(alloc, &package.bare)?)),
         Err(PackageStop::Damaged(kind)) => Ok(Response::Damaged(kind)),
         Err(PackageStop::NoMemory) => Err(AllocError),

@@ -6,9 +6,9 @@ ghost use Rattle.std.specs.Option.{option_map};
 ghost use Rattle.ldv_value.specs.Limits.{input_limit};
 ghost use Rattle.package_join.specs.Joined.{joined_of};
 ghost use Rattle.package_join.specs.Layout.{joined_spelling};
-ghost use Rattle.package_join.specs.RunJoins.{whole_join};
+ghost use Rattle.package_join.specs.CompactJoins.{whole_join};
 ghost use Rattle.package_layout.specs.Fields.{number_at, sized_at};
-ghost use Rattle.package_layout.specs.RunPackages.{expanded_package};
+ghost use Rattle.package_layout.specs.CompactPackages.{expanded_package};
 ghost use Rattle.package_layout.specs.Runs.{IsCut};
 ghost use Rattle.package_layout.specs.Valid.{reading};
 ghost use Rattle.run_model.specs.declared.package.Mode.TheVariants.{Included};
@@ -21,8 +21,8 @@ ghost use Rattle.ldv_top.specs.WordsOfJoins.{join_of};
 use crate::command::Command;
 use crate::response::Response;
 use ldv_value::Bytes;
-use package_join::{JoinStop, RunJoined, join_runs, spell_cuts};
-use package_layout::{Cursor, DamageKind, PackageStop, RunPackage, SpellStop, read_runs};
+use package_join::{JoinStop, CompactJoined, join_compact, spell_compact_joined};
+use package_layout::{Cursor, DamageKind, PackageStop, CompactPackage, SpellStop, read_compact};
 use run_model::Mode;
 use std::alloc::{AllocError, Global};
 
@@ -87,7 +87,7 @@ pub(crate) fn join_response(alloc: Global, input: Bytes) -> Result<Response, All
 }
 
 // Both packages that the input is made of. The call drops it.
-fn read_pair(alloc: Global, input: Bytes) -> Result<(RunPackage, RunPackage), PackageStop>
+fn read_pair(alloc: Global, input: Bytes) -> Result<(CompactPackage, CompactPackage), PackageStop>
     ensures due { PairReadsAs result (pair_reading (pair_in input)) }
     ensures first_cut { IfOk result (λ pair. IsCut pair.0.runs) }
     ensures second_cut { IfOk result (λ pair. IsCut pair.1.runs) }
@@ -102,12 +102,12 @@ fn read_both(
     alloc: Global,
     first: &[u8],
     second: &[u8],
-) -> Result<(RunPackage, RunPackage), PackageStop>
+) -> Result<(CompactPackage, CompactPackage), PackageStop>
     ensures due { PairReadsAs result (both_read (reading first.now) (reading second.now)) }
     ensures first_cut { IfOk result (λ pair. IsCut pair.0.runs) }
     ensures second_cut { IfOk result (λ pair. IsCut pair.1.runs) }
 {
-    match read_runs(alloc, first) {
+    match read_compact(alloc, first) {
         Ok(a) => read_second(alloc, a, second),
         Err(PackageStop::Damaged(kind)) => Err(PackageStop::Damaged(kind)),
         Err(PackageStop::NoMemory) => Err(PackageStop::NoMemory),
@@ -116,15 +116,15 @@ fn read_both(
 
 fn read_second(
     alloc: Global,
-    a: RunPackage,
+    a: CompactPackage,
     second: &[u8],
-) -> Result<(RunPackage, RunPackage), PackageStop>
+) -> Result<(CompactPackage, CompactPackage), PackageStop>
     requires { IsCut a.runs }
     ensures due { PairReadsAs result (both_read (Ok (expanded_package a)) (reading second.now)) }
     ensures first_cut { IfOk result (λ pair. IsCut pair.0.runs) }
     ensures second_cut { IfOk result (λ pair. IsCut pair.1.runs) }
 {
-    match read_runs(alloc, second) {
+    match read_compact(alloc, second) {
         Ok(b) => Ok((a, b)),
         Err(PackageStop::Damaged(kind)) => Err(PackageStop::Damaged(kind)),
         Err(PackageStop::NoMemory) => Err(PackageStop::NoMemory),
@@ -132,7 +132,7 @@ fn read_second(
 }
 
 // Both have to have the needed rows.
-fn packages_response(alloc: Global, a: RunPackage, b: RunPackage) -> Result<Response, AllocError>
+fn packages_response(alloc: Global, a: CompactPackage, b: CompactPackage) -> Result<Response, AllocError>
     requires first { IsCut a.runs }
     requires second { IsCut b.runs }
     ensures { IfOk result (λ response. response_due response
@@ -147,13 +147,13 @@ fn packages_response(alloc: Global, a: RunPackage, b: RunPackage) -> Result<Resp
     }
 }
 
-fn joined_response(alloc: Global, a: RunPackage, b: RunPackage) -> Result<Response, AllocError>
+fn joined_response(alloc: Global, a: CompactPackage, b: CompactPackage) -> Result<Response, AllocError>
     requires first { IsCut a.runs }
     requires second { IsCut b.runs }
     ensures { IfOk result (λ response. response_due response
         ≡ due_join_bytes (joined_of (expanded_package a) (expanded_package b))) }
 {
-    match join_runs(alloc, a, b) {
+    match join_compact(alloc, a, b) {
         Ok(joined) => spelled_response(alloc, &joined),
         Err(JoinStop::Clash(clash)) => Ok(Response::Clash(clash)),
         Err(JoinStop::NoMemory) => Err(AllocError),
@@ -161,13 +161,13 @@ fn joined_response(alloc: Global, a: RunPackage, b: RunPackage) -> Result<Respon
 }
 
 #[tactic(auto, using(crate::proofs::RecordLaws::spelling_ends))]
-fn spelled_response(alloc: Global, joined: &RunJoined) -> Result<Response, AllocError>
+fn spelled_response(alloc: Global, joined: &CompactJoined) -> Result<Response, AllocError>
     requires first { IsCut joined.now.first.runs }
     requires second { IsCut joined.now.second.runs }
     ensures { IfOk result (λ response. response_due response
         ≡ due_spelling (joined_spelling (whole_join joined.now))) }
 {
-    match spell_cuts(alloc, joined) {
+    match spell_compact_joined(alloc, joined) {
         Ok(bytes) => Ok(Response::Written(bytes)),
         Err(SpellStop::TooLong) => Ok(Response::PackageTooLong),
         Err(SpellStop::NoMemory) => Err(AllocError),

@@ -2,7 +2,7 @@
 
 ghost use Rattle.std.specs.Prelude.{◌≡◌, ◌≤◌, length, map, string_bytes, IfOk, IfSome, OnOk};
 ghost use Rattle.ldv_value.specs.Limits.{input_limit};
-ghost use Rattle.package_layout.specs.RunPackages.{expanded_package};
+ghost use Rattle.package_layout.specs.CompactPackages.{expanded_package};
 ghost use Rattle.package_layout.specs.Runs.{IsCut};
 ghost use Rattle.package_layout.specs.Whole.{spelling};
 ghost use Rattle.ldv_top.specs.Due.{response_due, due_spelling};
@@ -14,10 +14,10 @@ ghost use Rattle.ldv_top.specs.declared.exit.Exit.{Exit};
 
 use crate::command::Command;
 use crate::migration_law::migration_law;
-use crate::reading::read_runs_of;
+use crate::reading::read_compact_of;
 use crate::response::Response;
 use ldv_value::Bytes;
-use package_layout::{PackageStop, RunPackage, SpellStop, spell_runs};
+use package_layout::{PackageStop, CompactPackage, SpellStop, spell_compact};
 use std::alloc::{AllocError, Global};
 
 /// The command that the words after `migrate` are.
@@ -40,7 +40,7 @@ pub(crate) fn migrate_response(alloc: Global, input: Bytes) -> Result<Response, 
         → IsMigration input (due_migrate input).bytes) }
 {
     migration_law();
-    match read_runs_of(alloc, input) {
+    match read_compact_of(alloc, input) {
         Ok(package) => spelled_response(alloc, &package),
         Err(PackageStop::Damaged(kind)) => Ok(Response::Damaged(kind)),
         Err(PackageStop::NoMemory) => Err(AllocError),
@@ -48,12 +48,12 @@ pub(crate) fn migrate_response(alloc: Global, input: Bytes) -> Result<Response, 
 }
 
 #[tactic(auto, using(crate::proofs::RecordLaws::spelling_ends))]
-fn spelled_response(alloc: Global, package: &RunPackage) -> Result<Response, AllocError>
+fn spelled_response(alloc: Global, package: &CompactPackage) -> Result<Response, AllocError>
     requires { IsCut «package».now.runs }
     ensures { IfOk result (λ response. response_due response
         ≡ due_spelling (spelling (expanded_package «package».now))) }
 {
-    match spell_runs(alloc, package) {
+    match spell_compact(alloc, package) {
         Ok(bytes) => Ok(Response::Written(bytes)),
         Err(SpellStop::TooLong) => Ok(Response::PackageTooLong),
         Err(SpellStop::NoMemory) => Err(AllocError),

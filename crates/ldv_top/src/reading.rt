@@ -2,8 +2,8 @@
 
 ghost use Rattle.std.specs.Prelude.{◌≡◌, Ok, IfOk, IfErr};
 ghost use Rattle.ldv_value.specs.Gives.{Gives};
-ghost use Rattle.package_layout.specs.ReadResult.{ReadsAs, RunsReadAs};
-ghost use Rattle.package_layout.specs.RunPackages.{expanded_package};
+ghost use Rattle.package_layout.specs.ReadResult.{ReadsAs, CompactReadsAs};
+ghost use Rattle.package_layout.specs.CompactPackages.{expanded_package};
 ghost use Rattle.package_layout.specs.Runs.{IsCut};
 ghost use Rattle.package_layout.specs.StartScript.{StartsWith, cut_of};
 ghost use Rattle.package_layout.specs.Valid.{IsSpelled, IsValidPackage, reading};
@@ -16,7 +16,7 @@ ghost use Rattle.world_json.specs.Reading.{world_reading, IsFaultOf};
 
 use ldv_value::Bytes;
 use package_layout::{
-    PackageStop, ParsedPackage, RunPackage, read_package, read_parsed, read_runs,
+    PackageStop, ParsedPackage, CompactPackage, read_package, read_parsed, read_compact,
 };
 use prov_export::{ProvStop, read_prov};
 use run_model::{Package, ParsedWorld};
@@ -45,22 +45,22 @@ pub(crate) fn read_package_of(alloc: Global, input: Bytes) -> Result<Package, Pa
 
 /// The package that the input is, with its trace kept as runs: no list of its events is made, which may be
 /// far larger than the input. The input isn't kept.
-pub(crate) fn read_runs_of(alloc: Global, input: Bytes) -> Result<RunPackage, PackageStop>
+pub(crate) fn read_compact_of(alloc: Global, input: Bytes) -> Result<CompactPackage, PackageStop>
     ensures found { IfOk result (λ r. IsTyped (expanded_package r) × IsValidPackage (expanded_package r)
         × IsSpelled input (expanded_package r)) }
     ensures cut { IfOk result (λ r. IsCut r.runs) }
-    ensures reading { RunsReadAs result (reading input) }
+    ensures reading { CompactReadsAs result (reading input) }
 {
-    read_runs(alloc, input.as_slice())
+    read_compact(alloc, input.as_slice())
 }
 
-/// The package that the input is, as of `read_runs_of`, with the script that it starts with. The input isn't
-/// kept.
+/// The package that the input is, as of `read_compact_of`, with the script that it starts with. The input
+/// isn't kept.
 pub(crate) fn read_parsed_of(alloc: Global, input: Bytes) -> Result<ParsedPackage, PackageStop>
     ensures found { IfOk result (λ p. IsTyped (expanded_package p.cut)
         × IsValidPackage (expanded_package p.cut) × IsSpelled input (expanded_package p.cut)) }
     ensures parsed { IfOk result StartsWith }
-    ensures reading { RunsReadAs (cut_of result) (reading input) }
+    ensures reading { CompactReadsAs (cut_of result) (reading input) }
 {
     read_parsed(alloc, input.as_slice())
 }

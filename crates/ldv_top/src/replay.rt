@@ -13,7 +13,7 @@ ghost use Rattle.ldv_top.specs.Due.{response_due, due_world, due_log, replayed_p
 use crate::reading::read_parsed_of;
 use crate::response::{Response, parsed_response};
 use ldv_value::Bytes;
-use package_layout::{PackageStop, ParsedPackage, RunPackage};
+use package_layout::{PackageStop, ParsedPackage, CompactPackage};
 use proc_core::RunStop;
 use replay_db::own_parsed_world;
 use replay_log::{can_replay_law, replay_owned};
@@ -75,7 +75,7 @@ fn replay_package(
     ensures { IfOk result (λ response. response_due response ≡ replayed_package budget parsed.cut.bare) }
 {
     let ParsedPackage { cut, script } = parsed;
-    let RunPackage { bare, runs: _ } = cut;
+    let CompactPackage { bare, runs: _ } = cut;
     match bare.mode {
         Mode::Included => included_response(alloc, budget, bare, script),
         Mode::Excluded => excluded_response(alloc, budget, bare),

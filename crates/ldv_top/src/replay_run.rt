@@ -4,7 +4,7 @@ ghost use Rattle.std.specs.Prelude.{◌≡◌, ◌≤◌, length, IfOk, IfSome};
 ghost use Rattle.std.specs.List.{AllByRecursion};
 ghost use Rattle.ldv_value.specs.Limits.{input_limit, max_steps};
 ghost use Rattle.package_join.specs.Rooms.{TypedCommonTable};
-ghost use Rattle.package_join.specs.RunJoins.{CutsReadAs, whole_join};
+ghost use Rattle.package_join.specs.CompactJoins.{CompactJoinedReadsAs, whole_join};
 ghost use Rattle.package_join.specs.Valid.{IsJoinedRead, joined_reading};
 ghost use Rattle.package_join.specs.Worlds.{joined_world};
 ghost use Rattle.run_model.specs.ValidWorld.{CanRun};
@@ -15,7 +15,7 @@ ghost use Rattle.ldv_top.specs.WordsOfJoins.{replay_of_run, which_of};
 use crate::command::Command;
 use crate::response::{Response, world_response};
 use ldv_value::Bytes;
-use package_join::{RunJoined, Which, joined_runs_law, read_cuts, world_owned};
+use package_join::{CompactJoined, Which, joined_runs_law, read_compact_joined, world_owned};
 use package_layout::PackageStop;
 use std::alloc::{AllocError, Global};
 
@@ -46,12 +46,12 @@ pub(crate) fn replay_of_run(word: &str, number: &str, budget: u32) -> Option<Com
 }
 
 // The joined package that the input is, with its traces kept as runs. The input isn't kept.
-fn read_joined_of(alloc: Global, input: Bytes) -> Result<RunJoined, PackageStop>
+fn read_joined_of(alloc: Global, input: Bytes) -> Result<CompactJoined, PackageStop>
     ensures found { IfOk result (λ r. IsJoinedRead input (whole_join r)) }
     ensures typed { IfOk result (λ r. AllByRecursion TypedCommonTable r.tables) }
-    ensures reading { CutsReadAs result (joined_reading input) }
+    ensures reading { CompactJoinedReadsAs result (joined_reading input) }
 {
-    read_cuts(alloc, input.as_slice())
+    read_compact_joined(alloc, input.as_slice())
 }
 
 /// The response of `replay --run` to an input. No list of events is made.
@@ -77,7 +77,7 @@ fn run_response(
     alloc: Global,
     which: Which,
     budget: u32,
-    joined: RunJoined,
+    joined: CompactJoined,
 ) -> Result<Response, AllocError>
     requires can_run { CanRun (joined_world which (whole_join joined)) }
     requires bounded { budget ≤ max_steps }

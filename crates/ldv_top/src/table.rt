@@ -20,7 +20,7 @@ use crate::reading::read_parsed_of;
 use crate::response::Response;
 use crate::word_stop::WordStop;
 use ldv_value::{Bytes, DEFAULT_STEPS, MAX_STEPS, Utf8};
-use package_layout::{PackageStop, ParsedPackage, RunPackage};
+use package_layout::{PackageStop, ParsedPackage, CompactPackage};
 use replay_db::{TableStop, package_law, table_at_parsed};
 use run_model::table_text;
 use sql_model::is_sql_name;
@@ -140,7 +140,7 @@ fn tabled_response(
         ≡ tabled_package name.now step budget parsed.cut.bare) }
 {
     let ParsedPackage { cut, script } = parsed;
-    let RunPackage { bare, runs: _ } = cut;
+    let CompactPackage { bare, runs: _ } = cut;
     match table_at_parsed(alloc, bare, &script, name, step, budget) {
         Ok(table) => Ok(Response::Written(table_text(alloc, &table)?)),
         Err(TableStop::NoTable) => Ok(Response::NoSuch),

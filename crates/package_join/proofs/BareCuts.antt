@@ -4,23 +4,23 @@ use Rattle.std.specs.Prelude.{◌==◌, bytes_eq}
 use Rattle.std.specs.Int.{w32, w64}
 use Rattle.ldv_value.proofs.Options.{bind-some, same-some}
 use Rattle.run_model.specs.declared.event.Event.{Event}
-use Rattle.package_layout.specs.declared.run_package.RunPackage.{RunPackage}
-use Rattle.package_layout.specs.declared.run.Run.{Run}
+use Rattle.package_layout.specs.declared.compact_package.CompactPackage.{CompactPackage}
+use Rattle.package_layout.specs.declared.event_run.EventRun.{EventRun}
 use Rattle.package_layout.specs.declared.version.Version.TheVariants.{Two}
 use Rattle.package_layout.specs.Events.{names_at}
 use Rattle.package_layout.specs.Fields.{DecodeResult, ◌>>=◌, both_at, list_at, made_at, number_at}
-use Rattle.package_layout.specs.RunPackages.{run_rules}
-use Rattle.package_layout.specs.Runs.{run_at as trace_run_at}
+use Rattle.package_layout.specs.CompactPackages.{compact_rules}
+use Rattle.package_layout.specs.Runs.{event_run_at as trace_run_at}
 use Rattle.package_join.specs.declared.joined.Clash.{Clash}
 use Rattle.package_join.specs.declared.joined.JoinedRun.{JoinedRun}
 use Rattle.package_join.specs.declared.joined.Reason.{Reason}
 use Rattle.package_join.specs.declared.joined.Which.TheVariants.{First, Second}
-use Rattle.package_join.specs.declared.run_joined.CutRun.{CutRun}
-use Rattle.package_join.specs.declared.run_joined.RunJoined.{RunJoined}
+use Rattle.package_join.specs.declared.compact_joined.CompactRun.{CompactRun}
+use Rattle.package_join.specs.declared.compact_joined.CompactJoined.{CompactJoined}
 use Rattle.package_join.specs.Joined.{clash_of, put_together, unless_clash}
 use Rattle.package_join.specs.Layout.{bare_run_at, common_files_at, common_tables_at, named_reason_at, paths_at}
-use Rattle.package_join.specs.RunJoins.{cut_run_at, cut_joined_at, cut_joined_of, cut_sections, picked_runs}
-use Rattle.package_join.specs.RunJoins.{with_runs, if_rejoined, join_of_packages, cut_anew, cut_spelled_so, cuts_in}
+use Rattle.package_join.specs.CompactJoins.{compact_run_at, compact_joined_at, compact_joined_of, compact_sections, picked_runs}
+use Rattle.package_join.specs.CompactJoins.{with_runs, if_rejoined, join_of_packages, compact_anew, compact_spelled_so, compact_joined_in}
 use Rattle.package_join.proofs.CutLaws.{if_tested, so_spelled}
 
 -- ---- what holds of all that is found
@@ -51,7 +51,7 @@ made_find {A = A} {B = B} Q P make a_at found holds bytes x e =
 abbrev HasNoEvents : JoinedRun → Type 0
 HasNoEvents run = run.events ≡ []
 
-abbrev pub AreBare : RunJoined → Type 0
+abbrev pub AreBare : CompactJoined → Type 0
 AreBare r = (r.first.bare.events ≡ []) × (r.second.bare.events ≡ [])
 
 abbrev all_at : List ℕ → DecodeResult (List (List ℕ) × (ℕ × (ℕ × (List (List ℕ) × (List (List ℕ) × (List (List ℕ) × List Reason))))))
@@ -73,47 +73,47 @@ bare_found bytes x e =
     })
     all_at (anything all_at) (λ r q. refl) bytes x e
 
-cut_found : Finds (λ (c : CutRun). HasNoEvents c.bare) cut_run_at
+cut_found : Finds (λ (c : CompactRun). HasNoEvents c.bare) compact_run_at
 cut_found bytes x e =
-    made_find (λ (r : JoinedRun × List Run). HasNoEvents r.0 × Unit {0}) (λ (c : CutRun). HasNoEvents c.bare) (λ r. record { bare = r.0; runs = r.1 })
+    made_find (λ (r : JoinedRun × List EventRun). HasNoEvents r.0 × Unit {0}) (λ (c : CompactRun). HasNoEvents c.bare) (λ r. record { bare = r.0; runs = r.1 })
     (both_at bare_run_at (list_at w32 trace_run_at))
-    (both_find HasNoEvents (λ (runs : List Run). Unit {0}) bare_run_at (list_at w32 trace_run_at) bare_found (anything (list_at w32 trace_run_at)))
+    (both_find HasNoEvents (λ (runs : List EventRun). Unit {0}) bare_run_at (list_at w32 trace_run_at) bare_found (anything (list_at w32 trace_run_at)))
     (λ r q. q.0) bytes x e
 
-joined_found : Finds AreBare cut_joined_at
+joined_found : Finds AreBare compact_joined_at
 joined_found bytes x e =
     made_find (λ z. Unit {0} × (Unit {0} × (HasNoEvents z.1.1.0.bare × HasNoEvents z.1.1.1.bare))) AreBare
     (λ j. record { files = j.0; tables = j.1.0; first = j.1.1.0; second = j.1.1.1 })
-    (both_at common_files_at (both_at common_tables_at (both_at cut_run_at cut_run_at)))
-    (both_find (λ f. Unit {0}) (λ z. Unit {0} × (HasNoEvents z.1.0.bare × HasNoEvents z.1.1.bare)) common_files_at (both_at common_tables_at (both_at cut_run_at cut_run_at)) (anything common_files_at)
-    (both_find (λ t. Unit {0}) (λ z. HasNoEvents z.0.bare × HasNoEvents z.1.bare) common_tables_at (both_at cut_run_at cut_run_at) (anything common_tables_at)
-    (both_find (λ (c : CutRun). HasNoEvents c.bare) (λ (c : CutRun). HasNoEvents c.bare) cut_run_at cut_run_at cut_found cut_found)))
+    (both_at common_files_at (both_at common_tables_at (both_at compact_run_at compact_run_at)))
+    (both_find (λ f. Unit {0}) (λ z. Unit {0} × (HasNoEvents z.1.0.bare × HasNoEvents z.1.1.bare)) common_files_at (both_at common_tables_at (both_at compact_run_at compact_run_at)) (anything common_files_at)
+    (both_find (λ t. Unit {0}) (λ z. HasNoEvents z.0.bare × HasNoEvents z.1.bare) common_tables_at (both_at compact_run_at compact_run_at) (anything common_tables_at)
+    (both_find (λ (c : CompactRun). HasNoEvents c.bare) (λ (c : CompactRun). HasNoEvents c.bare) compact_run_at compact_run_at cut_found cut_found)))
     (λ j q. q.1.1) bytes x e
 
-read_bare : (bytes : List ℕ) (r : RunJoined) → cut_joined_of bytes ≡ Some r → AreBare r
+read_bare : (bytes : List ℕ) (r : CompactJoined) → compact_joined_of bytes ≡ Some r → AreBare r
 read_bare bytes r e =
-    let one = bind-some (cut_joined_at bytes) (λ (x : RunJoined × List ℕ). cond (length x.1 == 0) (Some x.0) None) r e in
+    let one = bind-some (compact_joined_at bytes) (λ (x : CompactJoined × List ℕ). cond (length x.1 == 0) (Some x.0) None) r e in
     subst AreBare (so_spelled (length one.0.1 == 0) one.0.0 r one.2) (joined_found bytes one.0 one.1)
 
 -- ---- joined anew
 
-joined_bare : (a b : RunPackage) (o : Option Clash) (p : RunJoined) → if_rejoined a.runs b.runs (unless_clash o (put_together a.bare b.bare)) ≡ Some p
+joined_bare : (a b : CompactPackage) (o : Option Clash) (p : CompactJoined) → if_rejoined a.runs b.runs (unless_clash o (put_together a.bare b.bare)) ≡ Some p
     → (p.first.bare.events ≡ a.bare.events) × (p.second.bare.events ≡ b.bare.events)
 joined_bare a b None p e =
-    subst (λ (p : RunJoined). (p.first.bare.events ≡ a.bare.events) × (p.second.bare.events ≡ b.bare.events))
+    subst (λ (p : CompactJoined). (p.first.bare.events ≡ a.bare.events) × (p.second.bare.events ≡ b.bare.events))
     (same-some (with_runs a.runs b.runs (put_together a.bare b.bare)) p e) (refl, refl)
 joined_bare a b (Some clash) p e = absurd cc
 
-pub cuts_are_bare : (bytes : List ℕ) (q : RunJoined) → cuts_in bytes ≡ Some q → AreBare q
+pub cuts_are_bare : (bytes : List ℕ) (q : CompactJoined) → compact_joined_in bytes ≡ Some q → AreBare q
 cuts_are_bare bytes q e =
-    let one = bind-some (cut_joined_of bytes) (λ (r : RunJoined). cut_anew r >>= cut_spelled_so bytes) q e in
+    let one = bind-some (compact_joined_of bytes) (λ (r : CompactJoined). compact_anew r >>= compact_spelled_so bytes) q e in
     let r = one.0 in
-    let a : RunPackage = picked_runs First r in
-    let b : RunPackage = picked_runs Second r in
-    let two = bind-some (cut_anew r) (cut_spelled_so bytes) q one.2 in
+    let a : CompactPackage = picked_runs First r in
+    let b : CompactPackage = picked_runs Second r in
+    let two = bind-some (compact_anew r) (compact_spelled_so bytes) q one.2 in
     let p = two.0 in
-    let same : p ≡ q = so_spelled (bytes_eq (cut_sections p) bytes) p q two.2 in
-    let three = if_tested (run_rules Two a && run_rules Two b) (join_of_packages a b) p two.1 in
+    let same : p ≡ q = so_spelled (bytes_eq (compact_sections p) bytes) p q two.2 in
+    let three = if_tested (compact_rules Two a && compact_rules Two b) (join_of_packages a b) p two.1 in
     let read : AreBare r = read_bare bytes r one.1 in
     let its = joined_bare a b (clash_of a.bare b.bare) p three.1 in
     subst AreBare same (its.0 ∙ read.0, its.1 ∙ read.1)

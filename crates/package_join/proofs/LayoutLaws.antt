@@ -15,7 +15,7 @@ use Rattle.package_layout.specs.Events.{names_spelling, names_at}
 use Rattle.package_layout.specs.Fields.{DecodeResult, then_at, both_at, number_at, text_spelling, list_spelling, list_at, text_at}
 use Rattle.package_layout.specs.Reading.{value_at, reason_at, cells_at, schema_at}
 use Rattle.package_layout.specs.Room.{schema_room, fits_u16_count}
-use Rattle.package_layout.specs.Runs.{CountedRun, runs_of, runs_spelling, runs_at, trace_room}
+use Rattle.package_layout.specs.Runs.{CountedEventRun, runs_of, runs_spelling, runs_at, trace_room}
 use Rattle.package_layout.specs.Spelling.{value_spelling, number_spelling, reason_spelling, cells_spelling, schema_spelling}
 use Rattle.package_layout.specs.Typed.{IsU32, TypedValue, TypedValues, TypedFile, TypedEvent, TypedSchema}
 use Rattle.package_layout.specs.declared.version.Version.TheVariants.{Two}
@@ -334,7 +334,7 @@ apart_again : (q : Traced) (run : JoinedRun) → q.0.events ≡ [] → with_trac
 apart_again q run none is = subst (λ (r : JoinedRun). q ≡ apart r) is (λ j. (with_trace q.0 (none j), q.1))
 
 abbrev CountedTrace : List Event → Type 0
-CountedTrace es = CountedList CountedRun (runs_of es)
+CountedTrace es = CountedList CountedEventRun (runs_of es)
 
 pub run_law : IsField run_spelling TypedJoinedRun joined_run_room CountedJoinedRun run_at
 run_law = recount CountedJoinedRun (made_law (λ (q : Traced). bare_run_spelling q.0 ++ runs_spelling q.1) (λ (q : Traced). IsBareRun q.0 × AllByRecursion TypedEvent q.1) (λ (q : Traced). bare_run_room q.0 && trace_room q.1) (both_at bare_run_at runs_at)

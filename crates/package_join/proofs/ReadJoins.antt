@@ -24,12 +24,12 @@ use Rattle.package_join.specs.Types.{Package}
 use Rattle.package_join.specs.declared.joined.Clash.{Clash}
 use Rattle.package_join.specs.declared.joined.Joined.{Joined}
 use Rattle.package_join.specs.declared.joined.Which.TheVariants.{First, Second}
-use Rattle.package_join.specs.declared.run_joined.RunJoined.{RunJoined}
+use Rattle.package_join.specs.declared.compact_joined.CompactJoined.{CompactJoined}
 use Rattle.package_join.specs.Joined.{joined_of, run_package}
 use Rattle.package_join.specs.Laws.{OneSpellingLaw, RoundTripLaw}
 use Rattle.package_join.specs.Layout.{all_of_joined, joined_magic, joined_sections, joined_spelling}
 use Rattle.package_join.specs.Rooms.{IsCountedJoined, IsTypedJoined}
-use Rattle.package_join.specs.RunJoins.{CutsReadAs, JoinedReadsAs, whole_join, cuts_in}
+use Rattle.package_join.specs.CompactJoins.{CompactJoinedReadsAs, JoinedReadsAs, whole_join, compact_joined_in}
 use Rattle.package_join.specs.Valid.{IsJoinedRead, IsNoJoined, IsValidJoined, digested_reading, form_of, has_joined_magic, if_joined, joined_anew, joined_damage_before, joined_in, joined_reading, if_spelling_is}
 use Rattle.package_join.proofs.CutLaws.{same_joined, cuts_are_runs}
 use Rattle.package_join.proofs.LayoutLaws.{all_again, sections_law}
@@ -195,60 +195,60 @@ pub IfOk-joined_reading : (bytes : List ℕ) (r : Result Joined PackageStop) →
 IfOk-joined_reading bytes (Ok j) due = ok_read bytes j due
 IfOk-joined_reading bytes (Err stop) due = tt
 
-pub cuts_found : (bytes : List ℕ) (r : Result RunJoined PackageStop) → CutsReadAs r (joined_reading bytes) → IfOk r (λ r. IsJoinedRead bytes (whole_join r))
+pub cuts_found : (bytes : List ℕ) (r : Result CompactJoined PackageStop) → CompactJoinedReadsAs r (joined_reading bytes) → IfOk r (λ r. IsJoinedRead bytes (whole_join r))
 cuts_found bytes (Ok r) due = ok_read bytes (whole_join r) due
 cuts_found bytes (Err stop) due = tt
 
 -- ---- the answers
 
-pub middle_ok : (bytes m : List ℕ) (r : RunJoined) → IsBytes bytes → has_digest bytes ≡ true → m ≡ middle bytes → cuts_in m ≡ Some r
+pub middle_ok : (bytes m : List ℕ) (r : CompactJoined) → IsBytes bytes → has_digest bytes ≡ true → m ≡ middle bytes → compact_joined_in m ≡ Some r
     → digested_reading bytes ≡ Ok (whole_join r)
 middle_ok bytes m r h d is e =
     let o : joined_in (middle bytes) ≡ Some (whole_join r) =
-    same_joined (middle bytes) (clean bytes h) ∙ ap (option_map whole_join) (ap cuts_in (sym is) ∙ e) in
+    same_joined (middle bytes) (clean bytes h) ∙ ap (option_map whole_join) (ap compact_joined_in (sym is) ∙ e) in
     λ i. by_digest (d i) (o i)
 
 pub middle_form : (bytes m : List ℕ) (e : DecodeError) → IsBytes bytes → has_digest bytes ≡ true → m ≡ middle bytes → e ≡ Malformed
-    → Makes {X = RunJoined} (Err e) (cuts_in m) → digested_reading bytes ≡ Err Form
+    → Makes {X = CompactJoined} (Err e) (compact_joined_in m) → digested_reading bytes ≡ Err Form
 middle_form bytes m e h d is form none =
-    let no : cuts_in m ≡ None = subst (λ (e : DecodeError). Makes {X = RunJoined} (Err e) (cuts_in m)) form none in
+    let no : compact_joined_in m ≡ None = subst (λ (e : DecodeError). Makes {X = CompactJoined} (Err e) (compact_joined_in m)) form none in
     let o : joined_in (middle bytes) ≡ None =
-    same_joined (middle bytes) (clean bytes h) ∙ ap (option_map whole_join) (ap cuts_in (sym is) ∙ no) in
+    same_joined (middle bytes) (clean bytes h) ∙ ap (option_map whole_join) (ap compact_joined_in (sym is) ∙ no) in
     λ i. by_digest (d i) (o i)
 
-pub middle_first : (m : List ℕ) (r : RunJoined) → cuts_in m ≡ Some r → are_runs r.first.runs ≡ true
+pub middle_first : (m : List ℕ) (r : CompactJoined) → compact_joined_in m ≡ Some r → are_runs r.first.runs ≡ true
 middle_first m r e = (cuts_are_runs m r e).0
 
-pub middle_second : (m : List ℕ) (r : RunJoined) → cuts_in m ≡ Some r → are_runs r.second.runs ≡ true
+pub middle_second : (m : List ℕ) (r : CompactJoined) → compact_joined_in m ≡ Some r → are_runs r.second.runs ≡ true
 middle_second m r e = (cuts_are_runs m r e).1
 
 -- ---- the answer with all events
 
-pub whole_due : (bytes : List ℕ) (r : RunJoined) (o : Result Joined PackageStop) → joined_reading bytes ≡ Ok (whole_join r)
+pub whole_due : (bytes : List ℕ) (r : CompactJoined) (o : Result Joined PackageStop) → joined_reading bytes ≡ Ok (whole_join r)
     → IfOk o (λ j. j ≡ whole_join r) → ((stop : PackageStop) → o ≡ Err stop → stop ≡ NoMemory) → JoinedReadsAs o (joined_reading bytes)
 whole_due bytes r (Ok j) due is none = due ∙ (λ i. Ok (sym is i))
 whole_due bytes r (Err NoMemory) due is none = tt
 whole_due bytes r (Err (Damaged kind)) due is none = let no : Damaged kind ≡ NoMemory = none (Damaged kind) refl in absurd cc
 
-pub not_damaged : (bytes : List ℕ) (r : RunJoined) (o : Result Joined PackageStop) → IfSome (joined_damage_before bytes) (λ kind. Ok r ≡ damaged {X = RunJoined} kind)
+pub not_damaged : (bytes : List ℕ) (r : CompactJoined) (o : Result Joined PackageStop) → IfSome (joined_damage_before bytes) (λ kind. Ok r ≡ damaged {X = CompactJoined} kind)
     → IfSome (joined_damage_before bytes) (λ kind. o ≡ damaged kind)
 not_damaged bytes r o once = by (joined_damage_before bytes) once
   where
-    by : (d : Option DamageKind) → IfSome d (λ kind. Ok r ≡ damaged {X = RunJoined} kind) → IfSome d (λ kind. o ≡ damaged kind)
+    by : (d : Option DamageKind) → IfSome d (λ kind. Ok r ≡ damaged {X = CompactJoined} kind) → IfSome d (λ kind. o ≡ damaged kind)
     by None h = tt
     by (Some kind) h = absurd cc
 
-same_stop : (stop other : PackageStop) → stopped {X = RunJoined} stop ≡ stopped {X = RunJoined} other → stop ≡ other
+same_stop : (stop other : PackageStop) → stopped {X = CompactJoined} stop ≡ stopped {X = CompactJoined} other → stop ≡ other
 same_stop stop other e = cc
 
 pub stop_once : (bytes : List ℕ) (stop : PackageStop) (o : Result Joined PackageStop) → o ≡ Err stop
-    → IfSome (joined_damage_before bytes) (λ kind. Err stop ≡ damaged {X = RunJoined} kind) → IfSome (joined_damage_before bytes) (λ kind. o ≡ damaged kind)
+    → IfSome (joined_damage_before bytes) (λ kind. Err stop ≡ damaged {X = CompactJoined} kind) → IfSome (joined_damage_before bytes) (λ kind. o ≡ damaged kind)
 stop_once bytes stop o is once = by (joined_damage_before bytes) once
   where
-    by : (d : Option DamageKind) → IfSome d (λ kind. Err stop ≡ damaged {X = RunJoined} kind) → IfSome d (λ kind. o ≡ damaged kind)
+    by : (d : Option DamageKind) → IfSome d (λ kind. Err stop ≡ damaged {X = CompactJoined} kind) → IfSome d (λ kind. o ≡ damaged kind)
     by None h = tt
     by (Some kind) h = is ∙ ap (stopped {X = Joined}) (same_stop stop (Damaged kind) h)
 
-pub stop_due : (bytes : List ℕ) (stop : PackageStop) → CutsReadAs (Err stop) (joined_reading bytes) → JoinedReadsAs (Err stop) (joined_reading bytes)
+pub stop_due : (bytes : List ℕ) (stop : PackageStop) → CompactJoinedReadsAs (Err stop) (joined_reading bytes) → JoinedReadsAs (Err stop) (joined_reading bytes)
 stop_due bytes (Damaged kind) due = due
 stop_due bytes NoMemory due = tt

@@ -6,7 +6,7 @@ pub mod Parts
 pub mod Worlds
 pub mod Layout
 pub mod Rooms
-pub mod RunJoins
+pub mod CompactJoins
 pub mod Valid
 pub mod Laws
 pub mod inner

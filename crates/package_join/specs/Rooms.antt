@@ -5,7 +5,7 @@ use Rattle.std.specs.List.{list_all, AllByRecursion}
 use Rattle.std.specs.Str.{IsUtf8}
 use Rattle.package_layout.specs.Counts.{IsCountable, CountedList, CountedValue, CountedSchema, CountedFile}
 use Rattle.package_layout.specs.Room.{fits_u16_count, schema_room}
-use Rattle.package_layout.specs.Runs.{CountedRun, runs_of, trace_room}
+use Rattle.package_layout.specs.Runs.{CountedEventRun, runs_of, trace_room}
 pub use Rattle.package_layout.specs.CommonTables.{TypedCommonRow, TypedCommonTable}
 use Rattle.package_layout.specs.Typed.{IsU32, TypedFile, TypedEvent}
 use Rattle.package_layout.specs.declared.version.Version.TheVariants.{Two}
@@ -84,7 +84,7 @@ abbrev pub CountedBareRun : JoinedRun → Type 0
 CountedBareRun run = CountedTexts run.start × CountedNeeds run
 
 abbrev pub CountedJoinedRun : JoinedRun → Type 0
-CountedJoinedRun run = CountedBareRun run × CountedList CountedRun (runs_of run.events)
+CountedJoinedRun run = CountedBareRun run × CountedList CountedEventRun (runs_of run.events)
 
 abbrev pub IsCountedJoined : Joined → Type 0
 IsCountedJoined j = CountedList CountedFile j.files

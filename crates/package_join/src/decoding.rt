@@ -3,10 +3,10 @@
 ghost use Rattle.std.specs.Prelude.{◌≡◌};
 ghost use Rattle.package_layout.specs.Fields.{Decodes, Makes};
 ghost use Rattle.package_join.specs.Layout.{bare_run_at};
-ghost use Rattle.package_join.specs.RunJoins.{cut_joined_at, cut_joined_of, cut_run_at};
+ghost use Rattle.package_join.specs.CompactJoins.{compact_joined_at, compact_joined_of, compact_run_at};
 
 use crate::joined::{JoinedRun, Reason};
-use crate::run_joined::{CutRun, RunJoined};
+use crate::compact_joined::{CompactRun, CompactJoined};
 use ldv_value::List;
 use package_layout::{
     Cursor, Decode, DecodeError, Width, decode_list, decode_reason, decode_text, decode_u32,
@@ -54,22 +54,22 @@ fn decode_bare_run(alloc: Global, cursor: &mut Cursor) -> Result<JoinedRun, Deco
     })
 }
 
-fn decode_cut_run(alloc: Global, cursor: &mut Cursor) -> Result<CutRun, DecodeError>
-    ensures { Decodes result cursor.new (cut_run_at cursor.old) }
+fn decode_cut_run(alloc: Global, cursor: &mut Cursor) -> Result<CompactRun, DecodeError>
+    ensures { Decodes result cursor.new (compact_run_at cursor.old) }
 {
     let bare = decode_bare_run(alloc, cursor)?;
     let runs = decode_list(alloc, Width::Four, cursor)?;
-    Ok(CutRun { bare, runs })
+    Ok(CompactRun { bare, runs })
 }
 
-fn decode_cut_joined(alloc: Global, cursor: &mut Cursor) -> Result<RunJoined, DecodeError>
-    ensures { Decodes result cursor.new (cut_joined_at cursor.old) }
+fn decode_cut_joined(alloc: Global, cursor: &mut Cursor) -> Result<CompactJoined, DecodeError>
+    ensures { Decodes result cursor.new (compact_joined_at cursor.old) }
 {
     let files = decode_list(alloc, Width::Four, cursor)?;
     let tables = decode_list(alloc, Width::Two, cursor)?;
     let first = decode_cut_run(alloc, cursor)?;
     let second = decode_cut_run(alloc, cursor)?;
-    Ok(RunJoined {
+    Ok(CompactJoined {
         files,
         tables,
         first,
@@ -78,8 +78,8 @@ fn decode_cut_joined(alloc: Global, cursor: &mut Cursor) -> Result<RunJoined, De
 }
 
 /// Reads all between the magic and the digest, which are all of the bytes, with the traces as runs.
-pub(crate) fn decode_all(alloc: Global, bytes: &[u8]) -> Result<RunJoined, DecodeError>
-    ensures { Makes result (cut_joined_of bytes.now) }
+pub(crate) fn decode_all(alloc: Global, bytes: &[u8]) -> Result<CompactJoined, DecodeError>
+    ensures { Makes result (compact_joined_of bytes.now) }
 {
     let mut cursor = Cursor::of(bytes);
     let joined = decode_cut_joined(alloc, &mut cursor)?;

@@ -6,11 +6,11 @@ ghost use Rattle.package_join.specs.Layout.{bare_run_spelling, both_runs_spellin
 ghost use Rattle.package_join.specs.Layout.{needs_spelling, numbers_spelling, run_spelling};
 ghost use Rattle.package_join.specs.Rooms.{TypedBareRun, TypedCommonTable, IsTypedJoined};
 ghost use Rattle.package_join.specs.Rooms.{TypedJoinedRun, TypedNeeds, TypedRunNumbers};
-ghost use Rattle.package_join.specs.RunJoins.{both_cuts_spelling, cut_run_spelling, cut_sections, whole_join};
+ghost use Rattle.package_join.specs.CompactJoins.{both_compact_spelling, compact_run_spelling, compact_sections, whole_join};
 ghost use Rattle.package_layout.specs.Runs.{IsCut};
 
 use crate::joined::{Joined, JoinedRun, Reason};
-use crate::run_joined::{CutRun, RunJoined};
+use crate::compact_joined::{CompactRun, CompactJoined};
 use ldv_value::Bytes;
 use package_layout::{
     Encode, Width, encode_list, encode_reason, encode_text, encode_trace, encode_u32, encode_u64,
@@ -85,23 +85,23 @@ pub(crate) fn encode_joined(joined: &Joined, to: &mut Bytes) -> Result<(), Alloc
     encode_both_runs(joined, to)
 }
 
-fn encode_cut_run(run: &CutRun, to: &mut Bytes) -> Result<(), AllocError>
-    ensures { OnOk result (to.new ≡ to.old ++ cut_run_spelling run.now) }
+fn encode_cut_run(run: &CompactRun, to: &mut Bytes) -> Result<(), AllocError>
+    ensures { OnOk result (to.new ≡ to.old ++ compact_run_spelling run.now) }
 {
     encode_bare_run(&run.bare, to)?;
     encode_list(Width::Four, &run.runs, to)
 }
 
-fn encode_both_cuts(joined: &RunJoined, to: &mut Bytes) -> Result<(), AllocError>
-    ensures { OnOk result (to.new ≡ to.old ++ both_cuts_spelling joined.now) }
+fn encode_both_cuts(joined: &CompactJoined, to: &mut Bytes) -> Result<(), AllocError>
+    ensures { OnOk result (to.new ≡ to.old ++ both_compact_spelling joined.now) }
 {
     encode_cut_run(&joined.first, to)?;
     encode_cut_run(&joined.second, to)
 }
 
 /// The same of one whose traces are kept as runs.
-pub(crate) fn encode_cut_joined(joined: &RunJoined, to: &mut Bytes) -> Result<(), AllocError>
-    ensures bytes { OnOk result (to.new ≡ to.old ++ cut_sections joined.now) }
+pub(crate) fn encode_cut_joined(joined: &CompactJoined, to: &mut Bytes) -> Result<(), AllocError>
+    ensures bytes { OnOk result (to.new ≡ to.old ++ compact_sections joined.now) }
     ensures typed { OnOk result (AllByRecursion TypedCommonTable joined.now.tables) }
 {
     encode_list(Width::Four, &joined.files, to)?;
@@ -111,7 +111,7 @@ pub(crate) fn encode_cut_joined(joined: &RunJoined, to: &mut Bytes) -> Result<()
 
 /// The same where the runs are those of their events: the bytes are those of the joined package with its
 /// events.
-pub(crate) fn encode_cuts(joined: &RunJoined, to: &mut Bytes) -> Result<(), AllocError>
+pub(crate) fn encode_compact_joined(joined: &CompactJoined, to: &mut Bytes) -> Result<(), AllocError>
     requires first { IsCut joined.now.first.runs }
     requires second { IsCut joined.now.second.runs }
     ensures { OnOk result (to.new ≡ to.old ++ joined_sections (whole_join joined.now)) }

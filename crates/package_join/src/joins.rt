@@ -1,13 +1,13 @@
 //! Two packages, joined.
 
 ghost use Rattle.std.specs.Prelude.{◌≡◌, IfOk};
-ghost use Rattle.package_layout.specs.RunPackages.{expanded_package};
+ghost use Rattle.package_layout.specs.CompactPackages.{expanded_package};
 ghost use Rattle.package_layout.specs.Runs.{IsCut};
 ghost use Rattle.package_layout.specs.Valid.{IsValidPackage};
 ghost use Rattle.run_model.specs.declared.package.Mode.{Mode};
 ghost use Rattle.package_join.specs.Joined.{joined_of};
 ghost use Rattle.package_join.specs.Parts.{JoinsAs, early_clash, joined_after, joined_parts, join_of_parts};
-ghost use Rattle.package_join.specs.RunJoins.{CutsJoinAs, JoinsWithRuns};
+ghost use Rattle.package_join.specs.CompactJoins.{CompactJoinsAs, JoinsWithRuns};
 ghost use Rattle.package_join.specs.Valid.{IsValidJoined};
 
 use crate::clash::{files_clash, schemas_clash, taken_key, values_clash};
@@ -15,8 +15,8 @@ use crate::copying::copy_package;
 use crate::joined::{Clash, Joined};
 use crate::merging::merge_lists;
 use crate::parts::{Parts, parts_of};
-use crate::run_joined::{RunJoined, with_runs};
-use package_layout::RunPackage;
+use crate::compact_joined::{CompactJoined, with_runs};
+use package_layout::CompactPackage;
 use run_model::Package;
 use std::alloc::{AllocError, Global};
 
@@ -68,10 +68,10 @@ pub fn join_owned(alloc: Global, a: Package, b: Package) -> Result<Joined, JoinS
 
 /// The same of packages whose traces are kept as runs, which are those of their events. No list of events is
 /// made: it takes memory by the files, tables, rows and runs of both, and none by the number of events.
-pub fn join_runs(alloc: Global, a: RunPackage, b: RunPackage) -> Result<RunJoined, JoinStop>
+pub fn join_compact(alloc: Global, a: CompactPackage, b: CompactPackage) -> Result<CompactJoined, JoinStop>
     requires first { IsCut a.runs }
     requires second { IsCut b.runs }
-    ensures joined { CutsJoinAs result (joined_of (expanded_package a) (expanded_package b)) }
+    ensures joined { CompactJoinsAs result (joined_of (expanded_package a) (expanded_package b)) }
     // The runs stay those of their events.
     ensures first_cut { IfOk result (λ joined. IsCut joined.first.runs) }
     ensures second_cut { IfOk result (λ joined. IsCut joined.second.runs) }
@@ -82,9 +82,9 @@ pub fn join_runs(alloc: Global, a: RunPackage, b: RunPackage) -> Result<RunJoine
 /// What the packages without their traces are joined to, with the runs of both.
 pub(crate) fn join_with_runs(
     alloc: Global,
-    a: RunPackage,
-    b: RunPackage,
-) -> Result<RunJoined, JoinStop>
+    a: CompactPackage,
+    b: CompactPackage,
+) -> Result<CompactJoined, JoinStop>
     ensures { JoinsWithRuns a.runs b.runs result (joined_of a.bare b.bare) }
 {
     match join_owned(alloc, a.bare, b.bare) {

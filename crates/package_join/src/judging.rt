@@ -5,16 +5,16 @@ ghost use Rattle.std.specs.List.{AllByRecursion};
 ghost use Rattle.package_layout.specs.Fields.{Makes};
 ghost use Rattle.package_join.specs.Rooms.{TypedCommonTable};
 ghost use Rattle.package_join.specs.declared.joined.Which.TheVariants.{First, Second};
-ghost use Rattle.package_join.specs.RunJoins.{cut_anew, cut_spelled_so, cuts_in, picked_run, picked_runs};
-ghost use Rattle.package_join.specs.RunJoins.{join_of_packages, join_of_valid_packages};
+ghost use Rattle.package_join.specs.CompactJoins.{compact_anew, compact_spelled_so, compact_joined_in, picked_run, picked_runs};
+ghost use Rattle.package_join.specs.CompactJoins.{join_of_packages, join_of_valid_packages};
 
 use crate::choosing::picked_package;
 use crate::decoding::decode_all;
 use crate::encoding::encode_cut_joined;
 use crate::joins::{JoinStop, join_with_runs};
-use crate::run_joined::{CutRun, RunJoined};
+use crate::compact_joined::{CompactRun, CompactJoined};
 use ldv_value::Bytes;
-use package_layout::{DecodeError, RunPackage, Version, is_valid_package};
+use package_layout::{DecodeError, CompactPackage, Version, is_valid_package};
 use run_model::PackedFiles;
 use sql_model::Tables;
 use std::alloc::{AllocError, Global};
@@ -22,28 +22,28 @@ use std::alloc::{AllocError, Global};
 // The packages of both runs.
 #[derive(Drop)]
 struct Pair {
-    first: RunPackage,
-    second: RunPackage,
+    first: CompactPackage,
+    second: CompactPackage,
 }
 
 fn picked_run(
     alloc: Global,
-    run: CutRun,
+    run: CompactRun,
     files: &PackedFiles,
     tables: &Tables,
-) -> Result<RunPackage, AllocError>
+) -> Result<CompactPackage, AllocError>
     ensures { IfOk result (λ p. p ≡ picked_run run files.now tables.now) }
 {
-    let CutRun { bare, runs } = run;
+    let CompactRun { bare, runs } = run;
     let bare = picked_package(alloc, &bare, files, tables)?;
-    Ok(RunPackage { bare, runs })
+    Ok(CompactPackage { bare, runs })
 }
 
-fn picked_pair(alloc: Global, joined: RunJoined) -> Result<Pair, AllocError>
+fn picked_pair(alloc: Global, joined: CompactJoined) -> Result<Pair, AllocError>
     ensures first { IfOk result (λ pair. pair.first ≡ picked_runs First joined) }
     ensures second { IfOk result (λ pair. pair.second ≡ picked_runs Second joined) }
 {
-    let RunJoined {
+    let CompactJoined {
         files,
         tables,
         first,
@@ -55,7 +55,7 @@ fn picked_pair(alloc: Global, joined: RunJoined) -> Result<Pair, AllocError>
     })
 }
 
-fn join_of_packages(alloc: Global, a: RunPackage, b: RunPackage) -> Result<RunJoined, DecodeError>
+fn join_of_packages(alloc: Global, a: CompactPackage, b: CompactPackage) -> Result<CompactJoined, DecodeError>
     ensures { Makes result (join_of_packages a b) }
 {
     match join_with_runs(alloc, a, b) {
@@ -65,7 +65,11 @@ fn join_of_packages(alloc: Global, a: RunPackage, b: RunPackage) -> Result<RunJo
     }
 }
 
-fn join_of_valid_packages(alloc: Global, a: RunPackage, b: RunPackage) -> Result<RunJoined, DecodeError>
+fn join_of_valid_packages(
+    alloc: Global,
+    a: CompactPackage,
+    b: CompactPackage,
+) -> Result<CompactJoined, DecodeError>
     ensures { Makes result (join_of_valid_packages a b) }
 {
     if !is_valid_package(alloc, Version::Two, &a)? {
@@ -77,15 +81,15 @@ fn join_of_valid_packages(alloc: Global, a: RunPackage, b: RunPackage) -> Result
     join_of_packages(alloc, a, b)
 }
 
-fn cut_anew(alloc: Global, joined: RunJoined) -> Result<RunJoined, DecodeError>
-    ensures { Makes result (cut_anew joined) }
+fn compact_anew(alloc: Global, joined: CompactJoined) -> Result<CompactJoined, DecodeError>
+    ensures { Makes result (compact_anew joined) }
 {
     let Pair { first, second } = picked_pair(alloc, joined)?;
     join_of_valid_packages(alloc, first, second)
 }
 
-fn if_spelling_is(alloc: Global, bytes: &[u8], joined: RunJoined) -> Result<RunJoined, DecodeError>
-    ensures so { Makes result (cut_spelled_so bytes.now joined) }
+fn if_spelling_is(alloc: Global, bytes: &[u8], joined: CompactJoined) -> Result<CompactJoined, DecodeError>
+    ensures so { Makes result (compact_spelled_so bytes.now joined) }
     ensures typed { IfOk result (λ r. AllByRecursion TypedCommonTable r.tables) }
 {
     let mut made = Bytes::new(alloc);
@@ -99,12 +103,12 @@ fn if_spelling_is(alloc: Global, bytes: &[u8], joined: RunJoined) -> Result<RunJ
 
 /// The valid joined package whose sections these bytes are. What its runs pick out is joined anew, and has to
 /// be spelled by the same bytes: so no list of it has to be looked at.
-pub(crate) fn cuts_in(alloc: Global, bytes: &[u8]) -> Result<RunJoined, DecodeError>
-    ensures cuts { Makes result (cuts_in bytes.now) }
+pub(crate) fn compact_joined_in(alloc: Global, bytes: &[u8]) -> Result<CompactJoined, DecodeError>
+    ensures cuts { Makes result (compact_joined_in bytes.now) }
     // The numbers of its tables are those of their types.
     ensures typed { IfOk result (λ r. AllByRecursion TypedCommonTable r.tables) }
 {
     let read = decode_all(alloc, bytes)?;
-    let anew = cut_anew(alloc, read)?;
+    let anew = compact_anew(alloc, read)?;
     if_spelling_is(alloc, bytes, anew)
 }

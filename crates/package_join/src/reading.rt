@@ -5,13 +5,13 @@ ghost use Rattle.std.specs.List.{AllByRecursion};
 ghost use Rattle.package_layout.specs.Runs.{are_runs};
 ghost use Rattle.package_layout.specs.Valid.{HasDigest, has_digest};
 ghost use Rattle.package_join.specs.Rooms.{TypedCommonTable};
-ghost use Rattle.package_join.specs.RunJoins.{CutsReadAs, JoinedReadsAs, whole_join, whole_run};
+ghost use Rattle.package_join.specs.CompactJoins.{CompactJoinedReadsAs, JoinedReadsAs, whole_join, whole_run};
 ghost use Rattle.package_join.specs.Valid.{IsJoinedRead, IsNoJoined, digested_reading};
 ghost use Rattle.package_join.specs.Valid.{has_joined_magic, joined_damage_before, joined_reading};
 
 use crate::joined::{Joined, JoinedRun};
-use crate::judging::cuts_in;
-use crate::run_joined::{CutRun, RunJoined};
+use crate::judging::compact_joined_in;
+use crate::compact_joined::{CompactRun, CompactJoined};
 use crate::spelling::joined_magic;
 use package_layout::{
     DamageKind, DecodeError, PackageStop, events_in, first_eight, has_digest, middle,
@@ -23,7 +23,7 @@ use std::alloc::{AllocError, Global};
 /// `Form`.
 ///
 /// Lists of its events are made last, once all else is judged. They may be far larger than the bytes: where
-/// no events are wanted, take `read_cuts`.
+/// no events are wanted, take `read_compact_joined`.
 pub fn read_joined(alloc: Global, bytes: &[u8]) -> Result<Joined, PackageStop>
     ensures found { IfOk result (IsJoinedRead bytes.now) }
     ensures magic { (result ≡ Err (PackageStop.Damaged DamageKind.Magic))
@@ -40,15 +40,15 @@ pub fn read_joined(alloc: Global, bytes: &[u8]) -> Result<Joined, PackageStop>
 
 /// The same joined package, with its traces kept as runs. It takes memory by the bytes that are read, and
 /// none by the number of events. The answers are those of `read_joined`.
-pub fn read_cuts(alloc: Global, bytes: &[u8]) -> Result<RunJoined, PackageStop>
+pub fn read_compact_joined(alloc: Global, bytes: &[u8]) -> Result<CompactJoined, PackageStop>
     ensures found { IfOk result (λ r. IsJoinedRead bytes.now (whole_join r)) }
     // The numbers of its tables are those of their types.
     ensures typed { IfOk result (λ r. AllByRecursion TypedCommonTable r.tables) }
     // No events stand beside the runs.
     ensures bare { IfOk result (λ r. (r.first.bare.events ≡ []) × (r.second.bare.events ≡ [])) }
-    ensures reading { CutsReadAs result (joined_reading bytes.now) }
+    ensures reading { CompactJoinedReadsAs result (joined_reading bytes.now) }
 {
-    cuts_answer(alloc, bytes)
+    compact_answer(alloc, bytes)
 }
 
 fn answer(alloc: Global, bytes: &[u8]) -> Result<Joined, PackageStop>
@@ -56,13 +56,13 @@ fn answer(alloc: Global, bytes: &[u8]) -> Result<Joined, PackageStop>
     ensures at_once { IfSome (joined_damage_before bytes.now)
         (λ kind. result ≡ Err (PackageStop.Damaged kind)) }
 {
-    match cuts_answer(alloc, bytes) {
+    match compact_answer(alloc, bytes) {
         Ok(joined) => whole_answer(alloc, joined),
         Err(stop) => Err(stop),
     }
 }
 
-fn whole_answer(alloc: Global, joined: RunJoined) -> Result<Joined, PackageStop>
+fn whole_answer(alloc: Global, joined: CompactJoined) -> Result<Joined, PackageStop>
     requires first { are_runs joined.first.runs ≡ true }
     requires second { are_runs joined.second.runs ≡ true }
     ensures ok { IfOk result (λ j. j ≡ whole_join joined) }
@@ -74,12 +74,12 @@ fn whole_answer(alloc: Global, joined: RunJoined) -> Result<Joined, PackageStop>
     }
 }
 
-fn whole_join(alloc: Global, joined: RunJoined) -> Result<Joined, AllocError>
+fn whole_join(alloc: Global, joined: CompactJoined) -> Result<Joined, AllocError>
     requires first { are_runs joined.first.runs ≡ true }
     requires second { are_runs joined.second.runs ≡ true }
     ensures { IfOk result (λ j. j ≡ whole_join joined) }
 {
-    let RunJoined {
+    let CompactJoined {
         files,
         tables,
         first,
@@ -94,18 +94,18 @@ fn whole_join(alloc: Global, joined: RunJoined) -> Result<Joined, AllocError>
 }
 
 #[tactic(auto, using(package_layout::proofs::Runs::are_all_runs))]
-fn whole_run(alloc: Global, run: CutRun) -> Result<JoinedRun, AllocError>
+fn whole_run(alloc: Global, run: CompactRun) -> Result<JoinedRun, AllocError>
     requires { are_runs run.runs ≡ true }
     ensures { IfOk result (λ made. made ≡ whole_run run) }
 {
-    let CutRun { bare, runs } = run;
+    let CompactRun { bare, runs } = run;
     let mut whole = bare;
     whole.events = events_in(alloc, runs)?;
     Ok(whole)
 }
 
-fn cuts_answer(alloc: Global, bytes: &[u8]) -> Result<RunJoined, PackageStop>
-    ensures due { CutsReadAs result (joined_reading bytes.now) }
+fn compact_answer(alloc: Global, bytes: &[u8]) -> Result<CompactJoined, PackageStop>
+    ensures due { CompactJoinedReadsAs result (joined_reading bytes.now) }
     ensures at_once { IfSome (joined_damage_before bytes.now)
         (λ kind. result ≡ Err (PackageStop.Damaged kind)) }
     ensures first { IfOk result (λ r. are_runs r.first.runs ≡ true) }
@@ -126,8 +126,8 @@ fn has_joined_magic(bytes: &[u8]) -> bool
     first_eight(bytes) == joined_magic()
 }
 
-fn digested_answer(alloc: Global, bytes: &[u8]) -> Result<RunJoined, PackageStop>
-    ensures due { CutsReadAs result (digested_reading bytes.now) }
+fn digested_answer(alloc: Global, bytes: &[u8]) -> Result<CompactJoined, PackageStop>
+    ensures due { CompactJoinedReadsAs result (digested_reading bytes.now) }
     ensures at_once { has_digest bytes.now ≡ false → result ≡ Err (PackageStop.Damaged DamageKind.Digest) }
     ensures first { IfOk result (λ r. are_runs r.first.runs ≡ true) }
     ensures second { IfOk result (λ r. are_runs r.second.runs ≡ true) }
@@ -141,15 +141,15 @@ fn digested_answer(alloc: Global, bytes: &[u8]) -> Result<RunJoined, PackageStop
     }
 }
 
-fn middle_answer(alloc: Global, bytes: &[u8]) -> Result<RunJoined, PackageStop>
+fn middle_answer(alloc: Global, bytes: &[u8]) -> Result<CompactJoined, PackageStop>
     requires { has_digest bytes.now ≡ true }
-    ensures due { CutsReadAs result (digested_reading bytes.now) }
+    ensures due { CompactJoinedReadsAs result (digested_reading bytes.now) }
     ensures first { IfOk result (λ r. are_runs r.first.runs ≡ true) }
     ensures second { IfOk result (λ r. are_runs r.second.runs ≡ true) }
     ensures typed { IfOk result (λ r. AllByRecursion TypedCommonTable r.tables) }
     ensures bare { IfOk result (λ r. (r.first.bare.events ≡ []) × (r.second.bare.events ≡ [])) }
 {
-    match cuts_in(alloc, middle(bytes)) {
+    match compact_joined_in(alloc, middle(bytes)) {
         Ok(joined) => Ok(joined),
         Err(DecodeError::Malformed) => Err(PackageStop::Damaged(DamageKind::Form)),
         Err(DecodeError::NoMemory) => Err(PackageStop::NoMemory),

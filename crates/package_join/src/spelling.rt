@@ -4,12 +4,12 @@ ghost use Rattle.std.specs.Prelude.{◌≡◌, ◌≤◌, ◌<◌, IfOk, OnOk, I
 ghost use Rattle.ldv_value.specs.Limits.{input_limit};
 ghost use Rattle.package_join.specs.Layout.{joined_body, joined_magic, joined_spelling};
 ghost use Rattle.package_join.specs.Rooms.{IsTypedJoined};
-ghost use Rattle.package_join.specs.RunJoins.{whole_join};
+ghost use Rattle.package_join.specs.CompactJoins.{whole_join};
 ghost use Rattle.package_layout.specs.Runs.{IsCut};
 
-use crate::encoding::{encode_cuts, encode_joined};
+use crate::encoding::{encode_compact_joined, encode_joined};
 use crate::joined::Joined;
-use crate::run_joined::RunJoined;
+use crate::compact_joined::CompactJoined;
 use ldv_value::Bytes;
 use package_layout::{SpellStop, append_digest};
 use std::alloc::{AllocError, Global};
@@ -35,7 +35,7 @@ pub fn spell_joined(alloc: Global, joined: &Joined) -> Result<Bytes, SpellStop>
 }
 
 /// The same of one whose traces are kept as runs, which are those of their events. No list of events is made.
-pub fn spell_cuts(alloc: Global, joined: &RunJoined) -> Result<Bytes, SpellStop>
+pub fn spell_compact_joined(alloc: Global, joined: &CompactJoined) -> Result<Bytes, SpellStop>
     requires first { IsCut joined.now.first.runs }
     requires second { IsCut joined.now.second.runs }
     ensures bytes { IfOk result (λ bytes. bytes ≡ joined_spelling (whole_join joined.now)) }
@@ -43,7 +43,7 @@ pub fn spell_cuts(alloc: Global, joined: &RunJoined) -> Result<Bytes, SpellStop>
     ensures too_long { IsErrOf result SpellStop.TooLong →
         input_limit < length (joined_spelling (whole_join joined.now)) }
 {
-    let body = body_of_cuts(alloc, joined)?;
+    let body = body_of_compact(alloc, joined)?;
     append_digest(body)
 }
 
@@ -56,12 +56,12 @@ fn body_of(alloc: Global, joined: &Joined) -> Result<Bytes, AllocError>
     Ok(bytes)
 }
 
-fn body_of_cuts(alloc: Global, joined: &RunJoined) -> Result<Bytes, AllocError>
+fn body_of_compact(alloc: Global, joined: &CompactJoined) -> Result<Bytes, AllocError>
     requires first { IsCut joined.now.first.runs }
     requires second { IsCut joined.now.second.runs }
     ensures { IfOk result (λ bytes. bytes ≡ joined_body (whole_join joined.now)) }
 {
     let mut bytes = Bytes::of_slice(alloc, joined_magic())?;
-    encode_cuts(joined, &mut bytes)?;
+    encode_compact_joined(joined, &mut bytes)?;
     Ok(bytes)
 }

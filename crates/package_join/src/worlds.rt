@@ -3,12 +3,12 @@
 ghost use Rattle.std.specs.Prelude.{◌≡◌, IfOk};
 ghost use Rattle.std.specs.List.{filter_map};
 ghost use Rattle.slicer.specs.Marks.{has_name};
-ghost use Rattle.package_join.specs.RunJoins.{whole_join};
+ghost use Rattle.package_join.specs.CompactJoins.{whole_join};
 ghost use Rattle.package_join.specs.Worlds.{empty_if, joined_world, seen_by, world_by, world_file, world_of};
 
 use crate::choosing::name_set;
 use crate::joined::{Joined, JoinedRun, Which};
-use crate::run_joined::RunJoined;
+use crate::compact_joined::CompactJoined;
 use ldv_value::{Bytes, File, Files, Utf8};
 use run_model::{PackedFile, PackedFiles, World};
 use slicer::{NameSet, has};
@@ -39,10 +39,10 @@ fn world_of(alloc: Global, run: &JoinedRun, joined: &Joined) -> Result<World, Al
 
 /// The world of a run of a joined package whose traces are kept as runs of events, in its own memory: no file
 /// and no row is copied. A file that only the other run needs present isn't in it.
-pub fn world_owned(alloc: Global, joined: RunJoined, which: Which) -> Result<World, AllocError>
+pub fn world_owned(alloc: Global, joined: CompactJoined, which: Which) -> Result<World, AllocError>
     ensures { IfOk result (λ world. world ≡ joined_world which (whole_join joined)) }
 {
-    let RunJoined {
+    let CompactJoined {
         files,
         tables,
         first,

@@ -15,12 +15,12 @@ use Rattle.package_layout.specs.declared.damage.DamageKind.{DamageKind}
 use Rattle.package_layout.specs.declared.damage.DamageKind.TheVariants.{Magic, Digest, Form}
 use Rattle.package_layout.specs.declared.layout.PackageStop.{PackageStop}
 use Rattle.package_layout.specs.declared.layout.PackageStop.TheVariants.{Damaged, NoMemory}
-use Rattle.package_layout.specs.declared.run_package.ParsedPackage.{ParsedPackage}
-use Rattle.package_layout.specs.declared.run_package.RunPackage.{RunPackage}
+use Rattle.package_layout.specs.declared.compact_package.ParsedPackage.{ParsedPackage}
+use Rattle.package_layout.specs.declared.compact_package.CompactPackage.{CompactPackage}
 use Rattle.package_layout.specs.Counted.{IsCounted}
 use Rattle.package_layout.specs.Plain.{has_no_foreign, is_plain_row, is_plain_table, is_plain_log, is_plain_event, has_tables, fits_version}
-use Rattle.package_layout.specs.ReadResult.{ReadsAs, RunsReadAs, damage_by, damage_before}
-use Rattle.package_layout.specs.RunPackages.{expanded_package}
+use Rattle.package_layout.specs.ReadResult.{ReadsAs, CompactReadsAs, damage_by, damage_before}
+use Rattle.package_layout.specs.CompactPackages.{expanded_package}
 use Rattle.package_layout.specs.Runs.{IsCut, are_runs}
 use Rattle.package_layout.specs.StartScript.{cut_of}
 use Rattle.package_layout.specs.Valid.{rules, IsValidPackage, HasDigest, IsSpelling, IsSpelled, IsNoSpelling, IsUnspelled, before_digest, middle, kept_if, package_in, has_digest, form_of, reading_as, reading_by, reading}
@@ -252,8 +252,8 @@ module _ {X : Type 0} (bytes : List ℕ) (r : Result X PackageStop) (says : (kin
 read_says : (bytes : List ℕ) (r : Result Package PackageStop) → ReadsAs r (reading bytes) → (kind : DamageKind) → r ≡ damaged kind → reading bytes ≡ Err kind
 read_says bytes r due kind e = subst (λ z. ReadsAs z (reading bytes)) e due
 
-runs_say : (bytes : List ℕ) (r : Result RunPackage PackageStop) → RunsReadAs r (reading bytes) → (kind : DamageKind) → r ≡ damaged kind → reading bytes ≡ Err kind
-runs_say bytes r due kind e = subst (λ z. RunsReadAs z (reading bytes)) e due
+runs_say : (bytes : List ℕ) (r : Result CompactPackage PackageStop) → CompactReadsAs r (reading bytes) → (kind : DamageKind) → r ≡ damaged kind → reading bytes ≡ Err kind
+runs_say bytes r due kind e = subst (λ z. CompactReadsAs z (reading bytes)) e due
 
 pub IfOk-reading : (bytes : List ℕ) (r : Result Package PackageStop) → IsBytes bytes → ReadsAs r (reading bytes) → IfOk r (λ p. IsTyped p × IsValidPackage p × IsSpelled bytes p)
 IfOk-reading bytes (Ok p) h due = ok_read bytes p h due
@@ -268,73 +268,73 @@ digest_is bytes r due once = digest_answer bytes r (read_says bytes r due) once
 pub form_is : (bytes : List ℕ) (r : Result Package PackageStop) → ReadsAs r (reading bytes) → IfSome (damage_before bytes) (λ kind. r ≡ damaged kind) → r ≡ damaged Form → HasDigest bytes × IsUnspelled bytes
 form_is bytes r due once = form_answer bytes r (read_says bytes r due) once
 
-pub runs_found : (bytes : List ℕ) (r : Result RunPackage PackageStop) → IsBytes bytes → RunsReadAs r (reading bytes) → IfOk r (λ r. IsTyped (expanded_package r) × IsValidPackage (expanded_package r) × IsSpelled bytes (expanded_package r))
+pub runs_found : (bytes : List ℕ) (r : Result CompactPackage PackageStop) → IsBytes bytes → CompactReadsAs r (reading bytes) → IfOk r (λ r. IsTyped (expanded_package r) × IsValidPackage (expanded_package r) × IsSpelled bytes (expanded_package r))
 runs_found bytes (Ok r) h due = ok_read bytes (expanded_package r) h due
 runs_found bytes (Err stop) h due = tt
 
-pub parsed_found : (bytes : List ℕ) (r : Result ParsedPackage PackageStop) → IsBytes bytes → RunsReadAs (cut_of r) (reading bytes)
+pub parsed_found : (bytes : List ℕ) (r : Result ParsedPackage PackageStop) → IsBytes bytes → CompactReadsAs (cut_of r) (reading bytes)
     → IfOk r (λ (p : ParsedPackage). IsTyped (expanded_package p.cut) × IsValidPackage (expanded_package p.cut) × IsSpelled bytes (expanded_package p.cut))
 parsed_found bytes (Ok p) h due = ok_read bytes (expanded_package p.cut) h due
 parsed_found bytes (Err stop) h due = tt
 
-pub runs_magic : (bytes : List ℕ) (r : Result RunPackage PackageStop) → RunsReadAs r (reading bytes) → IfSome (damage_before bytes) (λ kind. r ≡ damaged kind) → (r ≡ damaged Magic) ↔ (version_of bytes ≡ None)
+pub runs_magic : (bytes : List ℕ) (r : Result CompactPackage PackageStop) → CompactReadsAs r (reading bytes) → IfSome (damage_before bytes) (λ kind. r ≡ damaged kind) → (r ≡ damaged Magic) ↔ (version_of bytes ≡ None)
 runs_magic bytes r due once = magic_answer bytes r (runs_say bytes r due) once
 
-pub runs_digest : (bytes : List ℕ) (r : Result RunPackage PackageStop) → RunsReadAs r (reading bytes) → IfSome (damage_before bytes) (λ kind. r ≡ damaged kind) → (r ≡ damaged Digest) ↔ (IsSome (version_of bytes) × (¬ HasDigest bytes))
+pub runs_digest : (bytes : List ℕ) (r : Result CompactPackage PackageStop) → CompactReadsAs r (reading bytes) → IfSome (damage_before bytes) (λ kind. r ≡ damaged kind) → (r ≡ damaged Digest) ↔ (IsSome (version_of bytes) × (¬ HasDigest bytes))
 runs_digest bytes r due once = digest_answer bytes r (runs_say bytes r due) once
 
-pub runs_form : (bytes : List ℕ) (r : Result RunPackage PackageStop) → RunsReadAs r (reading bytes) → IfSome (damage_before bytes) (λ kind. r ≡ damaged kind) → r ≡ damaged Form → HasDigest bytes × IsUnspelled bytes
+pub runs_form : (bytes : List ℕ) (r : Result CompactPackage PackageStop) → CompactReadsAs r (reading bytes) → IfSome (damage_before bytes) (λ kind. r ≡ damaged kind) → r ≡ damaged Form → HasDigest bytes × IsUnspelled bytes
 runs_form bytes r due once = form_answer bytes r (runs_say bytes r due) once
 
 -- ---- the answer by the version
 
-by_digest : (d : Bool) (r : Result RunPackage PackageStop) → (d ≡ false → r ≡ damaged Digest) → IfSome (cond d None (Some Digest)) (λ kind. r ≡ damaged kind)
+by_digest : (d : Bool) (r : Result CompactPackage PackageStop) → (d ≡ false → r ≡ damaged Digest) → IfSome (cond d None (Some Digest)) (λ kind. r ≡ damaged kind)
 by_digest true r h = tt
 by_digest false r h = h refl
 
-pub some_due : (bytes : List ℕ) (v : Version) (r : Result RunPackage PackageStop) → Some v ≡ version_of bytes → RunsReadAs r (reading_as v bytes) → RunsReadAs r (reading bytes)
-some_due bytes v r is due = subst (λ (o : Option Version). RunsReadAs r (reading_by o bytes)) is due
+pub some_due : (bytes : List ℕ) (v : Version) (r : Result CompactPackage PackageStop) → Some v ≡ version_of bytes → CompactReadsAs r (reading_as v bytes) → CompactReadsAs r (reading bytes)
+some_due bytes v r is due = subst (λ (o : Option Version). CompactReadsAs r (reading_by o bytes)) is due
 
-pub some_once : (bytes : List ℕ) (v : Version) (r : Result RunPackage PackageStop) → Some v ≡ version_of bytes → (has_digest bytes ≡ false → r ≡ damaged Digest)
+pub some_once : (bytes : List ℕ) (v : Version) (r : Result CompactPackage PackageStop) → Some v ≡ version_of bytes → (has_digest bytes ≡ false → r ≡ damaged Digest)
     → IfSome (damage_before bytes) (λ kind. r ≡ damaged kind)
 some_once bytes v r is h = subst (λ (o : Option Version). IfSome (damage_by o bytes) (λ kind. r ≡ damaged kind)) is (by_digest (has_digest bytes) r h)
 
 pub none_due : (bytes : List ℕ) → None ≡ version_of bytes → reading bytes ≡ Err Magic
 none_due bytes is = ap (λ (o : Option Version). reading_by o bytes) (sym is)
 
-pub none_once : (bytes : List ℕ) (r : Result RunPackage PackageStop) → None ≡ version_of bytes → r ≡ damaged Magic → IfSome (damage_before bytes) (λ kind. r ≡ damaged kind)
+pub none_once : (bytes : List ℕ) (r : Result CompactPackage PackageStop) → None ≡ version_of bytes → r ≡ damaged Magic → IfSome (damage_before bytes) (λ kind. r ≡ damaged kind)
 none_once bytes r is e = subst (λ (o : Option Version). IfSome (damage_by o bytes) (λ kind. r ≡ damaged kind)) is e
 
 -- ---- the answer with all events
 
-pub whole_due : (bytes : List ℕ) (r : RunPackage) (o : Result Package PackageStop) → reading bytes ≡ Ok (expanded_package r) → IfOk o (λ p. p ≡ expanded_package r) → ((stop : PackageStop) → o ≡ Err stop → stop ≡ NoMemory)
+pub whole_due : (bytes : List ℕ) (r : CompactPackage) (o : Result Package PackageStop) → reading bytes ≡ Ok (expanded_package r) → IfOk o (λ p. p ≡ expanded_package r) → ((stop : PackageStop) → o ≡ Err stop → stop ≡ NoMemory)
     → ReadsAs o (reading bytes)
 whole_due bytes r (Ok p) due is none = due ∙ (λ j. Ok (sym is j))
 whole_due bytes r (Err NoMemory) due is none = tt
 whole_due bytes r (Err (Damaged kind)) due is none = let no : Damaged kind ≡ NoMemory = none (Damaged kind) refl in absurd cc
 
 -- nothing was seen before where a package was read
-pub not_damaged : (bytes : List ℕ) (r : RunPackage) (o : Result Package PackageStop) → IfSome (damage_before bytes) (λ kind. Ok r ≡ damaged {X = RunPackage} kind) → IfSome (damage_before bytes) (λ kind. o ≡ damaged kind)
+pub not_damaged : (bytes : List ℕ) (r : CompactPackage) (o : Result Package PackageStop) → IfSome (damage_before bytes) (λ kind. Ok r ≡ damaged {X = CompactPackage} kind) → IfSome (damage_before bytes) (λ kind. o ≡ damaged kind)
 not_damaged bytes r o once = by (damage_before bytes) once
   where
-    by : (d : Option DamageKind) → IfSome d (λ kind. Ok r ≡ damaged {X = RunPackage} kind) → IfSome d (λ kind. o ≡ damaged kind)
+    by : (d : Option DamageKind) → IfSome d (λ kind. Ok r ≡ damaged {X = CompactPackage} kind) → IfSome d (λ kind. o ≡ damaged kind)
     by None h = tt
     by (Some kind) h = absurd cc
 
 abbrev pub stopped : {X : Type 0} → PackageStop → Result X PackageStop
 stopped stop = Err stop
 
-same_stop : (stop other : PackageStop) → stopped {X = RunPackage} stop ≡ stopped {X = RunPackage} other → stop ≡ other
+same_stop : (stop other : PackageStop) → stopped {X = CompactPackage} stop ≡ stopped {X = CompactPackage} other → stop ≡ other
 same_stop stop other e = cc
 
-pub stop_once : (bytes : List ℕ) (stop : PackageStop) (o : Result Package PackageStop) → o ≡ Err stop → IfSome (damage_before bytes) (λ kind. Err stop ≡ damaged {X = RunPackage} kind) → IfSome (damage_before bytes) (λ kind. o ≡ damaged kind)
+pub stop_once : (bytes : List ℕ) (stop : PackageStop) (o : Result Package PackageStop) → o ≡ Err stop → IfSome (damage_before bytes) (λ kind. Err stop ≡ damaged {X = CompactPackage} kind) → IfSome (damage_before bytes) (λ kind. o ≡ damaged kind)
 stop_once bytes stop o is once = by (damage_before bytes) once
   where
-    by : (d : Option DamageKind) → IfSome d (λ kind. Err stop ≡ damaged {X = RunPackage} kind) → IfSome d (λ kind. o ≡ damaged kind)
+    by : (d : Option DamageKind) → IfSome d (λ kind. Err stop ≡ damaged {X = CompactPackage} kind) → IfSome d (λ kind. o ≡ damaged kind)
     by None h = tt
     by (Some kind) h = is ∙ ap (stopped {X = Package}) (same_stop stop (Damaged kind) h)
 
-pub stop_due : (bytes : List ℕ) (stop : PackageStop) → RunsReadAs (Err stop) (reading bytes) → ReadsAs (Err stop) (reading bytes)
+pub stop_due : (bytes : List ℕ) (stop : PackageStop) → CompactReadsAs (Err stop) (reading bytes) → ReadsAs (Err stop) (reading bytes)
 stop_due bytes (Damaged kind) due = due
 stop_due bytes NoMemory due = tt
 
@@ -346,6 +346,6 @@ too_long_is b n len lt = omega (arith, length-append b (sha256 b), length-sha256
 pub within_limit : (b d : List ℕ) (n : ℕ) → n ≡ length b → n ≤ 67108832 → d ≡ b ++ sha256 b → length d ≤ 67108864
 within_limit b d n len le e = omega (arith, ap length e, length-append b (sha256 b), length-sha256 b)
 
-pub runs_cut : (r : Result RunPackage PackageStop) → IfOk r (λ r. are_runs r.runs ≡ true) → IfOk r (λ r. IsCut r.runs)
+pub runs_cut : (r : Result CompactPackage PackageStop) → IfOk r (λ r. are_runs r.runs ≡ true) → IfOk r (λ r. IsCut r.runs)
 runs_cut (Ok r) h = is_cut r.runs h
 runs_cut (Err stop) h = tt

@@ -5,7 +5,7 @@ use Rattle.std.proofs.lemmas.List.Folds.{list_all-append}
 use Rattle.ldv_value.proofs.Booleans.{and-parts, and-true}
 use Rattle.run_model.specs.declared.event.Event.{Event}
 use Rattle.package_layout.specs.Plain.{is_plain_act, is_plain_event}
-use Rattle.package_layout.specs.Runs.{Run, steps_from, at_step, run_events, events_in, is_run}
+use Rattle.package_layout.specs.Runs.{EventRun, steps_from, at_step, run_events, events_in, is_run}
 use Rattle.package_layout.proofs.Runs.{run_some}
 
 and-same : (b : Bool) → (b && b) ≡ b
@@ -23,7 +23,7 @@ count_plain : (e : Event) (step stride n : ℕ) → 1 ≤ n
 count_plain e step stride zero some = absurd (omega (arith, some))
 count_plain e step stride (suc n) some = some_plain e step stride n
 
-pub plain_events : (rs : List Run) → list_all is_run rs ≡ true
+pub plain_events : (rs : List EventRun) → list_all is_run rs ≡ true
     → list_all is_plain_event (events_in rs) ≡ list_all (λ r. is_plain_act r.first.act) rs
 plain_events [] good = refl
 plain_events (r ∷ rs) good =

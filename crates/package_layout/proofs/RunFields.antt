@@ -20,7 +20,7 @@ use Rattle.package_layout.proofs.Events.{event_law, event_filled}
 use Rattle.package_layout.proofs.Laws.{IsField, just, always, restate, recount, made_law, then_law, struct_law}
 use Rattle.package_layout.proofs.Numbers.{long_law}
 use Rattle.package_layout.proofs.Tables.{u32_law}
-use Rattle.package_layout.specs.Runs.{Run, TypedRun, CountedRun, run_room, run_spelling, run_at, runs_spelling, runs_at, trace_room, events_of_runs}
+use Rattle.package_layout.specs.Runs.{EventRun, TypedEventRun, CountedEventRun, event_run_room, event_run_spelling, event_run_at, runs_spelling, runs_at, trace_room, events_of_runs}
 use Rattle.package_layout.specs.Runs.{Begun, run_of_one, joins, run_with_event, runs_from, runs_of, steps_from, at_step, run_events, events_in, total, last_step, is_run, stops_before, are_longest, are_runs, max_events}
 use Rattle.package_layout.proofs.Runs.{grown_begun, grown_events, unasked, last_from, last-is, last_step-is, joined, IsBegun, single_begun, events_again, formed_run, run_shape, heads_by, runs_again, HasShape, IsSmall, run_is, all_formed, runs_good, events-length}
 
@@ -37,7 +37,7 @@ all_mapped P Q f h [] all = tt
 all_mapped P Q f h (x ∷ xs) all = (h x all.0, all_mapped P Q f h xs all.1)
 
 -- the events of a run are typed where it is
-run_typed : (r : Run) → is_run r ≡ true → TypedRun r → AllByRecursion TypedEvent (run_events r)
+run_typed : (r : EventRun) → is_run r ≡ true → TypedEventRun r → AllByRecursion TypedEvent (run_events r)
 run_typed r h typed = by r.count refl
   where
     by : (n : ℕ) → r.count ≡ n → AllByRecursion TypedEvent (map (at_step r.first) (steps_from r.first.step r.stride n))
@@ -47,14 +47,14 @@ run_typed r h typed = by r.count refl
         all_mapped (λ (s : ℕ). s < 2 ^ 32) TypedEvent (at_step r.first) (λ s small. (small, typed.0.1))
         (steps_from r.first.step r.stride (suc n)) (small_steps r.first.step r.stride n (2 ^ 32) less)
 
-events_typed : (rs : List Run) → list_all is_run rs ≡ true → AllByRecursion TypedRun rs → AllByRecursion TypedEvent (events_in rs)
+events_typed : (rs : List EventRun) → list_all is_run rs ≡ true → AllByRecursion TypedEventRun rs → AllByRecursion TypedEvent (events_in rs)
 events_typed [] good typed = tt
 events_typed (r ∷ rs) good typed =
     let goods = and-parts (is_run r) (list_all is_run rs) good in
     all_append TypedEvent (run_events r) (events_in rs) (run_typed r goods.0 typed.0) (events_typed rs goods.1 typed.1)
 
 -- its stride is un more than its last step
-small_stride : (r : Run) → is_run r ≡ true → r.stride < 2 ^ 32
+small_stride : (r : EventRun) → is_run r ≡ true → r.stride < 2 ^ 32
 small_stride r h = by r.count refl
   where
     shape : (1 ≤ r.count) × (cond (r.count == 1) (r.stride == 0) (not (is_asked r.first.act)) ≡ true) × (last_step r < 2 ^ 32)
@@ -71,13 +71,13 @@ small_stride r h = by r.count refl
         omega (arith, reach, suc-mul n r.stride, shape.2)
 
 -- a run is typed where its events are and they are few enough
-typed_run : (r : Run) → is_run r ≡ true → r.count < 2 ^ 32 → AllByRecursion TypedEvent (run_events r) → TypedRun r
+typed_run : (r : EventRun) → is_run r ≡ true → r.count < 2 ^ 32 → AllByRecursion TypedEvent (run_events r) → TypedEventRun r
 typed_run r h few typed =
     let head = heads_by r.first r.count r.stride (formed_run r h) in
     let all : AllByRecursion TypedEvent (r.first ∷ head.0) = subst (AllByRecursion TypedEvent) head.1 typed in
     (all.0, (few, small_stride r h))
 
-typed_runs : (rs : List Run) → list_all is_run rs ≡ true → total rs < 2 ^ 32 → AllByRecursion TypedEvent (events_in rs) → AllByRecursion TypedRun rs
+typed_runs : (rs : List EventRun) → list_all is_run rs ≡ true → total rs < 2 ^ 32 → AllByRecursion TypedEvent (events_in rs) → AllByRecursion TypedEventRun rs
 typed_runs [] good few typed = tt
 typed_runs (r ∷ rs) good few typed =
     let goods = and-parts (is_run r) (list_all is_run rs) good in
@@ -90,22 +90,22 @@ same_room : (first : Event) (steps : List ℕ) → event_room first ≡ true →
 same_room e [] room = refl
 same_room e (s ∷ steps) room = and-from (event_room e) (list_all event_room (map (at_step e) steps)) room (same_room e steps room)
 
-events_room : (rs : List Run) → list_all run_room rs ≡ true → list_all event_room (events_in rs) ≡ true
+events_room : (rs : List EventRun) → list_all event_run_room rs ≡ true → list_all event_room (events_in rs) ≡ true
 events_room [] room = refl
 events_room (r ∷ rs) room =
-    let both = and-parts (run_room r) (list_all run_room rs) room in
+    let both = and-parts (event_run_room r) (list_all event_run_room rs) room in
     list_all-append event_room (run_events r) (events_in rs)
     ∙ and-from (list_all event_room (run_events r)) (list_all event_room (events_in rs))
     (same_room r.first (steps_from r.first.step r.stride r.count) both.0) (events_room rs both.1)
 
-rooms_of : (rs : List Run) → list_all is_run rs ≡ true → list_all event_room (events_in rs) ≡ true → list_all run_room rs ≡ true
+rooms_of : (rs : List EventRun) → list_all is_run rs ≡ true → list_all event_room (events_in rs) ≡ true → list_all event_run_room rs ≡ true
 rooms_of [] good room = refl
 rooms_of (r ∷ rs) good room =
     let goods = and-parts (is_run r) (list_all is_run rs) good in
     let both = and-parts (list_all event_room (run_events r)) (list_all event_room (events_in rs)) (sym (list_all-append event_room (run_events r) (events_in rs)) ∙ room) in
     let head = heads_by r.first r.count r.stride (formed_run r goods.0) in
     let first = and-parts (event_room r.first) (list_all event_room head.0) (sym (ap (list_all event_room) head.1) ∙ both.0) in
-    and-from (run_room r) (list_all run_room rs) first.0 (rooms_of rs goods.1 both.1)
+    and-from (event_run_room r) (list_all event_run_room rs) first.0 (rooms_of rs goods.1 both.1)
 
 -- ---- the trace in runs
 
@@ -116,11 +116,11 @@ small_events (e ∷ es) typed = (typed.0.0, small_events es typed.1)
 abbrev RunParts : Type 0
 RunParts = Event × (ℕ × ℕ)
 
-abbrev parts_of : Run → RunParts
+abbrev parts_of : EventRun → RunParts
 parts_of r = (r.first, (r.count, r.stride))
 
-run_law : IsField run_spelling TypedRun run_room CountedRun run_at
-run_law = recount CountedRun (struct_law (λ (p : RunParts). event_spelling p.0 ++ (to_be_bytes w32 p.1.0 ++ to_be_bytes w32 p.1.1)) (λ (p : RunParts). TypedEvent p.0 × (IsU32 p.1.0 × IsU32 p.1.1)) (λ (p : RunParts). event_room p.0) (both_at event_at (both_at (number_at w32) (number_at w32)))
+run_law : IsField event_run_spelling TypedEventRun event_run_room CountedEventRun event_run_at
+run_law = recount CountedEventRun (struct_law (λ (p : RunParts). event_spelling p.0 ++ (to_be_bytes w32 p.1.0 ++ to_be_bytes w32 p.1.1)) (λ (p : RunParts). TypedEvent p.0 × (IsU32 p.1.0 × IsU32 p.1.1)) (λ (p : RunParts). event_room p.0) (both_at event_at (both_at (number_at w32) (number_at w32)))
     (λ (p : RunParts). record { first = p.0; count = p.1.0; stride = p.1.1 }) parts_of
     (restate (λ (p : RunParts). event_spelling p.0 ++ (to_be_bytes w32 p.1.0 ++ to_be_bytes w32 p.1.1)) (λ (p : RunParts). TypedEvent p.0 × (IsU32 p.1.0 × IsU32 p.1.1)) (λ (p : RunParts). TypedEvent p.0 × (IsU32 p.1.0 × IsU32 p.1.1)) (λ (p : RunParts). event_room p.0 && true) (λ (p : RunParts). event_room p.0) (both_at event_at (both_at (number_at w32) (number_at w32)))
     (then_law event_spelling TypedEvent event_room event_at (λ (q : ℕ × ℕ). to_be_bytes w32 q.0 ++ to_be_bytes w32 q.1) (λ (q : ℕ × ℕ). IsU32 q.0 × IsU32 q.1) (λ a. always) (λ a. both_at (number_at w32) (number_at w32)) event_law
@@ -129,16 +129,16 @@ run_law = recount CountedRun (struct_law (λ (p : RunParts). event_spelling p.0 
     (λ r. refl) (λ p. refl))
     (λ r n. (n, (tt, tt))) (λ r n. n.0)
 
-run_filled : (r : Run) → 0 < length (run_spelling r)
+run_filled : (r : EventRun) → 0 < length (event_run_spelling r)
 run_filled r = omega (arith, length-append (event_spelling r.first) (to_be_bytes w32 r.count ++ to_be_bytes w32 r.stride), event_filled r.first)
 
-runs_list_law : IsField (list_spelling w32 run_spelling) (AllByRecursion TypedRun) (list_all run_room) (CountedList CountedRun) (list_at w32 run_at)
-runs_list_law = long_law run_spelling TypedRun run_room run_at run_law run_filled
+runs_list_law : IsField (list_spelling w32 event_run_spelling) (AllByRecursion TypedEventRun) (list_all event_run_room) (CountedList CountedEventRun) (list_at w32 event_run_at)
+runs_list_law = long_law event_run_spelling TypedEventRun event_run_room event_run_at run_law run_filled
 
 forth : (es : List Event) → AllByRecursion TypedEvent es → trace_room es ≡ true
-    → AllByRecursion TypedRun (runs_of es) × (list_all run_room (runs_of es) ≡ true) × (events_of_runs (runs_of es) ≡ Some es)
+    → AllByRecursion TypedEventRun (runs_of es) × (list_all event_run_room (runs_of es) ≡ true) × (events_of_runs (runs_of es) ≡ Some es)
 forth es typed room =
-    let rs : List Run = runs_of es in
+    let rs : List EventRun = runs_of es in
     let both = and-parts (nat_le (length es) max_events) (list_all event_room es) room in
     let good = runs_good es (small_events es typed) in
     let again : events_in rs ≡ es = events_again es in
@@ -151,7 +151,7 @@ forth es typed room =
       rw are (ap just again),
     )
 
-from_runs : (rs : List Run) (es : List Event) (b : Bool) → are_runs rs ≡ b → AllByRecursion TypedRun rs → list_all run_room rs ≡ true → cond b (Some (events_in rs)) None ≡ Some es
+from_runs : (rs : List EventRun) (es : List Event) (b : Bool) → are_runs rs ≡ b → AllByRecursion TypedEventRun rs → list_all event_run_room rs ≡ true → cond b (Some (events_in rs)) None ≡ Some es
     → (rs ≡ runs_of es) × AllByRecursion TypedEvent es × (trace_room es ≡ true)
 from_runs rs es true are typed room h =
     let one = and-parts (nat_le (total rs) max_events && list_all is_run rs) (are_longest rs) are in
@@ -164,13 +164,13 @@ from_runs rs es true are typed room h =
     )
 from_runs rs es false are typed room h = absurd cc
 
-pub runs_law : IsField runs_spelling (AllByRecursion TypedEvent) trace_room (λ es. CountedList CountedRun (runs_of es)) runs_at
-runs_law = made_law (list_spelling w32 run_spelling) (AllByRecursion TypedRun) (list_all run_room) (list_at w32 run_at) (AllByRecursion TypedEvent) trace_room events_of_runs runs_of runs_list_law
+pub runs_law : IsField runs_spelling (AllByRecursion TypedEvent) trace_room (λ es. CountedList CountedEventRun (runs_of es)) runs_at
+runs_law = made_law (list_spelling w32 event_run_spelling) (AllByRecursion TypedEventRun) (list_all event_run_room) (list_at w32 event_run_at) (AllByRecursion TypedEvent) trace_room events_of_runs runs_of runs_list_law
     forth (λ rs es t h k. from_runs rs es (are_runs rs) refl t h k)
 
 -- ---- a trace that is written in runs is typed, though of a run only the first event is written
 
-first_typed : (r : Run) → is_run r ≡ true → TypedEvent r.first → AllByRecursion TypedEvent (run_events r)
+first_typed : (r : EventRun) → is_run r ≡ true → TypedEvent r.first → AllByRecursion TypedEvent (run_events r)
 first_typed r h typed = by r.count refl
   where
     by : (n : ℕ) → r.count ≡ n → AllByRecursion TypedEvent (map (at_step r.first) (steps_from r.first.step r.stride n))
@@ -223,36 +223,36 @@ stands_last all b left s is small first =
 
 -- what is due stays due, where the run that has begun grows, and where it is written
 abbrev pub Due : List ℕ → Begun → List Event → List ℕ → Type 0
-Due to b left all = to ++ flat_map run_spelling (runs_from b left) ≡ all
+Due to b left all = to ++ flat_map event_run_spelling (runs_from b left) ≡ all
 
 pub due_grown : (to all : List ℕ) (b : Begun) (left : List Event) (e : Event) (es : List Event) → left ≡ e ∷ es → joins b e ≡ true
     → Due to b left all → Due to (run_with_event b e) es all
 due_grown to all b left e es is on due =
     let step : runs_from b (e ∷ es) ≡ runs_from (run_with_event b e) es = rw on refl in
-    subst (λ (rs : List Run). to ++ flat_map run_spelling rs ≡ all) (ap (runs_from b) is ∙ step) due
+    subst (λ (rs : List EventRun). to ++ flat_map event_run_spelling rs ≡ all) (ap (runs_from b) is ∙ step) due
 
 pub due_next : (to new all : List ℕ) (b : Begun) (left : List Event) (e : Event) (es : List Event) → left ≡ e ∷ es → joins b e ≡ false
-    → new ≡ to ++ run_spelling b.run → Due to b left all → Due new (run_of_one e) es all
+    → new ≡ to ++ event_run_spelling b.run → Due to b left all → Due new (run_of_one e) es all
 due_next to new all b left e es is off wrote due =
     let step : runs_from b (e ∷ es) ≡ b.run ∷ runs_from (run_of_one e) es = rw off refl in
-    let was : to ++ (run_spelling b.run ++ flat_map run_spelling (runs_from (run_of_one e) es)) ≡ all =
-    subst (λ (rs : List Run). to ++ flat_map run_spelling rs ≡ all) (ap (runs_from b) is ∙ step) due in
-    ap (λ (l : List ℕ). l ++ flat_map run_spelling (runs_from (run_of_one e) es)) wrote
-    ∙ append_assoc to (run_spelling b.run) (flat_map run_spelling (runs_from (run_of_one e) es)) ∙ was
+    let was : to ++ (event_run_spelling b.run ++ flat_map event_run_spelling (runs_from (run_of_one e) es)) ≡ all =
+    subst (λ (rs : List EventRun). to ++ flat_map event_run_spelling rs ≡ all) (ap (runs_from b) is ∙ step) due in
+    ap (λ (l : List ℕ). l ++ flat_map event_run_spelling (runs_from (run_of_one e) es)) wrote
+    ∙ append_assoc to (event_run_spelling b.run) (flat_map event_run_spelling (runs_from (run_of_one e) es)) ∙ was
 
 -- those that are left are good exactly where all are, if the first one is
-pub good_next : (left : List Run) (r : Run) (rs : List Run) (all : Bool) → left ≡ r ∷ rs → is_run r ≡ true → stops_before r rs ≡ true
+pub good_next : (left : List EventRun) (r : EventRun) (rs : List EventRun) (all : Bool) → left ≡ r ∷ rs → is_run r ≡ true → stops_before r rs ≡ true
     → (list_all is_run left && are_longest left) ≡ all → (list_all is_run rs && are_longest rs) ≡ all
 good_next left r rs all is run stops same =
     let step : (list_all is_run rs && are_longest rs) ≡ (list_all is_run (r ∷ rs) && are_longest (r ∷ rs)) = rw run (rw stops refl) in
-    step ∙ ap (λ (l : List Run). list_all is_run l && are_longest l) (sym is) ∙ same
+    step ∙ ap (λ (l : List EventRun). list_all is_run l && are_longest l) (sym is) ∙ same
 
 -- ---- a run's events, one after another
 
 abbrev pub SmallFrom : ℕ → ℕ → ℕ → Type 0
 SmallFrom at stride left = AllByRecursion (λ (s : ℕ). s < 2 ^ 32) (steps_from at stride left)
 
-pub small_first : (r : Run) → is_run r ≡ true → SmallFrom r.first.step r.stride r.count
+pub small_first : (r : EventRun) → is_run r ≡ true → SmallFrom r.first.step r.stride r.count
 small_first r h = by r.count refl
   where
     by : (n : ℕ) → r.count ≡ n → SmallFrom r.first.step r.stride n
@@ -262,7 +262,7 @@ small_first r h = by r.count refl
         small_steps r.first.step r.stride n (2 ^ 32) less
 
 -- an act that is there twice is no question
-pub unasked_run : (r : Run) → is_run r ≡ true → 1 < r.count → is_asked r.first.act ≡ false
+pub unasked_run : (r : EventRun) → is_run r ≡ true → 1 < r.count → is_asked r.first.act ≡ false
 unasked_run r h more =
     let two : (r.count == 1) ≡ false = ne_eqb r.count 1 (λ is. omega (arith, is, more)) in
     not-true (is_asked r.first.act) (subst (λ (b : Bool). cond b (r.stride == 0) (not (is_asked r.first.act)) ≡ true) two (run_shape r h).1)

@@ -9,14 +9,14 @@ use Rattle.ldv_value.proofs.Booleans.{and-parts}
 use Rattle.run_model.specs.declared.event.Event.{Event}
 use Rattle.run_model.specs.declared.package.Package.{Package}
 use Rattle.package_layout.specs.declared.damage.DamageKind.TheVariants.{Digest, Form}
-use Rattle.package_layout.specs.declared.run_package.RunPackage.{RunPackage}
+use Rattle.package_layout.specs.declared.compact_package.CompactPackage.{CompactPackage}
 use Rattle.package_layout.specs.Events.{event_at}
 use Rattle.package_layout.specs.declared.decode_error.DecodeError.{DecodeError}
 use Rattle.package_layout.specs.declared.decode_error.DecodeError.TheVariants.{Malformed}
 use Rattle.package_layout.specs.Fields.{DecodeResult, ◌>>=◌, Makes, list_at}
 use Rattle.package_layout.specs.Plain.{fits_version}
-use Rattle.package_layout.specs.RunPackages.{expanded_package, cut_at, run_sections_at, run_sections_of, run_rules, runs_in}
-use Rattle.package_layout.specs.Runs.{Run, runs_of, events_in, is_run, are_longest, are_runs, run_at, total, max_events, events_of_runs, few_events}
+use Rattle.package_layout.specs.CompactPackages.{expanded_package, cut_at, compact_sections_at, compact_sections_of, compact_rules, compact_in}
+use Rattle.package_layout.specs.Runs.{EventRun, runs_of, events_in, is_run, are_longest, are_runs, event_run_at, total, max_events, events_of_runs, few_events}
 use Rattle.package_layout.specs.Typed.{TypedEvent}
 use Rattle.package_layout.specs.Valid.{rules, before_digest, middle, kept_if, package_in, has_digest, form_of, reading_as}
 use Rattle.package_layout.specs.Version.{Version, One, Two}
@@ -28,7 +28,7 @@ use Rattle.package_layout.proofs.Whole.{bare_took, events_took, ended}
 
 -- ---- the trace
 
-abbrev kept_events : List Run × List ℕ → DecodeResult (List Event)
+abbrev kept_events : List EventRun × List ℕ → DecodeResult (List Event)
 kept_events x = cond (are_runs x.0) (Some (events_in x.0, x.1)) None
 
 -- what is found, and the bytes behind it
@@ -58,17 +58,17 @@ one_cut (Some a) typed =
     kept_by (nat_le (length a.0) max_events) a.0 a.1
     ∙ (λ j. cond (sym (runs_are a.0 (typed a.0 a.1 refl)) j) (behind (sym (events_again a.0) j) a.1) None)
 
-two_cut : (found : DecodeResult (List Run)) → (found >>= λ a. events_of_runs a.0 >>= λ b. behind b a.1) ≡ (found >>= kept_events)
+two_cut : (found : DecodeResult (List EventRun)) → (found >>= λ a. events_of_runs a.0 >>= λ b. behind b a.1) ≡ (found >>= kept_events)
 two_cut None = refl
 two_cut (Some a) = kept_by (are_runs a.0) (events_in a.0) a.1
 
 trace_cut : (v : Version) (bytes : List ℕ) → IsBytes bytes → trace_at v bytes ≡ (cut_at v bytes >>= kept_events)
 trace_cut One bytes h = one_cut (list_at w32 event_at bytes) (λ es rest e. events_took bytes es rest h e)
-trace_cut Two bytes h = two_cut (list_at w32 run_at bytes)
+trace_cut Two bytes h = two_cut (list_at w32 event_run_at bytes)
 
 -- ---- the package
 
-abbrev of_parts : Package → List Run → RunPackage
+abbrev of_parts : Package → List EventRun → CompactPackage
 of_parts p rs = record { bare = p; runs = rs }
 
 -- the package is valid, and the version has what is in it
@@ -78,11 +78,11 @@ passes v p = rules p && fits_version v p
 abbrev tested : Version → Package → Option Package
 tested v p = kept_if (passes v p) p
 
-abbrev runs_ended : RunPackage × List ℕ → Option RunPackage
+abbrev runs_ended : CompactPackage × List ℕ → Option CompactPackage
 runs_ended x = cond (length x.1 == 0) (Some x.0) None
 
-abbrev runs_tested : Version → RunPackage → Option RunPackage
-runs_tested v r = cond (run_rules v r) (Some r) None
+abbrev runs_tested : Version → CompactPackage → Option CompactPackage
+runs_tested v r = cond (compact_rules v r) (Some r) None
 
 abbrev paired : {X : Type 0} → Package → X × List ℕ → DecodeResult (Package × X)
 paired p y = Some ((p, y.0), y.1)
@@ -93,14 +93,14 @@ next x_at p = x_at p.1 >>= paired p.0
 abbrev put : (Package × List Event) × List ℕ → DecodeResult Package
 put q = behind (with_events q.0.0 q.0.1) q.1
 
-abbrev runs_put : (Package × List Run) × List ℕ → DecodeResult RunPackage
+abbrev runs_put : (Package × List EventRun) × List ℕ → DecodeResult CompactPackage
 runs_put q = behind (of_parts q.0.0 q.0.1) q.1
 
 -- what is made of a bare package and the events behind it, or the runs
 abbrev packed : Version → Package → DecodeResult (List Event) → Option Package
 packed v p found = (((found >>= paired p) >>= put) >>= ended) >>= tested v
 
-abbrev runs_packed : Version → Package → DecodeResult (List Run) → Option RunPackage
+abbrev runs_packed : Version → Package → DecodeResult (List EventRun) → Option CompactPackage
 runs_packed v p found = (((found >>= paired p) >>= runs_put) >>= runs_ended) >>= runs_tested v
 
 bind_if : {A B : Type 0} (b : Bool) (x : A) (f : A → Option B) → (cond b (Some x) None >>= f) ≡ cond b (f x) None
@@ -111,17 +111,17 @@ packed_if : (v : Version) (p : Package) (b : Bool) (es : List Event) (rest : Lis
 packed_if v p true es rest = refl
 packed_if v p false es rest = refl
 
-by_tests : (a e g : Bool) (r : RunPackage) → cond a (cond e (kept_if g (expanded_package r)) None) None ≡ option_map expanded_package (cond e (cond (a && g) (Some r) None) None)
+by_tests : (a e g : Bool) (r : CompactPackage) → cond a (cond e (kept_if g (expanded_package r)) None) None ≡ option_map expanded_package (cond e (cond (a && g) (Some r) None) None)
 by_tests true true true r = refl
 by_tests true true false r = refl
 by_tests true false g r = refl
 by_tests false true g r = refl
 by_tests false false g r = refl
 
-packed_runs : (v : Version) (p : Package) (found : DecodeResult (List Run)) → packed v p (found >>= kept_events) ≡ option_map expanded_package (runs_packed v p found)
+packed_runs : (v : Version) (p : Package) (found : DecodeResult (List EventRun)) → packed v p (found >>= kept_events) ≡ option_map expanded_package (runs_packed v p found)
 packed_runs v p None = refl
 packed_runs v p (Some x) =
-    let r : RunPackage = of_parts p x.0 in
+    let r : CompactPackage = of_parts p x.0 in
     let a = are_runs x.0 in
     let e = length x.1 == 0 in
     packed_if v p a (events_in x.0) x.1
@@ -134,21 +134,21 @@ by_bare : (v : Version) (found : DecodeResult Package) → ((p : Package) (rest 
 by_bare v None h = refl
 by_bare v (Some x) h = ap (packed v x.0) (trace_cut v x.1 (h x.0 x.1 refl)) ∙ packed_runs v x.0 (cut_at v x.1)
 
-pub same_package : (v : Version) (bytes : List ℕ) → IsBytes bytes → package_in v bytes ≡ option_map expanded_package (runs_in v bytes)
+pub same_package : (v : Version) (bytes : List ℕ) → IsBytes bytes → package_in v bytes ≡ option_map expanded_package (compact_in v bytes)
 same_package v bytes h = by_bare v (bare_at v bytes) (λ p rest e. (bare_took v bytes p rest h e).1)
 
 -- ---- what is read
 
-runs_tests : (b : Bool) (q r : RunPackage) → cond b (Some q) None ≡ Some r → (b ≡ true) × (q ≡ r)
+runs_tests : (b : Bool) (q r : CompactPackage) → cond b (Some q) None ≡ Some r → (b ≡ true) × (q ≡ r)
 runs_tests true q r e = (refl, same-some q r e)
 runs_tests false q r e = absurd cc
 
-runs_end : (b : Bool) (q r : RunPackage) → cond b (Some q) None ≡ Some r → q ≡ r
+runs_end : (b : Bool) (q r : CompactPackage) → cond b (Some q) None ≡ Some r → q ≡ r
 runs_end b q r e = (runs_tests b q r e).1
 
-no_events : (v : Version) (bytes : List ℕ) (q : RunPackage) → IsBytes bytes → run_sections_of v bytes ≡ Some q → q.bare.events ≡ []
+no_events : (v : Version) (bytes : List ℕ) (q : CompactPackage) → IsBytes bytes → compact_sections_of v bytes ≡ Some q → q.bare.events ≡ []
 no_events v bytes q h e =
-    let one = bind-some (run_sections_at v bytes) runs_ended q e in
+    let one = bind-some (compact_sections_at v bytes) runs_ended q e in
     let x = one.0 in
     let end : x.0 ≡ q = runs_end (length x.1 == 0) x.0 q one.2 in
     let two = bind-some (bare_at v bytes >>= next (cut_at v)) runs_put x one.1 in
@@ -156,51 +156,51 @@ no_events v bytes q h e =
     let three = bind-some (bare_at v bytes) (next (cut_at v)) y two.1 in
     let z = three.0 in
     let four = bind-some (cut_at v z.1) (paired z.0) y three.2 in
-    let made : RunPackage × List ℕ = (of_parts y.0.0 y.0.1, y.1) in
+    let made : CompactPackage × List ℕ = (of_parts y.0.0 y.0.1, y.1) in
     let same : made ≡ x = same-some made x two.2 in
-    let pair : (Package × List Run) × List ℕ = ((z.0, four.0.0), four.0.1) in
+    let pair : (Package × List EventRun) × List ℕ = ((z.0, four.0.0), four.0.1) in
     let bare : pair ≡ y = same-some pair y four.2 in
     let none : z.0.events ≡ [] = (bare_took v bytes z.0 z.1 h three.1).0 in
-    subst (λ (q : RunPackage). q.bare.events ≡ []) end
-    (subst (λ (x : RunPackage × List ℕ). x.0.bare.events ≡ []) same
-    (subst (λ (y : (Package × List Run) × List ℕ). y.0.0.events ≡ []) bare none))
+    subst (λ (q : CompactPackage). q.bare.events ≡ []) end
+    (subst (λ (x : CompactPackage × List ℕ). x.0.bare.events ≡ []) same
+    (subst (λ (y : (Package × List EventRun) × List ℕ). y.0.0.events ≡ []) bare none))
 
-pub runs_read : (v : Version) (bytes : List ℕ) (r : RunPackage) → IsBytes bytes → runs_in v bytes ≡ Some r → (are_runs r.runs ≡ true) × (r.bare.events ≡ [])
+pub runs_read : (v : Version) (bytes : List ℕ) (r : CompactPackage) → IsBytes bytes → compact_in v bytes ≡ Some r → (are_runs r.runs ≡ true) × (r.bare.events ≡ [])
 runs_read v bytes r h e =
-    let one = bind-some (run_sections_of v bytes) (runs_tested v) r e in
+    let one = bind-some (compact_sections_of v bytes) (runs_tested v) r e in
     let q = one.0 in
-    let two = runs_tests (run_rules v q) q r one.2 in
-    subst (λ (r : RunPackage). (are_runs r.runs ≡ true) × (r.bare.events ≡ [])) two.1
+    let two = runs_tests (compact_rules v q) q r one.2 in
+    subst (λ (r : CompactPackage). (are_runs r.runs ≡ true) × (r.bare.events ≡ [])) two.1
     ((and-parts (are_runs q.runs) (passes v (expanded_package q)) two.0).0, no_events v bytes q h one.1)
 
 pub clean : (bytes : List ℕ) → IsBytes bytes → IsBytes (middle bytes)
 clean bytes h = IsBytes-drop 8 (before_digest bytes) (IsBytes-take (length bytes - 32) bytes h)
 
-pub read_ok : (v : Version) (bytes : List ℕ) (r : RunPackage) → IsBytes bytes → has_digest bytes ≡ true → runs_in v (middle bytes) ≡ Some r → reading_as v bytes ≡ Ok (expanded_package r)
+pub read_ok : (v : Version) (bytes : List ℕ) (r : CompactPackage) → IsBytes bytes → has_digest bytes ≡ true → compact_in v (middle bytes) ≡ Some r → reading_as v bytes ≡ Ok (expanded_package r)
 read_ok v bytes r h d e =
     let is : package_in v (middle bytes) ≡ Some (expanded_package r) = same_package v (middle bytes) (clean bytes h) ∙ ap (option_map expanded_package) e in
     (λ j. cond (d j) (form_of (is j)) (Err Digest))
 
-pub read_none : (v : Version) (bytes : List ℕ) → IsBytes bytes → has_digest bytes ≡ true → runs_in v (middle bytes) ≡ None → reading_as v bytes ≡ Err Form
+pub read_none : (v : Version) (bytes : List ℕ) → IsBytes bytes → has_digest bytes ≡ true → compact_in v (middle bytes) ≡ None → reading_as v bytes ≡ Err Form
 read_none v bytes h d e =
     let is : package_in v (middle bytes) ≡ None = same_package v (middle bytes) (clean bytes h) ∙ ap (option_map expanded_package) e in
     (λ j. cond (d j) (form_of (is j)) (Err Digest))
 
-pub middle_read : (v : Version) (bytes : List ℕ) (r : RunPackage) → IsBytes bytes → runs_in v (middle bytes) ≡ Some r → (are_runs r.runs ≡ true) × (r.bare.events ≡ [])
+pub middle_read : (v : Version) (bytes : List ℕ) (r : CompactPackage) → IsBytes bytes → compact_in v (middle bytes) ≡ Some r → (are_runs r.runs ≡ true) × (r.bare.events ≡ [])
 middle_read v bytes r h e = runs_read v (middle bytes) r (clean bytes h) e
 
 -- ---- the answers
 
-pub middle_ok : (v : Version) (bytes m : List ℕ) (r : RunPackage) → IsBytes bytes → has_digest bytes ≡ true → m ≡ middle bytes → runs_in v m ≡ Some r → reading_as v bytes ≡ Ok (expanded_package r)
-middle_ok v bytes m r h d is e = read_ok v bytes r h d (ap (runs_in v) (sym is) ∙ e)
+pub middle_ok : (v : Version) (bytes m : List ℕ) (r : CompactPackage) → IsBytes bytes → has_digest bytes ≡ true → m ≡ middle bytes → compact_in v m ≡ Some r → reading_as v bytes ≡ Ok (expanded_package r)
+middle_ok v bytes m r h d is e = read_ok v bytes r h d (ap (compact_in v) (sym is) ∙ e)
 
-pub middle_form : (v : Version) (bytes m : List ℕ) (e : DecodeError) → IsBytes bytes → has_digest bytes ≡ true → m ≡ middle bytes → e ≡ Malformed → Makes {X = RunPackage} (Err e) (runs_in v m) → reading_as v bytes ≡ Err Form
+pub middle_form : (v : Version) (bytes m : List ℕ) (e : DecodeError) → IsBytes bytes → has_digest bytes ≡ true → m ≡ middle bytes → e ≡ Malformed → Makes {X = CompactPackage} (Err e) (compact_in v m) → reading_as v bytes ≡ Err Form
 middle_form v bytes m e h d is form none =
-    let no : runs_in v m ≡ None = subst (λ (e : DecodeError). Makes {X = RunPackage} (Err e) (runs_in v m)) form none in
-    read_none v bytes h d (ap (runs_in v) (sym is) ∙ no)
+    let no : compact_in v m ≡ None = subst (λ (e : DecodeError). Makes {X = CompactPackage} (Err e) (compact_in v m)) form none in
+    read_none v bytes h d (ap (compact_in v) (sym is) ∙ no)
 
-pub middle_runs : (v : Version) (bytes m : List ℕ) (r : RunPackage) → IsBytes bytes → m ≡ middle bytes → runs_in v m ≡ Some r → are_runs r.runs ≡ true
-middle_runs v bytes m r h is e = (middle_read v bytes r h (ap (runs_in v) (sym is) ∙ e)).0
+pub middle_runs : (v : Version) (bytes m : List ℕ) (r : CompactPackage) → IsBytes bytes → m ≡ middle bytes → compact_in v m ≡ Some r → are_runs r.runs ≡ true
+middle_runs v bytes m r h is e = (middle_read v bytes r h (ap (compact_in v) (sym is) ∙ e)).0
 
-pub middle_bare : (v : Version) (bytes m : List ℕ) (r : RunPackage) → IsBytes bytes → m ≡ middle bytes → runs_in v m ≡ Some r → r.bare.events ≡ []
-middle_bare v bytes m r h is e = (middle_read v bytes r h (ap (runs_in v) (sym is) ∙ e)).1
+pub middle_bare : (v : Version) (bytes m : List ℕ) (r : CompactPackage) → IsBytes bytes → m ≡ middle bytes → compact_in v m ≡ Some r → r.bare.events ≡ []
+middle_bare v bytes m r h is e = (middle_read v bytes r h (ap (compact_in v) (sym is) ∙ e)).1

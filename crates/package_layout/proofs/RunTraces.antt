@@ -12,8 +12,8 @@ use Rattle.run_model.specs.declared.event.Act.{Act}
 use Rattle.run_model.specs.declared.event.Act.TheVariants as acts
 use Rattle.run_model.specs.declared.event.Event.{Event}
 use Rattle.run_model.proofs.ActLaws.{made_spawned}
-use Rattle.package_layout.specs.Runs.{Run, steps_from, at_step, run_events, events_in, last_step, is_run}
-use Rattle.package_layout.specs.inner.RunTrace.{spawns_fit, made_by, run_rule, progress_by}
+use Rattle.package_layout.specs.Runs.{EventRun, steps_from, at_step, run_events, events_in, last_step, is_run}
+use Rattle.package_layout.specs.inner.EventRunTrace.{spawns_fit, made_by, run_rule, progress_by}
 use Rattle.package_layout.specs.inner.Trace.{Progress, act_rule, event_rule, made_after, is_asked, asked_after, progress_after, follows, at_start, starts_on, starts, trace_test, asked_among}
 use Rattle.package_layout.proofs.Runs.{last_from, last_step-is, run_some}
 use Rattle.package_layout.proofs.RunFields.{unasked_run}
@@ -186,7 +186,7 @@ some_more : (count : ℕ) → 1 ≤ count → (n : ℕ) × (count ≡ suc n)
 some_more zero h = absurd (omega (arith, h))
 some_more (suc n) h = (n, refl)
 
-pub follows_run : (steps : ℕ) (before : Progress) (r : Run) (es : List Event) → is_run r ≡ true
+pub follows_run : (steps : ℕ) (before : Progress) (r : EventRun) (es : List Event) → is_run r ≡ true
     → follows steps before (run_events r ++ es) ≡ (run_rule steps before r && follows steps (progress_by before r) es)
 follows_run steps before r es h =
     let e : Event = r.first in
@@ -198,7 +198,7 @@ follows_run steps before r es h =
     ∙ follows_times steps r.stride e es n before e.step (λ more. unasked_run r h (omega (arith, more, times)))
     ∙ (λ j. (event_rule steps before e && nat_le (last j) steps && spawns_fit before.made e.act (sym times j)) && follows steps (after_all before e (sym times j) (last j)) es)
 
-pub asked_run : (asked : ℕ) (r : Run) (es : List Event) → is_run r ≡ true
+pub asked_run : (asked : ℕ) (r : EventRun) (es : List Event) → is_run r ≡ true
     → asked_among asked (run_events r ++ es) ≡ asked_among (asked_after asked (is_asked r.first.act)) es
 asked_run asked r es h =
     let e : Event = r.first in
@@ -250,7 +250,7 @@ module _ (path : List ℕ) (steps : ℕ) where
       ∙ and-and-false (starts path e) (follows steps at_start es)
       ∙ ap (λ (b : Bool). starts path e && b && follows steps at_start es) (sym (ne_eqb (suc (suc n)) 1 (λ is. omega (arith, is))))
 
-  trace_first : (r : Run) (rs : List Run) → is_run r ≡ true
+  trace_first : (r : EventRun) (rs : List EventRun) → is_run r ≡ true
       → trace_test path steps (events_in (r ∷ rs)) ≡ (starts path r.first && (r.count == 1) && follows steps at_start (events_in rs))
   trace_first r rs h =
       let e : Event = r.first in
@@ -263,10 +263,10 @@ module _ (path : List ℕ) (steps : ℕ) where
 
 -- ---- the runs that are left
 
-pub good_parts : (left : List Run) (r : Run) (rs : List Run) → left ≡ r ∷ rs → list_all is_run left ≡ true → (is_run r ≡ true) × (list_all is_run rs ≡ true)
+pub good_parts : (left : List EventRun) (r : EventRun) (rs : List EventRun) → left ≡ r ∷ rs → list_all is_run left ≡ true → (is_run r ≡ true) × (list_all is_run rs ≡ true)
 good_parts left r rs is good = and-parts (is_run r) (list_all is_run rs) (ap (list_all is_run) (sym is) ∙ good)
 
-pub fewer : (left : List Run) (r : Run) (rs : List Run) (a b n : ℕ) → left ≡ r ∷ rs → b ≤ a + 1 → a + length left ≤ n → b + length rs ≤ n
+pub fewer : (left : List EventRun) (r : EventRun) (rs : List EventRun) (a b n : ℕ) → left ≡ r ∷ rs → b ≤ a + 1 → a + length left ≤ n → b + length rs ≤ n
 fewer left r rs a b n is more within = omega (arith, ap length is, more, within)
 
 abbrev kept : Bool → Progress → Option Progress
@@ -280,29 +280,29 @@ not_kept : (b : Bool) (p : Progress) → None ≡ kept b p → b ≡ false
 not_kept true p e = absurd cc
 not_kept false p e = refl
 
-pub next_follows : (steps : ℕ) (before after : Progress) (left : List Run) (r : Run) (rs : List Run) (all : Bool) → left ≡ r ∷ rs → is_run r ≡ true
+pub next_follows : (steps : ℕ) (before after : Progress) (left : List EventRun) (r : EventRun) (rs : List EventRun) (all : Bool) → left ≡ r ∷ rs → is_run r ≡ true
     → Some after ≡ kept (run_rule steps before r) (progress_by before r) → follows steps before (events_in left) ≡ all → follows steps after (events_in rs) ≡ all
 next_follows steps before after left r rs all is h e so_far =
     let k = kept_is (run_rule steps before r) (progress_by before r) after e in
     let one : follows steps before (events_in left) ≡ follows steps (progress_by before r) (events_in rs) =
-    ap (λ (l : List Run). follows steps before (events_in l)) is ∙ follows_run steps before r (events_in rs) h ∙ ap (λ (b : Bool). b && follows steps (progress_by before r) (events_in rs)) k.0 in
+    ap (λ (l : List EventRun). follows steps before (events_in l)) is ∙ follows_run steps before r (events_in rs) h ∙ ap (λ (b : Bool). b && follows steps (progress_by before r) (events_in rs)) k.0 in
     ap (λ (p : Progress). follows steps p (events_in rs)) (sym k.1) ∙ sym one ∙ so_far
 
-pub last_follows : (steps : ℕ) (before : Progress) (left : List Run) (r : Run) (rs : List Run) (all : Bool) → left ≡ r ∷ rs → is_run r ≡ true
+pub last_follows : (steps : ℕ) (before : Progress) (left : List EventRun) (r : EventRun) (rs : List EventRun) (all : Bool) → left ≡ r ∷ rs → is_run r ≡ true
     → None ≡ kept (run_rule steps before r) (progress_by before r) → follows steps before (events_in left) ≡ all → false ≡ all
 last_follows steps before left r rs all is h e so_far =
     let one : follows steps before (events_in left) ≡ false =
-    ap (λ (l : List Run). follows steps before (events_in l)) is ∙ follows_run steps before r (events_in rs) h
+    ap (λ (l : List EventRun). follows steps before (events_in l)) is ∙ follows_run steps before r (events_in rs) h
     ∙ ap (λ (b : Bool). b && follows steps (progress_by before r) (events_in rs)) (not_kept (run_rule steps before r) (progress_by before r) e) in
     sym one ∙ so_far
 
-pub next_asked : (asked after : ℕ) (left : List Run) (r : Run) (rs : List Run) (all : ℕ) → left ≡ r ∷ rs → is_run r ≡ true
+pub next_asked : (asked after : ℕ) (left : List EventRun) (r : EventRun) (rs : List EventRun) (all : ℕ) → left ≡ r ∷ rs → is_run r ≡ true
     → after ≡ asked_after asked (is_asked r.first.act) → asked_among asked (events_in left) ≡ all → asked_among after (events_in rs) ≡ all
 next_asked asked after left r rs all is h e so_far =
     ap (λ (k : ℕ). asked_among k (events_in rs)) e ∙ sym (asked_run asked r (events_in rs) h)
-    ∙ ap (λ (l : List Run). asked_among asked (events_in l)) (sym is) ∙ so_far
+    ∙ ap (λ (l : List EventRun). asked_among asked (events_in l)) (sym is) ∙ so_far
 
-pub whole_trace : (path : List ℕ) (steps : ℕ) (all : List Run) (r : Run) (rs : List Run) → all ≡ r ∷ rs → list_all is_run all ≡ true
+pub whole_trace : (path : List ℕ) (steps : ℕ) (all : List EventRun) (r : EventRun) (rs : List EventRun) → all ≡ r ∷ rs → list_all is_run all ≡ true
     → (starts path r.first && (r.count == 1) && follows steps at_start (events_in rs)) ≡ trace_test path steps (events_in all)
 whole_trace path steps all r rs is good =
-    sym (ap (λ (l : List Run). trace_test path steps (events_in l)) is ∙ trace_first path steps r rs (good_parts all r rs is good).0)
+    sym (ap (λ (l : List EventRun). trace_test path steps (events_in l)) is ∙ trace_first path steps r rs (good_parts all r rs is good).0)

@@ -10,7 +10,7 @@ use Rattle.run_model.specs.declared.event.Act.{Act}
 use Rattle.run_model.specs.declared.event.Act.TheVariants as acts
 use Rattle.run_model.specs.declared.event.Event.{Event}
 use Rattle.run_model.specs.ValidTrace.{is_asked}
-use Rattle.package_layout.specs.Runs.{Run, IsCut, IsCutOf, is_formed}
+use Rattle.package_layout.specs.Runs.{EventRun, IsCut, IsCutOf, is_formed}
 use Rattle.package_layout.specs.Runs.{act_kind, act_path, act_number, same_act, is_alike, Begun, run_of_one, joins, run_with_event, runs_from, runs_of, steps_from, at_step, run_events, events_in, total, last_step, begun_by, is_run, stops_before, are_longest, are_runs, max_events}
 
 -- ---- the same act
@@ -129,7 +129,7 @@ pub last-is : (step stride n : ℕ) → last_from step stride n ≡ step + n * s
 last-is step stride zero = omega (arith, zero-mul stride)
 last-is step stride (suc n) = omega (arith, last-is (step + stride) stride n, suc-mul n stride)
 
-pub last_step-is : (r : Run) (n : ℕ) → r.count ≡ suc n → last_step r ≡ last_from r.first.step r.stride n
+pub last_step-is : (r : EventRun) (n : ℕ) → r.count ≡ suc n → last_step r ≡ last_from r.first.step r.stride n
 last_step-is r n is =
     let less : r.count - 1 ≡ n = omega (arith, is) in
     ap (λ (k : ℕ). r.first.step + k * r.stride) less ∙ sym (last-is r.first.step r.stride n)
@@ -239,21 +239,21 @@ events_again (e ∷ es) = expands (run_of_one e) es (single_begun e)
 
 -- ---- what a run by itself meets
 
-formed_shape : (r : Run) → is_formed r ≡ true → (1 ≤ r.count) × (cond (r.count == 1) (r.stride == 0) (not (is_asked r.first.act)) ≡ true)
+formed_shape : (r : EventRun) → is_formed r ≡ true → (1 ≤ r.count) × (cond (r.count == 1) (r.stride == 0) (not (is_asked r.first.act)) ≡ true)
 formed_shape r h =
     let both = and-parts (nat_le 1 r.count) (cond (r.count == 1) (r.stride == 0) (not (is_asked r.first.act))) h in
     (leb-true 1 r.count both.0, both.1)
 
-pub formed_run : (r : Run) → is_run r ≡ true → is_formed r ≡ true
+pub formed_run : (r : EventRun) → is_run r ≡ true → is_formed r ≡ true
 formed_run r h = (and-parts (is_formed r) (nat_lt (last_step r) (2 ^ 32)) h).0
 
-pub run_shape : (r : Run) → is_run r ≡ true → (1 ≤ r.count) × (cond (r.count == 1) (r.stride == 0) (not (is_asked r.first.act)) ≡ true) × (last_step r < 2 ^ 32)
+pub run_shape : (r : EventRun) → is_run r ≡ true → (1 ≤ r.count) × (cond (r.count == 1) (r.stride == 0) (not (is_asked r.first.act)) ≡ true) × (last_step r < 2 ^ 32)
 run_shape r h =
     let one = and-parts (is_formed r) (nat_lt (last_step r) (2 ^ 32)) h in
     let two = formed_shape r one.0 in
     (two.0, two.1, ltb-true (last_step r) (2 ^ 32) one.1)
 
-pub run_some : (r : Run) → is_run r ≡ true → 1 ≤ r.count
+pub run_some : (r : EventRun) → is_run r ≡ true → 1 ≤ r.count
 run_some r h = (run_shape r h).0
 
 -- ---- the events of the longest runs are cut into these runs
@@ -305,13 +305,13 @@ begins_by : (first : Event) (count stride : ℕ) (rest : List Event) → is_form
     → runs_of (run_events (record { first = first; count = count; stride = stride }) ++ rest) ≡ runs_from (begun_by (record { first = first; count = count; stride = stride })) rest
 begins_by first zero stride rest h = absurd cc
 begins_by first (suc zero) stride rest h =
-    let r : Run = record { first = first; count = 1; stride = stride } in
+    let r : EventRun = record { first = first; count = 1; stride = stride } in
     let shape = formed_shape r h in
     let none : stride ≡ 0 = eqb-true stride 0 shape.1 in
     let last : last_step r ≡ first.step = last_step-is r 0 refl in
     (λ j. runs_from (record { run = record { first = first; count = 1; stride = sym none j }; last = sym last j }) rest)
 begins_by first (suc (suc n)) stride rest h =
-    let r : Run = record { first = first; count = suc (suc n); stride = stride } in
+    let r : EventRun = record { first = first; count = suc (suc n); stride = stride } in
     let shape = formed_shape r h in
     let two : (r.count == 1) ≡ false = ne_eqb r.count 1 (λ is. omega (arith, is)) in
     let un : is_asked first.act ≡ false = not-true (is_asked first.act) (rw two at shape.1) in
@@ -325,7 +325,7 @@ begins_by first (suc (suc n)) stride rest h =
     rw (single_goes_on first stride un)
     (second ∙ more ∙ ap (λ (k : ℕ). runs_from (begun_at first (suc (suc n)) stride k) rest) last)
 
-begins : (r : Run) (rest : List Event) → is_formed r ≡ true → runs_of (run_events r ++ rest) ≡ runs_from (begun_by r) rest
+begins : (r : EventRun) (rest : List Event) → is_formed r ≡ true → runs_of (run_events r ++ rest) ≡ runs_from (begun_by r) rest
 begins r rest h = begins_by r.first r.count r.stride rest h
 
 -- a run has its first event first
@@ -334,7 +334,7 @@ pub heads_by : (first : Event) (count stride : ℕ) → is_formed (record { firs
 heads_by first zero stride h = absurd cc
 heads_by first (suc n) stride h = (map (at_step first) (steps_from (first.step + stride) stride n), refl)
 
-chain : (r : Run) (qs : List Run) → are_longest (r ∷ qs) ≡ true → list_all is_formed qs ≡ true
+chain : (r : EventRun) (qs : List EventRun) → are_longest (r ∷ qs) ≡ true → list_all is_formed qs ≡ true
     → runs_from (begun_by r) (events_in qs) ≡ r ∷ qs
 chain r [] longest good = refl
 chain r (q ∷ qs) longest good =
@@ -345,10 +345,10 @@ chain r (q ∷ qs) longest good =
     let split : events_in (q ∷ qs) ≡ q.first ∷ (head.0 ++ events_in qs) = ap (λ (l : List Event). l ++ events_in qs) head.1 in
     let rest : runs_of (q.first ∷ (head.0 ++ events_in qs)) ≡ q ∷ qs =
     ap runs_of (sym split) ∙ begins q (events_in qs) goods.0 ∙ chain q qs apart.1 goods.1 in
-    let step : runs_from (begun_by r) (q.first ∷ (head.0 ++ events_in qs)) ≡ r ∷ q ∷ qs = rw off (ap (λ (l : List Run). r ∷ l) rest) in
+    let step : runs_from (begun_by r) (q.first ∷ (head.0 ++ events_in qs)) ≡ r ∷ q ∷ qs = rw off (ap (λ (l : List EventRun). r ∷ l) rest) in
     ap (runs_from (begun_by r)) split ∙ step
 
-pub runs_again : (rs : List Run) → list_all is_formed rs ≡ true → are_longest rs ≡ true → runs_of (events_in rs) ≡ rs
+pub runs_again : (rs : List EventRun) → list_all is_formed rs ≡ true → are_longest rs ≡ true → runs_of (events_in rs) ≡ rs
 runs_again [] good longest = refl
 runs_again (r ∷ rs) good longest =
     let goods = and-parts (is_formed r) (list_all is_formed rs) good in
@@ -383,7 +383,7 @@ begun_is b begun = λ j. record { run = b.run; last = begun_last b begun j }
 
 formed_is : (b : Begun) → IsBegun b → HasShape b → is_formed b.run ≡ true
 formed_is b begun shape =
-    let r : Run = b.run in
+    let r : EventRun = b.run in
     let some : 1 ≤ r.count = omega (arith, begun.count) in
     and-from (nat_le 1 r.count) (cond (r.count == 1) (r.stride == 0) (not (is_asked r.first.act))) (le-leb 1 r.count some) (run_by r.count r.stride (is_asked r.first.act) shape)
 
@@ -393,11 +393,11 @@ small_is b begun small = lt-ltb (last_step b.run) (2 ^ 32) (omega (arith, begun_
 pub run_is : (b : Begun) → IsBegun b → HasShape b → b.last < 2 ^ 32 → is_run b.run ≡ true
 run_is b begun shape small = and-from (is_formed b.run) (nat_lt (last_step b.run) (2 ^ 32)) (formed_is b begun shape) (small_is b begun small)
 
-record Longest (first : Event) (rs : List Run) : Type 0 where
+record Longest (first : Event) (rs : List EventRun) : Type 0 where
   formed : list_all is_formed rs ≡ true
   longest : are_longest rs ≡ true
-  head : Run
-  later : List Run
+  head : EventRun
+  later : List EventRun
   split : rs ≡ head ∷ later
   begins : head.first ≡ first
 
@@ -413,7 +413,7 @@ longest_from b [] begun shape = record {
 longest_from b (e ∷ es) begun shape = elim (cases_Bool (joins b e)) [
   | inl on ↦ rw on (longest_from (run_with_event b e) es (grown_begun b e begun on) (grown_shape b e begun on))
   | inr off ↦
-      let rs : List Run = runs_from (run_of_one e) es in
+      let rs : List EventRun = runs_from (run_of_one e) es in
       let more : Longest e rs = longest_from (run_of_one e) es (single_begun e) (single_shape e) in
       let stops : stops_before b.run rs ≡ true =
       ap (stops_before b.run) more.split
@@ -439,12 +439,12 @@ runs_formed (e ∷ es) =
 pub one_cut : (es : List Event) → IsCutOf es (runs_of es)
 one_cut es = let both = runs_formed es in record { stands = events_again es; formed = both.0; longest = both.1 }
 
-pub only_cut : (es : List Event) (rs : List Run) → IsCutOf es rs → rs ≡ runs_of es
+pub only_cut : (es : List Event) (rs : List EventRun) → IsCutOf es rs → rs ≡ runs_of es
 only_cut es rs c = sym (runs_again rs c.formed c.longest) ∙ ap runs_of c.stands
 
 -- where the steps of the events fit their type, so do those of their runs
 
-abbrev is_small : Run → Bool
+abbrev is_small : EventRun → Bool
 is_small r = nat_lt (last_step r) (2 ^ 32)
 
 small_from : (b : Begun) (es : List Event) → IsBegun b → b.last < 2 ^ 32 → AllByRecursion IsSmall es → list_all is_small (runs_from b es) ≡ true
@@ -452,7 +452,7 @@ small_from b [] begun small all = and-from (is_small b.run) true (small_is b beg
 small_from b (e ∷ es) begun small all = elim (cases_Bool (joins b e)) [
   | inl on ↦ rw on (small_from (run_with_event b e) es (grown_begun b e begun on) all.0 all.1)
   | inr off ↦
-      let rs : List Run = runs_from (run_of_one e) es in
+      let rs : List EventRun = runs_from (run_of_one e) es in
       rw off (and-from (is_small b.run) (list_all is_small rs) (small_is b begun small) (small_from (run_of_one e) es (single_begun e) all.0 all.1))
 ]
 
@@ -460,14 +460,14 @@ runs_small : (es : List Event) → AllByRecursion IsSmall es → list_all is_sma
 runs_small [] small = refl
 runs_small (e ∷ es) small = small_from (run_of_one e) es (single_begun e) small.0 small.1
 
-all_runs : (rs : List Run) → list_all is_formed rs ≡ true → list_all is_small rs ≡ true → list_all is_run rs ≡ true
+all_runs : (rs : List EventRun) → list_all is_formed rs ≡ true → list_all is_small rs ≡ true → list_all is_run rs ≡ true
 all_runs [] formed small = refl
 all_runs (r ∷ rs) formed small =
     let f = and-parts (is_formed r) (list_all is_formed rs) formed in
     let s = and-parts (is_small r) (list_all is_small rs) small in
     and-from (is_run r) (list_all is_run rs) (and-from (is_formed r) (is_small r) f.0 s.0) (all_runs rs f.1 s.1)
 
-pub all_formed : (rs : List Run) → list_all is_run rs ≡ true → list_all is_formed rs ≡ true
+pub all_formed : (rs : List EventRun) → list_all is_run rs ≡ true → list_all is_formed rs ≡ true
 all_formed [] good = refl
 all_formed (r ∷ rs) good =
     let both = and-parts (is_run r) (list_all is_run rs) good in
@@ -478,12 +478,12 @@ runs_good es small = let both = runs_formed es in (all_runs (runs_of es) both.0 
 
 -- ---- runs that pass the tests
 
-pub are_all_runs : (rs : List Run) → are_runs rs ≡ true → list_all is_run rs ≡ true
+pub are_all_runs : (rs : List EventRun) → are_runs rs ≡ true → list_all is_run rs ≡ true
 are_all_runs rs h =
     (and-parts (nat_le (total rs) max_events) (list_all is_run rs)
     (and-parts (nat_le (total rs) max_events && list_all is_run rs) (are_longest rs) h).0).1
 
-pub is_cut : (rs : List Run) → are_runs rs ≡ true → IsCut rs
+pub is_cut : (rs : List EventRun) → are_runs rs ≡ true → IsCut rs
 is_cut rs h =
     sym (runs_again rs (all_formed rs (are_all_runs rs h)) (and-parts (nat_le (total rs) max_events && list_all is_run rs) (are_longest rs) h).1)
 
@@ -493,7 +493,7 @@ steps-length : (step stride n : ℕ) → length (steps_from step stride n) ≡ n
 steps-length step apart zero = refl
 steps-length step apart (suc n) = ap suc (steps-length (step + apart) apart n)
 
-pub events-length : (rs : List Run) → length (events_in rs) ≡ total rs
+pub events-length : (rs : List EventRun) → length (events_in rs) ≡ total rs
 events-length [] = refl
 events-length (r ∷ rs) =
     let one : length (run_events r) ≡ r.count = length-map (steps_from r.first.step r.stride r.count) (at_step r.first) ∙ steps-length r.first.step r.stride r.count in

@@ -14,11 +14,11 @@ use Rattle.run_model.specs.Start.{start_script}
 use Rattle.run_model.specs.declared.package.Package.{Package}
 use Rattle.run_model.specs.declared.package.PackedFile.{PackedFile}
 use Rattle.package_layout.specs.declared.decode_error.DecodeError.{DecodeError}
-use Rattle.package_layout.specs.declared.run_package.ParsedPackage.{ParsedPackage}
-use Rattle.package_layout.specs.declared.run_package.RunPackage.{RunPackage}
+use Rattle.package_layout.specs.declared.compact_package.ParsedPackage.{ParsedPackage}
+use Rattle.package_layout.specs.declared.compact_package.CompactPackage.{CompactPackage}
 use Rattle.package_layout.specs.Fields.{◌>>=◌}
 use Rattle.package_layout.specs.Plain.{fits_version}
-use Rattle.package_layout.specs.RunPackages.{expanded_package, run_rules, run_sections_of, runs_in}
+use Rattle.package_layout.specs.CompactPackages.{expanded_package, compact_rules, compact_sections_of, compact_in}
 use Rattle.package_layout.specs.Runs.{are_runs}
 use Rattle.package_layout.specs.StartScript.{StartsWith, file_script, package_if, packed_script, ruled_script, script_in, valid_script}
 use Rattle.package_layout.specs.Valid.{is_script, is_script_file, parts_rule, script_rule, whole_rule}
@@ -50,7 +50,7 @@ by_tests true true false w s o is = refl
 by_tests true true true false s o is = refl
 by_tests true true true true s o is = is ∙ sym (and-true s)
 
-pub valid_rules : (v : Version) (r : RunPackage) → is_some (valid_script v r) ≡ run_rules v r
+pub valid_rules : (v : Version) (r : CompactPackage) → is_some (valid_script v r) ≡ compact_rules v r
 valid_rules v r =
     let p : Package = expanded_package r in
     by_tests (are_runs r.runs) (fits_version v p) (parts_rule p) (whole_rule p) (script_rule p.start p.files) (packed_script p.start p.files)
@@ -58,21 +58,21 @@ valid_rules v r =
 
 -- ---- what is kept of what was read
 
-abbrev tested : Version → RunPackage → Option RunPackage
-tested v r = if run_rules v r then Some r else None
+abbrev tested : Version → CompactPackage → Option CompactPackage
+tested v r = if compact_rules v r then Some r else None
 
-package_there : (o : Option (List Instr)) (r : RunPackage) → package_if o r ≡ (if is_some o then Some r else None)
+package_there : (o : Option (List Instr)) (r : CompactPackage) → package_if o r ≡ (if is_some o then Some r else None)
 package_there None r = refl
 package_there (Some script) r = refl
 
-package_rules : (v : Version) (r : RunPackage) → package_if (valid_script v r) r ≡ tested v r
+package_rules : (v : Version) (r : CompactPackage) → package_if (valid_script v r) r ≡ tested v r
 package_rules v r = package_there (valid_script v r) r ∙ ap (λ (b : Bool). if b then Some r else None) (valid_rules v r)
 
-pub made_in : (v : Version) (bytes : List ℕ) (r : RunPackage) → run_sections_of v bytes ≡ Some r → package_if (valid_script v r) r ≡ runs_in v bytes
-made_in v bytes r is = package_rules v r ∙ sym (ap (λ (o : Option RunPackage). o >>= tested v) is)
+pub made_in : (v : Version) (bytes : List ℕ) (r : CompactPackage) → compact_sections_of v bytes ≡ Some r → package_if (valid_script v r) r ≡ compact_in v bytes
+made_in v bytes r is = package_rules v r ∙ sym (ap (λ (o : Option CompactPackage). o >>= tested v) is)
 
-pub none_in : (v : Version) (bytes : List ℕ) → run_sections_of v bytes ≡ None → runs_in v bytes ≡ None
-none_in v bytes is = ap (λ (o : Option RunPackage). o >>= tested v) is
+pub none_in : (v : Version) (bytes : List ℕ) → compact_sections_of v bytes ≡ None → compact_in v bytes ≡ None
+none_in v bytes is = ap (λ (o : Option CompactPackage). o >>= tested v) is
 
 -- ---- the own world starts with it
 
@@ -105,7 +105,7 @@ own_start [] files script is = cc
 own_start (word ∷ words) files script is =
     ap world_script (own_at word files) ∙ file_own (find (λ f. bytes_eq word f.path) files) script is
 
-pub starts_with : (v : Version) (r : RunPackage) (script : List Instr) → valid_script v r ≡ Some script
+pub starts_with : (v : Version) (r : CompactPackage) (script : List Instr) → valid_script v r ≡ Some script
     → start_script (own_world r.bare) ≡ Some script
 starts_with v r script is =
     let p : Package = expanded_package r in
@@ -114,7 +114,7 @@ starts_with v r script is =
     let parts = unwrapped (parts_rule p) (if whole_rule p then packed_script p.start p.files else None) script ruled in
     own_start r.bare.start r.bare.files script (unwrapped (whole_rule p) (packed_script p.start p.files) script parts)
 
-pub with_start : (v : Version) (r : RunPackage) (o : Option (List Instr)) (result : Result ParsedPackage DecodeError) → o ≡ valid_script v r
+pub with_start : (v : Version) (r : CompactPackage) (o : Option (List Instr)) (result : Result ParsedPackage DecodeError) → o ≡ valid_script v r
     → IfOk result (λ (p : ParsedPackage). (p.cut ≡ r) × (o ≡ Some p.script.instructions)) → IfOk result StartsWith
 with_start v r o (Ok p) is parts = starts_with v p.cut p.script.instructions (ap (valid_script v) parts.0 ∙ sym is ∙ parts.1)
 with_start v r o (Err stop) is parts = tt

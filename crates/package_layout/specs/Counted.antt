@@ -6,12 +6,12 @@ use Rattle.run_model.specs.declared.event.Event.{Event}
 use Rattle.run_model.specs.declared.package.Package.{Package}
 use Rattle.package_layout.specs.Counts.{IsCountable, CountedList, CountedFile, CountedTable, CountedLog}
 use Rattle.package_layout.specs.Counts.{CountedEvent}
-use Rattle.package_layout.specs.Runs.{runs_of, CountedRun}
+use Rattle.package_layout.specs.Runs.{runs_of, CountedEventRun}
 use Rattle.package_layout.specs.Version.{Version, One, Two}
 
 abbrev pub CountedTrace : Version → List Event → Type 0
 CountedTrace One events = CountedList CountedEvent events
-CountedTrace Two events = CountedList CountedRun (runs_of events)
+CountedTrace Two events = CountedList CountedEventRun (runs_of events)
 
 abbrev pub CountedParts : Version → Package → Type 0
 CountedParts version p =

@@ -1,4 +1,5 @@
 pub mod CommonTables
+pub mod CompactPackages
 pub mod Counted
 pub mod Counts
 pub mod Events
@@ -9,7 +10,6 @@ pub mod Plain
 pub mod ReadResult
 pub mod Reading
 pub mod Room
-pub mod RunPackages
 pub mod Runs
 pub mod Spelling
 pub mod StartScript

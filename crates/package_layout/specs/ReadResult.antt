@@ -5,8 +5,8 @@ use Rattle.package_layout.specs.declared.damage.DamageKind.{DamageKind}
 use Rattle.package_layout.specs.declared.damage.DamageKind.TheVariants.{Magic, Digest}
 use Rattle.package_layout.specs.declared.layout.PackageStop.{PackageStop}
 use Rattle.package_layout.specs.declared.layout.PackageStop.TheVariants.{Damaged, NoMemory}
-use Rattle.package_layout.specs.declared.run_package.RunPackage.{RunPackage}
-use Rattle.package_layout.specs.RunPackages.{expanded_package}
+use Rattle.package_layout.specs.declared.compact_package.CompactPackage.{CompactPackage}
+use Rattle.package_layout.specs.CompactPackages.{expanded_package}
 use Rattle.package_layout.specs.Valid.{has_digest}
 use Rattle.package_layout.specs.Version.{Version, version_of}
 
@@ -17,10 +17,10 @@ ReadsAs (Err (Damaged kind)) due = due ≡ Err kind
 ReadsAs (Err NoMemory) due = Unit {0}
 
 -- the same of a package whose trace is kept as runs
-abbrev pub RunsReadAs : Result RunPackage PackageStop → Result Package DamageKind → Type 0
-RunsReadAs (Ok r) due = due ≡ Ok (expanded_package r)
-RunsReadAs (Err (Damaged kind)) due = due ≡ Err kind
-RunsReadAs (Err NoMemory) due = Unit {0}
+abbrev pub CompactReadsAs : Result CompactPackage PackageStop → Result Package DamageKind → Type 0
+CompactReadsAs (Ok r) due = due ≡ Ok (expanded_package r)
+CompactReadsAs (Err (Damaged kind)) due = due ≡ Err kind
+CompactReadsAs (Err NoMemory) due = Unit {0}
 
 abbrev pub damage_by : Option Version → List ℕ → Option DamageKind
 damage_by (Some version) bytes = if has_digest bytes then None else Some Digest

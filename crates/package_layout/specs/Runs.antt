@@ -11,8 +11,8 @@ use Rattle.run_model.specs.declared.event.Event.{Event}
 use Rattle.run_model.specs.Acts.{named_path}
 use Rattle.run_model.specs.Package.{or_empty}
 use Rattle.run_model.specs.ValidTrace.{is_asked}
-pub use Rattle.package_layout.specs.declared.run.Run.{Run}
-pub use Rattle.package_layout.specs.declared.run.Begun.{Begun}
+pub use Rattle.package_layout.specs.declared.event_run.EventRun.{EventRun}
+pub use Rattle.package_layout.specs.declared.event_run.Begun.{Begun}
 use Rattle.package_layout.specs.Fields.{DecodeResult, both_at, made_at, number_at, list_at, list_spelling}
 use Rattle.package_layout.specs.Typed.{IsU32, TypedEvent}
 use Rattle.package_layout.specs.Events.{event_spelling, event_room, event_at, flag_number}
@@ -90,12 +90,12 @@ run_with_event b e = record {
 }
 
 -- the run that has begun goes on as long as the events let it
-abbrev pub runs_from : Begun → List Event → List Run
+abbrev pub runs_from : Begun → List Event → List EventRun
 runs_from b [] = b.run ∷ []
 runs_from b (e ∷ es) = if joins b e then runs_from (run_with_event b e) es
     else b.run ∷ runs_from (run_of_one e) es
 
-abbrev pub runs_of : List Event → List Run
+abbrev pub runs_of : List Event → List EventRun
 runs_of [] = []
 runs_of (e ∷ es) = runs_from (run_of_one e) es
 
@@ -109,82 +109,82 @@ steps_from step stride (suc n) = step ∷ steps_from (step + stride) stride n
 abbrev pub at_step : Event → ℕ → Event
 at_step e step = record { step = step; process = e.process; act = e.act }
 
-abbrev pub run_events : Run → List Event
+abbrev pub run_events : EventRun → List Event
 run_events r = map (at_step r.first) (steps_from r.first.step r.stride r.count)
 
-abbrev pub events_in : List Run → List Event
+abbrev pub events_in : List EventRun → List Event
 events_in rs = flat_map run_events rs
 
-abbrev pub total : List Run → ℕ
+abbrev pub total : List EventRun → ℕ
 total [] = 0
 total (r ∷ rs) = r.count + total rs
 
 -- ---- which runs are those of their events
 
-abbrev pub last_step : Run → ℕ
+abbrev pub last_step : EventRun → ℕ
 last_step r = r.first.step + (r.count - 1) * r.stride
 
-abbrev pub begun_by : Run → Begun
+abbrev pub begun_by : EventRun → Begun
 begun_by r = record { run = r; last = last_step r }
 
 -- a run has an event; one of a single event has no stride, and only an act that can be there twice has more
-abbrev pub is_formed : Run → Bool
+abbrev pub is_formed : EventRun → Bool
 is_formed r = nat_le 1 r.count && (if r.count == 1 then r.stride == 0 else not (is_asked r.first.act))
 
 -- and its steps fit their type
-abbrev pub is_run : Run → Bool
+abbrev pub is_run : EventRun → Bool
 is_run r = is_formed r && nat_lt (last_step r) (2 ^ 32)
 
 -- the next run begins with an event that doesn't go on with this one
-abbrev pub stops_before : Run → List Run → Bool
+abbrev pub stops_before : EventRun → List EventRun → Bool
 stops_before r [] = true
 stops_before r (q ∷ qs) = not (joins (begun_by r) q.first)
 
-abbrev pub are_longest : List Run → Bool
+abbrev pub are_longest : List EventRun → Bool
 are_longest [] = true
 are_longest (r ∷ rs) = stops_before r rs && are_longest rs
 
 -- runs stand for events, and each is as long as the events let it
-pub record IsCutOf (events : List Event) (runs : List Run) : Type 0 where
+pub record IsCutOf (events : List Event) (runs : List EventRun) : Type 0 where
   pub stands : events_in runs ≡ events
   pub formed : IsTrue (list_all is_formed runs)
   pub longest : IsTrue (are_longest runs)
 
 -- the runs are those of their own events
-abbrev pub IsCut : List Run → Type 0
+abbrev pub IsCut : List EventRun → Type 0
 IsCut runs = runs ≡ runs_of (events_in runs)
 
 -- they are, and there are few enough of these events
-abbrev pub are_runs : List Run → Bool
+abbrev pub are_runs : List EventRun → Bool
 are_runs rs = nat_le (total rs) max_events && list_all is_run rs && are_longest rs
 
-abbrev pub events_of_runs : List Run → Option (List Event)
+abbrev pub events_of_runs : List EventRun → Option (List Event)
 events_of_runs rs = if are_runs rs then Some (events_in rs) else None
 
 -- ---- bytes
 
-abbrev pub run_spelling : Run → List ℕ
-run_spelling r = event_spelling r.first ++ (to_be_bytes w32 r.count ++ to_be_bytes w32 r.stride)
+abbrev pub event_run_spelling : EventRun → List ℕ
+event_run_spelling r = event_spelling r.first ++ (to_be_bytes w32 r.count ++ to_be_bytes w32 r.stride)
 
-abbrev pub TypedRun : Run → Type 0
-TypedRun r = TypedEvent r.first × (IsU32 r.count × IsU32 r.stride)
+abbrev pub TypedEventRun : EventRun → Type 0
+TypedEventRun r = TypedEvent r.first × (IsU32 r.count × IsU32 r.stride)
 
-abbrev pub CountedRun : Run → Type 0
-CountedRun r = CountedEvent r.first
+abbrev pub CountedEventRun : EventRun → Type 0
+CountedEventRun r = CountedEvent r.first
 
-abbrev pub run_room : Run → Bool
-run_room r = event_room r.first
+abbrev pub event_run_room : EventRun → Bool
+event_run_room r = event_room r.first
 
-abbrev pub run_at : List ℕ → DecodeResult Run
-run_at =
+abbrev pub event_run_at : List ℕ → DecodeResult EventRun
+event_run_at =
     made_at (λ r. Some (record { first = r.0; count = r.1.0; stride = r.1.1 }))
     (both_at event_at (both_at (number_at w32) (number_at w32)))
 
 abbrev pub runs_spelling : List Event → List ℕ
-runs_spelling es = list_spelling w32 run_spelling (runs_of es)
+runs_spelling es = list_spelling w32 event_run_spelling (runs_of es)
 
 abbrev pub runs_at : List ℕ → DecodeResult (List Event)
-runs_at = made_at events_of_runs (list_at w32 run_at)
+runs_at = made_at events_of_runs (list_at w32 event_run_at)
 
 -- the format has room for a number of events
 abbrev pub trace_room : List Event → Bool

@@ -8,10 +8,10 @@ use Rattle.run_model.specs.Package.{own_world}
 use Rattle.run_model.specs.Start.{start_script}
 use Rattle.run_model.specs.declared.package.Package.{Package}
 use Rattle.run_model.specs.declared.package.PackedFile.{PackedFile}
-use Rattle.package_layout.specs.declared.run_package.ParsedPackage.{ParsedPackage}
-use Rattle.package_layout.specs.declared.run_package.RunPackage.{RunPackage}
+use Rattle.package_layout.specs.declared.compact_package.ParsedPackage.{ParsedPackage}
+use Rattle.package_layout.specs.declared.compact_package.CompactPackage.{CompactPackage}
 use Rattle.package_layout.specs.Plain.{fits_version}
-use Rattle.package_layout.specs.RunPackages.{expanded_package}
+use Rattle.package_layout.specs.CompactPackages.{expanded_package}
 use Rattle.package_layout.specs.Runs.{are_runs}
 use Rattle.package_layout.specs.Valid.{parts_rule, whole_rule}
 use Rattle.package_layout.specs.Version.{Version}
@@ -38,7 +38,7 @@ ruled_script p =
     if parts_rule p then (if whole_rule p then packed_script p.start p.files else None) else None
 
 -- and whose runs are those of a trace, where the version has all of it
-abbrev pub valid_script : Version → RunPackage → Option (List Instr)
+abbrev pub valid_script : Version → CompactPackage → Option (List Instr)
 valid_script version r =
     if are_runs r.runs
     then (if fits_version version (expanded_package r) then ruled_script (expanded_package r) else None)
@@ -47,12 +47,12 @@ valid_script version r =
 -- ---- packages that are read with their script
 
 -- a package that has a script
-abbrev pub package_if : Option (List Instr) → RunPackage → Option RunPackage
+abbrev pub package_if : Option (List Instr) → CompactPackage → Option CompactPackage
 package_if None r = None
 package_if (Some script) r = Some r
 
 -- what was read, without the script
-abbrev pub cut_of : {E : Type 0} → Result ParsedPackage E → Result RunPackage E
+abbrev pub cut_of : {E : Type 0} → Result ParsedPackage E → Result CompactPackage E
 cut_of (Ok p) = Ok p.cut
 cut_of (Err stop) = Err stop
 

@@ -1,5 +1,5 @@
 pub mod Bare
 pub mod Cutting
+pub mod EventRunTrace
 pub mod Order
-pub mod RunTrace
 pub mod Trace

@@ -5,7 +5,7 @@ ghost use Rattle.run_model.specs.declared.event.Event.{Event};
 ghost use Rattle.package_layout.specs.inner.Cutting.{begun_count, cut_onto};
 ghost use Rattle.package_layout.specs.Events.{event_at};
 ghost use Rattle.package_layout.specs.Fields.{Decodes, items_at, made_at};
-ghost use Rattle.package_layout.specs.RunPackages.{cut_at};
+ghost use Rattle.package_layout.specs.CompactPackages.{cut_at};
 ghost use Rattle.package_layout.specs.Runs.{run_with_event, joins, runs_of, run_of_one};
 ghost use Rattle.package_layout.specs.Version.{One};
 
@@ -13,7 +13,7 @@ use crate::codec::Decode;
 use crate::cursor::Cursor;
 use crate::decode_error::DecodeError;
 use crate::number::decode_u32;
-use crate::run::{Begun, Run, Runs, joins};
+use crate::event_run::{Begun, EventRun, EventRuns, joins};
 use ldv_value::List;
 use run_model::Event;
 use std::alloc::{AllocError, Global};
@@ -21,19 +21,19 @@ use std::alloc::{AllocError, Global};
 /// A trace that is being cut: the runs that are over, and the one that has begun.
 #[derive(Drop)]
 pub(crate) struct Cut {
-    done: Runs,
+    done: EventRuns,
     begun: Option<Begun>,
 }
 
 /// Reads the events of a trace, as their runs.
-pub(crate) fn decode_cut(alloc: Global, cursor: &mut Cursor) -> Result<Runs, DecodeError>
+pub(crate) fn decode_cut(alloc: Global, cursor: &mut Cursor) -> Result<EventRuns, DecodeError>
     ensures { Decodes result cursor.new (cut_at One cursor.old) }
 {
     let count = decode_u32(cursor)?;
     cut_events(alloc, count, cursor)
 }
 
-fn cut_events(alloc: Global, count: u32, cursor: &mut Cursor) -> Result<Runs, DecodeError>
+fn cut_events(alloc: Global, count: u32, cursor: &mut Cursor) -> Result<EventRuns, DecodeError>
     ensures { Decodes result cursor.new
         (made_at (λ events. Some (runs_of events)) (items_at event_at count) cursor.old) }
 {
@@ -63,7 +63,7 @@ fn with_event(cut: Cut, event: Event) -> Result<Cut, AllocError>
     }
 }
 
-fn cut_with_event(done: Runs, begun: Begun, event: Event) -> Result<Cut, AllocError>
+fn cut_with_event(done: EventRuns, begun: Begun, event: Event) -> Result<Cut, AllocError>
     requires { begun.run.count + 1 < 2 ^ 32 }
     ensures cut { IfOk result (λ new. (es : Items Event) →
         cut_onto new es ≡ cut_onto (record { done = done; begun = Some begun }) (event ∷ es)) }
@@ -89,7 +89,7 @@ fn run_of_one(event: Event) -> Begun
 {
     Begun {
         last: event.step,
-        run: Run {
+        run: EventRun {
             first: event,
             count: 1,
             stride: 0,
@@ -97,13 +97,13 @@ fn run_of_one(event: Event) -> Begun
     }
 }
 
-fn run_with_event(run: Run, last: u32, event: &Event) -> Begun
+fn run_with_event(run: EventRun, last: u32, event: &Event) -> Begun
     requires count { run.count + 1 < 2 ^ 32 }
     requires later { last ≤ event.now.step }
     ensures { result ≡ run_with_event (record { run = run; last = last }) event.now }
 {
     Begun {
-        run: Run {
+        run: EventRun {
             first: run.first,
             count: run.count + 1,
             stride: event.step - last,
@@ -112,7 +112,7 @@ fn run_with_event(run: Run, last: u32, event: &Event) -> Begun
     }
 }
 
-fn runs_of_cut(cut: Cut) -> Result<Runs, AllocError>
+fn runs_of_cut(cut: Cut) -> Result<EventRuns, AllocError>
     ensures { IfOk result (λ runs. runs ≡ cut_onto cut []) }
 {
     let Cut { done, begun } = cut;

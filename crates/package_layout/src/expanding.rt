@@ -2,11 +2,11 @@
 
 ghost use Rattle.std.specs.Prelude.{◌≡◌, ◌++◌, ◌∷◌, [], true, IfOk, OnOk};
 ghost use Rattle.std.specs.List.{list_all};
-ghost use Rattle.package_layout.specs.RunPackages.{expanded_package};
+ghost use Rattle.package_layout.specs.CompactPackages.{expanded_package};
 ghost use Rattle.package_layout.specs.Runs.{at_step, are_runs, events_in, is_run, run_events};
 
-use crate::run::{Run, Runs};
-use crate::run_package::RunPackage;
+use crate::event_run::{EventRun, EventRuns};
+use crate::compact_package::CompactPackage;
 use crate::run_rules::count_events;
 use ldv_value::{CopyItem, List};
 use run_model::{Event, Events, Package};
@@ -14,18 +14,18 @@ use std::alloc::{AllocError, Global};
 
 /// The package with all events that its runs stand for.
 #[tactic(auto, using(crate::proofs::Runs::are_all_runs))]
-pub(crate) fn expanded_package(alloc: Global, package: RunPackage) -> Result<Package, AllocError>
+pub(crate) fn expanded_package(alloc: Global, package: CompactPackage) -> Result<Package, AllocError>
     requires { are_runs «package».runs ≡ true }
     ensures { IfOk result (λ p. p ≡ expanded_package «package») }
 {
-    let RunPackage { bare, runs } = package;
+    let CompactPackage { bare, runs } = package;
     let mut whole = bare;
     whole.events = events_in(alloc, runs)?;
     Ok(whole)
 }
 
 /// All events that runs stand for. Room for them is made at once.
-pub fn events_in(alloc: Global, runs: Runs) -> Result<Events, AllocError>
+pub fn events_in(alloc: Global, runs: EventRuns) -> Result<Events, AllocError>
     requires { list_all is_run runs ≡ true }
     ensures { IfOk result (λ events. events ≡ events_in runs) }
 {
@@ -38,7 +38,7 @@ pub fn events_in(alloc: Global, runs: Runs) -> Result<Events, AllocError>
 }
 
 // Appends the events of a run. Its own act goes into the last of them, so that a question is never copied.
-fn expand(run: Run, to: &mut Events) -> Result<(), AllocError>
+fn expand(run: EventRun, to: &mut Events) -> Result<(), AllocError>
     requires { is_run run ≡ true }
     ensures { OnOk result (to.new ≡ to.old ++ run_events run) }
 {
@@ -56,7 +56,7 @@ fn expand(run: Run, to: &mut Events) -> Result<(), AllocError>
 }
 
 // Appends the events of a run but for its last, whose step it returns.
-fn expand_front(run: &Run, to: &mut Events) -> Result<u32, AllocError>
+fn expand_front(run: &EventRun, to: &mut Events) -> Result<u32, AllocError>
     requires { is_run run.now ≡ true }
     ensures { IfOk result (λ at. to.new ++ at_step run.now.first at ∷ [] ≡ to.old ++ run_events run.now) }
 {

@@ -6,7 +6,7 @@ ghost use Rattle.run_model.specs.declared.event.Event.{Event};
 ghost use Rattle.run_model.specs.declared.package.Package.{Package};
 ghost use Rattle.package_layout.specs.Counted.{IsCounted};
 ghost use Rattle.package_layout.specs.Plain.{fits_version, has_tables};
-ghost use Rattle.package_layout.specs.Runs.{Run, IsCutOf, events_in, runs_of};
+ghost use Rattle.package_layout.specs.Runs.{EventRun, IsCutOf, events_in, runs_of};
 ghost use Rattle.package_layout.specs.Valid.{IsValidPackage, reading};
 ghost use Rattle.package_layout.specs.Version.{Version, One, Two};
 ghost use Rattle.package_layout.specs.Whole.{IsTyped, spelling_as};
@@ -31,6 +31,7 @@ pub fn round_trip_law()
 /// for the list.
 pub fn runs_law()
     ensures cut { (events : Items Event) → IsCutOf events (runs_of events) }
-    ensures only { (events : Items Event) (runs : Items Run) → IsCutOf events runs → runs ≡ runs_of events }
+    ensures only { (events : Items Event) (runs : Items EventRun)
+        → IsCutOf events runs → runs ≡ runs_of events }
     ensures again { (events : Items Event) → events_in (runs_of events) ≡ events }
 {}

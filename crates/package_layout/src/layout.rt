@@ -2,8 +2,8 @@
 
 ghost use Rattle.std.specs.Prelude.{◌≡◌, ◌↔◌, [], true, false, Some, None, Ok, Err, IfOk, IfSome, IsSome};
 ghost use Rattle.std.specs.Option.{option_map};
-ghost use Rattle.package_layout.specs.ReadResult.{ReadsAs, RunsReadAs, damage_before};
-ghost use Rattle.package_layout.specs.RunPackages.{expanded_package, runs_in};
+ghost use Rattle.package_layout.specs.ReadResult.{ReadsAs, CompactReadsAs, damage_before};
+ghost use Rattle.package_layout.specs.CompactPackages.{expanded_package, compact_in};
 ghost use Rattle.package_layout.specs.Runs.{IsCut, are_runs};
 ghost use Rattle.package_layout.specs.Fields.{Makes};
 ghost use Rattle.package_layout.specs.StartScript.{StartsWith, cut_of, package_if, valid_script};
@@ -16,7 +16,7 @@ use crate::damage::DamageKind;
 use crate::decode_error::DecodeError;
 use crate::digest::{has_digest, middle};
 use crate::expanding::expanded_package;
-use crate::run_package::{ParsedPackage, RunPackage};
+use crate::compact_package::{ParsedPackage, CompactPackage};
 use crate::sections::decode_all;
 use crate::validity::valid_script;
 use crate::version::{Version, version_of};
@@ -58,7 +58,7 @@ impl From<AllocError> for SpellStop {
 /// digest or end with another one, else by `Form`.
 ///
 /// A list of its events is made last, once all else is judged. It may be far larger than the bytes: where no
-/// events are wanted, take `read_runs`.
+/// events are wanted, take `read_compact`.
 pub fn read_package(alloc: Global, bytes: &[u8]) -> Result<Package, PackageStop>
     ensures found { IfOk result (λ p. IsTyped p × IsValidPackage p × IsSpelled bytes.now p) }
     ensures magic { (result ≡ Err (PackageStop.Damaged DamageKind.Magic)) ↔ (version_of bytes.now ≡ None) }
@@ -74,7 +74,7 @@ pub fn read_package(alloc: Global, bytes: &[u8]) -> Result<Package, PackageStop>
 
 /// The same package, with its trace kept as runs. It takes memory by the bytes that are read, and none by
 /// the number of events. The answers are those of `read_package`.
-pub fn read_runs(alloc: Global, bytes: &[u8]) -> Result<RunPackage, PackageStop>
+pub fn read_compact(alloc: Global, bytes: &[u8]) -> Result<CompactPackage, PackageStop>
     ensures found { IfOk result (λ r. IsTyped (expanded_package r) × IsValidPackage (expanded_package r)
         × IsSpelled bytes.now (expanded_package r)) }
     ensures cut { IfOk result (λ r. IsCut r.runs) }
@@ -85,17 +85,17 @@ pub fn read_runs(alloc: Global, bytes: &[u8]) -> Result<RunPackage, PackageStop>
     ensures form { result ≡ Err (PackageStop.Damaged DamageKind.Form) →
         HasDigest bytes.now × IsUnspelled bytes.now }
     // The same as one function of the bytes.
-    ensures reading { RunsReadAs result (reading bytes.now) }
+    ensures reading { CompactReadsAs result (reading bytes.now) }
 {
-    runs_answer(alloc, bytes)
+    compact_answer(alloc, bytes)
 }
 
-/// The package of `read_runs`, with the script that it starts with.
+/// The package of `read_compact`, with the script that it starts with.
 pub fn read_parsed(alloc: Global, bytes: &[u8]) -> Result<ParsedPackage, PackageStop>
     ensures found { IfOk result (λ p. IsTyped (expanded_package p.cut)
         × IsValidPackage (expanded_package p.cut) × IsSpelled bytes.now (expanded_package p.cut)) }
     ensures parsed { IfOk result StartsWith }
-    ensures reading { RunsReadAs (cut_of result) (reading bytes.now) }
+    ensures reading { CompactReadsAs (cut_of result) (reading bytes.now) }
 {
     parsed_answer(alloc, bytes)
 }
@@ -104,13 +104,13 @@ fn decode_package(alloc: Global, bytes: &[u8]) -> Result<Package, PackageStop>
     ensures due { ReadsAs result (reading bytes.now) }
     ensures at_once { IfSome (damage_before bytes.now) (λ kind. result ≡ Err (PackageStop.Damaged kind)) }
 {
-    match runs_answer(alloc, bytes) {
+    match compact_answer(alloc, bytes) {
         Ok(package) => whole_answer(alloc, package),
         Err(stop) => Err(stop),
     }
 }
 
-fn whole_answer(alloc: Global, package: RunPackage) -> Result<Package, PackageStop>
+fn whole_answer(alloc: Global, package: CompactPackage) -> Result<Package, PackageStop>
     requires { are_runs «package».runs ≡ true }
     ensures ok { IfOk result (λ p. p ≡ expanded_package «package») }
     ensures err { (stop : PackageStop) → result ≡ Err stop → stop ≡ PackageStop.NoMemory }
@@ -121,8 +121,8 @@ fn whole_answer(alloc: Global, package: RunPackage) -> Result<Package, PackageSt
     }
 }
 
-fn runs_answer(alloc: Global, bytes: &[u8]) -> Result<RunPackage, PackageStop>
-    ensures due { RunsReadAs result (reading bytes.now) }
+fn compact_answer(alloc: Global, bytes: &[u8]) -> Result<CompactPackage, PackageStop>
+    ensures due { CompactReadsAs result (reading bytes.now) }
     ensures at_once { IfSome (damage_before bytes.now) (λ kind. result ≡ Err (PackageStop.Damaged kind)) }
     ensures runs { IfOk result (λ r. are_runs r.runs ≡ true) }
     ensures bare { IfOk result (λ r. r.bare.events ≡ []) }
@@ -137,7 +137,7 @@ fn runs_answer(alloc: Global, bytes: &[u8]) -> Result<RunPackage, PackageStop>
 }
 
 fn parsed_answer(alloc: Global, bytes: &[u8]) -> Result<ParsedPackage, PackageStop>
-    ensures due { RunsReadAs (cut_of result) (reading bytes.now) }
+    ensures due { CompactReadsAs (cut_of result) (reading bytes.now) }
     ensures at_once { IfSome (damage_before bytes.now)
         (λ kind. cut_of result ≡ Err (PackageStop.Damaged kind)) }
     ensures runs { IfOk result (λ p. are_runs p.cut.runs ≡ true) }
@@ -155,7 +155,7 @@ fn answer_as(
     version: Version,
     bytes: &[u8],
 ) -> Result<ParsedPackage, PackageStop>
-    ensures due { RunsReadAs (cut_of result) (reading_as version bytes.now) }
+    ensures due { CompactReadsAs (cut_of result) (reading_as version bytes.now) }
     ensures at_once { has_digest bytes.now ≡ false
         → cut_of result ≡ Err (PackageStop.Damaged DamageKind.Digest) }
     ensures runs { IfOk result (λ p. are_runs p.cut.runs ≡ true) }
@@ -175,7 +175,7 @@ fn middle_answer(
     bytes: &[u8],
 ) -> Result<ParsedPackage, PackageStop>
     requires { has_digest bytes.now ≡ true }
-    ensures due { RunsReadAs (cut_of result) (reading_as version bytes.now) }
+    ensures due { CompactReadsAs (cut_of result) (reading_as version bytes.now) }
     ensures runs { IfOk result (λ p. are_runs p.cut.runs ≡ true) }
     ensures bare { IfOk result (λ p. p.cut.bare.events ≡ []) }
     ensures parsed { IfOk result StartsWith }
@@ -193,7 +193,7 @@ fn parsed_in(
     version: Version,
     middle: &[u8],
 ) -> Result<ParsedPackage, DecodeError>
-    ensures made { Makes (cut_of result) (runs_in version middle.now) }
+    ensures made { Makes (cut_of result) (compact_in version middle.now) }
     ensures parsed { IfOk result StartsWith }
 {
     match decode_all(alloc, version, middle) {
@@ -206,7 +206,7 @@ fn parsed_in(
 fn judged_package(
     alloc: Global,
     version: Version,
-    package: RunPackage,
+    package: CompactPackage,
 ) -> Result<ParsedPackage, DecodeError>
     ensures made { Makes (cut_of result) (package_if (valid_script version «package») «package») }
     ensures parsed { IfOk result StartsWith }
@@ -215,7 +215,7 @@ fn judged_package(
     with_script(package, found)
 }
 
-fn with_script(package: RunPackage, found: Option<Script>) -> Result<ParsedPackage, DecodeError>
+fn with_script(package: CompactPackage, found: Option<Script>) -> Result<ParsedPackage, DecodeError>
     ensures made { Makes (cut_of result) (package_if (option_map (λ s. s.instructions) found) «package») }
     ensures parts { IfOk result (λ p. (p.cut ≡ «package»)
         × (option_map (λ s. s.instructions) found ≡ Some p.script.instructions)) }

@@ -1,5 +1,5 @@
 //! The bytes of a package, in two versions of the layout: `spell` gives them, `read_package` reads them, and
-//! `read_runs` reads them without making the events.
+//! `read_compact` reads them without making the events.
 //!
 //! What it promises stands in `docs/GUARANTEES.md`, how it works in `docs/ARCHITECTURE.md`.
 #![tactic(auto)]
@@ -23,8 +23,8 @@ mod log;
 mod number;
 mod plain;
 mod rules;
-mod run;
-mod run_package;
+mod event_run;
+mod compact_package;
 mod run_rules;
 mod same_act;
 mod sections;
@@ -45,11 +45,11 @@ pub use decode_error::DecodeError;
 pub use digest::{DIGEST_LENGTH, has_digest, middle};
 pub use expanding::events_in;
 pub use law::{round_trip_law, runs_law};
-pub use layout::{PackageStop, SpellStop, read_package, read_parsed, read_runs};
+pub use layout::{PackageStop, SpellStop, read_package, read_parsed, read_compact};
 pub use number::{decode_u32, decode_u64, encode_u32, encode_u64};
-pub use run::{Run, Runs};
-pub use run_package::{ParsedPackage, RunPackage};
-pub use spelling::{append_digest, spell, spell_as, spell_runs};
+pub use event_run::{EventRun, EventRuns};
+pub use compact_package::{ParsedPackage, CompactPackage};
+pub use spelling::{append_digest, spell, spell_as, spell_compact};
 pub use table::{decode_reason, encode_reason};
 pub use text::{decode_text, encode_text};
 pub use validity::is_valid_package;

@@ -6,17 +6,17 @@ ghost use Rattle.std.specs.List.{list_all};
 ghost use Rattle.package_layout.specs.Plain.{fits_version, is_plain, is_plain_act, is_plain_entry};
 ghost use Rattle.package_layout.specs.Plain.{is_plain_event, is_plain_log, is_plain_need, is_plain_refusal};
 ghost use Rattle.package_layout.specs.Plain.{is_plain_reply, is_plain_row, is_plain_rule, is_plain_table};
-ghost use Rattle.package_layout.specs.RunPackages.{expanded_package};
+ghost use Rattle.package_layout.specs.CompactPackages.{expanded_package};
 ghost use Rattle.package_layout.specs.Runs.{are_runs, events_in, is_run};
 
-use crate::run::Run;
-use crate::run_package::RunPackage;
+use crate::event_run::EventRun;
+use crate::compact_package::CompactPackage;
 use crate::version::Version;
 use run_model::{Act, Entry, Log, PackedRow, PackedTable};
 use sql_model::{Need, Reply, Rule, SqlRefusal};
 
 /// Whether a version has all that is in a package. It takes no memory.
-pub(crate) fn fits_version(version: Version, package: &RunPackage) -> bool
+pub(crate) fn fits_version(version: Version, package: &CompactPackage) -> bool
     requires { are_runs «package».now.runs ≡ true }
     ensures { result ≡ fits_version version (expanded_package «package».now) }
 {
@@ -27,7 +27,7 @@ pub(crate) fn fits_version(version: Version, package: &RunPackage) -> bool
 }
 
 #[tactic(auto, using(crate::proofs::Runs::are_all_runs))]
-fn is_plain(package: &RunPackage) -> bool
+fn is_plain(package: &CompactPackage) -> bool
     requires { are_runs «package».now.runs ≡ true }
     ensures { result ≡ is_plain (expanded_package «package».now) }
 {
@@ -100,14 +100,14 @@ fn is_plain_refusal(refusal: &SqlRefusal) -> bool
 }
 
 // The events of a run have one act.
-fn are_plain_runs(runs: &[Run]) -> bool
+fn are_plain_runs(runs: &[EventRun]) -> bool
     requires { list_all is_run runs.now ≡ true }
     ensures { result ≡ list_all is_plain_event (events_in runs.now) }
 {
     are_plain_firsts(runs)
 }
 
-fn are_plain_firsts(runs: &[Run]) -> bool
+fn are_plain_firsts(runs: &[EventRun]) -> bool
     ensures { result ≡ list_all (λ run. is_plain_act run.first.act) runs.now }
 {
     runs.iter().all(|run| is_plain_act(&run.first.act))

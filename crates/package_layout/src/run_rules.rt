@@ -5,19 +5,19 @@ ghost use Rattle.std.specs.List.{list_all};
 ghost use Rattle.package_layout.specs.Runs.{joins, last_step, is_formed, is_run, stops_before};
 ghost use Rattle.package_layout.specs.Runs.{are_longest, are_runs, total, max_events};
 
-use crate::run::{Run, joins};
+use crate::event_run::{EventRun, joins};
 use crate::same_act::is_asked;
 
 const MAX_EVENTS: u32 = 20_000_001;
 
 /// Whether these are the longest runs of a trace, and of no more events than one may have.
-pub(crate) fn are_runs(runs: &[Run]) -> bool
+pub(crate) fn are_runs(runs: &[EventRun]) -> bool
     ensures { result ≡ are_runs runs.now }
 {
     are_few(runs) && are_good(runs)
 }
 
-fn are_few(runs: &[Run]) -> bool
+fn are_few(runs: &[EventRun]) -> bool
     ensures { result ≡ nat_le (total runs.now) max_events }
 {
     match count_events(runs) {
@@ -27,7 +27,7 @@ fn are_few(runs: &[Run]) -> bool
 }
 
 /// How many events runs stand for, where they are no more than a trace may have.
-pub(crate) fn count_events(runs: &[Run]) -> Option<u32>
+pub(crate) fn count_events(runs: &[EventRun]) -> Option<u32>
     ensures { result ≡ (if nat_le (total runs.now) max_events then Some (total runs.now) else None) }
 {
     let mut room = MAX_EVENTS;
@@ -47,14 +47,14 @@ pub(crate) fn count_events(runs: &[Run]) -> Option<u32>
 }
 
 /// The step of the last event.
-pub(crate) fn last_step(run: &Run) -> u64
+pub(crate) fn last_step(run: &EventRun) -> u64
     requires { 1 ≤ run.now.count }
     ensures { result ≡ last_step run.now }
 {
     u64::from(run.first.step) + u64::from(run.count - 1) * u64::from(run.stride)
 }
 
-fn is_formed(run: &Run) -> bool
+fn is_formed(run: &EventRun) -> bool
     ensures { result ≡ is_formed run.now }
 {
     if run.count == 0 {
@@ -67,7 +67,7 @@ fn is_formed(run: &Run) -> bool
 }
 
 // The last step of a run that is one.
-fn last_of(run: &Run) -> Option<u32>
+fn last_of(run: &EventRun) -> Option<u32>
     ensures { result ≡ (if is_run run.now then Some (last_step run.now) else None) }
 {
     if !is_formed(run) {
@@ -77,7 +77,7 @@ fn last_of(run: &Run) -> Option<u32>
 }
 
 // Whether a run could be longer.
-fn goes_on(run: &Run, last: u32, rest: &[Run]) -> bool
+fn goes_on(run: &EventRun, last: u32, rest: &[EventRun]) -> bool
     requires { last ≡ last_step run.now }
     ensures { result ≡ not (stops_before run.now rest.now) }
 {
@@ -93,7 +93,7 @@ fn goes_on(run: &Run, last: u32, rest: &[Run]) -> bool
     }
 }
 
-fn are_good(runs: &[Run]) -> bool
+fn are_good(runs: &[EventRun]) -> bool
     ensures { result ≡ (list_all is_run runs.now && are_longest runs.now) }
 {
     let mut left = runs;

@@ -4,7 +4,7 @@ ghost use Rattle.std.specs.Prelude.{◌≡◌, ◌++◌, OnOk};
 ghost use Rattle.std.specs.List.{AllByRecursion};
 ghost use Rattle.package_layout.specs.inner.Bare.{BareParts, BareNumbers, IsTypedBare};
 ghost use Rattle.package_layout.specs.Fields.{Decodes, Makes};
-ghost use Rattle.package_layout.specs.RunPackages.{cut_at, run_sections_at, run_sections_of, expanded_package};
+ghost use Rattle.package_layout.specs.CompactPackages.{cut_at, compact_sections_at, compact_sections_of, expanded_package};
 ghost use Rattle.package_layout.specs.Runs.{IsCut};
 ghost use Rattle.package_layout.specs.Typed.{TypedEvent};
 ghost use Rattle.package_layout.specs.Version.{Two};
@@ -16,8 +16,8 @@ use crate::cursor::Cursor;
 use crate::cutting::decode_cut;
 use crate::decode_error::DecodeError;
 use crate::number::{decode_u8, decode_u32, decode_u64, encode_u8, encode_u32, encode_u64};
-use crate::run::Runs;
-use crate::run_package::RunPackage;
+use crate::event_run::EventRuns;
+use crate::compact_package::CompactPackage;
 use crate::table::{decode_tables, encode_tables};
 use crate::version::Version;
 use crate::width::Width;
@@ -66,7 +66,7 @@ pub(crate) fn encode_sections(
 }
 
 /// Appends the sections of a package whose trace is kept as runs, in the second version.
-pub(crate) fn encode_run_sections(package: &RunPackage, to: &mut Bytes) -> Result<(), AllocError>
+pub(crate) fn encode_compact_sections(package: &CompactPackage, to: &mut Bytes) -> Result<(), AllocError>
     requires { IsCut «package».now.runs }
     ensures { OnOk result (to.new ≡ to.old ++ sections Two (expanded_package «package».now)) }
 {
@@ -133,7 +133,7 @@ fn decode_bare(alloc: Global, version: Version, cursor: &mut Cursor) -> Result<P
     })
 }
 
-fn decode_runs(alloc: Global, version: Version, cursor: &mut Cursor) -> Result<Runs, DecodeError>
+fn decode_runs(alloc: Global, version: Version, cursor: &mut Cursor) -> Result<EventRuns, DecodeError>
     ensures { Decodes result cursor.new (cut_at version cursor.old) }
 {
     match version {
@@ -146,12 +146,12 @@ fn decode_sections(
     alloc: Global,
     version: Version,
     cursor: &mut Cursor,
-) -> Result<RunPackage, DecodeError>
-    ensures { Decodes result cursor.new (run_sections_at version cursor.old) }
+) -> Result<CompactPackage, DecodeError>
+    ensures { Decodes result cursor.new (compact_sections_at version cursor.old) }
 {
     let bare = decode_bare(alloc, version, cursor)?;
     let runs = decode_runs(alloc, version, cursor)?;
-    Ok(RunPackage { bare, runs })
+    Ok(CompactPackage { bare, runs })
 }
 
 /// Reads the sections of a package, which are all of the bytes, with its trace as runs.
@@ -159,8 +159,8 @@ pub(crate) fn decode_all(
     alloc: Global,
     version: Version,
     bytes: &[u8],
-) -> Result<RunPackage, DecodeError>
-    ensures { Makes result (run_sections_of version bytes.now) }
+) -> Result<CompactPackage, DecodeError>
+    ensures { Makes result (compact_sections_of version bytes.now) }
 {
     let mut cursor = Cursor::of(bytes);
     let package = decode_sections(alloc, version, &mut cursor)?;

@@ -3,15 +3,15 @@
 ghost use Rattle.std.specs.Prelude.{◌≡◌, ◌<◌, ◌≤◌, ◌-◌, ◌++◌, IfOk, OnOk, IsErrOf, length};
 ghost use Rattle.sha2.specs.Sha256.{sha256};
 ghost use Rattle.ldv_value.specs.Limits.{input_limit};
-ghost use Rattle.package_layout.specs.RunPackages.{expanded_package};
+ghost use Rattle.package_layout.specs.CompactPackages.{expanded_package};
 ghost use Rattle.package_layout.specs.Runs.{IsCut};
 ghost use Rattle.package_layout.specs.Version.{Two};
 ghost use Rattle.package_layout.specs.Whole.{body, spelling, spelling_as, IsTyped};
 
 use crate::digest::{DIGEST_LENGTH, with_digest};
 use crate::layout::SpellStop;
-use crate::run_package::RunPackage;
-use crate::sections::{encode_run_sections, encode_sections};
+use crate::compact_package::CompactPackage;
+use crate::sections::{encode_compact_sections, encode_sections};
 use crate::version::{Version, magic};
 use ldv_value::{Bytes, INPUT_LIMIT};
 use run_model::Package;
@@ -46,14 +46,14 @@ pub fn spell_as(alloc: Global, package: &Package, version: Version) -> Result<By
 
 /// The spelling of a package whose trace is kept as runs, in the second version. No list of events is made.
 /// `TooLong` exactly where it has more than 67,108,864 bytes, its digest counted.
-pub fn spell_runs(alloc: Global, package: &RunPackage) -> Result<Bytes, SpellStop>
+pub fn spell_compact(alloc: Global, package: &CompactPackage) -> Result<Bytes, SpellStop>
     requires { IsCut «package».now.runs }
     ensures bytes { IfOk result (λ bytes. bytes ≡ spelling (expanded_package «package».now)) }
     ensures within { IfOk result (λ bytes. length bytes ≤ input_limit) }
     ensures too_long { IsErrOf result SpellStop.TooLong →
         input_limit < length (spelling (expanded_package «package».now)) }
 {
-    let body = body_of_runs(alloc, package)?;
+    let body = body_of_compact(alloc, package)?;
     append_digest(body)
 }
 
@@ -66,12 +66,12 @@ fn body_of(alloc: Global, package: &Package, version: Version) -> Result<Bytes, 
     Ok(bytes)
 }
 
-fn body_of_runs(alloc: Global, package: &RunPackage) -> Result<Bytes, AllocError>
+fn body_of_compact(alloc: Global, package: &CompactPackage) -> Result<Bytes, AllocError>
     requires { IsCut «package».now.runs }
     ensures { IfOk result (λ bytes. bytes ≡ body Two (expanded_package «package».now)) }
 {
     let mut bytes = Bytes::of_slice(alloc, magic(Version::Two))?;
-    encode_run_sections(package, &mut bytes)?;
+    encode_compact_sections(package, &mut bytes)?;
     Ok(bytes)
 }
 

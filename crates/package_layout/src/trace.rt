@@ -8,12 +8,12 @@ ghost use Rattle.sql_model.specs.SqlNames.{sql_name_test};
 ghost use Rattle.ldv_value.specs.Sorted.{is_strictly_sorted, text_precedes};
 ghost use Rattle.run_model.specs.ValidTrace.{need_precedes, member_precedes};
 ghost use Rattle.package_layout.specs.Runs.{events_in, is_run};
-ghost use Rattle.package_layout.specs.inner.RunTrace.{made_by, progress_by, run_rule, spawns_fit};
+ghost use Rattle.package_layout.specs.inner.EventRunTrace.{made_by, progress_by, run_rule, spawns_fit};
 ghost use Rattle.package_layout.specs.inner.Trace.{act_rule, event_rule, asked_after};
 ghost use Rattle.package_layout.specs.inner.Trace.{follows, at_start, starts_on, starts};
 ghost use Rattle.package_layout.specs.inner.Trace.{trace_test, asked_count, progress_of};
 
-use crate::run::Run;
+use crate::event_run::EventRun;
 use crate::run_rules::last_step;
 use crate::same_act::is_asked;
 use ldv_value::{Names, Utf8, is_path, is_strictly_sorted};
@@ -30,7 +30,7 @@ pub(crate) struct Progress {
 }
 
 /// Whether runs stand for the events of a run that starts with a path and has the given number of steps.
-pub(crate) fn is_trace(path: &Utf8, steps: u32, runs: &[Run]) -> bool
+pub(crate) fn is_trace(path: &Utf8, steps: u32, runs: &[EventRun]) -> bool
     requires { list_all is_run runs.now ≡ true }
     ensures { result ≡ trace_test path.now steps (events_in runs.now) }
 {
@@ -41,7 +41,7 @@ pub(crate) fn is_trace(path: &Utf8, steps: u32, runs: &[Run]) -> bool
 }
 
 // The first event is in a run of its own: no other one starts anything.
-fn is_start_of(path: &Utf8, steps: u32, first: &Run, rest: &[Run]) -> bool
+fn is_start_of(path: &Utf8, steps: u32, first: &EventRun, rest: &[EventRun]) -> bool
     requires { list_all is_run rest.now ≡ true }
     ensures { result ≡ (starts path.now first.now.first && (first.now.count == 1)
         && follows steps at_start (events_in rest.now)) }
@@ -64,7 +64,7 @@ fn starts_on(path: &Utf8, act: &Act) -> bool
     }
 }
 
-fn follows(steps: u32, runs: &[Run]) -> bool
+fn follows(steps: u32, runs: &[EventRun]) -> bool
     requires { list_all is_run runs.now ≡ true }
     ensures { result ≡ follows steps at_start (events_in runs.now) }
 {
@@ -89,7 +89,7 @@ fn follows(steps: u32, runs: &[Run]) -> bool
 }
 
 // How far the events have come after those of a run, where they are valid.
-fn after_run(steps: u32, before: Progress, run: &Run) -> Option<Progress>
+fn after_run(steps: u32, before: Progress, run: &EventRun) -> Option<Progress>
     requires run { is_run run.now ≡ true }
     requires made { before.made ≤ 65535 }
     requires asked { before.asked + 1 < 2 ^ 64 }
@@ -105,7 +105,7 @@ fn after_run(steps: u32, before: Progress, run: &Run) -> Option<Progress>
     }
 }
 
-fn is_valid_run(steps: u32, before: Progress, run: &Run) -> bool
+fn is_valid_run(steps: u32, before: Progress, run: &EventRun) -> bool
     requires { is_run run.now ≡ true }
     ensures { result ≡ run_rule steps (progress_of before) run.now }
 {
@@ -172,7 +172,7 @@ fn are_names(names: &Names) -> bool
     names.items().iter().all(|name| is_sql_name(name.as_str()))
 }
 
-fn progress_by(before: Progress, run: &Run) -> Progress
+fn progress_by(before: Progress, run: &EventRun) -> Progress
     requires run { is_run run.now ≡ true }
     requires made { before.made ≤ 65535 }
     requires fits { spawns_fit before.made run.now.first.act run.now.count ≡ true }
@@ -206,7 +206,7 @@ fn asked_after(asked: u64, one_more: bool) -> u64
 }
 
 /// How many statements were asked by the events that runs stand for.
-pub(crate) fn asked_count(runs: &[Run]) -> u64
+pub(crate) fn asked_count(runs: &[EventRun]) -> u64
     requires { list_all is_run runs.now ≡ true }
     ensures { result ≡ asked_count (events_in runs.now) }
 {

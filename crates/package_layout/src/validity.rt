@@ -4,7 +4,7 @@ ghost use Rattle.std.specs.Prelude.{◌≡◌, true, IfOk, bytes_eq, find, nat_l
 ghost use Rattle.std.specs.List.{list_all};
 ghost use Rattle.std.specs.Option.{option_map, is_some};
 ghost use Rattle.script_parse.specs.Script.{script_of};
-ghost use Rattle.package_layout.specs.RunPackages.{run_rules, expanded_package};
+ghost use Rattle.package_layout.specs.CompactPackages.{compact_rules, expanded_package};
 ghost use Rattle.package_layout.specs.Runs.{are_runs, events_in, is_run};
 ghost use Rattle.package_layout.specs.StartScript.{file_script, packed_script, ruled_script, script_in};
 ghost use Rattle.package_layout.specs.StartScript.{valid_script};
@@ -14,8 +14,8 @@ ghost use Rattle.package_layout.specs.Whole.{with_events};
 
 use crate::plain::fits_version;
 use crate::rules::{is_valid_files, is_valid_logs, is_valid_start, is_valid_tables};
-use crate::run::Run;
-use crate::run_package::RunPackage;
+use crate::event_run::EventRun;
+use crate::compact_package::CompactPackage;
 use crate::run_rules::are_runs;
 use crate::trace::{asked_count, is_trace};
 use crate::version::Version;
@@ -29,9 +29,9 @@ use std::alloc::{AllocError, Global};
 pub fn is_valid_package(
     alloc: Global,
     version: Version,
-    package: &RunPackage,
+    package: &CompactPackage,
 ) -> Result<bool, AllocError>
-    ensures { IfOk result (λ holds. holds ≡ run_rules version «package».now) }
+    ensures { IfOk result (λ holds. holds ≡ compact_rules version «package».now) }
 {
     let script = valid_script(alloc, version, package)?;
     Ok(is_there(script))
@@ -50,7 +50,7 @@ fn is_there(script: Option<Script>) -> bool
 pub(crate) fn valid_script(
     alloc: Global,
     version: Version,
-    package: &RunPackage,
+    package: &CompactPackage,
 ) -> Result<Option<Script>, AllocError>
     ensures { IfOk result (λ found. option_map (λ s. s.instructions) found
         ≡ valid_script version «package».now) }
@@ -65,7 +65,7 @@ pub(crate) fn valid_script(
 }
 
 #[tactic(auto, using(crate::proofs::Runs::are_all_runs))]
-fn ruled_script(alloc: Global, package: &RunPackage) -> Result<Option<Script>, AllocError>
+fn ruled_script(alloc: Global, package: &CompactPackage) -> Result<Option<Script>, AllocError>
     requires { are_runs «package».now.runs ≡ true }
     ensures { IfOk result (λ found. option_map (λ s. s.instructions) found
         ≡ ruled_script (expanded_package «package».now)) }
@@ -94,7 +94,7 @@ fn is_valid_parts(alloc: Global, package: &Package) -> Result<bool, AllocError>
     Ok(is_valid_logs(&package.logs))
 }
 
-fn is_valid_whole(bare: &Package, runs: &[Run]) -> bool
+fn is_valid_whole(bare: &Package, runs: &[EventRun]) -> bool
     requires { list_all is_run runs.now ≡ true }
     ensures { result ≡ whole_rule (with_events bare.now (events_in runs.now)) }
 {
@@ -119,7 +119,7 @@ fn is_valid_steps(steps: u32) -> bool
     1 <= steps && steps <= MAX_STEPS
 }
 
-fn is_valid_trace(words: &Words, steps: u32, runs: &[Run]) -> bool
+fn is_valid_trace(words: &Words, steps: u32, runs: &[EventRun]) -> bool
     requires { list_all is_run runs.now ≡ true }
     ensures { result ≡ trace_rule words.now steps (events_in runs.now) }
 {

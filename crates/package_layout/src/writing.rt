@@ -3,11 +3,11 @@
 ghost use Rattle.std.specs.Prelude.{◌≡◌, ◌++◌, ◌∷◌, OnOk, length};
 ghost use Rattle.std.specs.List.{flat_map, AllByRecursion};
 ghost use Rattle.package_layout.specs.Typed.{TypedEvent};
-ghost use Rattle.package_layout.specs.Runs.{run_spelling, runs_from, runs_of, runs_spelling, run_of_one};
+ghost use Rattle.package_layout.specs.Runs.{event_run_spelling, runs_from, runs_of, runs_spelling, run_of_one};
 
 use crate::codec::Encode;
 use crate::number::{encode_count, encode_u32};
-use crate::run::joins;
+use crate::event_run::joins;
 use crate::width::Width;
 use ldv_value::Bytes;
 use run_model::Event;
@@ -23,7 +23,7 @@ pub fn encode_trace(events: &[Event], to: &mut Bytes) -> Result<(), AllocError>
 }
 
 fn encode_runs(events: &[Event], to: &mut Bytes) -> Result<(), AllocError>
-    ensures bytes { OnOk result (to.new ≡ to.old ++ flat_map run_spelling (runs_of events.now)) }
+    ensures bytes { OnOk result (to.new ≡ to.old ++ flat_map event_run_spelling (runs_of events.now)) }
     ensures typed { OnOk result (AllByRecursion TypedEvent events.now) }
 {
     match events {
@@ -35,7 +35,7 @@ fn encode_runs(events: &[Event], to: &mut Bytes) -> Result<(), AllocError>
 #[tactic(auto, using(crate::proofs::RunFields::stands_first))]
 fn encode_from(first: &Event, rest: &[Event], to: &mut Bytes) -> Result<(), AllocError>
     ensures bytes { OnOk result (to.new ≡ to.old
-        ++ flat_map run_spelling (runs_from (run_of_one first.now) rest.now)) }
+        ++ flat_map event_run_spelling (runs_from (run_of_one first.now) rest.now)) }
     ensures typed { OnOk result (AllByRecursion TypedEvent (first.now ∷ rest.now)) }
 {
     let mut begun = first;
@@ -67,7 +67,7 @@ fn encode_from(first: &Event, rest: &[Event], to: &mut Bytes) -> Result<(), Allo
 
 fn encode_run(first: &Event, count: usize, stride: u32, to: &mut Bytes) -> Result<(), AllocError>
     ensures bytes { OnOk result (to.new ≡ to.old
-        ++ run_spelling (record { first = first.now; count = count; stride = stride })) }
+        ++ event_run_spelling (record { first = first.now; count = count; stride = stride })) }
     ensures typed { OnOk result (TypedEvent first.now) }
 {
     first.encode(to)?;

@@ -1,6 +1,6 @@
 use Rattle.std.proofs.Common.{rules, ◌++◌, ◌+◌, ◌-◌, ◌<◌, ◌≤◌, List, refl, ap, ◌∙◌, map, arith}
 use Rattle.run_model.specs.declared.event.Event.{Event}
-use Rattle.package_layout.specs.declared.run.Run.{Run}
+use Rattle.package_layout.specs.declared.event_run.EventRun.{EventRun}
 use Rattle.package_layout.specs.Runs.{at_step, steps_from}
 use Rattle.package_layout.proofs.RunFields.{small_first, small_next, step_next, expand_next, expand_last}
 use Rattle.package_layout.proofs.expanding.expand_front.Goals as goal
@@ -8,7 +8,7 @@ use Rattle.package_layout.proofs.Runs.{run_some}
 
 pub loop-left-init : goal.loop-left-init
 loop-left-init c =
-    let r : Run = c.args.run.now in
+    let r : EventRun = c.args.run.now in
     record { some = run_some r c.requires; within = omega (arith); small = small_first r c.requires; due = refl }
 
 pub overflow_add-at : goal.overflow_add-at

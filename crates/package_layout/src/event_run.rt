@@ -14,7 +14,7 @@ use std::alloc::{AllocError, Global};
 
 /// Neighbouring events of one process and one act, whose steps are evenly apart.
 #[derive(Drop)]
-pub struct Run {
+pub struct EventRun {
     pub first: Event,
     /// How many events it stands for, the first counted.
     pub count: u32,
@@ -23,21 +23,21 @@ pub struct Run {
 }
 
 /// Runs, in the order of their events.
-pub type Runs = List<Run>;
+pub type EventRuns = List<EventRun>;
 
 /// A run that has begun, and the step of its last event.
 #[derive(Drop)]
 pub(crate) struct Begun {
-    pub(crate) run: Run,
+    pub(crate) run: EventRun,
     pub(crate) last: u32,
 }
 
-impl Encode for Run {
-    ghost use Rattle.package_layout.specs.Runs.{run_spelling, TypedRun};
+impl Encode for EventRun {
+    ghost use Rattle.package_layout.specs.Runs.{event_run_spelling, TypedEventRun};
 
-    ghost spelling = { run_spelling };
+    ghost spelling = { event_run_spelling };
 
-    ghost typed = { TypedRun };
+    ghost typed = { TypedEventRun };
 
     fn encode(&self, to: &mut Bytes) -> Result<(), AllocError> {
         self.first.encode(to)?;
@@ -46,16 +46,16 @@ impl Encode for Run {
     }
 }
 
-impl Decode for Run {
-    ghost use Rattle.package_layout.specs.Runs.{run_at};
+impl Decode for EventRun {
+    ghost use Rattle.package_layout.specs.Runs.{event_run_at};
 
-    ghost reading = { run_at };
+    ghost reading = { event_run_at };
 
-    fn decode(alloc: Global, cursor: &mut Cursor) -> Result<Run, DecodeError> {
+    fn decode(alloc: Global, cursor: &mut Cursor) -> Result<EventRun, DecodeError> {
         let first = Event::decode(alloc, cursor)?;
         let count = decode_u32(cursor)?;
         let stride = decode_u32(cursor)?;
-        Ok(Run {
+        Ok(EventRun {
             first,
             count,
             stride,

@@ -1,4 +1,4 @@
-use Rattle.package_layout.proofs.layout.runs_answer.Goals as goal
+use Rattle.package_layout.proofs.layout.compact_answer.Goals as goal
 
 pub returns-in-Ok-clause-due : goal.returns-in-Ok-clause-due
 returns-in-Ok-clause-due c = c.in-Ok.ensures.due

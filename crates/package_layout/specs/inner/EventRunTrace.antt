@@ -3,7 +3,7 @@ use Rattle.std.specs.Prelude.{ℕ, ◌+◌, Bool, true, ◌&&◌, nat_le, if◌t
 use Rattle.ldv_value.specs.Limits.{max_processes}
 use Rattle.run_model.specs.declared.event.Act.{Act}
 use Rattle.run_model.specs.Acts.{is_spawn}
-use Rattle.package_layout.specs.declared.run.Run.{Run}
+use Rattle.package_layout.specs.declared.event_run.EventRun.{EventRun}
 use Rattle.package_layout.specs.Runs.{last_step}
 use Rattle.package_layout.specs.inner.Trace.{Progress, event_rule, is_asked, asked_after}
 
@@ -14,12 +14,12 @@ spawns_fit made act times = if is_spawn act then nat_le (made + times) max_proce
 abbrev pub made_by : Act → ℕ → ℕ
 made_by act times = if is_spawn act then times else 0
 
-abbrev pub run_rule : ℕ → Progress → Run → Bool
+abbrev pub run_rule : ℕ → Progress → EventRun → Bool
 run_rule steps before r =
     event_rule steps before r.first && nat_le (last_step r) steps
     && spawns_fit before.made r.first.act r.count
 
-abbrev pub progress_by : Progress → Run → Progress
+abbrev pub progress_by : Progress → EventRun → Progress
 progress_by before r = record {
   made = before.made + made_by r.first.act r.count;
   asked = asked_after before.asked (is_asked r.first.act);

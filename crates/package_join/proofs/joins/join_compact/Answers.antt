@@ -1,6 +1,6 @@
 use Rattle.package_join.specs.Joined.{joined_of}
 use Rattle.package_join.proofs.CutLaws.{cuts_joined, first_stays, second_stays}
-use Rattle.package_join.proofs.joins.join_runs.Goals as goal
+use Rattle.package_join.proofs.joins.join_compact.Goals as goal
 
 pub returns-clause-joined : goal.returns-clause-joined
 returns-clause-joined c = cuts_joined c.args.a c.args.b c.join_with_runs.result c.join_with_runs.ensures

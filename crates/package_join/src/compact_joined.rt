@@ -1,34 +1,34 @@
 //! Joined packages whose traces are kept as runs of events.
 
 ghost use Rattle.std.specs.Prelude.{◌≡◌};
-ghost use Rattle.package_join.specs.RunJoins.{with_runs};
+ghost use Rattle.package_join.specs.CompactJoins.{with_runs};
 
 use crate::joined::{Joined, JoinedRun};
-use package_layout::Runs;
+use package_layout::EventRuns;
 use run_model::PackedFiles;
 use sql_model::Tables;
 
 /// One of the two runs of a joined package, whose trace is kept as runs of events: a few bytes can stand for
 /// millions of events.
 #[derive(Drop)]
-pub struct CutRun {
+pub struct CompactRun {
     /// The run without its events.
     pub bare: JoinedRun,
     /// Its events.
-    pub runs: Runs,
+    pub runs: EventRuns,
 }
 
 /// A joined package whose traces are kept as runs of events.
 #[derive(Drop)]
-pub struct RunJoined {
+pub struct CompactJoined {
     pub files: PackedFiles,
     pub tables: Tables,
-    pub first: CutRun,
-    pub second: CutRun,
+    pub first: CompactRun,
+    pub second: CompactRun,
 }
 
 /// A joined package with the runs of both traces. Nothing is copied.
-pub(crate) fn with_runs(first: Runs, second: Runs, joined: Joined) -> RunJoined
+pub(crate) fn with_runs(first: EventRuns, second: EventRuns, joined: Joined) -> CompactJoined
     ensures { result ≡ with_runs first second joined }
 {
     let Joined {
@@ -37,14 +37,14 @@ pub(crate) fn with_runs(first: Runs, second: Runs, joined: Joined) -> RunJoined
         first: one,
         second: two,
     } = joined;
-    RunJoined {
+    CompactJoined {
         files,
         tables,
-        first: CutRun {
+        first: CompactRun {
             bare: one,
             runs: first,
         },
-        second: CutRun {
+        second: CompactRun {
             bare: two,
             runs: second,
         },

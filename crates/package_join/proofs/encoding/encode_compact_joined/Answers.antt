@@ -1,7 +1,7 @@
 use Rattle.std.proofs.Common.{◌++◌, List, ℕ, ap, ◌∙◌}
 use Rattle.std.proofs.lemmas.Result.{on_ok_weaker}
 use Rattle.package_join.proofs.CutLaws.{cuts_spelled}
-use Rattle.package_join.proofs.encoding.encode_cuts.Goals as goal
+use Rattle.package_join.proofs.encoding.encode_compact_joined.Goals as goal
 
 pub returns : goal.returns
 returns c =
