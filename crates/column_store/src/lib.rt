@@ -12,8 +12,6 @@ mod int_column;
 
 pub use bits::{Bits, drop_bit};
 pub use column::Column;
-pub use columns::{
-    compare_cells, copy_cells, empty_columns, push_cells, reserve_cells, set_cells,
-};
+pub use columns::{compare_cells, copy_cells, empty_columns, push_cells, reserve_cells, set_cells};
 pub use grow::reserve_eighth;
 pub use int_column::IntColumn;

@@ -62,7 +62,12 @@ fn deleted_rows(checked: &Checked, delete: &Delete, store: &Store) -> Result<Fou
 {
     let alloc = checked.places.allocator();
     let none = List::new(alloc);
-    let places = condition_places(alloc, &delete.condition, column_indexes(checked, 0, &none), 0)?;
+    let places = condition_places(
+        alloc,
+        &delete.condition,
+        column_indexes(checked, 0, &none),
+        0,
+    )?;
     store.tell_formed();
     let table = table_of(store, &delete.table);
     let found = found_rows(alloc, table, &delete.condition, &places)?;

@@ -16,7 +16,7 @@ use crate::group_value::{group_truth, group_value};
 use crate::groups::{KeyedGroup, groups_of};
 use crate::lineages::{add_lineages, lineage_of_picks};
 use crate::plan::{Plan, plan_of};
-use core_parts::{BoundExpr, Refs, core_of, is_certain, column_indexes};
+use core_parts::{BoundExpr, Refs, column_indexes, core_of, is_certain};
 use ldv_value::{List, Values};
 use lineage::{Answer, Answers, LineageSet, Pick, Picks};
 use sql_model::Checked;

@@ -3,9 +3,9 @@
 //! What it promises stands in `docs/GUARANTEES.md`, how it works in `docs/ARCHITECTURE.md`.
 #![tactic(auto)]
 
-mod group_value;
 mod columns;
 mod folds;
+mod group_value;
 mod grouping;
 mod groups;
 mod lineages;

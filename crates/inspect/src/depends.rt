@@ -15,8 +15,8 @@ ghost use Rattle.inspect.specs.DependsReports.{depends_report, nodes_report, rep
 ghost use Rattle.inspect.specs.ProcessNames.{name_in};
 ghost use Rattle.inspect.specs.Stopping.{Stops};
 
-use crate::process_names::{Processes, append_process, processes_of};
 use crate::error::InspectStop;
+use crate::process_names::{Processes, append_process, processes_of};
 use ldv_value::Bytes;
 use reach::{append_number_line, append_path, append_version, depends};
 use run_model::{Events, Package};
@@ -104,11 +104,7 @@ fn append_nodes(
     Ok(())
 }
 
-fn append_node(
-    to: &mut Bytes,
-    processes: &Processes,
-    node: &NodeKey<'_>,
-) -> Result<(), AllocError>
+fn append_node(to: &mut Bytes, processes: &Processes, node: &NodeKey<'_>) -> Result<(), AllocError>
     ensures { OnOk result (to.new ≡ to.old ++ node_line (name_in processes.now) (node_of node.now)) }
 {
     match node {

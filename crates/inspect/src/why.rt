@@ -8,8 +8,8 @@ ghost use Rattle.inspect.specs.WhyReports.{asked_in, asks, reason_line, reason_o
 ghost use Rattle.inspect.specs.WhyReports.{row_numbered, table_named, why_report};
 
 use crate::append::append_rule;
-use crate::process_names::{Processes, append_process, processes_of};
 use crate::error::InspectStop;
+use crate::process_names::{Processes, append_process, processes_of};
 use ldv_value::Bytes;
 use reach::append_numbered;
 use run_model::{Act, Event, Package, PackedRow, PackedTable};

@@ -15,7 +15,7 @@ ghost use Rattle.ldv_top.specs.declared.command.Report.TheVariants.{Depends, Fil
 
 use crate::command::Report;
 use crate::numbers::number_within;
-use crate::reading::{read_package_of, read_compact_of};
+use crate::reading::{read_compact_of, read_package_of};
 use crate::response::Response;
 use crate::word_stop::WordStop;
 use inspect::{InspectStop, depends_text, files_text, rows_text, trace_text, why_text};

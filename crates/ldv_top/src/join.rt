@@ -21,8 +21,8 @@ ghost use Rattle.ldv_top.specs.WordsOfJoins.{join_of};
 use crate::command::Command;
 use crate::response::Response;
 use ldv_value::Bytes;
-use package_join::{JoinStop, CompactJoined, join_compact, spell_compact_joined};
-use package_layout::{Cursor, DamageKind, PackageStop, CompactPackage, SpellStop, read_compact};
+use package_join::{CompactJoined, JoinStop, join_compact, spell_compact_joined};
+use package_layout::{CompactPackage, Cursor, DamageKind, PackageStop, SpellStop, read_compact};
 use run_model::Mode;
 use std::alloc::{AllocError, Global};
 
@@ -132,7 +132,11 @@ fn read_second(
 }
 
 // Both have to have the needed rows.
-fn packages_response(alloc: Global, a: CompactPackage, b: CompactPackage) -> Result<Response, AllocError>
+fn packages_response(
+    alloc: Global,
+    a: CompactPackage,
+    b: CompactPackage,
+) -> Result<Response, AllocError>
     requires first { IsCut a.runs }
     requires second { IsCut b.runs }
     ensures { IfOk result (λ response. response_due response
@@ -147,7 +151,11 @@ fn packages_response(alloc: Global, a: CompactPackage, b: CompactPackage) -> Res
     }
 }
 
-fn joined_response(alloc: Global, a: CompactPackage, b: CompactPackage) -> Result<Response, AllocError>
+fn joined_response(
+    alloc: Global,
+    a: CompactPackage,
+    b: CompactPackage,
+) -> Result<Response, AllocError>
     requires first { IsCut a.runs }
     requires second { IsCut b.runs }
     ensures { IfOk result (λ response. response_due response

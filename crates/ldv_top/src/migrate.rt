@@ -17,7 +17,7 @@ use crate::migration_law::migration_law;
 use crate::reading::read_compact_of;
 use crate::response::Response;
 use ldv_value::Bytes;
-use package_layout::{PackageStop, CompactPackage, SpellStop, spell_compact};
+use package_layout::{CompactPackage, PackageStop, SpellStop, spell_compact};
 use std::alloc::{AllocError, Global};
 
 /// The command that the words after `migrate` are.

@@ -16,7 +16,7 @@ ghost use Rattle.world_json.specs.Reading.{world_reading, IsFaultOf};
 
 use ldv_value::Bytes;
 use package_layout::{
-    PackageStop, ParsedPackage, CompactPackage, read_package, read_parsed, read_compact,
+    CompactPackage, PackageStop, ParsedPackage, read_compact, read_package, read_parsed,
 };
 use prov_export::{ProvStop, read_prov};
 use run_model::{Package, ParsedWorld};

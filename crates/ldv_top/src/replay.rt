@@ -13,7 +13,7 @@ ghost use Rattle.ldv_top.specs.Due.{response_due, due_world, due_log, replayed_p
 use crate::reading::read_parsed_of;
 use crate::response::{Response, parsed_response};
 use ldv_value::Bytes;
-use package_layout::{PackageStop, ParsedPackage, CompactPackage};
+use package_layout::{CompactPackage, PackageStop, ParsedPackage};
 use proc_core::RunStop;
 use replay_db::own_parsed_world;
 use replay_log::{can_replay_law, replay_owned};
@@ -63,11 +63,7 @@ fn excluded_response(alloc: Global, budget: u32, package: Package) -> Result<Res
     log_response(alloc, budget, ended)
 }
 
-fn replay_package(
-    alloc: Global,
-    budget: u32,
-    parsed: ParsedPackage,
-) -> Result<Response, AllocError>
+fn replay_package(alloc: Global, budget: u32, parsed: ParsedPackage) -> Result<Response, AllocError>
     requires can_run { CanRun (own_world parsed.cut.bare) }
     requires can_replay { CanReplay parsed.cut.bare }
     requires parsed { StartsWith parsed }

@@ -20,7 +20,7 @@ use crate::reading::read_parsed_of;
 use crate::response::Response;
 use crate::word_stop::WordStop;
 use ldv_value::{Bytes, DEFAULT_STEPS, MAX_STEPS, Utf8};
-use package_layout::{PackageStop, ParsedPackage, CompactPackage};
+use package_layout::{CompactPackage, PackageStop, ParsedPackage};
 use replay_db::{TableStop, package_law, table_at_parsed};
 use run_model::table_text;
 use sql_model::is_sql_name;

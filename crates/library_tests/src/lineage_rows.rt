@@ -42,7 +42,12 @@ fn list_of(
 }
 
 // The list of the rows of the first table from one number to before another, each at its number's version.
-fn rows_between(alloc: Global, names: &Names, first: u32, after: u32) -> Result<LineageRows, AllocError>
+fn rows_between(
+    alloc: Global,
+    names: &Names,
+    first: u32,
+    after: u32,
+) -> Result<LineageRows, AllocError>
     requires { 0 < length names.now }
     ensures { IfOk result (IsNamed names.now) }
 {

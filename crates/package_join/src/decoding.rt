@@ -5,8 +5,8 @@ ghost use Rattle.package_layout.specs.Fields.{Decodes, Makes};
 ghost use Rattle.package_join.specs.Layout.{bare_run_at};
 ghost use Rattle.package_join.specs.CompactJoins.{compact_joined_at, compact_joined_of, compact_run_at};
 
+use crate::compact_joined::{CompactJoined, CompactRun};
 use crate::joined::{JoinedRun, Reason};
-use crate::compact_joined::{CompactRun, CompactJoined};
 use ldv_value::List;
 use package_layout::{
     Cursor, Decode, DecodeError, Width, decode_list, decode_reason, decode_text, decode_u32,

@@ -9,8 +9,8 @@ ghost use Rattle.package_join.specs.Rooms.{TypedJoinedRun, TypedNeeds, TypedRunN
 ghost use Rattle.package_join.specs.CompactJoins.{both_compact_spelling, compact_run_spelling, compact_sections, whole_join};
 ghost use Rattle.package_layout.specs.Runs.{IsCut};
 
+use crate::compact_joined::{CompactJoined, CompactRun};
 use crate::joined::{Joined, JoinedRun, Reason};
-use crate::compact_joined::{CompactRun, CompactJoined};
 use ldv_value::Bytes;
 use package_layout::{
     Encode, Width, encode_list, encode_reason, encode_text, encode_trace, encode_u32, encode_u64,
@@ -111,7 +111,10 @@ pub(crate) fn encode_cut_joined(joined: &CompactJoined, to: &mut Bytes) -> Resul
 
 /// The same where the runs are those of their events: the bytes are those of the joined package with its
 /// events.
-pub(crate) fn encode_compact_joined(joined: &CompactJoined, to: &mut Bytes) -> Result<(), AllocError>
+pub(crate) fn encode_compact_joined(
+    joined: &CompactJoined,
+    to: &mut Bytes,
+) -> Result<(), AllocError>
     requires first { IsCut joined.now.first.runs }
     requires second { IsCut joined.now.second.runs }
     ensures { OnOk result (to.new ≡ to.old ++ joined_sections (whole_join joined.now)) }

@@ -11,11 +11,11 @@ ghost use Rattle.package_join.specs.CompactJoins.{CompactJoinsAs, JoinsWithRuns}
 ghost use Rattle.package_join.specs.Valid.{IsValidJoined};
 
 use crate::clash::{files_clash, schemas_clash, taken_key, values_clash};
+use crate::compact_joined::{CompactJoined, with_runs};
 use crate::copying::copy_package;
 use crate::joined::{Clash, Joined};
 use crate::merging::merge_lists;
 use crate::parts::{Parts, parts_of};
-use crate::compact_joined::{CompactJoined, with_runs};
 use package_layout::CompactPackage;
 use run_model::Package;
 use std::alloc::{AllocError, Global};
@@ -68,7 +68,11 @@ pub fn join_owned(alloc: Global, a: Package, b: Package) -> Result<Joined, JoinS
 
 /// The same of packages whose traces are kept as runs, which are those of their events. No list of events is
 /// made: it takes memory by the files, tables, rows and runs of both, and none by the number of events.
-pub fn join_compact(alloc: Global, a: CompactPackage, b: CompactPackage) -> Result<CompactJoined, JoinStop>
+pub fn join_compact(
+    alloc: Global,
+    a: CompactPackage,
+    b: CompactPackage,
+) -> Result<CompactJoined, JoinStop>
     requires first { IsCut a.runs }
     requires second { IsCut b.runs }
     ensures joined { CompactJoinsAs result (joined_of (expanded_package a) (expanded_package b)) }

@@ -9,12 +9,12 @@ ghost use Rattle.package_join.specs.CompactJoins.{compact_anew, compact_spelled_
 ghost use Rattle.package_join.specs.CompactJoins.{join_of_packages, join_of_valid_packages};
 
 use crate::choosing::picked_package;
+use crate::compact_joined::{CompactJoined, CompactRun};
 use crate::decoding::decode_all;
 use crate::encoding::encode_cut_joined;
 use crate::joins::{JoinStop, join_with_runs};
-use crate::compact_joined::{CompactRun, CompactJoined};
 use ldv_value::Bytes;
-use package_layout::{DecodeError, CompactPackage, Version, is_valid_package};
+use package_layout::{CompactPackage, DecodeError, Version, is_valid_package};
 use run_model::PackedFiles;
 use sql_model::Tables;
 use std::alloc::{AllocError, Global};
@@ -55,7 +55,11 @@ fn picked_pair(alloc: Global, joined: CompactJoined) -> Result<Pair, AllocError>
     })
 }
 
-fn join_of_packages(alloc: Global, a: CompactPackage, b: CompactPackage) -> Result<CompactJoined, DecodeError>
+fn join_of_packages(
+    alloc: Global,
+    a: CompactPackage,
+    b: CompactPackage,
+) -> Result<CompactJoined, DecodeError>
     ensures { Makes result (join_of_packages a b) }
 {
     match join_with_runs(alloc, a, b) {
@@ -88,7 +92,11 @@ fn compact_anew(alloc: Global, joined: CompactJoined) -> Result<CompactJoined, D
     join_of_valid_packages(alloc, first, second)
 }
 
-fn if_spelling_is(alloc: Global, bytes: &[u8], joined: CompactJoined) -> Result<CompactJoined, DecodeError>
+fn if_spelling_is(
+    alloc: Global,
+    bytes: &[u8],
+    joined: CompactJoined,
+) -> Result<CompactJoined, DecodeError>
     ensures so { Makes result (compact_spelled_so bytes.now joined) }
     ensures typed { IfOk result (λ r. AllByRecursion TypedCommonTable r.tables) }
 {

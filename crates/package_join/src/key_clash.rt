@@ -21,7 +21,11 @@ pub(crate) fn second_row(alloc: Global, table: &Table) -> Result<Option<u32>, Al
     first_taken_row(alloc, &table.schema.key, table.rows.items())
 }
 
-fn first_taken_row(alloc: Global, places: &Places, rows: &[TableRow]) -> Result<Option<u32>, AllocError>
+fn first_taken_row(
+    alloc: Global,
+    places: &Places,
+    rows: &[TableRow],
+) -> Result<Option<u32>, AllocError>
     ensures { IfOk result (λ row. row ≡ first_taken_row places.now unseen rows.now) }
 {
     let mut seen = BTreeSet::new(alloc);

@@ -6,6 +6,7 @@
 
 mod choosing;
 mod clash;
+mod compact_joined;
 mod copying;
 mod decoding;
 mod differences;
@@ -20,15 +21,14 @@ mod merging;
 mod parts;
 mod queue;
 mod reading;
-mod compact_joined;
 mod spelling;
 mod worlds;
 
 pub use choosing::run_of;
+pub use compact_joined::{CompactJoined, CompactRun};
 pub use joined::{Clash, ClashKind, Joined, JoinedRun, Reason, Reasons, Which};
-pub use joins::{JoinStop, join, join_owned, join_compact};
+pub use joins::{JoinStop, join, join_compact, join_owned};
 pub use law::{join_law, joined_round_trip_law, joined_runs_law, pick_law};
 pub use reading::{read_compact_joined, read_joined};
-pub use compact_joined::{CompactRun, CompactJoined};
 pub use spelling::{spell_compact_joined, spell_joined};
 pub use worlds::{joined_world, world_owned};

@@ -9,9 +9,9 @@ ghost use Rattle.package_join.specs.CompactJoins.{CompactJoinedReadsAs, JoinedRe
 ghost use Rattle.package_join.specs.Valid.{IsJoinedRead, IsNoJoined, digested_reading};
 ghost use Rattle.package_join.specs.Valid.{has_joined_magic, joined_damage_before, joined_reading};
 
+use crate::compact_joined::{CompactJoined, CompactRun};
 use crate::joined::{Joined, JoinedRun};
 use crate::judging::compact_joined_in;
-use crate::compact_joined::{CompactRun, CompactJoined};
 use crate::spelling::joined_magic;
 use package_layout::{
     DamageKind, DecodeError, PackageStop, events_in, first_eight, has_digest, middle,

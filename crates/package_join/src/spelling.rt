@@ -7,9 +7,9 @@ ghost use Rattle.package_join.specs.Rooms.{IsTypedJoined};
 ghost use Rattle.package_join.specs.CompactJoins.{whole_join};
 ghost use Rattle.package_layout.specs.Runs.{IsCut};
 
+use crate::compact_joined::CompactJoined;
 use crate::encoding::{encode_compact_joined, encode_joined};
 use crate::joined::Joined;
-use crate::compact_joined::CompactJoined;
 use ldv_value::Bytes;
 use package_layout::{SpellStop, append_digest};
 use std::alloc::{AllocError, Global};

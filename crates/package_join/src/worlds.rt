@@ -7,8 +7,8 @@ ghost use Rattle.package_join.specs.CompactJoins.{whole_join};
 ghost use Rattle.package_join.specs.Worlds.{empty_if, joined_world, seen_by, world_by, world_file, world_of};
 
 use crate::choosing::name_set;
-use crate::joined::{Joined, JoinedRun, Which};
 use crate::compact_joined::CompactJoined;
+use crate::joined::{Joined, JoinedRun, Which};
 use ldv_value::{Bytes, File, Files, Utf8};
 use run_model::{PackedFile, PackedFiles, World};
 use slicer::{NameSet, has};

@@ -5,8 +5,8 @@ ghost use Rattle.std.specs.List.{list_all};
 ghost use Rattle.package_layout.specs.CompactPackages.{expanded_package};
 ghost use Rattle.package_layout.specs.Runs.{at_step, are_runs, events_in, is_run, run_events};
 
-use crate::event_run::{EventRun, EventRuns};
 use crate::compact_package::CompactPackage;
+use crate::event_run::{EventRun, EventRuns};
 use crate::run_rules::count_events;
 use ldv_value::{CopyItem, List};
 use run_model::{Event, Events, Package};
@@ -14,7 +14,10 @@ use std::alloc::{AllocError, Global};
 
 /// The package with all events that its runs stand for.
 #[tactic(auto, using(crate::proofs::Runs::are_all_runs))]
-pub(crate) fn expanded_package(alloc: Global, package: CompactPackage) -> Result<Package, AllocError>
+pub(crate) fn expanded_package(
+    alloc: Global,
+    package: CompactPackage,
+) -> Result<Package, AllocError>
     requires { are_runs «package».runs ≡ true }
     ensures { IfOk result (λ p. p ≡ expanded_package «package») }
 {

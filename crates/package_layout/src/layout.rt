@@ -12,11 +12,11 @@ ghost use Rattle.package_layout.specs.Valid.{reading, reading_as};
 ghost use Rattle.package_layout.specs.Version.{version_of};
 ghost use Rattle.package_layout.specs.Whole.{IsTyped};
 
+use crate::compact_package::{CompactPackage, ParsedPackage};
 use crate::damage::DamageKind;
 use crate::decode_error::DecodeError;
 use crate::digest::{has_digest, middle};
 use crate::expanding::expanded_package;
-use crate::compact_package::{ParsedPackage, CompactPackage};
 use crate::sections::decode_all;
 use crate::validity::valid_script;
 use crate::version::{Version, version_of};
@@ -150,11 +150,7 @@ fn parsed_answer(alloc: Global, bytes: &[u8]) -> Result<ParsedPackage, PackageSt
     }
 }
 
-fn answer_as(
-    alloc: Global,
-    version: Version,
-    bytes: &[u8],
-) -> Result<ParsedPackage, PackageStop>
+fn answer_as(alloc: Global, version: Version, bytes: &[u8]) -> Result<ParsedPackage, PackageStop>
     ensures due { CompactReadsAs (cut_of result) (reading_as version bytes.now) }
     ensures at_once { has_digest bytes.now ≡ false
         → cut_of result ≡ Err (PackageStop.Damaged DamageKind.Digest) }
@@ -188,11 +184,7 @@ fn middle_answer(
 }
 
 // Nothing is expanded before all is judged: a few bytes can stand for 20,000,001 events.
-fn parsed_in(
-    alloc: Global,
-    version: Version,
-    middle: &[u8],
-) -> Result<ParsedPackage, DecodeError>
+fn parsed_in(alloc: Global, version: Version, middle: &[u8]) -> Result<ParsedPackage, DecodeError>
     ensures made { Makes (cut_of result) (compact_in version middle.now) }
     ensures parsed { IfOk result StartsWith }
 {

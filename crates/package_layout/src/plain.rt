@@ -9,8 +9,8 @@ ghost use Rattle.package_layout.specs.Plain.{is_plain_reply, is_plain_row, is_pl
 ghost use Rattle.package_layout.specs.CompactPackages.{expanded_package};
 ghost use Rattle.package_layout.specs.Runs.{are_runs, events_in, is_run};
 
-use crate::event_run::EventRun;
 use crate::compact_package::CompactPackage;
+use crate::event_run::EventRun;
 use crate::version::Version;
 use run_model::{Act, Entry, Log, PackedRow, PackedTable};
 use sql_model::{Need, Reply, Rule, SqlRefusal};

@@ -12,12 +12,12 @@ ghost use Rattle.package_layout.specs.Whole.{mode_number, mode_of, mode_at, part
 ghost use Rattle.package_layout.specs.Whole.{sections, trace_spelling, IsTyped};
 
 use crate::codec::{decode_list, encode_list};
+use crate::compact_package::CompactPackage;
 use crate::cursor::Cursor;
 use crate::cutting::decode_cut;
 use crate::decode_error::DecodeError;
-use crate::number::{decode_u8, decode_u32, decode_u64, encode_u8, encode_u32, encode_u64};
 use crate::event_run::EventRuns;
-use crate::compact_package::CompactPackage;
+use crate::number::{decode_u8, decode_u32, decode_u64, encode_u8, encode_u32, encode_u64};
 use crate::table::{decode_tables, encode_tables};
 use crate::version::Version;
 use crate::width::Width;
@@ -66,7 +66,10 @@ pub(crate) fn encode_sections(
 }
 
 /// Appends the sections of a package whose trace is kept as runs, in the second version.
-pub(crate) fn encode_compact_sections(package: &CompactPackage, to: &mut Bytes) -> Result<(), AllocError>
+pub(crate) fn encode_compact_sections(
+    package: &CompactPackage,
+    to: &mut Bytes,
+) -> Result<(), AllocError>
     requires { IsCut «package».now.runs }
     ensures { OnOk result (to.new ≡ to.old ++ sections Two (expanded_package «package».now)) }
 {
@@ -133,7 +136,11 @@ fn decode_bare(alloc: Global, version: Version, cursor: &mut Cursor) -> Result<P
     })
 }
 
-fn decode_runs(alloc: Global, version: Version, cursor: &mut Cursor) -> Result<EventRuns, DecodeError>
+fn decode_runs(
+    alloc: Global,
+    version: Version,
+    cursor: &mut Cursor,
+) -> Result<EventRuns, DecodeError>
     ensures { Decodes result cursor.new (cut_at version cursor.old) }
 {
     match version {

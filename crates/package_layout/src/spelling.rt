@@ -8,9 +8,9 @@ ghost use Rattle.package_layout.specs.Runs.{IsCut};
 ghost use Rattle.package_layout.specs.Version.{Two};
 ghost use Rattle.package_layout.specs.Whole.{body, spelling, spelling_as, IsTyped};
 
+use crate::compact_package::CompactPackage;
 use crate::digest::{DIGEST_LENGTH, with_digest};
 use crate::layout::SpellStop;
-use crate::compact_package::CompactPackage;
 use crate::sections::{encode_compact_sections, encode_sections};
 use crate::version::{Version, magic};
 use ldv_value::{Bytes, INPUT_LIMIT};

@@ -12,10 +12,10 @@ ghost use Rattle.package_layout.specs.Valid.{mode_rule, steps_rule};
 ghost use Rattle.package_layout.specs.Valid.{trace_rule, reasons_rule, parts_rule, whole_rule};
 ghost use Rattle.package_layout.specs.Whole.{with_events};
 
+use crate::compact_package::CompactPackage;
+use crate::event_run::EventRun;
 use crate::plain::fits_version;
 use crate::rules::{is_valid_files, is_valid_logs, is_valid_start, is_valid_tables};
-use crate::event_run::EventRun;
-use crate::compact_package::CompactPackage;
 use crate::run_rules::are_runs;
 use crate::trace::{asked_count, is_trace};
 use crate::version::Version;

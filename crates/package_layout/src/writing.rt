@@ -6,8 +6,8 @@ ghost use Rattle.package_layout.specs.Typed.{TypedEvent};
 ghost use Rattle.package_layout.specs.Runs.{event_run_spelling, runs_from, runs_of, runs_spelling, run_of_one};
 
 use crate::codec::Encode;
-use crate::number::{encode_count, encode_u32};
 use crate::event_run::joins;
+use crate::number::{encode_count, encode_u32};
 use crate::width::Width;
 use ldv_value::Bytes;
 use run_model::Event;

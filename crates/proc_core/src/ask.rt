@@ -105,7 +105,10 @@ fn statement_of_process(
 }
 
 /// The statement that the next step of a process asks, where it asks one.
-pub(crate) fn statement_at(machine: &Machine, number: usize) -> Result<Option<Statement>, AllocError>
+pub(crate) fn statement_at(
+    machine: &Machine,
+    number: usize,
+) -> Result<Option<Statement>, AllocError>
     ensures asked { IfOk result (λ asked. asked ≡ slot_ask_at machine.now number) }
     ensures room { IfOk result (λ asked. OnSome asked
         (HasRoom (slice_get machine.now.processes.items number))) }

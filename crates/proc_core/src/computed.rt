@@ -67,7 +67,11 @@ fn within(number: Option<i64>) -> Computed
 }
 
 /// `v ++ w`.
-pub(crate) fn concatenate(alloc: Global, left: &Value, right: &Value) -> Result<Computed, AllocError>
+pub(crate) fn concatenate(
+    alloc: Global,
+    left: &Value,
+    right: &Value,
+) -> Result<Computed, AllocError>
     ensures { IfOk result (λ c. computation_of c ≡ concatenation left.now right.now) }
 {
     if is_null(left) || is_null(right) {

@@ -95,7 +95,9 @@ fn finish_open<T: Tracer>(
         (event_at who.step who.number (open_act mode path found) ∷ [])) }
 {
     tell_path(who, open_kind(mode, found), &path, tracer)?;
-    process.files.set(slot, Some(SlotFile::at_start(path, mode)));
+    process
+        .files
+        .set(slot, Some(SlotFile::at_start(path, mode)));
     process.go_on();
     Ok(())
 }

@@ -48,12 +48,7 @@ pub(crate) fn start_script(start: &Words, tree: &Tree) -> Result<Script, AllocEr
 }
 
 // The resolved form of a file's script, which was parsed.
-fn code_at(
-    alloc: Global,
-    tree: &Tree,
-    path: &Utf8,
-    script: &Script,
-) -> Result<Code, AllocError>
+fn code_at(alloc: Global, tree: &Tree, path: &Utf8, script: &Script) -> Result<Code, AllocError>
     requires { option_and_then script_of (content_at tree.now path.now) ≡ Some script.now.instructions }
     ensures { IfOk result (λ code. (due : Items Instr)
         → option_and_then script_of (content_at tree.now path.now) ≡ Some due → IsCode code due) }

@@ -8,11 +8,11 @@ ghost use Rattle.prov_export.specs.inner.ObjectRefs.{objects_seen};
 ghost use Rattle.prov_export.specs.Reading.{each_from, edges_in};
 ghost use Rattle.prov_export.specs.Stopping.{Stops};
 
+use crate::error::ProvStop;
 use crate::ids::edge_name;
 use crate::members::{Members, member_of, number_at, text_at, time_at};
 use crate::objects::ObjectRefs;
 use crate::relation::{Relation, source_name, target_name};
-use crate::error::ProvStop;
 use serde_json::Value;
 use std::alloc::Global;
 use trace_graph::{Edge, Edges};

@@ -7,10 +7,10 @@ ghost use Rattle.prov_export.specs.inner.ObjectRefs.{objects_seen};
 ghost use Rattle.prov_export.specs.Reading.{each_from, node_by, nodes_in};
 ghost use Rattle.prov_export.specs.Stopping.{Stops};
 
+use crate::error::ProvStop;
 use crate::id_reading::node_in;
 use crate::name_map::{Names, name_of, names_in};
 use crate::objects::ObjectRefs;
-use crate::error::ProvStop;
 use std::alloc::Global;
 use trace_graph::{Node, Nodes};
 

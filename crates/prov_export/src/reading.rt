@@ -12,9 +12,9 @@ ghost use Rattle.prov_export.specs.Reading.{kept_as, parts_in, parts_with, prov_
 ghost use Rattle.prov_export.specs.Stopping.{Stops};
 
 use crate::edge_reading::edges_in;
+use crate::error::ProvStop;
 use crate::node_reading::nodes_in;
 use crate::objects::{ObjectRefs, objects_of};
-use crate::error::ProvStop;
 use crate::writing::write_prov;
 use json_bytes::{JsonStop, read_json};
 use serde_json::Value;

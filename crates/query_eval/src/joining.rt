@@ -329,7 +329,11 @@ struct Walk<'a> {
 }
 
 // Extends the prefixes by one source, and tests the conditions whose columns are all there then.
-fn join_source<'a>(alloc: Global, walk: Walk<'a>, source: &'a Source) -> Result<Walk<'a>, AllocError>
+fn join_source<'a>(
+    alloc: Global,
+    walk: Walk<'a>,
+    source: &'a Source,
+) -> Result<Walk<'a>, AllocError>
     requires { walk.width + 2 ^ 64 ≤ 2 ^ 128 }
     ensures width { IfOk result (λ new. new.width < walk.entry.width + 2 ^ 64) }
     ensures rows { IfOk result (λ new. (scope : Items InScope) → AreAllPlaced scope walk.entry.left

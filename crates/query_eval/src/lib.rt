@@ -5,12 +5,12 @@
 #![tactic(auto)]
 
 mod conditions;
-mod order_limit;
 mod index;
 mod joining;
 mod key_lookup;
 mod lineages;
 mod merging;
+mod order_limit;
 mod picking;
 mod probe;
 mod projection;
@@ -20,8 +20,8 @@ mod source;
 mod sources;
 mod table_scan;
 
-pub use order_limit::{Finished, finish};
 pub use lineages::united_set;
 pub use merging::merge;
+pub use order_limit::{Finished, finish};
 pub use picking::picked;
 pub use projection::project;

@@ -7,7 +7,7 @@ ghost use Rattle.query_eval.specs.Types.{Int};
 ghost use Rattle.sql_model.specs.QueryAnswer.{limit_of};
 
 use crate::lineages::united_set;
-use crate::sort::{sort_columns, sort_answers};
+use crate::sort::{sort_answers, sort_columns};
 use core_parts::{column_indexes, query_of};
 use ldv_value::{List, Value};
 use lineage::{Answers, LineageSet};
@@ -60,7 +60,11 @@ fn count_of(number: i64) -> Option<u64>
     }
 }
 
-fn limit_answers(alloc: Global, limit: Option<u64>, answers: Answers) -> Result<Finished, AllocError>
+fn limit_answers(
+    alloc: Global,
+    limit: Option<u64>,
+    answers: Answers,
+) -> Result<Finished, AllocError>
     ensures { IfOk result (IsLimited limit answers) }
 {
     match limit {

@@ -7,7 +7,7 @@ ghost use Rattle.query_eval.specs.Projecting.{projected_answer, values_over, ans
 ghost use Rattle.sql_model.specs.Refusals.{names_of_items};
 ghost use Rattle.sql_model.specs.Scope.{InScope, places_in};
 
-use core_parts::{BoundExpr, core_of, placed_items, column_indexes};
+use core_parts::{BoundExpr, column_indexes, core_of, placed_items};
 use ldv_value::{List, Places, Values};
 use lineage::{Answer, Answers, Picks};
 use sql_model::{Checked, Item, value_of};
@@ -33,7 +33,11 @@ pub fn project(checked: &Checked, core: usize, picks: Picks) -> Result<Answers, 
 }
 
 // The items of a core with the places that they take, which come first.
-fn first_items(alloc: Global, items: &[Item], places: &Places) -> Result<List<BoundExpr>, AllocError>
+fn first_items(
+    alloc: Global,
+    items: &[Item],
+    places: &Places,
+) -> Result<List<BoundExpr>, AllocError>
     ensures exprs { IfOk result (λ placed. map (λ p. p.expr) placed ≡ map (λ item. item.expr) items.now) }
     ensures placed { IfOk result (λ placed. (scope : Items InScope) (others : Items ℕ)
         → places.now ≡ places_in scope (names_of_items items.now) ++ others → AreAllPlaced scope placed) }

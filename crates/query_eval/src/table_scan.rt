@@ -19,7 +19,11 @@ use std::alloc::{AllocError, Global};
 use table_store::TableStore;
 
 // The slots whose row stands and for which each mask passes, as bits.
-fn slots_passing(alloc: Global, table: &TableStore, masks: &[ColumnTest]) -> Result<Vec<u64>, AllocError>
+fn slots_passing(
+    alloc: Global,
+    table: &TableStore,
+    masks: &[ColumnTest],
+) -> Result<Vec<u64>, AllocError>
     requires { AllFitColumns table.now.schema.columns masks.now }
     ensures few { IfOk result (λ words. length words.items < 2 ^ 57) }
     ensures members { IfOk result (λ words. (n : ℕ)
@@ -106,7 +110,11 @@ fn all_rows(alloc: Global, table: &TableStore) -> Result<SourceRows, AllocError>
 
 // The rows of a table that stand and for which each mask passes, in the order of their numbers.
 #[tactic(auto, using(crate::proofs::TableScanLaws::left_chosen))]
-fn rows_passing(alloc: Global, table: &TableStore, masks: &[ColumnTest]) -> Result<SourceRows, AllocError>
+fn rows_passing(
+    alloc: Global,
+    table: &TableStore,
+    masks: &[ColumnTest],
+) -> Result<SourceRows, AllocError>
     requires { AllFitColumns table.now.schema.columns masks.now }
     ensures { IfOk result (λ rows. rows ≡ left_rows masks.now table.now.slots) }
 {
@@ -115,7 +123,11 @@ fn rows_passing(alloc: Global, table: &TableStore, masks: &[ColumnTest]) -> Resu
     Ok(rows)
 }
 
-fn rows_by(alloc: Global, table: &TableStore, masks: &[ColumnTest]) -> Result<SourceRows, AllocError>
+fn rows_by(
+    alloc: Global,
+    table: &TableStore,
+    masks: &[ColumnTest],
+) -> Result<SourceRows, AllocError>
     requires { AllFitColumns table.now.schema.columns masks.now }
     ensures { IfOk result (λ rows. rows ≡ left_rows masks.now table.now.slots) }
 {

@@ -32,8 +32,7 @@ chain_kept : (edges : List Edge) (nexts : List ℕ) (i v low at : ℕ) (es : Lis
 chain_kept edges nexts i v low at [] before is = is
 chain_kept edges nexts i v low at (e ∷ es) before is =
     let from : low ≤ at = is.0 in
-    let kept : value_at (set nexts i v) at ≡ value_at nexts at = get_or-set_other nexts i at v 0 (λ same. omega (arith, same, before, from)) in
-    (
+    let kept : value_at (set nexts i v) at ≡ value_at nexts at = get_or-set_other nexts i at v 0 (λ same. omega (arith, same, before, from)) in (
       is.0,
       is.1,
       subst (λ (n : ℕ). IsChain edges (set nexts i v) (at + 1) n es) (sym kept)

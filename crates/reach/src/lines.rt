@@ -26,12 +26,7 @@ pub fn append_path(to: &mut Bytes, path: &str) -> Result<(), AllocError>
 }
 
 /// Appends the line of a row at a version.
-pub fn append_version(
-    to: &mut Bytes,
-    table: &str,
-    row: u32,
-    version: u32,
-) -> Result<(), AllocError>
+pub fn append_version(to: &mut Bytes, table: &str, row: u32, version: u32) -> Result<(), AllocError>
     ensures { OnOk result (to.new ≡ to.old ++ line (codes "row "
         ++ version_text (record { table = table.now; row = row; version = version }))) }
 {

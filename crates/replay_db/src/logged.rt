@@ -12,9 +12,9 @@ ghost use Rattle.replay_db.specs.inner.Recording.{HasNotEnded};
 ghost use Rattle.replay_db.specs.Runs.{CanRun};
 ghost use Rattle.replay_db.specs.Types.{Instr};
 
+use crate::error::EndStop;
 use crate::recorder::Recorder;
 use crate::setting::{Setting, setting_of};
-use crate::error::EndStop;
 use proc_core::{Run, RunStop};
 use run_model::{Events, ListTracer, Logs, World};
 use script_parse::Script;
@@ -51,14 +51,7 @@ fn begin(
     } = world;
     let Setting { tree, engine } = setting_of(alloc, files, tables)?;
     let recorder = Recorder::over(alloc, engine);
-    let begun = Run::start_parsed(
-        &start,
-        script,
-        seed,
-        tree,
-        recorder,
-        ListTracer::new(alloc),
-    )?;
+    let begun = Run::start_parsed(&start, script, seed, tree, recorder, ListTracer::new(alloc))?;
     Ok(begun)
 }
 

@@ -6,8 +6,8 @@ ghost use Rattle.run_model.specs.Start.{IsParsed, start_script};
 
 use ldv_value::{Bytes, CopyItem, File, Files};
 use run_model::{
-    Package, PackedFile, PackedFiles, PackedRow, PackedRows, PackedTable, PackedTables, ParsedWorld,
-    World,
+    Package, PackedFile, PackedFiles, PackedRow, PackedRows, PackedTable, PackedTables,
+    ParsedWorld, World,
 };
 use script_parse::Script;
 use sql_model::{Table, TableRow, TableRows, Tables};

@@ -12,9 +12,9 @@ ghost use Rattle.replay_db.specs.Runs.{CanRun, RecordsAs, Stops, package_within}
 ghost use Rattle.replay_db.specs.Types.{Included, Excluded};
 
 use crate::copy::copy_world;
+use crate::error::EndStop;
 use crate::logged::{Logged, log_world};
 use crate::start::parse_start;
-use crate::error::EndStop;
 use crate::trace::{Traced, trace_world};
 use run_model::{Logs, Mode, Package, PackedTables, ParsedWorld, World};
 use script_parse::Script;

@@ -7,9 +7,9 @@ ghost use Rattle.run_model.specs.Package.{own_world};
 ghost use Rattle.run_model.specs.WorldRun.{outcome_within};
 ghost use Rattle.replay_db.specs.Runs.{CanRun, Stops};
 
+use crate::error::EndStop;
 use crate::own::{own_world, own_world_of};
 use crate::run::run_owned;
-use crate::error::EndStop;
 use run_model::{Outcome, Package};
 use std::alloc::Global;
 

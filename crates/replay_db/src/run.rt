@@ -16,9 +16,9 @@ ghost use Rattle.replay_db.specs.Runs.{CanRun, RunsAs, Stops};
 ghost use Rattle.replay_db.specs.Types.{Instr};
 
 use crate::copy::copy_world;
+use crate::error::EndStop;
 use crate::setting::{Setting, setting_of};
 use crate::start::parse_start;
-use crate::error::EndStop;
 use proc_core::{Run, RunStop};
 use run_model::{NullTracer, Outcome, ParsedWorld, Tracer, World};
 use script_parse::Script;

@@ -9,9 +9,9 @@ ghost use Rattle.run_model.specs.Package.{own_world};
 ghost use Rattle.replay_db.specs.Auditing.{Audits, verdict_on};
 ghost use Rattle.replay_db.specs.Runs.{CanRun};
 
+use crate::error::EndStop;
 use crate::own::own_world;
 use crate::record::record_world;
-use crate::error::EndStop;
 use package_layout::{SpellStop, Version, spell_as, version_of};
 use run_model::{Mode, Package};
 use std::alloc::Global;

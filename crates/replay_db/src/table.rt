@@ -118,7 +118,11 @@ fn table_now(alloc: Global, engine: &Engine, name: &str, time: u32) -> Result<Ta
 }
 
 // The table that was taken after the step, or why there is none, once the run has gone on to its end.
-fn table_verdict(gone: &Run<Engine, NullTracer>, step: u32, table: Table) -> Result<Table, TableStop>
+fn table_verdict(
+    gone: &Run<Engine, NullTracer>,
+    step: u32,
+    table: Table,
+) -> Result<Table, TableStop>
     ensures { result ≡ table_verdict (has_ended gone.now.machine) gone.now.steps step (Ok table) }
 {
     if !gone.is_over() {

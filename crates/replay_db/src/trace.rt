@@ -6,8 +6,8 @@ ghost use Rattle.run_model.specs.Start.{start_script};
 ghost use Rattle.replay_db.specs.inner.Recording.{HasNotEnded, IsTraced};
 ghost use Rattle.replay_db.specs.Runs.{CanRun};
 
-use crate::run::run_to_end;
 use crate::error::EndStop;
+use crate::run::run_to_end;
 use run_model::{Events, ListTracer, World};
 use script_parse::Script;
 use std::alloc::Global;

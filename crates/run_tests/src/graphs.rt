@@ -161,12 +161,7 @@ fn a_node_has_a_place_where_it_is_in_the_graph(rt: HostRuntime) -> Result<(), Fa
 }
 
 // How many nodes the node at a place depends on by a time.
-fn count_sources(
-    alloc: Global,
-    graph: &Graph,
-    place: usize,
-    time: u32,
-) -> Result<usize, AllocError>
+fn count_sources(alloc: Global, graph: &Graph, place: usize, time: u32) -> Result<usize, AllocError>
     requires { place < length graph.now.nodes }
 {
     let keys = graph.keys(alloc)?;

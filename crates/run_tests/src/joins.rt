@@ -98,9 +98,13 @@ fn what_is_joined_is_read_back(rt: HostRuntime) -> Result<(), Fail> {
     };
     assert!(rt; bytes_of(&rt, alloc, &back).as_slice() == bytes.as_slice());
     let first = run_of(alloc, &back, Which::First)?;
-    assert!(rt; spelling_of(&rt, alloc, &first).as_slice() == spelling_of(&rt, alloc, &a).as_slice());
+    assert!(rt;
+        spelling_of(&rt, alloc, &first).as_slice() == spelling_of(&rt, alloc, &a).as_slice()
+    );
     let second = run_of(alloc, &back, Which::Second)?;
-    assert!(rt; spelling_of(&rt, alloc, &second).as_slice() == spelling_of(&rt, alloc, &b).as_slice());
+    assert!(rt;
+        spelling_of(&rt, alloc, &second).as_slice() == spelling_of(&rt, alloc, &b).as_slice()
+    );
     let world = joined_world(alloc, &joined, Which::First)?;
     assert!(rt; world.files.len() == 2 && world.tables.len() == 1);
     Ok(())

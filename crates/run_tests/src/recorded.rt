@@ -12,7 +12,11 @@ use std::alloc::{AllocError, Global};
 use std::process::Abort;
 
 /// The package of the run of a world document.
-pub(crate) fn recorded_package(rt: &impl Abort, alloc: Global, world: &str) -> Result<Package, AllocError>
+pub(crate) fn recorded_package(
+    rt: &impl Abort,
+    alloc: Global,
+    world: &str,
+) -> Result<Package, AllocError>
     ensures { IfOk result (λ p. IsValidPackage p) }
 {
     let written = written_bytes(rt, alloc, world)?;

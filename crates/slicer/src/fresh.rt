@@ -21,7 +21,8 @@ const BLOCK_WORDS: usize = 64;
 fn is_of_block(head: &Need, need: &Need) -> bool
     ensures { result ≡ is_of_block head.now need.now }
 {
-    head.member.table == need.member.table && head.member.row / BLOCK_ROWS == need.member.row / BLOCK_ROWS
+    head.member.table == need.member.table
+        && head.member.row / BLOCK_ROWS == need.member.row / BLOCK_ROWS
 }
 
 // How many of the reads, from the first on, are of the block of another.

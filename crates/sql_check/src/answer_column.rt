@@ -98,7 +98,10 @@ fn item_columns<'a>(
     }
 }
 
-fn scope_columns<'a>(alloc: Global, scope: &[Entry<'a>]) -> Result<Vec<AnswerColumn<'a>>, AllocError>
+fn scope_columns<'a>(
+    alloc: Global,
+    scope: &[Entry<'a>],
+) -> Result<Vec<AnswerColumn<'a>>, AllocError>
     ensures { IfOk result (λ titles. titles.items ≡ map (λ entry. Some entry.column.name) scope.now) }
 {
     let mut titles = Vec::with_capacity(alloc, scope.len())?;
@@ -110,7 +113,10 @@ fn scope_columns<'a>(alloc: Global, scope: &[Entry<'a>]) -> Result<Vec<AnswerCol
     Ok(titles)
 }
 
-fn columns_of_items<'a>(alloc: Global, items: &'a [Item]) -> Result<Vec<AnswerColumn<'a>>, AllocError>
+fn columns_of_items<'a>(
+    alloc: Global,
+    items: &'a [Item],
+) -> Result<Vec<AnswerColumn<'a>>, AllocError>
     ensures { IfOk result (λ titles. titles.items ≡ map (λ item. item_name item.name item.expr) items.now) }
 {
     let mut titles = Vec::with_capacity(alloc, items.len())?;

@@ -15,9 +15,7 @@ use crate::scope::{Entry, column_at, columns_of, own_scope};
 use crate::union::query_kinds;
 use crate::values::insert_clashes;
 use ldv_value::Value;
-use sql_model::{
-    Catalog, Column, Core, Expr, Item, Kind, Query, Set, Statement, Update, items_of,
-};
+use sql_model::{Catalog, Column, Core, Expr, Item, Kind, Query, Set, Statement, Update, items_of};
 use std::alloc::{AllocError, Global};
 
 /// Whether kinds or counts don't fit, in an expression, a condition, a UNION, LIMIT or a change.
@@ -104,7 +102,9 @@ pub(crate) fn conditions_fit(scope: &[Entry], core: &Core) -> bool
 fn are_row_conditions(scope: &[Entry], conditions: &[Expr]) -> bool
     ensures { result ≡ list_all (is_row_condition scope.now) conditions.now }
 {
-    conditions.iter().all(|condition| is_row_condition(scope, condition))
+    conditions
+        .iter()
+        .all(|condition| is_row_condition(scope, condition))
 }
 
 #[tactic(auto, using(crate::proofs::Mapped::last_test))]

@@ -196,7 +196,8 @@ fn update_lacks_column(update: &Update, columns: &[Column], scope: &[Entry]) -> 
     ensures { result ≡ update_lacks_column update.now columns.now scope.now }
 {
     !sets_have_column(columns, update.sets.items())
-        || !(sets_resolve(scope, update.sets.items()) && optional_resolves(scope, &update.condition))
+        || !(sets_resolve(scope, update.sets.items())
+            && optional_resolves(scope, &update.condition))
 }
 
 fn sets_have_column(columns: &[Column], sets: &[Set]) -> bool

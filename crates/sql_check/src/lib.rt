@@ -5,6 +5,7 @@
 #![tactic(auto)]
 
 mod aggregate;
+mod answer_column;
 mod checking;
 mod clash;
 mod columns;
@@ -12,7 +13,6 @@ mod core_names;
 mod duplicate;
 mod error;
 mod kinds;
-mod answer_column;
 mod places;
 mod scope;
 mod tables;

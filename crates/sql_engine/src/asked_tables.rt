@@ -6,7 +6,7 @@ ghost use Rattle.std.specs.Prelude.{slice_index_or};
 ghost use Rattle.sql_engine.specs.inner.Listing.{tables_asked};
 ghost use Rattle.sql_engine.specs.inner.Taking.{is_taken, AreDistinct, IsFresh, InPlace};
 
-use crate::marks::{Mark, TableMarks, mark_all_parents, is_taken, mark_needed};
+use crate::marks::{Mark, TableMarks, is_taken, mark_all_parents, mark_needed};
 use ldv_value::{List, Names, Utf8};
 use sql_model::{Catalog, Need, Statement};
 

@@ -5,12 +5,12 @@
 
 mod answer;
 mod asked_tables;
-mod execute;
 mod cores;
-mod recorded;
 mod engine;
+mod execute;
 mod marks;
 mod named_tables;
 mod needs;
+mod recorded;
 
 pub use engine::Engine;

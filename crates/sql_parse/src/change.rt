@@ -5,7 +5,7 @@ ghost use Rattle.sql_model.specs.Texts.{reads_columns, reads_insert, reads_set, 
 
 use crate::error::ParseStop;
 use crate::expression::expression;
-use crate::part_list::{Part, parse_list, optional_expression};
+use crate::part_list::{Part, optional_expression, parse_list};
 use crate::reader::Reader;
 use ldv_value::{Names, Utf8};
 use sql_model::{Delete, Exprs, Insert, Set, Update};
@@ -48,7 +48,11 @@ pub(crate) fn update(alloc: Global, reader: &mut Reader) -> Result<Update, Parse
     reader.expect("set")?;
     let sets = parse_list::<Set>(alloc, reader)?;
     let condition = optional_expression(alloc, reader, "where")?;
-    Ok(Update { table, sets, condition })
+    Ok(Update {
+        table,
+        sets,
+        condition,
+    })
 }
 
 impl Part for Set {

@@ -7,7 +7,7 @@ ghost use Rattle.sql_model.specs.Queries.{core_rest, reads_core};
 
 use crate::error::ParseStop;
 use crate::expression::expression;
-use crate::part_list::{Part, parse_list, optional_expression};
+use crate::part_list::{Part, optional_expression, parse_list};
 use crate::reader::Reader;
 use crate::source::all_sources;
 use ldv_value::{MAX_SOURCES, Utf8};
@@ -52,7 +52,10 @@ fn core_end(
     let condition = optional_expression(alloc, reader, "where")?;
     let group = group(alloc, reader)?;
     let having = optional_expression(alloc, reader, "having")?;
-    let Sources { from, mut conditions } = sources;
+    let Sources {
+        from,
+        mut conditions,
+    } = sources;
     add(&mut conditions, condition)?;
     Ok(Core {
         joined_all,

@@ -71,7 +71,10 @@ fn plain_source(
     ensures { ReadsPart result reader.new (plain_source made reader.old) }
 {
     let source = source(alloc, reader)?;
-    let Sources { mut from, conditions } = made;
+    let Sources {
+        mut from,
+        conditions,
+    } = made;
     from.push(source)?;
     Ok((Sources { from, conditions }, true))
 }

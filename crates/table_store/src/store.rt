@@ -339,7 +339,11 @@ impl Store {
     }
 
     // What references refuse new rows for, which comes after what the rows' own table refuses them for.
-    fn reference_stop_of_insert(&self, table: &str, rows: &RowList) -> Result<Option<StoreStop>, AllocError>
+    fn reference_stop_of_insert(
+        &self,
+        table: &str,
+        rows: &RowList,
+    ) -> Result<Option<StoreStop>, AllocError>
         requires { IsSome (table_at table.now (tables_now self.now)) }
         ensures { IfOk result (λ reference_stop. option_map
             (λ own. missing_stop own.schema.foreign (numbered_rows own.next rows.now)
@@ -381,7 +385,11 @@ impl Store {
     }
 
     // What references refuse to drop rows for.
-    fn reference_stop_of_delete(&self, table: &str, numbers: &[u32]) -> Result<Option<StoreStop>, AllocError>
+    fn reference_stop_of_delete(
+        &self,
+        table: &str,
+        numbers: &[u32],
+    ) -> Result<Option<StoreStop>, AllocError>
         requires there { IsSome (table_at table.now (tables_now self.now)) }
         requires sorted { are_sorted_numbers numbers.now ≡ true }
         requires stand { IfSome (table_at table.now (tables_now self.now))

@@ -33,7 +33,7 @@ use crate::error::StoreStop;
 use crate::given::numbers_of;
 use crate::index::{Index, held_number, index_of, number_by_slots};
 use crate::insert::{any_lacks_value, any_row_lacks_value, is_full, numbered_rows};
-use crate::nexts::{NextSince, nexts_at_start, last_since, next_as_of};
+use crate::nexts::{NextSince, last_since, next_as_of, nexts_at_start};
 use crate::rekey::claims_of;
 use crate::rows::Rows;
 use crate::table_rows::{rows_as_of, standing_rows};

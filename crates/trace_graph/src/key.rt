@@ -78,10 +78,7 @@ pub(crate) fn number<'a>(keys: &mut NodeKeys<'a>, key: NodeKey<'a>) -> Result<us
 }
 
 /// The keys of nodes, in their order.
-pub(crate) fn keys_of<'a>(
-    alloc: Global,
-    nodes: &'a [Node],
-) -> Result<Vec<NodeKey<'a>>, AllocError>
+pub(crate) fn keys_of<'a>(alloc: Global, nodes: &'a [Node]) -> Result<Vec<NodeKey<'a>>, AllocError>
     ensures { IfOk result (λ keys. map node_of keys.items ≡ nodes.now) }
 {
     let mut keys = Vec::with_capacity(alloc, nodes.len())?;

@@ -14,11 +14,7 @@ use script_parse::{Script, ScriptStop, parse_script};
 use std::alloc::Global;
 
 /// The script of the file of the first start word, or the fault of that file.
-pub(crate) fn parse_start(
-    alloc: Global,
-    start: &Words,
-    files: &Files,
-) -> Result<Script, WorldStop>
+pub(crate) fn parse_start(alloc: Global, start: &Words, files: &Files) -> Result<Script, WorldStop>
     requires { are_files_within files.now ≡ true }
     ensures parsed { IfOk result (λ script. option_and_then (λ file. script_of file.content)
         (start_of start.now files.now) ≡ Some script.instructions) }
