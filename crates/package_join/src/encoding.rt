@@ -6,7 +6,8 @@ ghost use Rattle.package_join.specs.Layout.{bare_run_spelling, both_runs_spellin
 ghost use Rattle.package_join.specs.Layout.{needs_spelling, numbers_spelling, run_spelling};
 ghost use Rattle.package_join.specs.Rooms.{TypedBareRun, TypedCommonTable, IsTypedJoined};
 ghost use Rattle.package_join.specs.Rooms.{TypedJoinedRun, TypedNeeds, TypedRunNumbers};
-ghost use Rattle.package_join.specs.CompactJoins.{both_compact_spelling, compact_run_spelling, compact_sections, whole_join};
+ghost use Rattle.package_join.specs.CompactJoins.{both_compact_spelling, compact_run_spelling};
+ghost use Rattle.package_join.specs.CompactJoins.{compact_sections, whole_join};
 ghost use Rattle.package_layout.specs.Runs.{IsCut};
 
 use crate::compact_joined::{CompactJoined, CompactRun};

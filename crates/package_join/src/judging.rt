@@ -5,7 +5,8 @@ ghost use Rattle.std.specs.List.{AllByRecursion};
 ghost use Rattle.package_layout.specs.Fields.{Makes};
 ghost use Rattle.package_join.specs.Rooms.{TypedCommonTable};
 ghost use Rattle.package_join.specs.declared.joined.Which.TheVariants.{First, Second};
-ghost use Rattle.package_join.specs.CompactJoins.{compact_anew, compact_spelled_so, compact_joined_in, picked_run, picked_runs};
+ghost use Rattle.package_join.specs.CompactJoins.{compact_anew, compact_spelled_so, compact_joined_in};
+ghost use Rattle.package_join.specs.CompactJoins.{picked_run, picked_runs};
 ghost use Rattle.package_join.specs.CompactJoins.{join_of_packages, join_of_valid_packages};
 
 use crate::choosing::picked_package;

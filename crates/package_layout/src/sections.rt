@@ -4,11 +4,13 @@ ghost use Rattle.std.specs.Prelude.{◌≡◌, ◌++◌, OnOk};
 ghost use Rattle.std.specs.List.{AllByRecursion};
 ghost use Rattle.package_layout.specs.inner.Bare.{BareParts, BareNumbers, IsTypedBare};
 ghost use Rattle.package_layout.specs.Fields.{Decodes, Makes};
-ghost use Rattle.package_layout.specs.CompactPackages.{cut_at, compact_sections_at, compact_sections_of, expanded_package};
+ghost use Rattle.package_layout.specs.CompactPackages.{cut_at, compact_sections_at, compact_sections_of};
+ghost use Rattle.package_layout.specs.CompactPackages.{expanded_package};
 ghost use Rattle.package_layout.specs.Runs.{IsCut};
 ghost use Rattle.package_layout.specs.Typed.{TypedEvent};
 ghost use Rattle.package_layout.specs.Version.{Two};
-ghost use Rattle.package_layout.specs.Whole.{mode_number, mode_of, mode_at, parts, numbers, bytes_before_trace, bare_at};
+ghost use Rattle.package_layout.specs.Whole.{mode_number, mode_of, mode_at, parts, numbers};
+ghost use Rattle.package_layout.specs.Whole.{bytes_before_trace, bare_at};
 ghost use Rattle.package_layout.specs.Whole.{sections, trace_spelling, IsTyped};
 
 use crate::codec::{decode_list, encode_list};

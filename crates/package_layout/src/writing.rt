@@ -3,7 +3,8 @@
 ghost use Rattle.std.specs.Prelude.{◌≡◌, ◌++◌, ◌∷◌, OnOk, length};
 ghost use Rattle.std.specs.List.{flat_map, AllByRecursion};
 ghost use Rattle.package_layout.specs.Typed.{TypedEvent};
-ghost use Rattle.package_layout.specs.Runs.{event_run_spelling, runs_from, runs_of, runs_spelling, run_of_one};
+ghost use Rattle.package_layout.specs.Runs.{event_run_spelling, runs_from, runs_of, runs_spelling};
+ghost use Rattle.package_layout.specs.Runs.{run_of_one};
 
 use crate::codec::Encode;
 use crate::event_run::joins;
