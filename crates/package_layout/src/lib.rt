@@ -45,7 +45,7 @@ pub use damage::DamageKind;
 pub use decode_error::DecodeError;
 pub use digest::{DIGEST_LENGTH, has_digest, middle};
 pub use event_run::{EventRun, EventRuns};
-pub use expanding::events_in;
+pub use expanding::{events_in, expanded_package};
 pub use law::{round_trip_law, runs_law};
 pub use layout::{PackageStop, SpellStop, read_compact, read_package, read_parsed};
 pub use number::{decode_u32, decode_u64, encode_u32, encode_u64};
