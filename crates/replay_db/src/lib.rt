@@ -25,5 +25,6 @@ pub use record::{record_parsed, record_world};
 pub use recorder::Recorder;
 pub use replay::{replay_included, replay_included_owned};
 pub use run::{run_owned, run_parsed, run_world};
-pub use soundness::{AuditStop, Verdict, audit};
+pub use soundness::{AuditStop, Verdict, audit, audit_parsed};
+pub use start::parsed_world;
 pub use table::{TableStop, table_at, table_at_parsed};
