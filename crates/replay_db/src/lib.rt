@@ -23,7 +23,7 @@ pub use law::{audit_law, initial_rows_law, members_law, package_law};
 pub use own::{own_parsed_world, own_world, own_world_of};
 pub use record::{record_parsed, record_world};
 pub use recorder::Recorder;
-pub use replay::{replay_included, replay_included_owned};
+pub use replay::{replay_included, replay_included_parsed};
 pub use run::{run_owned, run_parsed, run_world};
 pub use soundness::{AuditStop, Verdict, audit, audit_parsed};
 pub use start::parsed_world;
