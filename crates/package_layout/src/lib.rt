@@ -52,7 +52,7 @@ pub use number::{decode_u32, decode_u64, encode_u32, encode_u64};
 pub use spelling::{append_digest, spell, spell_as, spell_compact};
 pub use table::{decode_reason, encode_reason};
 pub use text::{decode_text, encode_text};
-pub use validity::is_valid_package;
+pub use validity::valid_script;
 pub use version::{Version, first_eight, version_of};
 pub use width::Width;
 pub use writing::encode_trace;

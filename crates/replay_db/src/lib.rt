@@ -24,7 +24,7 @@ pub use own::{own_parsed_world, own_world, own_world_of};
 pub use record::{record_parsed, record_world};
 pub use recorder::Recorder;
 pub use replay::{replay_included, replay_included_parsed};
-pub use run::{run_owned, run_parsed, run_world};
+pub use run::{run_parsed, run_world};
 pub use soundness::{AuditStop, Verdict, audit, audit_parsed};
 pub use start::parsed_world;
 pub use table::{TableStop, table_at, table_at_parsed};
