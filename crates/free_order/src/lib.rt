@@ -12,5 +12,5 @@ mod seen;
 
 pub use error::OrderStop;
 pub use law::order_law;
-pub use other_seed::{replay_other_seed, replay_other_seed_owned};
+pub use other_seed::{replay_other_seed, replay_other_seed_parsed};
 pub use private::is_private;

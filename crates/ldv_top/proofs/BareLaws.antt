@@ -11,14 +11,12 @@ use Rattle.run_model.specs.declared.package.Mode.TheVariants.{Included, Excluded
 use Rattle.run_model.specs.declared.package.Package.{Package}
 use Rattle.package_layout.specs.CompactPackages.{expanded_package}
 use Rattle.package_layout.specs.Valid.{reading}
-use Rattle.package_layout.specs.Version.{version_of}
 use Rattle.package_layout.specs.Whole.{spelling}
-use Rattle.package_layout.specs.declared.version.Version.{Version}
 use Rattle.package_layout.specs.declared.compact_package.CompactPackage.{CompactPackage}
 use Rattle.replay_db.specs.TableAt.{table_by_mode}
 use Rattle.replay_log.specs.Replays.{CanReplay}
 use Rattle.ldv_top.specs.Due.{due_outcome, outcome_due, due_divergence, due_log, replayed_as, replayed_package, due_replay}
-use Rattle.ldv_top.specs.DueOfAudits.{audit_by_version, audit_by_mode, audited_package, due_audit}
+use Rattle.ldv_top.specs.DueOfAudits.{audit_by_mode, audited_package, due_audit}
 use Rattle.ldv_top.specs.DueOfMigrations.{migrated_package, due_migrate}
 use Rattle.ldv_top.specs.DueOfTables.{table_due, tabled_package, due_table}
 use Rattle.ldv_top.specs.DueParts.{due_of_reading, due_spelling}
@@ -59,12 +57,8 @@ module _ (r : CompactPackage) where
   table_same Included budget step name = refl
   table_same Excluded budget step name = refl
 
-  version_same : (version : Option Version) (budget : ℕ) (input : List ℕ) → audit_by_version version budget input bare ≡ audit_by_version version budget input all
-  version_same None budget input = refl
-  version_same (Some version) budget input = refl
-
   audit_same : (mode : Mode) (budget : ℕ) (input : List ℕ) → audit_by_mode mode budget input bare ≡ audit_by_mode mode budget input all
-  audit_same Included budget input = version_same (version_of input) budget input
+  audit_same Included budget input = refl
   audit_same Excluded budget input = refl
 
   -- ---- of an input that is read as the package

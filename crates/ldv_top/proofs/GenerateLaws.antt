@@ -9,10 +9,13 @@ use Rattle.run_model.specs.declared.package.Package.{Package}
 use Rattle.run_model.specs.declared.world.World.{World}
 use Rattle.run_model.specs.OutcomeText.{outcome_text_of}
 use Rattle.run_model.specs.Package.{own_world, package_of}
+use Rattle.run_model.specs.Start.{start_script}
+use Rattle.run_model.specs.Types.{Instr}
 use Rattle.run_model.specs.WorldRun.{ends_within, outcome_within}
 use Rattle.package_layout.specs.Valid.{IsValidPackage}
 use Rattle.package_layout.specs.Whole.{spelling}
 use Rattle.run_laws.proofs.BudgetLaw.{ended_outcome, going_outcome}
+use Rattle.run_laws.proofs.WorldLaws.{replay_law}
 use Rattle.replay_db.proofs.RecordedRuns.{package_is, package_none}
 use Rattle.replay_db.specs.Runs.{package_within}
 use Rattle.replay_db.specs.Worlds.{ValidPackageLaw, ValidWorld, WorldTablesLaw}
@@ -37,6 +40,13 @@ module _ (w : World) (p : Package) (is : package_within Included default_steps w
   pub recorded_valid : WorldTablesLaw → ValidPackageLaw → ValidWorld w → IsValidPackage p
   recorded_valid tables law valid =
       subst IsValidPackage (sym recorded) (law Included default_steps w valid.ruled (tables w valid) tt (omega arith) ended)
+
+  -- its own world starts with the script of the world
+  pub recorded_script : WorldTablesLaw → ValidWorld w → (script : List Instr) → start_script w ≡ Some script
+      → start_script (own_world p) ≡ Some script
+  recorded_script tables valid script starts =
+      ap (λ (q : Package). start_script (own_world q)) recorded
+      ∙ (replay_law default_steps w script starts (tables w valid)).script_same
 
   pub summed_in_time : (orders rows : ℕ) → rows ≡ row_count w.tables → summed_package orders rows p ≡ summed_world orders w
   summed_in_time orders rows counted =

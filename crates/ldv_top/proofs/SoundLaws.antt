@@ -63,12 +63,12 @@ module _ (budget : ℕ) (version : Version) (bytes : List ℕ) (p : Package) (sh
   abbrev due : List ℕ
   due = own_spelling budget version p
 
-  audit_is : due_audit budget bytes ≡ audit_as version budget bytes p
+  audit_is : due_audit budget bytes ≡ audit_as version budget bytes (own_world p)
   audit_is =
       rw (not_too_long bytes short)
       (ap (due_of_reading (audited_package budget bytes)) read
       ∙ ap (λ (mode : Mode). audit_by_mode mode budget bytes p) included
-      ∙ ap (λ (o : Option Version). audit_by_version o budget bytes p) versioned)
+      ∙ ap (λ (o : Option Version). audit_by_version o budget bytes (own_world p)) versioned)
 
   pub sound_from : SoundLaw → ends_within budget (own_world p) ≡ true → bytes ≡ due → FindsSound budget bytes
   sound_from sound ended same =

@@ -1,19 +1,22 @@
 //! `audit`: from a package to what is found of it.
 
-ghost use Rattle.std.specs.Prelude.{◌≡◌, ◌≤◌, length, IfOk, IsSome};
+ghost use Rattle.std.specs.Prelude.{◌≡◌, ◌≤◌, Some, length, IfOk, IsSome};
 ghost use Rattle.ldv_value.specs.Limits.{input_limit, max_steps};
+ghost use Rattle.package_layout.specs.StartScript.{StartsWith};
 ghost use Rattle.package_layout.specs.Version.{version_of};
 ghost use Rattle.run_model.specs.Package.{own_world};
+ghost use Rattle.run_model.specs.Start.{IsParsed, start_script};
 ghost use Rattle.replay_db.specs.Runs.{CanRun};
 ghost use Rattle.replay_db.specs.declared.soundness.Verdict.TheVariants.{Unsound};
 ghost use Rattle.ldv_top.specs.Due.{response_due};
-ghost use Rattle.ldv_top.specs.DueOfAudits.{audited_package, due_audit, included_audit, verdict_text};
+ghost use Rattle.ldv_top.specs.DueOfAudits.{audited_package, audited_world, due_audit, verdict_text};
 
 use crate::response::Response;
 use ldv_value::{Bytes, append_number};
-use package_layout::{PackageStop, read_compact};
-use replay_db::{AuditStop, Verdict, audit, package_law};
-use run_model::{Mode, Package};
+use package_layout::{CompactPackage, PackageStop, ParsedPackage, read_parsed};
+use replay_db::{AuditStop, Verdict, audit_parsed, own_parsed_world, package_law};
+use run_model::{Mode, Package, ParsedWorld};
+use script_parse::Script;
 use std::alloc::{AllocError, Global};
 
 /// The response of `audit` to an input. The trace isn't looked at but by its bytes, and no list of its events
@@ -36,8 +39,8 @@ fn bytes_response(alloc: Global, budget: u32, input: &[u8]) -> Result<Response, 
     ensures { IfOk result (λ response. response_due response ≡ due_audit budget input.now) }
 {
     package_law();
-    match read_compact(alloc, input) {
-        Ok(package) => audited_response(alloc, budget, input, &package.bare),
+    match read_parsed(alloc, input) {
+        Ok(parsed) => audited_response(alloc, budget, input, parsed),
         Err(PackageStop::Damaged(kind)) => Ok(Response::Damaged(kind)),
         Err(PackageStop::NoMemory) => Err(AllocError),
     }
@@ -47,34 +50,56 @@ fn audited_response(
     alloc: Global,
     budget: u32,
     input: &[u8],
-    package: &Package,
+    parsed: ParsedPackage,
 ) -> Result<Response, AllocError>
-    requires can_run { CanRun (own_world «package».now) }
+    requires can_run { CanRun (own_world parsed.cut.bare) }
+    requires parsed { StartsWith parsed }
     requires bounded { budget ≤ max_steps }
     requires versioned { IsSome (version_of input.now) }
     ensures { IfOk result (λ response. response_due response
-        ≡ audited_package budget input.now «package».now) }
+        ≡ audited_package budget input.now parsed.cut.bare) }
 {
-    match package.mode {
+    let ParsedPackage { cut, script } = parsed;
+    let CompactPackage { bare, runs: _ } = cut;
+    match bare.mode {
         Mode::Excluded => Ok(Response::NoSuch),
-        Mode::Included => included_response(alloc, budget, input, package),
+        Mode::Included => included_response(alloc, budget, input, bare, script),
     }
 }
 
-#[tactic(auto, using(crate::proofs::AuditResponses::audit_done))]
 fn included_response(
     alloc: Global,
     budget: u32,
     input: &[u8],
-    package: &Package,
+    package: Package,
+    script: Script,
 ) -> Result<Response, AllocError>
-    requires can_run { CanRun (own_world «package».now) }
+    requires can_run { CanRun (own_world «package») }
+    requires parsed { start_script (own_world «package») ≡ Some script.instructions }
     requires bounded { budget ≤ max_steps }
     requires versioned { IsSome (version_of input.now) }
     ensures { IfOk result (λ response. response_due response
-        ≡ included_audit budget input.now «package».now) }
+        ≡ audited_world budget input.now (own_world «package»)) }
 {
-    match audit(alloc, package, input, budget) {
+    let own = own_parsed_world(alloc, package, script)?;
+    world_response(alloc, budget, input, &own)
+}
+
+#[tactic(auto, using(crate::proofs::AuditResponses::audit_done))]
+fn world_response(
+    alloc: Global,
+    budget: u32,
+    input: &[u8],
+    own: &ParsedWorld,
+) -> Result<Response, AllocError>
+    requires can_run { CanRun own.now.world }
+    requires parsed { IsParsed own.now }
+    requires bounded { budget ≤ max_steps }
+    requires versioned { IsSome (version_of input.now) }
+    ensures { IfOk result (λ response. response_due response
+        ≡ audited_world budget input.now own.now.world) }
+{
+    match audit_parsed(alloc, own, input, budget) {
         Ok(verdict) => Ok(Response::Written(verdict_text(alloc, verdict)?)),
         Err(AuditStop::NotEnded) => Ok(Response::NotEnded(budget)),
         Err(AuditStop::TooLong) => Ok(Response::PackageTooLong),

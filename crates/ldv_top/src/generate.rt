@@ -1,6 +1,6 @@
 //! `gen`: from its words to its response.
 
-ghost use Rattle.std.specs.Prelude.{◌≡◌, ◌++◌, ◌-◌, length, drop, map, option_map, string_bytes};
+ghost use Rattle.std.specs.Prelude.{◌≡◌, ◌++◌, ◌-◌, Some, length, drop, map, option_map, string_bytes};
 ghost use Rattle.std.specs.Prelude.{IfOk, IfSome, OnOk};
 ghost use Rattle.std.specs.Fmt.{decimal};
 ghost use Rattle.ldv_value.specs.Gives.{Gives};
@@ -8,6 +8,7 @@ ghost use Rattle.ldv_value.specs.Limits.{default_steps};
 ghost use Rattle.run_model.specs.declared.package.Mode.TheVariants.{Included};
 ghost use Rattle.run_model.specs.OutcomeText.{line, outcome_text_of};
 ghost use Rattle.run_model.specs.Package.{own_world};
+ghost use Rattle.run_model.specs.Start.{IsParsed, start_script};
 ghost use Rattle.package_layout.specs.Valid.{IsValidPackage};
 ghost use Rattle.replay_db.specs.Runs.{CanRun, Stops, package_within};
 ghost use Rattle.replay_db.specs.Worlds.{ValidWorld};
@@ -26,8 +27,9 @@ use hex::encode;
 use itoa::Buffer;
 use ldv_value::{Bytes, DEFAULT_STEPS};
 use package_layout::{DIGEST_LENGTH, SpellStop, spell};
-use replay_db::{EndStop, package_law, record_world, replay_included_owned};
-use run_model::{Mode, Outcome, Package, PackedTable, World, outcome_text};
+use replay_db::{EndStop, package_law, parsed_world, record_parsed, replay_included_parsed};
+use run_model::{Mode, Outcome, Package, PackedTable, ParsedWorld, World, outcome_text};
+use script_parse::Script;
 use sql_model::Table;
 use std::alloc::{AllocError, Global};
 use world_json::generate;
@@ -69,20 +71,42 @@ fn world_response(alloc: Global, orders: u32, world: World) -> Result<Response, 
     ensures { IfOk result (λ response. response_due response ≡ summed_world orders world) }
 {
     package_law();
-    let rows = row_count(world.tables.items());
-    match record_once(alloc, world) {
-        Ok(package) => package_response(alloc, orders, rows, package),
+    let parsed = parsed_world(alloc, world)?;
+    recorded_response(alloc, orders, parsed)
+}
+
+fn recorded_response(
+    alloc: Global,
+    orders: u32,
+    parsed: ParsedWorld,
+) -> Result<Response, AllocError>
+    requires valid { ValidWorld parsed.world }
+    requires parsed { IsParsed parsed }
+    ensures { IfOk result (λ response. response_due response ≡ summed_world orders parsed.world) }
+{
+    package_law();
+    let rows = row_count(parsed.world.tables.items());
+    match record_once(alloc, &parsed) {
+        Ok(package) => package_response(alloc, orders, rows, package, script_of(parsed)),
         Err(EndStop::NotEnded) => Ok(Response::NotEnded(DEFAULT_STEPS)),
         Err(EndStop::NoMemory) => Err(AllocError),
     }
 }
 
-// The world isn't kept.
-fn record_once(alloc: Global, world: World) -> Result<Package, EndStop>
-    requires { CanRun world }
-    ensures { Gives Stops result (package_within Included default_steps world) }
+fn record_once(alloc: Global, parsed: &ParsedWorld) -> Result<Package, EndStop>
+    requires can_run { CanRun parsed.now.world }
+    requires parsed { IsParsed parsed.now }
+    ensures { Gives Stops result (package_within Included default_steps parsed.now.world) }
 {
-    record_world(alloc, &world, Mode::Included, DEFAULT_STEPS)
+    record_parsed(alloc, parsed, Mode::Included, DEFAULT_STEPS)
+}
+
+// The script of a world, which isn't kept.
+fn script_of(parsed: ParsedWorld) -> Script
+    ensures { result ≡ parsed.script }
+{
+    let ParsedWorld { world: _, script } = parsed;
+    script
 }
 
 #[tactic(auto, using(crate::proofs::GenerateLaws::summed_long))]
@@ -91,13 +115,15 @@ fn package_response(
     orders: u32,
     rows: u128,
     package: Package,
+    script: Script,
 ) -> Result<Response, AllocError>
-    requires { IsValidPackage «package» }
+    requires valid { IsValidPackage «package» }
+    requires parsed { start_script (own_world «package») ≡ Some script.instructions }
     ensures { IfOk result (λ response. response_due response ≡ summed_package orders rows «package») }
 {
     package_law();
     match spell(alloc, &package) {
-        Ok(bytes) => spelled_response(alloc, orders, rows, package, bytes),
+        Ok(bytes) => spelled_response(alloc, orders, rows, package, script, bytes),
         Err(SpellStop::TooLong) => Ok(Response::PackageTooLong),
         Err(SpellStop::NoMemory) => Err(AllocError),
     }
@@ -108,22 +134,30 @@ fn spelled_response(
     orders: u32,
     rows: u128,
     package: Package,
+    script: Script,
     bytes: Bytes,
 ) -> Result<Response, AllocError>
-    requires { CanRun (own_world «package») }
+    requires can_run { CanRun (own_world «package») }
+    requires parsed { start_script (own_world «package») ≡ Some script.instructions }
     ensures { IfOk result (λ response. response_due response
         ≡ summed_replay (summary_head orders rows «package» bytes) «package») }
 {
     let head = summary_head(alloc, orders, rows, &package, bytes)?;
-    replayed_response(alloc, package, head)
+    replayed_response(alloc, package, script, head)
 }
 
 #[tactic(auto, using(crate::proofs::GenerateLaws::replay_sums))]
-fn replayed_response(alloc: Global, package: Package, head: Bytes) -> Result<Response, AllocError>
-    requires { CanRun (own_world «package») }
+fn replayed_response(
+    alloc: Global,
+    package: Package,
+    script: Script,
+    head: Bytes,
+) -> Result<Response, AllocError>
+    requires can_run { CanRun (own_world «package») }
+    requires parsed { start_script (own_world «package») ≡ Some script.instructions }
     ensures { IfOk result (λ response. response_due response ≡ summed_replay head «package») }
 {
-    match replay_included_owned(alloc, package, DEFAULT_STEPS) {
+    match replay_included_parsed(alloc, package, script, DEFAULT_STEPS) {
         Ok(outcome) => Ok(Response::Written(with_replay(alloc, head, &outcome)?)),
         Err(EndStop::NotEnded) => Ok(Response::NotEnded(DEFAULT_STEPS)),
         Err(EndStop::NoMemory) => Err(AllocError),

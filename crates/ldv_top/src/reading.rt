@@ -1,10 +1,10 @@
 //! From the input to a world, a package or a graph. Each call drops the input as it returns.
 
-ghost use Rattle.std.specs.Prelude.{◌≡◌, Ok, IfOk, IfErr};
+ghost use Rattle.std.specs.Prelude.{◌≡◌, Ok, IfOk, IfErr, true};
 ghost use Rattle.ldv_value.specs.Gives.{Gives};
 ghost use Rattle.package_layout.specs.ReadResult.{ReadsAs, CompactReadsAs};
 ghost use Rattle.package_layout.specs.CompactPackages.{expanded_package};
-ghost use Rattle.package_layout.specs.Runs.{IsCut};
+ghost use Rattle.package_layout.specs.Runs.{IsCut, are_runs};
 ghost use Rattle.package_layout.specs.StartScript.{StartsWith, cut_of};
 ghost use Rattle.package_layout.specs.Valid.{IsSpelled, IsValidPackage, reading};
 ghost use Rattle.package_layout.specs.Whole.{IsTyped};
@@ -60,6 +60,7 @@ pub(crate) fn read_parsed_of(alloc: Global, input: Bytes) -> Result<ParsedPackag
     ensures found { IfOk result (λ p. IsTyped (expanded_package p.cut)
         × IsValidPackage (expanded_package p.cut) × IsSpelled input (expanded_package p.cut)) }
     ensures parsed { IfOk result StartsWith }
+    ensures runs { IfOk result (λ p. are_runs p.cut.runs ≡ true) }
     ensures reading { CompactReadsAs (cut_of result) (reading input) }
 {
     read_parsed(alloc, input.as_slice())

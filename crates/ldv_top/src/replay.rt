@@ -16,7 +16,7 @@ use ldv_value::Bytes;
 use package_layout::{CompactPackage, PackageStop, ParsedPackage};
 use proc_core::RunStop;
 use replay_db::own_parsed_world;
-use replay_log::{can_replay_law, replay_owned};
+use replay_log::{can_replay_law, replay_parsed};
 use run_model::{Mode, Outcome, Package, outcome_text};
 use script_parse::Script;
 use std::alloc::{AllocError, Global};
@@ -54,12 +54,18 @@ fn log_response(
     }
 }
 
-fn excluded_response(alloc: Global, budget: u32, package: Package) -> Result<Response, AllocError>
+fn excluded_response(
+    alloc: Global,
+    budget: u32,
+    package: Package,
+    script: Script,
+) -> Result<Response, AllocError>
     requires can_replay { CanReplay «package» }
+    requires parsed { start_script (own_world «package») ≡ Some script.instructions }
     requires bounded { budget ≤ max_steps }
     ensures { IfOk result (λ response. response_due response ≡ due_log budget «package») }
 {
-    let ended = replay_owned(alloc, package, budget);
+    let ended = replay_parsed(alloc, package, &script, budget);
     log_response(alloc, budget, ended)
 }
 
@@ -74,7 +80,7 @@ fn replay_package(alloc: Global, budget: u32, parsed: ParsedPackage) -> Result<R
     let CompactPackage { bare, runs: _ } = cut;
     match bare.mode {
         Mode::Included => included_response(alloc, budget, bare, script),
-        Mode::Excluded => excluded_response(alloc, budget, bare),
+        Mode::Excluded => excluded_response(alloc, budget, bare, script),
     }
 }
 

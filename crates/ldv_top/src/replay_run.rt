@@ -5,6 +5,7 @@ ghost use Rattle.std.specs.List.{AllByRecursion};
 ghost use Rattle.ldv_value.specs.Limits.{input_limit, max_steps};
 ghost use Rattle.package_join.specs.Rooms.{TypedCommonTable};
 ghost use Rattle.package_join.specs.CompactJoins.{CompactJoinedReadsAs, whole_join};
+ghost use Rattle.package_join.specs.ParsedJoins.{StartRuns, cut_of};
 ghost use Rattle.package_join.specs.Valid.{IsJoinedRead, joined_reading};
 ghost use Rattle.package_join.specs.Worlds.{joined_world};
 ghost use Rattle.run_model.specs.ValidWorld.{CanRun};
@@ -13,9 +14,9 @@ ghost use Rattle.ldv_top.specs.Words.{IsBounded};
 ghost use Rattle.ldv_top.specs.WordsOfJoins.{replay_of_run, which_of};
 
 use crate::command::Command;
-use crate::response::{Response, world_response};
+use crate::response::{Response, parsed_response};
 use ldv_value::Bytes;
-use package_join::{CompactJoined, Which, joined_runs_law, read_compact_joined, world_owned};
+use package_join::{ParsedJoined, Which, joined_parsed_world, joined_runs_law, read_parsed_joined};
 use package_layout::PackageStop;
 use std::alloc::{AllocError, Global};
 
@@ -45,13 +46,15 @@ pub(crate) fn replay_of_run(word: &str, number: &str, budget: u32) -> Option<Com
     }
 }
 
-// The joined package that the input is, with its traces kept as runs. The input isn't kept.
-fn read_joined_of(alloc: Global, input: Bytes) -> Result<CompactJoined, PackageStop>
-    ensures found { IfOk result (λ r. IsJoinedRead input (whole_join r)) }
-    ensures typed { IfOk result (λ r. AllByRecursion TypedCommonTable r.tables) }
-    ensures reading { CompactJoinedReadsAs result (joined_reading input) }
+// The joined package that the input is, with its traces kept as runs and with its scripts. The input isn't
+// kept.
+fn read_joined_of(alloc: Global, input: Bytes) -> Result<ParsedJoined, PackageStop>
+    ensures found { IfOk result (λ p. IsJoinedRead input (whole_join p.cut)) }
+    ensures typed { IfOk result (λ p. AllByRecursion TypedCommonTable p.cut.tables) }
+    ensures parsed { IfOk result StartRuns }
+    ensures reading { CompactJoinedReadsAs (cut_of result) (joined_reading input) }
 {
-    read_compact_joined(alloc, input.as_slice())
+    read_parsed_joined(alloc, input.as_slice())
 }
 
 /// The response of `replay --run` to an input. No list of events is made.
@@ -77,13 +80,14 @@ fn run_response(
     alloc: Global,
     which: Which,
     budget: u32,
-    joined: CompactJoined,
+    joined: ParsedJoined,
 ) -> Result<Response, AllocError>
-    requires can_run { CanRun (joined_world which (whole_join joined)) }
+    requires can_run { CanRun (joined_world which (whole_join joined.cut)) }
+    requires parsed { StartRuns joined }
     requires bounded { budget ≤ max_steps }
     ensures { IfOk result (λ response. response_due response
-        ≡ due_world budget (joined_world which (whole_join joined))) }
+        ≡ due_world budget (joined_world which (whole_join joined.cut))) }
 {
-    let world = world_owned(alloc, joined, which)?;
-    world_response(alloc, budget, world)
+    let parsed = joined_parsed_world(alloc, joined, which)?;
+    parsed_response(alloc, budget, parsed)
 }

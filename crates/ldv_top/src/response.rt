@@ -12,8 +12,8 @@ ghost use Rattle.ldv_top.specs.Due.{response_due, due_world};
 use ldv_value::Bytes;
 use package_join::Clash;
 use package_layout::DamageKind;
-use replay_db::{EndStop, run_owned, run_parsed};
-use run_model::{Outcome, ParsedWorld, ProcName, World, outcome_text};
+use replay_db::{EndStop, run_parsed};
+use run_model::{Outcome, ParsedWorld, ProcName, outcome_text};
 use std::alloc::{AllocError, Global};
 use world_json::WorldFault;
 
@@ -59,20 +59,6 @@ pub(crate) fn ended_response(
         Err(EndStop::NotEnded) => Ok(Response::NotEnded(budget)),
         Err(EndStop::NoMemory) => Err(AllocError),
     }
-}
-
-/// The response of the run of a world.
-pub(crate) fn world_response(
-    alloc: Global,
-    budget: u32,
-    world: World,
-) -> Result<Response, AllocError>
-    requires can_run { CanRun world }
-    requires bounded { budget ≤ max_steps }
-    ensures { IfOk result (λ response. response_due response ≡ due_world budget world) }
-{
-    let ended = run_owned(alloc, world, budget);
-    ended_response(alloc, budget, ended)
 }
 
 /// The response of the run of a world whose script was parsed.

@@ -11,6 +11,7 @@ pub mod MergeLaws
 pub mod MergedLists
 pub mod MergedParents
 pub mod NamedRows
+pub mod ParsedJoins
 pub mod PartLaws
 pub mod PickedBy
 pub mod PickedFiles

@@ -25,11 +25,13 @@ use Rattle.package_join.specs.declared.joined.Clash.{Clash}
 use Rattle.package_join.specs.declared.joined.Joined.{Joined}
 use Rattle.package_join.specs.declared.joined.Which.TheVariants.{First, Second}
 use Rattle.package_join.specs.declared.compact_joined.CompactJoined.{CompactJoined}
+use Rattle.package_join.specs.declared.compact_joined.ParsedJoined.{ParsedJoined}
 use Rattle.package_join.specs.Joined.{joined_of, run_package}
 use Rattle.package_join.specs.Laws.{OneSpellingLaw, RoundTripLaw}
 use Rattle.package_join.specs.Layout.{all_of_joined, joined_magic, joined_sections, joined_spelling}
 use Rattle.package_join.specs.Rooms.{IsCountedJoined, IsTypedJoined}
 use Rattle.package_join.specs.CompactJoins.{CompactJoinedReadsAs, JoinedReadsAs, whole_join, compact_joined_in}
+use Rattle.package_join.specs.ParsedJoins.{cut_of}
 use Rattle.package_join.specs.Valid.{IsJoinedRead, IsNoJoined, IsValidJoined, digested_reading, form_of, has_joined_magic, if_joined, joined_anew, joined_damage_before, joined_in, joined_reading, if_spelling_is}
 use Rattle.package_join.proofs.CutLaws.{same_joined, cuts_are_runs}
 use Rattle.package_join.proofs.LayoutLaws.{all_again, sections_law}
@@ -195,9 +197,10 @@ pub IfOk-joined_reading : (bytes : List ℕ) (r : Result Joined PackageStop) →
 IfOk-joined_reading bytes (Ok j) due = ok_read bytes j due
 IfOk-joined_reading bytes (Err stop) due = tt
 
-pub cuts_found : (bytes : List ℕ) (r : Result CompactJoined PackageStop) → CompactJoinedReadsAs r (joined_reading bytes) → IfOk r (λ r. IsJoinedRead bytes (whole_join r))
-cuts_found bytes (Ok r) due = ok_read bytes (whole_join r) due
-cuts_found bytes (Err stop) due = tt
+pub parsed_found : (bytes : List ℕ) (r : Result ParsedJoined PackageStop) → CompactJoinedReadsAs (cut_of r) (joined_reading bytes)
+    → IfOk r (λ (p : ParsedJoined). IsJoinedRead bytes (whole_join p.cut))
+parsed_found bytes (Ok p) due = ok_read bytes (whole_join p.cut) due
+parsed_found bytes (Err stop) due = tt
 
 -- ---- the answers
 

@@ -1,6 +1,6 @@
 -- The world of a run of a valid joined package can be run.
 use Rattle.std.proofs.Common.{◌≡◌, ℕ, Bool, true, false, cond, List, [], ◌∷◌, map, length, Option, Some, None, refl, sym, ap, subst, ◌∙◌, arith, inl, inr, ◌&&◌}
-use Rattle.std.specs.Prelude.{◌==◌, nat_le, nat_lt, bytes_eq, find, is_some, option_and_then}
+use Rattle.std.specs.Prelude.{◌==◌, nat_le, nat_lt, bytes_eq, find, is_some, option_and_then, Ok}
 use Rattle.std.specs.List.{list_all, filter_map, cons_option, AllByRecursion}
 use Rattle.std.specs.Option.{option_or, option_map}
 use Rattle.std.specs.Ordering.{nat_cmp}
@@ -11,7 +11,7 @@ use Rattle.std.proofs.lemmas.Bool.{cases_Bool, le-leb}
 use Rattle.std.proofs.lemmas.Cmp.{nat_cmp_total, nat_list_cmp_total, tied_itself}
 use Rattle.std.proofs.lemmas.Slice.Eq.{bytes_eq-Decides}
 use Rattle.ldv_value.proofs.Booleans.{and-parts, and-from}
-use Rattle.ldv_value.proofs.Options.{same-some}
+use Rattle.ldv_value.proofs.Options.{is_some-true, same-some}
 use Rattle.ldv_value.proofs.Lists.{list_all-map}
 use Rattle.ldv_value.specs.FileState.{file_test, file_precedes, files_test, file_at}
 use Rattle.ldv_value.specs.Limits.{file_limit, max_next}
@@ -35,17 +35,21 @@ use Rattle.sql_model.proofs.NewNumbers.{row_precedes}
 use Rattle.run_model.proofs.StartScripts.{first_script}
 use Rattle.run_model.specs.Between.{IsIn}
 use Rattle.run_model.specs.Package.{own_row, own_table}
-use Rattle.run_model.specs.ValidPackage.{content_rule, file_rule, is_script, is_script_file, packed_file_precedes, parts_rule, rows_rule, rules, script_rule, table_rule, whole_rule}
+use Rattle.run_model.specs.Start.{start_script}
+use Rattle.run_model.specs.ValidPackage.{content_rule, file_rule, packed_file_precedes, parts_rule, rows_rule, rules, script_rule, table_rule, whole_rule}
 use Rattle.run_model.specs.ValidWorld.{CanRun}
+use Rattle.package_layout.specs.StartScript.{file_script, packed_script}
+use Rattle.package_layout.specs.StartScript.{script_in as content_script}
 use Rattle.package_layout.specs.Valid.{IsValidPackage}
 use Rattle.package_layout.specs.Whole.{has_room}
+use Rattle.package_layout.proofs.StartScripts.{script_there, unwrapped}
 use Rattle.run_laws.proofs.ListMembers.{filter_map_in}
 use Rattle.package_join.specs.Types.{File, Package, PackedFile, PackedRow, PackedTable, Table, TableRow}
 use Rattle.package_join.specs.declared.joined.Joined.{Joined}
 use Rattle.package_join.specs.declared.joined.JoinedRun.{JoinedRun}
 use Rattle.package_join.specs.declared.joined.Which.{Which}
 use Rattle.package_join.specs.declared.joined.Which.TheVariants.{First, Second}
-use Rattle.package_join.specs.Joined.{as_present, both_files, both_rows, both_tables, clash_in, clash_of, clash_of_keys, file_clash, file_cmp, is_among, keys_clash, merged_files, merged_rows, merged_tables, own_tables, picked_file, put_together, rows_clash, run_package, table_clash, table_cmp}
+use Rattle.package_join.specs.Joined.{as_present, both_files, both_rows, both_tables, clash_in, clash_of, clash_of_keys, file_clash, file_cmp, is_among, joined_of, keys_clash, merged_files, merged_rows, merged_tables, own_tables, picked_file, put_together, rows_clash, run_of, run_package, table_clash, table_cmp}
 use Rattle.package_join.specs.Laws.{IsIncluded, RunsLaw}
 use Rattle.package_join.specs.Merging.{first_clash}
 use Rattle.package_join.specs.Rooms.{TypedCommonTable}
@@ -57,7 +61,7 @@ use Rattle.package_join.proofs.MergedLists.{in_merged, merged_rises, IsOf}
 use Rattle.package_join.proofs.MergedParents.{merged_parents}
 use Rattle.package_join.proofs.PickedFiles.{path_of}
 use Rattle.package_join.proofs.PickedTables.{name_of, number_of}
-use Rattle.package_join.proofs.Picks.{files_rise, its_rows_rise, of_map, own_rise, tables_agree}
+use Rattle.package_join.proofs.Picks.{files_rise, its_rows_rise, of_map, own_rise, pick_law, tables_agree}
 use Rattle.package_join.proofs.ValidJoins.{included}
 use Rattle.package_join.proofs.ValidRooms.{unclashed}
 
@@ -157,12 +161,12 @@ module _ (run : JoinedRun) where
       by here false true later = rw here later
       by here false false later = later
 
-  script_seen : (word : List ℕ) (files : List PackedFile) → Rising path_of (slice_cmp nat_cmp) files
-      → is_script_file (find (is_at word) (picked files)) ≡ true → is_some (script_in word (filter_map (world_file run) files)) ≡ true
-  script_seen word [] rises rule = absurd cc
-  script_seen word (g ∷ gs) rises rule = elim (cases_Bool (bytes_eq word g.path)) [
-    | inl hit ↦ at_hit hit (is_among g.path run.wholes) (is_among g.path run.presents) g.content refl rule
-    | inr miss ↦ at_miss miss (is_among g.path run.wholes) (is_among g.path run.presents) (world_file run g) refl (script_seen word gs rises.1) rule
+  script_seen : (word : List ℕ) (files : List PackedFile) → Rising path_of (slice_cmp nat_cmp) files → (script : List Instr)
+      → file_script (find (is_at word) (picked files)) ≡ Some script → script_in word (filter_map (world_file run) files) ≡ Some script
+  script_seen word [] rises script found = found
+  script_seen word (g ∷ gs) rises script found = elim (cases_Bool (bytes_eq word g.path)) [
+    | inl hit ↦ at_hit hit (is_among g.path run.wholes) (is_among g.path run.presents) g.content refl found
+    | inr miss ↦ at_miss miss (is_among g.path run.wholes) (is_among g.path run.presents) (world_file run g) refl (script_seen word gs rises.1 script) found
   ]
     where
       others : bytes_eq word g.path ≡ true → (h : PackedFile) → IsIn h gs → bytes_eq word h.path ≡ false
@@ -178,34 +182,34 @@ module _ (run : JoinedRun) where
 
       -- the file of this path is picked whole, so it is in the world with its bytes
       at_hit : bytes_eq word g.path ≡ true → (x y : Bool) (content : Option (List ℕ)) → g.content ≡ content
-          → is_script_file (find (is_at word) (cons_option (cond x (Some g) (cond y (Some (as_present g)) None)) (picked gs))) ≡ true
-          → is_some (script_in word (cons_option (seen_file (λ path. is_among path run.presents) g.path content) (filter_map (world_file run) gs))) ≡ true
+          → file_script (find (is_at word) (cons_option (cond x (Some g) (cond y (Some (as_present g)) None)) (picked gs))) ≡ Some script
+          → script_in word (cons_option (seen_file (λ path. is_among path run.presents) g.path content) (filter_map (world_file run) gs)) ≡ Some script
       at_hit hit true y (Some bytes) e found =
-          let script : is_script g.content ≡ true = rw hit at found in
-          let whole : is_script (Some bytes) ≡ true = ap is_script (sym e) ∙ script in
-          rw hit (and-parts (nat_le (length bytes) file_limit) (is_some (script_of bytes)) whole).1
+          let parsed : content_script g.content ≡ Some script = rw hit at found in
+          let whole : content_script (Some bytes) ≡ Some script = ap content_script (sym e) ∙ parsed in
+          rw hit (unwrapped (nat_le (length bytes) file_limit) (script_of bytes) script whole)
       at_hit hit true y None e found =
-          let script : is_script g.content ≡ true = rw hit at found in
-          let never : false ≡ true = ap is_script (sym e) ∙ script in absurd cc
-      at_hit hit false true content e found = let never : false ≡ true = rw hit at found in absurd cc
+          let parsed : content_script g.content ≡ Some script = rw hit at found in
+          let never : None ≡ Some script = ap content_script (sym e) ∙ parsed in absurd cc
+      at_hit hit false true content e found = let never : None ≡ Some script = rw hit at found in absurd cc
       at_hit hit false false content e found =
           let none : find (is_at word) (picked gs) ≡ None = none_later word gs (others hit) in
-          let never : false ≡ true = ap is_script_file (sym none) ∙ found in absurd cc
+          let never : None ≡ Some script = ap file_script (sym none) ∙ found in absurd cc
 
       at_miss : bytes_eq word g.path ≡ false → (x y : Bool) (o : Option File) → world_file run g ≡ o
-          → (is_script_file (find (is_at word) (picked gs)) ≡ true → is_some (script_in word (filter_map (world_file run) gs)) ≡ true)
-          → is_script_file (find (is_at word) (cons_option (cond x (Some g) (cond y (Some (as_present g)) None)) (picked gs))) ≡ true
-          → is_some (script_in word (cons_option o (filter_map (world_file run) gs))) ≡ true
+          → (file_script (find (is_at word) (picked gs)) ≡ Some script → script_in word (filter_map (world_file run) gs) ≡ Some script)
+          → file_script (find (is_at word) (cons_option (cond x (Some g) (cond y (Some (as_present g)) None)) (picked gs))) ≡ Some script
+          → script_in word (cons_option o (filter_map (world_file run) gs)) ≡ Some script
       at_miss miss x y o e later found = passed o e (later (skipped x y found))
         where
-          skipped : (x y : Bool) → is_script_file (find (is_at word) (cons_option (cond x (Some g) (cond y (Some (as_present g)) None)) (picked gs))) ≡ true
-              → is_script_file (find (is_at word) (picked gs)) ≡ true
+          skipped : (x y : Bool) → file_script (find (is_at word) (cons_option (cond x (Some g) (cond y (Some (as_present g)) None)) (picked gs))) ≡ Some script
+              → file_script (find (is_at word) (picked gs)) ≡ Some script
           skipped true y found = rw miss at found
           skipped false true found = rw miss at found
           skipped false false found = found
 
-          passed : (o : Option File) → world_file run g ≡ o → is_some (script_in word (filter_map (world_file run) gs)) ≡ true
-              → is_some (script_in word (cons_option o (filter_map (world_file run) gs))) ≡ true
+          passed : (o : Option File) → world_file run g ≡ o → script_in word (filter_map (world_file run) gs) ≡ Some script
+              → script_in word (cons_option o (filter_map (world_file run) gs)) ≡ Some script
           passed None e rest = rest
           passed (Some f) e rest =
               let other : bytes_eq word f.path ≡ false = ap (bytes_eq word) (path_kept g g.content f e) ∙ miss in
@@ -242,10 +246,42 @@ module _ (a b : Package) (ia : IsIncluded a) (ib : IsIncluded b) where
 
 -- ---- the script of a world
 
+starts_as : (run : JoinedRun) (files : List PackedFile) → Rising path_of (slice_cmp nat_cmp) files → (start : List (List ℕ)) (script : List Instr)
+    → packed_script start (filter_map (picked_file run) files) ≡ Some script → first_script start (filter_map (world_file run) files) ≡ Some script
+starts_as run files rises [] script is = is
+starts_as run files rises (word ∷ words) script is = script_seen run word files rises script is
+
 starts : (run : JoinedRun) (files : List PackedFile) → Rising path_of (slice_cmp nat_cmp) files → (start : List (List ℕ))
     → script_rule start (filter_map (picked_file run) files) ≡ true → is_some (first_script start (filter_map (world_file run) files)) ≡ true
-starts run files rises [] rule = absurd cc
-starts run files rises (word ∷ words) rule = script_seen run word files rises rule
+starts run files rises start rule =
+    let chosen : List PackedFile = filter_map (picked_file run) files in
+    let found = is_some-true (packed_script start chosen) (script_there start chosen ∙ rule) in
+    ap (λ (o : Option (List Instr)). is_some o) (starts_as run files rises start found.0 found.1)
+
+-- of two packages that are joined: that of each package
+module _ (a b : Package) (j : Joined) (ia : IsIncluded a) (ib : IsIncluded b) (joined : joined_of a b ≡ Ok j) where
+  no_clash : clash_of a b ≡ None
+  no_clash = (unclashed a b j (clash_of a b) refl joined).0
+
+  together : put_together a b ≡ j
+  together = (unclashed a b j (clash_of a b) refl joined).1
+
+  its_files_rise : Rising path_of (slice_cmp nat_cmp) j.files
+  its_files_rise = subst (Rising path_of (slice_cmp nat_cmp)) (ap (λ (k : Joined). k.files) together) (files_rising a b ia ib)
+
+  starts_of : (which : Which) (p : Package) (script : List Instr) → run_package which j ≡ p → packed_script p.start p.files ≡ Some script
+      → start_script (joined_world which j) ≡ Some script
+  starts_of which p script again is =
+      starts_as (run_of which j) j.files its_files_rise (run_of which j).start script
+      (ap (λ (q : Package). packed_script q.start q.files) again ∙ is)
+
+  pub first_starts : (script : List Instr) → packed_script a.start a.files ≡ Some script → start_script (joined_world First j) ≡ Some script
+  first_starts script is =
+      starts_of First a script (sym (ap (run_package First) together) ∙ (pick_law a b ia ib no_clash).first) is
+
+  pub second_starts : (script : List Instr) → packed_script b.start b.files ≡ Some script → start_script (joined_world Second j) ≡ Some script
+  second_starts script is =
+      starts_of Second b script (sym (ap (run_package Second) together) ∙ (pick_law a b ia ib no_clash).second) is
 
 script_ruled : (p : Package) → IsValidPackage p → script_rule p.start p.files ≡ true
 script_ruled p valid =

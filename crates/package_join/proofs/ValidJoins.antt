@@ -20,10 +20,9 @@ use Rattle.package_join.specs.inner.Picked.{without_logs}
 use Rattle.package_join.specs.Valid.{IsValidJoined}
 use Rattle.package_join.proofs.Picks.{pick_law, anew_law}
 
-pub included : (p : Package) → IsValidPackage p → p.mode ≡ Included → IsIncluded p
-included p valid mode =
-    let all = (and_parts (has_room p) (rules p) valid).1 in
-    let two = and_parts (parts_rule p && whole_rule p) (script_rule p.start p.files) all in
+pub included_by : (p : Package) → rules p ≡ true → p.mode ≡ Included → IsIncluded p
+included_by p ruled mode =
+    let two = and_parts (parts_rule p && whole_rule p) (script_rule p.start p.files) ruled in
     let both = and_parts (parts_rule p) (whole_rule p) two.0 in
     let listed = and_parts (start_rule p.start && files_rule p.files && tables_rule p.tables) (logs_rule p.logs) both.0 in
     let tabled = and_parts (start_rule p.start && files_rule p.files) (tables_rule p.tables) listed.0 in
@@ -38,6 +37,9 @@ included p valid mode =
       files = (and_parts (nat_le (length p.files) max_files) (are_files p.files) filed.1).1;
       tables = (and_parts (nat_le (length p.tables) max_tables) (are_tables p.tables) tabled.1).1;
     }
+
+pub included : (p : Package) → IsValidPackage p → p.mode ≡ Included → IsIncluded p
+included p valid mode = included_by p (and_parts (has_room p) (rules p) valid).1 mode
 
 pub valid_law : ValidLaw
 valid_law a b j va vb ma mb is = by (clash_of a b) refl is

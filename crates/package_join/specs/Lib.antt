@@ -7,6 +7,7 @@ pub mod Worlds
 pub mod Layout
 pub mod Rooms
 pub mod CompactJoins
+pub mod ParsedJoins
 pub mod Valid
 pub mod Laws
 pub mod inner

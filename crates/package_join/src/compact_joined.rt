@@ -6,6 +6,7 @@ ghost use Rattle.package_join.specs.CompactJoins.{with_runs};
 use crate::joined::{Joined, JoinedRun};
 use package_layout::EventRuns;
 use run_model::PackedFiles;
+use script_parse::Script;
 use sql_model::Tables;
 
 /// One of the two runs of a joined package, whose trace is kept as runs of events: a few bytes can stand for
@@ -25,6 +26,15 @@ pub struct CompactJoined {
     pub tables: Tables,
     pub first: CompactRun,
     pub second: CompactRun,
+}
+
+/// A joined package whose traces are kept as runs, with the scripts that the worlds of its two runs start
+/// with: the packages of both were judged, and their scripts aren't parsed again.
+#[derive(Drop)]
+pub struct ParsedJoined {
+    pub cut: CompactJoined,
+    pub first: Script,
+    pub second: Script,
 }
 
 /// A joined package with the runs of both traces. Nothing is copied.

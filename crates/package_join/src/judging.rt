@@ -5,18 +5,19 @@ ghost use Rattle.std.specs.List.{AllByRecursion};
 ghost use Rattle.package_layout.specs.Fields.{Makes};
 ghost use Rattle.package_join.specs.Rooms.{TypedCommonTable};
 ghost use Rattle.package_join.specs.declared.joined.Which.TheVariants.{First, Second};
-ghost use Rattle.package_join.specs.CompactJoins.{compact_anew, compact_spelled_so, compact_joined_in};
-ghost use Rattle.package_join.specs.CompactJoins.{picked_run, picked_runs};
-ghost use Rattle.package_join.specs.CompactJoins.{join_of_packages, join_of_valid_packages};
+ghost use Rattle.package_join.specs.CompactJoins.{compact_joined_in, join_of_packages, picked_run, picked_runs};
+ghost use Rattle.package_join.specs.ParsedJoins.{StartRuns, cut_of, parsed_anew, parsed_join, parsed_joined_in};
+ghost use Rattle.package_join.specs.ParsedJoins.{if_sections_are, valid_start};
 
 use crate::choosing::picked_package;
-use crate::compact_joined::{CompactJoined, CompactRun};
+use crate::compact_joined::{CompactJoined, CompactRun, ParsedJoined};
 use crate::decoding::decode_all;
 use crate::encoding::encode_cut_joined;
 use crate::joins::{JoinStop, join_with_runs};
 use ldv_value::Bytes;
-use package_layout::{CompactPackage, DecodeError, Version, is_valid_package};
+use package_layout::{CompactPackage, DecodeError, Version, valid_script};
 use run_model::PackedFiles;
+use script_parse::Script;
 use sql_model::Tables;
 use std::alloc::{AllocError, Global};
 
@@ -70,39 +71,53 @@ fn join_of_packages(
     }
 }
 
-fn join_of_valid_packages(
+fn some_script(found: Option<Script>) -> Result<Script, DecodeError>
+    ensures { Makes result found }
+{
+    match found {
+        Some(script) => Ok(script),
+        None => Err(DecodeError::Malformed),
+    }
+}
+
+// The script of a package, which has to be valid.
+fn valid_start(alloc: Global, package: &CompactPackage) -> Result<Script, DecodeError>
+    ensures { Makes result (valid_start «package».now) }
+{
+    let found = valid_script(alloc, Version::Two, package)?;
+    some_script(found)
+}
+
+fn parsed_join(
     alloc: Global,
     a: CompactPackage,
     b: CompactPackage,
-) -> Result<CompactJoined, DecodeError>
-    ensures { Makes result (join_of_valid_packages a b) }
+) -> Result<ParsedJoined, DecodeError>
+    ensures { Makes result (parsed_join a b) }
 {
-    if !is_valid_package(alloc, Version::Two, &a)? {
-        return Err(DecodeError::Malformed);
-    }
-    if !is_valid_package(alloc, Version::Two, &b)? {
-        return Err(DecodeError::Malformed);
-    }
-    join_of_packages(alloc, a, b)
+    let first = valid_start(alloc, &a)?;
+    let second = valid_start(alloc, &b)?;
+    let cut = join_of_packages(alloc, a, b)?;
+    Ok(ParsedJoined { cut, first, second })
 }
 
-fn compact_anew(alloc: Global, joined: CompactJoined) -> Result<CompactJoined, DecodeError>
-    ensures { Makes result (compact_anew joined) }
+fn parsed_anew(alloc: Global, joined: CompactJoined) -> Result<ParsedJoined, DecodeError>
+    ensures { Makes result (parsed_anew joined) }
 {
     let Pair { first, second } = picked_pair(alloc, joined)?;
-    join_of_valid_packages(alloc, first, second)
+    parsed_join(alloc, first, second)
 }
 
 fn if_spelling_is(
     alloc: Global,
     bytes: &[u8],
-    joined: CompactJoined,
-) -> Result<CompactJoined, DecodeError>
-    ensures so { Makes result (compact_spelled_so bytes.now joined) }
-    ensures typed { IfOk result (λ r. AllByRecursion TypedCommonTable r.tables) }
+    joined: ParsedJoined,
+) -> Result<ParsedJoined, DecodeError>
+    ensures so { Makes result (if_sections_are bytes.now joined) }
+    ensures typed { IfOk result (λ p. AllByRecursion TypedCommonTable p.cut.tables) }
 {
     let mut made = Bytes::new(alloc);
-    encode_cut_joined(&joined, &mut made)?;
+    encode_cut_joined(&joined.cut, &mut made)?;
     if made.as_slice() == bytes {
         Ok(joined)
     } else {
@@ -110,14 +125,22 @@ fn if_spelling_is(
     }
 }
 
-/// The valid joined package whose sections these bytes are. What its runs pick out is joined anew, and has to
-/// be spelled by the same bytes: so no list of it has to be looked at.
-pub(crate) fn compact_joined_in(alloc: Global, bytes: &[u8]) -> Result<CompactJoined, DecodeError>
-    ensures cuts { Makes result (compact_joined_in bytes.now) }
-    // The numbers of its tables are those of their types.
-    ensures typed { IfOk result (λ r. AllByRecursion TypedCommonTable r.tables) }
+fn joined_by_parts(alloc: Global, bytes: &[u8]) -> Result<ParsedJoined, DecodeError>
+    ensures made { Makes result (parsed_joined_in bytes.now) }
+    ensures typed { IfOk result (λ p. AllByRecursion TypedCommonTable p.cut.tables) }
 {
     let read = decode_all(alloc, bytes)?;
-    let anew = compact_anew(alloc, read)?;
+    let anew = parsed_anew(alloc, read)?;
     if_spelling_is(alloc, bytes, anew)
+}
+
+/// The valid joined package whose sections these bytes are, with the scripts of its runs. What its runs pick
+/// out is joined anew, and has to be spelled by the same bytes: so no list of it has to be looked at.
+pub(crate) fn parsed_joined_in(alloc: Global, bytes: &[u8]) -> Result<ParsedJoined, DecodeError>
+    ensures cuts { Makes (cut_of result) (compact_joined_in bytes.now) }
+    ensures parsed { IfOk result StartRuns }
+    // The numbers of its tables are those of their types.
+    ensures typed { IfOk result (λ p. AllByRecursion TypedCommonTable p.cut.tables) }
+{
+    joined_by_parts(alloc, bytes)
 }

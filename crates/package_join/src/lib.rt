@@ -25,10 +25,10 @@ mod spelling;
 mod worlds;
 
 pub use choosing::run_of;
-pub use compact_joined::{CompactJoined, CompactRun};
+pub use compact_joined::{CompactJoined, CompactRun, ParsedJoined};
 pub use joined::{Clash, ClashKind, Joined, JoinedRun, Reason, Reasons, Which};
 pub use joins::{JoinStop, join, join_compact, join_owned};
 pub use law::{join_law, joined_round_trip_law, joined_runs_law, pick_law};
-pub use reading::{read_compact_joined, read_joined};
+pub use reading::{read_joined, read_parsed_joined};
 pub use spelling::{spell_compact_joined, spell_joined};
-pub use worlds::{joined_world, world_owned};
+pub use worlds::{joined_parsed_world, joined_world};

@@ -6,12 +6,13 @@ ghost use Rattle.package_layout.specs.Runs.{are_runs};
 ghost use Rattle.package_layout.specs.Valid.{HasDigest, has_digest};
 ghost use Rattle.package_join.specs.Rooms.{TypedCommonTable};
 ghost use Rattle.package_join.specs.CompactJoins.{CompactJoinedReadsAs, JoinedReadsAs, whole_join, whole_run};
+ghost use Rattle.package_join.specs.ParsedJoins.{StartRuns, cut_of};
 ghost use Rattle.package_join.specs.Valid.{IsJoinedRead, IsNoJoined, digested_reading};
 ghost use Rattle.package_join.specs.Valid.{has_joined_magic, joined_damage_before, joined_reading};
 
-use crate::compact_joined::{CompactJoined, CompactRun};
+use crate::compact_joined::{CompactJoined, CompactRun, ParsedJoined};
 use crate::joined::{Joined, JoinedRun};
-use crate::judging::compact_joined_in;
+use crate::judging::parsed_joined_in;
 use crate::spelling::joined_magic;
 use package_layout::{
     DamageKind, DecodeError, PackageStop, events_in, first_eight, has_digest, middle,
@@ -23,7 +24,7 @@ use std::alloc::{AllocError, Global};
 /// `Form`.
 ///
 /// Lists of its events are made last, once all else is judged. They may be far larger than the bytes: where
-/// no events are wanted, take `read_compact_joined`.
+/// no events are wanted, take `read_parsed_joined`.
 pub fn read_joined(alloc: Global, bytes: &[u8]) -> Result<Joined, PackageStop>
     ensures found { IfOk result (IsJoinedRead bytes.now) }
     ensures magic { (result ≡ Err (PackageStop.Damaged DamageKind.Magic))
@@ -38,17 +39,20 @@ pub fn read_joined(alloc: Global, bytes: &[u8]) -> Result<Joined, PackageStop>
     answer(alloc, bytes)
 }
 
-/// The same joined package, with its traces kept as runs. It takes memory by the bytes that are read, and
-/// none by the number of events. The answers are those of `read_joined`.
-pub fn read_compact_joined(alloc: Global, bytes: &[u8]) -> Result<CompactJoined, PackageStop>
-    ensures found { IfOk result (λ r. IsJoinedRead bytes.now (whole_join r)) }
+/// The same joined package, with its traces kept as runs and with the scripts that the worlds of its runs
+/// start with. It takes memory by the bytes that are read, and none by the number of events. The answers are
+/// those of `read_joined`.
+pub fn read_parsed_joined(alloc: Global, bytes: &[u8]) -> Result<ParsedJoined, PackageStop>
+    ensures found { IfOk result (λ p. IsJoinedRead bytes.now (whole_join p.cut)) }
     // The numbers of its tables are those of their types.
-    ensures typed { IfOk result (λ r. AllByRecursion TypedCommonTable r.tables) }
+    ensures typed { IfOk result (λ p. AllByRecursion TypedCommonTable p.cut.tables) }
     // No events stand beside the runs.
-    ensures bare { IfOk result (λ r. (r.first.bare.events ≡ []) × (r.second.bare.events ≡ [])) }
-    ensures reading { CompactJoinedReadsAs result (joined_reading bytes.now) }
+    ensures bare { IfOk result (λ p.
+        (p.cut.first.bare.events ≡ []) × (p.cut.second.bare.events ≡ [])) }
+    ensures parsed { IfOk result StartRuns }
+    ensures reading { CompactJoinedReadsAs (cut_of result) (joined_reading bytes.now) }
 {
-    compact_answer(alloc, bytes)
+    parsed_answer(alloc, bytes)
 }
 
 fn answer(alloc: Global, bytes: &[u8]) -> Result<Joined, PackageStop>
@@ -56,8 +60,15 @@ fn answer(alloc: Global, bytes: &[u8]) -> Result<Joined, PackageStop>
     ensures at_once { IfSome (joined_damage_before bytes.now)
         (λ kind. result ≡ Err (PackageStop.Damaged kind)) }
 {
-    match compact_answer(alloc, bytes) {
-        Ok(joined) => whole_answer(alloc, joined),
+    match parsed_answer(alloc, bytes) {
+        Ok(parsed) => {
+            let ParsedJoined {
+                cut,
+                first: _,
+                second: _,
+            } = parsed;
+            whole_answer(alloc, cut)
+        }
         Err(stop) => Err(stop),
     }
 }
@@ -104,14 +115,16 @@ fn whole_run(alloc: Global, run: CompactRun) -> Result<JoinedRun, AllocError>
     Ok(whole)
 }
 
-fn compact_answer(alloc: Global, bytes: &[u8]) -> Result<CompactJoined, PackageStop>
-    ensures due { CompactJoinedReadsAs result (joined_reading bytes.now) }
+fn parsed_answer(alloc: Global, bytes: &[u8]) -> Result<ParsedJoined, PackageStop>
+    ensures due { CompactJoinedReadsAs (cut_of result) (joined_reading bytes.now) }
     ensures at_once { IfSome (joined_damage_before bytes.now)
-        (λ kind. result ≡ Err (PackageStop.Damaged kind)) }
-    ensures first { IfOk result (λ r. are_runs r.first.runs ≡ true) }
-    ensures second { IfOk result (λ r. are_runs r.second.runs ≡ true) }
-    ensures typed { IfOk result (λ r. AllByRecursion TypedCommonTable r.tables) }
-    ensures bare { IfOk result (λ r. (r.first.bare.events ≡ []) × (r.second.bare.events ≡ [])) }
+        (λ kind. cut_of result ≡ Err (PackageStop.Damaged kind)) }
+    ensures first { IfOk result (λ p. are_runs p.cut.first.runs ≡ true) }
+    ensures second { IfOk result (λ p. are_runs p.cut.second.runs ≡ true) }
+    ensures typed { IfOk result (λ p. AllByRecursion TypedCommonTable p.cut.tables) }
+    ensures bare { IfOk result (λ p.
+        (p.cut.first.bare.events ≡ []) × (p.cut.second.bare.events ≡ [])) }
+    ensures parsed { IfOk result StartRuns }
 {
     if has_joined_magic(bytes) {
         digested_answer(alloc, bytes)
@@ -126,13 +139,16 @@ fn has_joined_magic(bytes: &[u8]) -> bool
     first_eight(bytes) == joined_magic()
 }
 
-fn digested_answer(alloc: Global, bytes: &[u8]) -> Result<CompactJoined, PackageStop>
-    ensures due { CompactJoinedReadsAs result (digested_reading bytes.now) }
-    ensures at_once { has_digest bytes.now ≡ false → result ≡ Err (PackageStop.Damaged DamageKind.Digest) }
-    ensures first { IfOk result (λ r. are_runs r.first.runs ≡ true) }
-    ensures second { IfOk result (λ r. are_runs r.second.runs ≡ true) }
-    ensures typed { IfOk result (λ r. AllByRecursion TypedCommonTable r.tables) }
-    ensures bare { IfOk result (λ r. (r.first.bare.events ≡ []) × (r.second.bare.events ≡ [])) }
+fn digested_answer(alloc: Global, bytes: &[u8]) -> Result<ParsedJoined, PackageStop>
+    ensures due { CompactJoinedReadsAs (cut_of result) (digested_reading bytes.now) }
+    ensures at_once { has_digest bytes.now ≡ false
+        → cut_of result ≡ Err (PackageStop.Damaged DamageKind.Digest) }
+    ensures first { IfOk result (λ p. are_runs p.cut.first.runs ≡ true) }
+    ensures second { IfOk result (λ p. are_runs p.cut.second.runs ≡ true) }
+    ensures typed { IfOk result (λ p. AllByRecursion TypedCommonTable p.cut.tables) }
+    ensures bare { IfOk result (λ p.
+        (p.cut.first.bare.events ≡ []) × (p.cut.second.bare.events ≡ [])) }
+    ensures parsed { IfOk result StartRuns }
 {
     if has_digest(bytes) {
         middle_answer(alloc, bytes)
@@ -141,15 +157,17 @@ fn digested_answer(alloc: Global, bytes: &[u8]) -> Result<CompactJoined, Package
     }
 }
 
-fn middle_answer(alloc: Global, bytes: &[u8]) -> Result<CompactJoined, PackageStop>
+fn middle_answer(alloc: Global, bytes: &[u8]) -> Result<ParsedJoined, PackageStop>
     requires { has_digest bytes.now ≡ true }
-    ensures due { CompactJoinedReadsAs result (digested_reading bytes.now) }
-    ensures first { IfOk result (λ r. are_runs r.first.runs ≡ true) }
-    ensures second { IfOk result (λ r. are_runs r.second.runs ≡ true) }
-    ensures typed { IfOk result (λ r. AllByRecursion TypedCommonTable r.tables) }
-    ensures bare { IfOk result (λ r. (r.first.bare.events ≡ []) × (r.second.bare.events ≡ [])) }
+    ensures due { CompactJoinedReadsAs (cut_of result) (digested_reading bytes.now) }
+    ensures first { IfOk result (λ p. are_runs p.cut.first.runs ≡ true) }
+    ensures second { IfOk result (λ p. are_runs p.cut.second.runs ≡ true) }
+    ensures typed { IfOk result (λ p. AllByRecursion TypedCommonTable p.cut.tables) }
+    ensures bare { IfOk result (λ p.
+        (p.cut.first.bare.events ≡ []) × (p.cut.second.bare.events ≡ [])) }
+    ensures parsed { IfOk result StartRuns }
 {
-    match compact_joined_in(alloc, middle(bytes)) {
+    match parsed_joined_in(alloc, middle(bytes)) {
         Ok(joined) => Ok(joined),
         Err(DecodeError::Malformed) => Err(PackageStop::Damaged(DamageKind::Form)),
         Err(DecodeError::NoMemory) => Err(PackageStop::NoMemory),

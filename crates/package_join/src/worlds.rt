@@ -2,15 +2,18 @@
 
 ghost use Rattle.std.specs.Prelude.{◌≡◌, IfOk};
 ghost use Rattle.std.specs.List.{filter_map};
+ghost use Rattle.run_model.specs.Start.{IsParsed};
 ghost use Rattle.slicer.specs.Marks.{has_name};
 ghost use Rattle.package_join.specs.CompactJoins.{whole_join};
+ghost use Rattle.package_join.specs.ParsedJoins.{StartRuns, script_by};
 ghost use Rattle.package_join.specs.Worlds.{empty_if, joined_world, seen_by, world_by, world_file, world_of};
 
 use crate::choosing::name_set;
-use crate::compact_joined::CompactJoined;
+use crate::compact_joined::{CompactJoined, ParsedJoined};
 use crate::joined::{Joined, JoinedRun, Which};
 use ldv_value::{Bytes, File, Files, Utf8};
-use run_model::{PackedFile, PackedFiles, World};
+use run_model::{PackedFile, PackedFiles, ParsedWorld, World};
+use script_parse::Script;
 use slicer::{NameSet, has};
 use sql_model::Tables;
 use std::alloc::{AllocError, Global};
@@ -37,9 +40,34 @@ fn world_of(alloc: Global, run: &JoinedRun, joined: &Joined) -> Result<World, Al
     })
 }
 
-/// The world of a run of a joined package whose traces are kept as runs of events, in its own memory: no file
-/// and no row is copied. A file that only the other run needs present isn't in it.
-pub fn world_owned(alloc: Global, joined: CompactJoined, which: Which) -> Result<World, AllocError>
+/// The world of a run of a joined package that was read with its scripts, with the one that it starts with.
+/// It is in the joined package's own memory: no file and no row is copied. A file that only the other run
+/// needs present isn't in it.
+pub fn joined_parsed_world(
+    alloc: Global,
+    joined: ParsedJoined,
+    which: Which,
+) -> Result<ParsedWorld, AllocError>
+    requires { StartRuns joined }
+    ensures world { IfOk result (λ p. p.world ≡ joined_world which (whole_join joined.cut)) }
+    ensures parsed { IfOk result IsParsed }
+{
+    let ParsedJoined { cut, first, second } = joined;
+    let script = script_by(which, first, second);
+    let world = world_owned(alloc, cut, which)?;
+    Ok(ParsedWorld { world, script })
+}
+
+fn script_by(which: Which, first: Script, second: Script) -> Script
+    ensures { result ≡ script_by which first second }
+{
+    match which {
+        Which::First => first,
+        Which::Second => second,
+    }
+}
+
+fn world_owned(alloc: Global, joined: CompactJoined, which: Which) -> Result<World, AllocError>
     ensures { IfOk result (λ world. world ≡ joined_world which (whole_join joined)) }
 {
     let CompactJoined {

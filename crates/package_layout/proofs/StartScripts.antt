@@ -2,7 +2,7 @@
 use Rattle.std.proofs.Common.{◌≡◌, ℕ, List, [], ◌∷◌, length, map, find, Bool, true, false, if◌then◌else◌, Option, Some, None, is_some, refl, sym, ap, ◌∙◌, inl, inr}
 use Rattle.std.specs.Prelude.{◌&&◌, nat_le, bytes_eq, option_map, option_and_then, Result, Ok, Err, IfOk}
 use Rattle.std.proofs.lemmas.Bool.{cases_Bool}
-use Rattle.ldv_value.proofs.Booleans.{and-true, and-false}
+use Rattle.ldv_value.proofs.Booleans.{and-true, and-false, and-parts}
 use Rattle.ldv_value.specs.FileState.{file_at}
 use Rattle.ldv_value.specs.Limits.{file_limit}
 use Rattle.ldv_value.specs.declared.file.File.{File}
@@ -21,7 +21,7 @@ use Rattle.package_layout.specs.Plain.{fits_version}
 use Rattle.package_layout.specs.CompactPackages.{expanded_package, compact_rules, compact_sections_of, compact_in}
 use Rattle.package_layout.specs.Runs.{are_runs}
 use Rattle.package_layout.specs.StartScript.{StartsWith, file_script, package_if, packed_script, ruled_script, script_in, valid_script}
-use Rattle.package_layout.specs.Valid.{is_script, is_script_file, parts_rule, script_rule, whole_rule}
+use Rattle.package_layout.specs.Valid.{is_script, is_script_file, parts_rule, rules, script_rule, whole_rule}
 use Rattle.package_layout.specs.Version.{Version}
 
 -- ---- there is one exactly where the rules are met
@@ -38,7 +38,7 @@ file_there : (o : Option PackedFile) → is_some (file_script o) ≡ is_script_f
 file_there None = refl
 file_there (Some file) = content_there file.content
 
-script_there : (start : List (List ℕ)) (files : List PackedFile) → is_some (packed_script start files) ≡ script_rule start files
+pub script_there : (start : List (List ℕ)) (files : List PackedFile) → is_some (packed_script start files) ≡ script_rule start files
 script_there [] files = refl
 script_there (word ∷ words) files = file_there (find (λ f. bytes_eq word f.path) files)
 
@@ -55,6 +55,15 @@ valid_rules v r =
     let p : Package = expanded_package r in
     by_tests (are_runs r.runs) (fits_version v p) (parts_rule p) (whole_rule p) (script_rule p.start p.files) (packed_script p.start p.files)
     (script_there p.start p.files)
+
+-- and the rules are met
+pub script_ruled : (v : Version) (r : CompactPackage) (script : List Instr) → valid_script v r ≡ Some script
+    → rules (expanded_package r) ≡ true
+script_ruled v r script is =
+    let p : Package = expanded_package r in
+    let met : compact_rules v r ≡ true = sym (valid_rules v r) ∙ ap (λ (o : Option (List Instr)). is_some o) is in
+    let all = and-parts (are_runs r.runs) (rules p && fits_version v p) met in
+    (and-parts (rules p) (fits_version v p) all.1).0
 
 -- ---- what is kept of what was read
 
@@ -76,7 +85,7 @@ none_in v bytes is = ap (λ (o : Option CompactPackage). o >>= tested v) is
 
 -- ---- the own world starts with it
 
-unwrapped : (b : Bool) (o : Option (List Instr)) (script : List Instr) → (if b then o else None) ≡ Some script → o ≡ Some script
+pub unwrapped : (b : Bool) (o : Option (List Instr)) (script : List Instr) → (if b then o else None) ≡ Some script → o ≡ Some script
 unwrapped true o script is = is
 unwrapped false o script is = cc
 
@@ -105,14 +114,19 @@ own_start [] files script is = cc
 own_start (word ∷ words) files script is =
     ap world_script (own_at word files) ∙ file_own (find (λ f. bytes_eq word f.path) files) script is
 
-pub starts_with : (v : Version) (r : CompactPackage) (script : List Instr) → valid_script v r ≡ Some script
-    → start_script (own_world r.bare) ≡ Some script
-starts_with v r script is =
+-- it is that of the file that the first start word names
+pub packed_starts : (v : Version) (r : CompactPackage) (script : List Instr) → valid_script v r ≡ Some script
+    → packed_script r.bare.start r.bare.files ≡ Some script
+packed_starts v r script is =
     let p : Package = expanded_package r in
     let fits = unwrapped (are_runs r.runs) (if fits_version v p then ruled_script p else None) script is in
     let ruled = unwrapped (fits_version v p) (ruled_script p) script fits in
     let parts = unwrapped (parts_rule p) (if whole_rule p then packed_script p.start p.files else None) script ruled in
-    own_start r.bare.start r.bare.files script (unwrapped (whole_rule p) (packed_script p.start p.files) script parts)
+    unwrapped (whole_rule p) (packed_script p.start p.files) script parts
+
+pub starts_with : (v : Version) (r : CompactPackage) (script : List Instr) → valid_script v r ≡ Some script
+    → start_script (own_world r.bare) ≡ Some script
+starts_with v r script is = own_start r.bare.start r.bare.files script (packed_starts v r script is)
 
 pub with_start : (v : Version) (r : CompactPackage) (o : Option (List Instr)) (result : Result ParsedPackage DecodeError) → o ≡ valid_script v r
     → IfOk result (λ (p : ParsedPackage). (p.cut ≡ r) × (o ≡ Some p.script.instructions)) → IfOk result StartsWith

@@ -12,12 +12,10 @@ use ldv_value::{CopyItem, List};
 use run_model::{Event, Events, Package};
 use std::alloc::{AllocError, Global};
 
-/// The package with all events that its runs stand for.
+/// The package with all events that its runs stand for, which may be far larger than the bytes that it was
+/// read from.
 #[tactic(auto, using(crate::proofs::Runs::are_all_runs))]
-pub(crate) fn expanded_package(
-    alloc: Global,
-    package: CompactPackage,
-) -> Result<Package, AllocError>
+pub fn expanded_package(alloc: Global, package: CompactPackage) -> Result<Package, AllocError>
     requires { are_runs «package».runs ≡ true }
     ensures { IfOk result (λ p. p ≡ expanded_package «package») }
 {

@@ -90,11 +90,12 @@ pub fn read_compact(alloc: Global, bytes: &[u8]) -> Result<CompactPackage, Packa
     compact_answer(alloc, bytes)
 }
 
-/// The package of `read_compact`, with the script that it starts with.
+/// The package of `read_compact`, with the script that it starts with. `expanded_package` makes its events.
 pub fn read_parsed(alloc: Global, bytes: &[u8]) -> Result<ParsedPackage, PackageStop>
     ensures found { IfOk result (λ p. IsTyped (expanded_package p.cut)
         × IsValidPackage (expanded_package p.cut) × IsSpelled bytes.now (expanded_package p.cut)) }
     ensures parsed { IfOk result StartsWith }
+    ensures runs { IfOk result (λ p. are_runs p.cut.runs ≡ true) }
     ensures reading { CompactReadsAs (cut_of result) (reading bytes.now) }
 {
     parsed_answer(alloc, bytes)

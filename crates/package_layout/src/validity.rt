@@ -24,30 +24,24 @@ use run_model::{Logs, Mode, Package, PackedFile, PackedFiles, PackedTable, Packe
 use script_parse::{Script, ScriptStop, parse_script};
 use std::alloc::{AllocError, Global};
 
-/// Whether the runs of a package are those of a trace, all of it meets the rules for valid packages, and the
-/// version has all of it. No list of events is made. `AllocError` means out of memory and nothing else.
-pub fn is_valid_package(
+/// The script that a valid package starts with, and `None` where it isn't valid: the runs are those of a
+/// trace, all of it meets the rules for valid packages, and the version has all of it. No list of events is
+/// made. `AllocError` means out of memory and nothing else.
+pub fn valid_script(
     alloc: Global,
     version: Version,
     package: &CompactPackage,
-) -> Result<bool, AllocError>
-    ensures { IfOk result (λ holds. holds ≡ compact_rules version «package».now) }
+) -> Result<Option<Script>, AllocError>
+    ensures script { IfOk result (λ found. option_map (λ s. s.instructions) found
+        ≡ valid_script version «package».now) }
+    // There is one exactly where the package is valid.
+    ensures rules { IfOk result (λ found. is_some (option_map (λ s. s.instructions) found)
+        ≡ compact_rules version «package».now) }
 {
-    let script = valid_script(alloc, version, package)?;
-    Ok(is_there(script))
+    script_by_rules(alloc, version, package)
 }
 
-fn is_there(script: Option<Script>) -> bool
-    ensures { result ≡ is_some (option_map (λ s. s.instructions) script) }
-{
-    match script {
-        Some(_) => true,
-        None => false,
-    }
-}
-
-/// The script that a valid package starts with, as of `is_valid_package`; `None` where it isn't valid.
-pub(crate) fn valid_script(
+fn script_by_rules(
     alloc: Global,
     version: Version,
     package: &CompactPackage,

@@ -26,25 +26,33 @@ use Rattle.replay_db.specs.declared.soundness.AuditStop.TheVariants.{NotEnded, T
 abbrev pub verdict_on : List ℕ → List ℕ → Verdict
 verdict_on bytes due = if bytes_eq bytes due then Sound else Unsound (common_prefix_len nat_eq bytes due)
 
--- what is due in a version: the package of the own world's run, within a budget of steps
+-- the package of a world's run, within a budget of steps, in a version
+abbrev pub recorded_spelling : ℕ → Version → World → List ℕ
+recorded_spelling budget version w = spelling_as version (package_of Included budget w)
+
+-- what is due of a package in a version: that of its own world
 abbrev pub own_spelling : ℕ → Version → Package → List ℕ
-own_spelling budget version p = spelling_as version (package_of Included budget (own_world p))
+own_spelling budget version p = recorded_spelling budget version (own_world p)
 
 -- ---- what an audit comes to
 
-abbrev pub AuditStops : ℕ → Version → Package → AuditStop → Type 0
-AuditStops budget version p NotEnded = ends_within budget (own_world p) ≡ false
-AuditStops budget version p TooLong =
-    (ends_within budget (own_world p) ≡ true) × (input_limit < length (own_spelling budget version p))
-AuditStops budget version p NoMemory = Unit {0}
+abbrev pub AuditStops : ℕ → Version → World → AuditStop → Type 0
+AuditStops budget version w NotEnded = ends_within budget w ≡ false
+AuditStops budget version w TooLong =
+    (ends_within budget w ≡ true) × (input_limit < length (recorded_spelling budget version w))
+AuditStops budget version w NoMemory = Unit {0}
 
--- of bytes of a version
+-- of bytes of a version, by the world of the package that they are
+abbrev pub AuditsWorld : ℕ → Version → World → List ℕ → Result Verdict AuditStop → Type 0
+AuditsWorld budget version w bytes (Ok verdict) =
+    (ends_within budget w ≡ true)
+    × ((length (recorded_spelling budget version w) ≤ input_limit)
+    × (verdict ≡ verdict_on bytes (recorded_spelling budget version w)))
+AuditsWorld budget version w bytes (Err stop) = AuditStops budget version w stop
+
+-- and by the package
 abbrev pub Audits : ℕ → Version → Package → List ℕ → Result Verdict AuditStop → Type 0
-Audits budget version p bytes (Ok verdict) =
-    (ends_within budget (own_world p) ≡ true)
-    × ((length (own_spelling budget version p) ≤ input_limit)
-    × (verdict ≡ verdict_on bytes (own_spelling budget version p)))
-Audits budget version p bytes (Err stop) = AuditStops budget version p stop
+Audits budget version p bytes result = AuditsWorld budget version (own_world p) bytes result
 
 -- ---- laws
 

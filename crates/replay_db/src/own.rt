@@ -3,7 +3,9 @@
 ghost use Rattle.std.specs.Prelude.{◌≡◌, Some, map, IfOk};
 ghost use Rattle.run_model.specs.Package.{or_empty, own_file, own_row, own_table, own_world};
 ghost use Rattle.run_model.specs.Start.{IsParsed, start_script};
+ghost use Rattle.replay_db.specs.Runs.{CanRun};
 
+use crate::start::parsed_world;
 use ldv_value::{Bytes, CopyItem, File, Files};
 use run_model::{
     Package, PackedFile, PackedFiles, PackedRow, PackedRows, PackedTable, PackedTables,
@@ -92,6 +94,16 @@ pub fn own_world(alloc: Global, package: &Package) -> Result<World, AllocError>
         files: own_files(alloc, &package.files)?,
         tables: own_tables(alloc, &package.tables)?,
     })
+}
+
+/// The world that a package has in it, as of `own_world`, with the script that it starts with.
+pub(crate) fn parsed_copy(alloc: Global, package: &Package) -> Result<ParsedWorld, AllocError>
+    requires { CanRun (own_world «package».now) }
+    ensures world { IfOk result (λ p. p.world ≡ own_world «package».now) }
+    ensures parsed { IfOk result IsParsed }
+{
+    let world = own_world(alloc, package)?;
+    parsed_world(alloc, world)
 }
 
 // ---- in the package's own memory

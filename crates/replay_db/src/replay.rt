@@ -1,16 +1,18 @@
 //! Replay of packages that hold the needed rows.
 
-ghost use Rattle.std.specs.Prelude.{◌≤◌};
+ghost use Rattle.std.specs.Prelude.{◌≡◌, ◌≤◌, Some};
 ghost use Rattle.ldv_value.specs.Gives.{Gives};
 ghost use Rattle.ldv_value.specs.Limits.{max_steps};
 ghost use Rattle.run_model.specs.Package.{own_world};
+ghost use Rattle.run_model.specs.Start.{start_script};
 ghost use Rattle.run_model.specs.WorldRun.{outcome_within};
 ghost use Rattle.replay_db.specs.Runs.{CanRun, Stops};
 
 use crate::error::EndStop;
-use crate::own::{own_world, own_world_of};
-use crate::run::run_owned;
+use crate::own::{own_parsed_world, own_world};
+use crate::run::{run_owned, run_parsed};
 use run_model::{Outcome, Package};
+use script_parse::Script;
 use std::alloc::Global;
 
 /// The outcome of the run of an included package's own world, within a budget of at most 10,000,000 steps.
@@ -27,17 +29,19 @@ pub fn replay_included(alloc: Global, package: &Package, budget: u32) -> Result<
     run_owned(alloc, world, budget)
 }
 
-/// The outcome of the run of an included package's own world, as of `replay_included`. The run takes over the
-/// package's files and rows, and copies none of them.
-pub fn replay_included_owned(
+/// The outcome of the run of an included package's own world, as of `replay_included`. The script that it
+/// starts with was parsed. The run takes over the package's files and rows, and copies none of them.
+pub fn replay_included_parsed(
     alloc: Global,
     package: Package,
+    script: Script,
     budget: u32,
 ) -> Result<Outcome, EndStop>
     requires can_run { CanRun (own_world «package») }
+    requires parsed { start_script (own_world «package») ≡ Some script.instructions }
     requires bounded { budget ≤ max_steps }
     ensures { Gives Stops result (outcome_within budget (own_world «package»)) }
 {
-    let own = own_world_of(alloc, package)?;
-    run_owned(alloc, own, budget)
+    let own = own_parsed_world(alloc, package, script)?;
+    run_parsed(alloc, own, budget)
 }

@@ -101,34 +101,35 @@ fn outcome_of_run(
     Ok(ended.into_outcome()?)
 }
 
-/// The outcome of the run of a world by its seed, within a budget of at most 10,000,000 steps. The run takes
-/// over the world's files and tables, and copies none of them.
-///
-/// `NotEnded` comes exactly where not all processes have ended after the steps of the budget.
-pub fn run_owned(alloc: Global, world: World, budget: u32) -> Result<Outcome, EndStop>
+/// The outcome of the run of a world, as of `run_parsed`, where its script wasn't parsed.
+pub(crate) fn run_owned(alloc: Global, world: World, budget: u32) -> Result<Outcome, EndStop>
     requires can_run { CanRun world }
     requires bounded { budget ≤ max_steps }
     ensures outcome { Gives Stops result (outcome_within budget world) }
-    // Where the world lies between the slice of a larger one and that one, its outcome is that one's.
     ensures between { RunsAs budget world result }
 {
     let script = parse_start(alloc, &world)?;
     outcome_of_run(alloc, world, &script, budget)
 }
 
-/// The outcome of the run of a world whose script was parsed, as of `run_owned`.
+/// The outcome of the run of a world by its seed, within a budget of at most 10,000,000 steps. Its script was
+/// parsed. The run takes over the world's files and tables, and copies none of them.
+///
+/// `NotEnded` comes exactly where not all processes have ended after the steps of the budget.
 pub fn run_parsed(alloc: Global, parsed: ParsedWorld, budget: u32) -> Result<Outcome, EndStop>
     requires can_run { CanRun parsed.world }
     requires parsed { IsParsed parsed }
     requires bounded { budget ≤ max_steps }
     ensures outcome { Gives Stops result (outcome_within budget parsed.world) }
+    // Where the world lies between the slice of a larger one and that one, its outcome is that one's.
     ensures between { RunsAs budget parsed.world result }
 {
     let ParsedWorld { world, script } = parsed;
     outcome_of_run(alloc, world, &script, budget)
 }
 
-/// The outcome of the run of a world, as of `run_owned`. The run changes a copy of the world.
+/// The outcome of the run of a world, as of `run_parsed`. Its script is parsed, and the run changes a copy of
+/// the world.
 pub fn run_world(alloc: Global, world: &World, budget: u32) -> Result<Outcome, EndStop>
     requires can_run { CanRun world.now }
     requires bounded { budget ≤ max_steps }

@@ -6,15 +6,16 @@ ghost use Rattle.ldv_value.specs.Limits.{max_steps};
 ghost use Rattle.package_layout.specs.Version.{version_of};
 ghost use Rattle.package_layout.specs.declared.version.Version.{Version};
 ghost use Rattle.run_model.specs.Package.{own_world};
-ghost use Rattle.replay_db.specs.Auditing.{Audits, verdict_on};
+ghost use Rattle.run_model.specs.Start.{IsParsed};
+ghost use Rattle.replay_db.specs.Auditing.{Audits, AuditsWorld, verdict_on};
 ghost use Rattle.replay_db.specs.Runs.{CanRun};
 
 use crate::error::EndStop;
-use crate::own::own_world;
-use crate::record::record_world;
+use crate::own::parsed_copy;
+use crate::record::record_parsed;
 use package_layout::{SpellStop, Version, spell_as, version_of};
-use run_model::{Mode, Package};
-use std::alloc::Global;
+use run_model::{Mode, Package, ParsedWorld};
+use std::alloc::{AllocError, Global};
 
 /// What an audit says of a package.
 #[derive(Clone, Copy, Debug, PartialEq, Eq)]
@@ -78,8 +79,28 @@ pub fn audit(
     ensures { (version : Version) → version_of bytes.now ≡ Some version
         → Audits budget version «package».now bytes.now result }
 {
+    match parsed_copy(alloc, package) {
+        Ok(own) => audit_parsed(alloc, &own, bytes, budget),
+        Err(AllocError) => Err(AuditStop::NoMemory),
+    }
+}
+
+/// The audit of a package, as of `audit`, by its own world, whose script was parsed.
+pub fn audit_parsed(
+    alloc: Global,
+    own: &ParsedWorld,
+    bytes: &[u8],
+    budget: u32,
+) -> Result<Verdict, AuditStop>
+    requires can_run { CanRun own.now.world }
+    requires parsed { IsParsed own.now }
+    requires bounded { budget ≤ max_steps }
+    requires versioned { IsSome (version_of bytes.now) }
+    ensures { (version : Version) → version_of bytes.now ≡ Some version
+        → AuditsWorld budget version own.now.world bytes.now result }
+{
     match version_of(bytes) {
-        Some(version) => audit_as(alloc, version, package, bytes, budget),
+        Some(version) => audit_as(alloc, version, own, bytes, budget),
         None => unreachable!(),
     }
 }
@@ -87,24 +108,21 @@ pub fn audit(
 fn audit_as(
     alloc: Global,
     version: Version,
-    package: &Package,
+    own: &ParsedWorld,
     bytes: &[u8],
     budget: u32,
 ) -> Result<Verdict, AuditStop>
-    requires can_run { CanRun (own_world «package».now) }
+    requires can_run { CanRun own.now.world }
+    requires parsed { IsParsed own.now }
     requires bounded { budget ≤ max_steps }
-    ensures { Audits budget version «package».now bytes.now result }
+    ensures { AuditsWorld budget version own.now.world bytes.now result }
 {
-    let world = match own_world(alloc, package) {
-        Ok(world) => world,
-        Err(_) => return Err(AuditStop::NoMemory),
-    };
-    let own = match record_world(alloc, &world, Mode::Included, budget) {
-        Ok(own) => own,
+    let package = match record_parsed(alloc, own, Mode::Included, budget) {
+        Ok(package) => package,
         Err(EndStop::NotEnded) => return Err(AuditStop::NotEnded),
         Err(EndStop::NoMemory) => return Err(AuditStop::NoMemory),
     };
-    match spell_as(alloc, &own, version) {
+    match spell_as(alloc, &package, version) {
         Ok(due) => Ok(verdict_on(bytes, due.as_slice())),
         Err(SpellStop::TooLong) => Err(AuditStop::TooLong),
         Err(SpellStop::NoMemory) => Err(AuditStop::NoMemory),

@@ -2,10 +2,10 @@
 
 ghost use Rattle.std.specs.Prelude.{◌≡◌, Some, IfOk, IsSome};
 ghost use Rattle.std.specs.Option.{option_map};
-ghost use Rattle.run_model.specs.Start.{start_file, start_script};
+ghost use Rattle.run_model.specs.Start.{IsParsed, start_file, start_script};
 
 use ldv_value::File;
-use run_model::World;
+use run_model::{ParsedWorld, World};
 use script_parse::{Script, known_script};
 use std::alloc::{AllocError, Global};
 
@@ -28,4 +28,14 @@ pub(crate) fn parse_start(alloc: Global, world: &World) -> Result<Script, AllocE
         None => unreachable!(),
         Some(file) => known_script(alloc, file.content.as_slice()),
     }
+}
+
+/// A world with the script that it starts with, which it has.
+pub fn parsed_world(alloc: Global, world: World) -> Result<ParsedWorld, AllocError>
+    requires { IsSome (start_script world) }
+    ensures world { IfOk result (λ p. p.world ≡ world) }
+    ensures parsed { IfOk result IsParsed }
+{
+    let script = parse_start(alloc, &world)?;
+    Ok(ParsedWorld { world, script })
 }

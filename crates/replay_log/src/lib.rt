@@ -11,7 +11,8 @@ mod next;
 mod own;
 mod replay;
 mod reply_log;
+mod start;
 
 pub use law::can_replay_law;
-pub use replay::{replay_excluded, replay_owned, replay_seeded, replay_seeded_owned};
+pub use replay::{replay_excluded, replay_parsed, replay_seeded, replay_seeded_parsed};
 pub use reply_log::ReplyLog;

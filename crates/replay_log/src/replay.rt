@@ -12,17 +12,25 @@ ghost use Rattle.replay_log.specs.Replays.{CanReplay, Replays, with_seed};
 use crate::copies::copy_to_replay;
 use crate::own::own_files;
 use crate::reply_log::ReplyLog;
+use crate::start::parse_start;
 use file_tree::Tree;
 use proc_core::{Run, RunStop};
 use run_model::{NullTracer, Outcome, Package};
+use script_parse::Script;
 use std::alloc::{AllocError, Global};
 
-// The run of a package over its recorded replies, before its first step.
-fn begin(alloc: Global, package: Package) -> Result<Run<ReplyLog, NullTracer>, AllocError>
-    requires { CanReplay «package» }
-    ensures state { IfOk result (λ run. (script : Items Instr)
-        → start_script (own_world «package») ≡ Some script
-        → Stands run.machine run.db (log_start «package» script)) }
+// The run of a package over its recorded replies, before its first step. The script that it starts with was
+// parsed.
+fn begin(
+    alloc: Global,
+    package: Package,
+    script: &Script,
+) -> Result<Run<ReplyLog, NullTracer>, AllocError>
+    requires can_replay { CanReplay «package» }
+    requires parsed { start_script (own_world «package») ≡ Some script.now.instructions }
+    ensures state { IfOk result (λ run. (due : Items Instr)
+        → start_script (own_world «package») ≡ Some due
+        → Stands run.machine run.db (log_start «package» due)) }
     ensures steps { IfOk result (λ run. run.steps ≡ 0) }
 {
     let Package {
@@ -38,20 +46,27 @@ fn begin(alloc: Global, package: Package) -> Result<Run<ReplyLog, NullTracer>, A
     let own = own_files(alloc, files)?;
     let tree = Tree::of_files(alloc, own)?;
     let db = ReplyLog::of_logs(alloc, logs);
-    let begun = Run::start(&start, seed, tree, db, NullTracer)?;
+    let begun = Run::start_parsed(&start, script, seed, tree, db, NullTracer)?;
     Ok(begun)
 }
 
 /// Runs the files of a package over its recorded replies, at most `budget` steps, and gives the outcome of
-/// the run. `NotEnded` comes exactly where it has neither ended nor diverged after these steps, and
-/// `Diverged` exactly where a process asked what wasn't recorded next for it: the process, and the number of
-/// its questions before that one. Replies that are left over at the end don't matter.
-pub fn replay_owned(alloc: Global, package: Package, budget: u32) -> Result<Outcome, RunStop>
+/// the run. The script that it starts with was parsed. `NotEnded` comes exactly where it has neither ended
+/// nor diverged after these steps, and `Diverged` exactly where a process asked what wasn't recorded next for
+/// it: the process, and the number of its questions before that one. Replies that are left over at the end
+/// don't matter.
+pub fn replay_parsed(
+    alloc: Global,
+    package: Package,
+    script: &Script,
+    budget: u32,
+) -> Result<Outcome, RunStop>
     requires can_replay { CanReplay «package» }
+    requires parsed { start_script (own_world «package») ≡ Some script.now.instructions }
     requires bounded { budget ≤ max_steps }
     ensures { Replays budget «package» result }
 {
-    let begun = match begin(alloc, package) {
+    let begun = match begin(alloc, package, script) {
         Ok(begun) => begun,
         Err(AllocError) => return Err(RunStop::NoMemory),
     };
@@ -65,7 +80,19 @@ pub fn replay_owned(alloc: Global, package: Package, budget: u32) -> Result<Outc
     }
 }
 
-/// Runs the files of a package over its recorded replies, as `replay_owned` does. The package stays; the run
+// The same, where the script wasn't parsed.
+fn replay_owned(alloc: Global, package: Package, budget: u32) -> Result<Outcome, RunStop>
+    requires can_replay { CanReplay «package» }
+    requires bounded { budget ≤ max_steps }
+    ensures { Replays budget «package» result }
+{
+    match parse_start(alloc, &package) {
+        Ok(script) => replay_parsed(alloc, package, &script, budget),
+        Err(AllocError) => Err(RunStop::NoMemory),
+    }
+}
+
+/// Runs the files of a package over its recorded replies, as `replay_parsed` does. The package stays; the run
 /// uses a copy.
 pub fn replay_excluded(alloc: Global, package: &Package, budget: u32) -> Result<Outcome, RunStop>
     requires can_replay { CanReplay «package».now }
@@ -96,17 +123,19 @@ pub fn replay_seeded(
     }
 }
 
-/// Runs the files of a package over its recorded replies under another seed, as `replay_owned` does under the
-/// package's own.
-pub fn replay_seeded_owned(
+/// Runs the files of a package over its recorded replies under another seed, as `replay_parsed` does under
+/// the package's own.
+pub fn replay_seeded_parsed(
     alloc: Global,
     package: Package,
+    script: &Script,
     seed: u64,
     budget: u32,
 ) -> Result<Outcome, RunStop>
     requires can_replay { CanReplay «package» }
+    requires parsed { start_script (own_world «package») ≡ Some script.now.instructions }
     requires bounded { budget ≤ max_steps }
     ensures { Replays budget (with_seed seed «package») result }
 {
-    replay_owned(alloc, Package { seed, ..package }, budget)
+    replay_parsed(alloc, Package { seed, ..package }, script, budget)
 }

@@ -1,20 +1,21 @@
-//! Runs over recorded replies with a tracer that keeps events, and under a recorder. No command does the
-//! one or the other.
+//! Runs over recorded replies with a tracer that keeps events, under a recorder, and of a package that stays.
+//! No command does any of them.
 
 ghost use Rattle.std.specs.Prelude.{◌≡◌, IfOk, true};
 ghost use Rattle.ldv_value.specs.FileState.{files_test, initial_files};
+ghost use Rattle.package_layout.specs.Valid.{IsValidPackage};
 ghost use Rattle.replay_db.specs.Runs.{CanRun};
 
 use crate::worlds::world_of_text;
 use file_tree::Tree;
 use ldv_value::{Bytes, Files, Parts, RowList, Utf8, Value, Values, is_strictly_sorted};
-use package_layout::spell;
-use proc_core::Run;
+use package_layout::{read_package, spell};
+use proc_core::{Run, RunStop};
 use replay_db::{Recorder, record_world};
-use replay_log::ReplyLog;
+use replay_log::{ReplyLog, can_replay_law, replay_excluded};
 use run_model::{
-    Act, Database, Entries, Entry, Event, Events, ListTracer, Log, Logs, Mode, Package, ProcName,
-    World,
+    Act, Database, Entries, Entry, Event, Events, ListTracer, Log, Logs, Mode, Outcome, Package,
+    ProcName, World,
 };
 use sql_model::Reply;
 use std::alloc::{AllocError, Global};
@@ -244,5 +245,32 @@ fn keeps_the_replies_that_it_has(rt: HostRuntime) -> Result<(), Fail> {
     let kept = spelled_with(&rt, rt.alloc(), kept_logs(&rt, rt.alloc())?);
     let given = spelled_with(&rt, rt.alloc(), logs(rt.alloc())?);
     assert!(rt; kept.as_slice() == given.as_slice());
+    Ok(())
+}
+
+// ---- a package that stays
+
+fn outcome_of_package(alloc: Global, package: &Package) -> Result<Outcome, RunStop>
+    requires { IsValidPackage «package».now }
+{
+    can_replay_law();
+    replay_excluded(alloc, package, BUDGET)
+}
+
+// How many processes the run of the recorded package has over its replies.
+fn count_of_processes(rt: &impl Abort, alloc: Global) -> usize {
+    let bytes = spelling_of(rt, alloc, &recorded_package(rt, alloc));
+    match read_package(alloc, bytes.as_slice()) {
+        Ok(package) => match outcome_of_package(alloc, &package) {
+            Ok(outcome) => outcome.processes.len(),
+            Err(_) => panic!(rt; "no end"),
+        },
+        Err(_) => panic!(rt; "no package"),
+    }
+}
+
+#[test]
+fn replays_a_package_that_stays(rt: HostRuntime) -> Result<(), Fail> {
+    assert_eq!(rt; count_of_processes(&rt, rt.alloc()), 2);
     Ok(())
 }

@@ -1,15 +1,16 @@
-use Rattle.std.proofs.Common.{subst}
-use Rattle.replay_db.specs.declared.soundness.AuditStop.{AuditStop}
-use Rattle.std.specs.Prelude.{Err}
-use Rattle.ldv_top.proofs.AuditResponses.{AuditedAs, audit_long, audit_late}
+use Rattle.std.proofs.Common.{◌≡◌, sym, subst}
+use Rattle.std.specs.Prelude.{IfOk}
+use Rattle.run_model.specs.ValidWorld.{CanRun}
+use Rattle.run_model.specs.declared.world.World.{World}
+use Rattle.ldv_top.specs.declared.response.Response.{Response}
+use Rattle.ldv_top.specs.Due.{response_due}
+use Rattle.ldv_top.specs.DueOfAudits.{audited_world}
 use Rattle.ldv_top.proofs.audit.included_response.Goals as goal
 
-pub returns-in-Err-NotEnded : goal.returns-in-Err-NotEnded
-returns-in-Err-NotEnded c =
-    audit_late c.args.budget c.args.input.now c.args.package.now c.requires.versioned
-    (subst (λ (stop : AuditStop). AuditedAs c.args.budget c.args.input.now c.args.package.now (Err stop)) c.in-Err-NotEnded.field-0-is c.in-Err-NotEnded.ensures)
+pub world_response-requires-clause-can_run : goal.world_response-requires-clause-can_run
+world_response-requires-clause-can_run c = subst CanRun (sym c.in_ok-own.ensures.world) c.requires.can_run
 
-pub returns-in-Err-TooLong : goal.returns-in-Err-TooLong
-returns-in-Err-TooLong c =
-    audit_long c.args.budget c.args.input.now c.args.package.now c.requires.versioned
-    (subst (λ (stop : AuditStop). AuditedAs c.args.budget c.args.input.now c.args.package.now (Err stop)) c.in-Err-TooLong.field-0-is c.in-Err-TooLong.ensures)
+pub returns : goal.returns
+returns c =
+    subst (λ (w : World). IfOk c.world_response.result (λ (response : Response). response_due response ≡ audited_world c.args.budget c.args.input.now w))
+    c.in_ok-own.ensures.world c.world_response.ensures

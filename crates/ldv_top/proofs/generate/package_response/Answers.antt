@@ -5,8 +5,8 @@ use Rattle.ldv_top.specs.Due.{DueOutput, response_due}
 use Rattle.ldv_top.proofs.GenerateLaws.{summed_whole}
 use Rattle.ldv_top.proofs.generate.package_response.Goals as goal
 
-pub spelled_response-requires : goal.spelled_response-requires
-spelled_response-requires c = c.package_law.ensures.own_runs c.args.package c.in-Ok.ensures.typed c.requires
+pub spelled_response-requires-clause-can_run : goal.spelled_response-requires-clause-can_run
+spelled_response-requires-clause-can_run c = c.package_law.ensures.own_runs c.args.package c.in-Ok.ensures.typed c.requires.valid
 
 pub returns-in-Ok : goal.returns-in-Ok
 returns-in-Ok c =

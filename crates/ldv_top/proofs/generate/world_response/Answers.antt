@@ -1,29 +1,19 @@
-use Rattle.std.proofs.Common.{rules, ◌≡◌, subst}
+use Rattle.std.proofs.Common.{◌≡◌, sym, subst}
 use Rattle.std.specs.Prelude.{IfOk}
-use Rattle.run_model.specs.declared.package.Mode.TheVariants.{Included}
-use Rattle.replay_db.specs.Runs.{Stops, package_within}
-use Rattle.replay_db.specs.declared.error.EndStop.{EndStop}
-use Rattle.ldv_value.specs.Limits.{default_steps}
+use Rattle.run_model.specs.declared.world.World.{World}
+use Rattle.replay_db.specs.Worlds.{ValidWorld}
 use Rattle.ldv_top.specs.declared.response.Response.{Response}
-use Rattle.ldv_top.specs.Due.{DueOutput, response_due}
-use Rattle.ldv_top.specs.DueOfGenerate.{row_count}
-use Rattle.ldv_top.proofs.GenerateLaws.{recorded_valid, summed_in_time, summed_late}
+use Rattle.ldv_top.specs.Due.{response_due}
+use Rattle.ldv_top.specs.DueOfGenerate.{summed_world}
 use Rattle.ldv_top.proofs.generate.world_response.Goals as goal
 
-pub record_once-requires : goal.record_once-requires
-record_once-requires c = c.package_law.ensures.runs c.args.world c.requires
+pub parsed_world-requires : goal.parsed_world-requires
+parsed_world-requires c = (c.package_law.ensures.runs c.args.world c.requires).script
 
-pub package_response-requires : goal.package_response-requires
-package_response-requires c =
-    recorded_valid c.args.world c.in-Ok.package c.in-Ok.ensures c.package_law.ensures.tables c.package_law.ensures.valid c.requires
+pub recorded_response-requires-clause-valid : goal.recorded_response-requires-clause-valid
+recorded_response-requires-clause-valid c = subst ValidWorld (sym c.in_ok-parsed.ensures.world) c.requires
 
-pub returns-in-Ok : goal.returns-in-Ok
-returns-in-Ok c =
-    let counted : c.row_count-rows.result ≡ row_count c.args.world.tables = search rules in
-    subst (λ (d : DueOutput). IfOk c.package_response.result (λ (response : Response). response_due response ≡ d))
-    (summed_in_time c.args.world c.in-Ok.package c.in-Ok.ensures c.args.orders c.row_count-rows.result counted) c.package_response.ensures
-
-pub returns-in-Err-NotEnded : goal.returns-in-Err-NotEnded
-returns-in-Err-NotEnded c =
-    summed_late c.args.orders c.args.world
-    (subst (λ (stop : EndStop). Stops stop (package_within Included default_steps c.args.world)) c.in-Err-NotEnded.field-0-is c.in-Err-NotEnded.ensures)
+pub returns : goal.returns
+returns c =
+    subst (λ (w : World). IfOk c.recorded_response.result (λ (response : Response). response_due response ≡ summed_world c.args.orders w))
+    c.in_ok-parsed.ensures.world c.recorded_response.ensures

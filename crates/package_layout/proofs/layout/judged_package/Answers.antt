@@ -7,7 +7,7 @@ use Rattle.package_layout.proofs.layout.judged_package.Goals as goal
 
 pub returns-clause-made : goal.returns-clause-made
 returns-clause-made c =
-    subst (λ (o : Option (List Instr)). Makes (cut_of c.with_script.result) (package_if o c.args.package)) c.in_ok-found.ensures c.with_script.ensures.made
+    subst (λ (o : Option (List Instr)). Makes (cut_of c.with_script.result) (package_if o c.args.package)) c.in_ok-found.ensures.script c.with_script.ensures.made
 
 pub returns-clause-parsed : goal.returns-clause-parsed
-returns-clause-parsed c = with_start c.args.version c.args.package _ c.with_script.result c.in_ok-found.ensures c.with_script.ensures.parts
+returns-clause-parsed c = with_start c.args.version c.args.package _ c.with_script.result c.in_ok-found.ensures.script c.with_script.ensures.parts

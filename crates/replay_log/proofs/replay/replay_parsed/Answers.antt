@@ -5,7 +5,7 @@ use Rattle.run_model.specs.Package.{own_world}
 use Rattle.run_model.specs.Run.{run}
 use Rattle.run_model.proofs.StartScripts.{has_script}
 use Rattle.replay_log.proofs.Replaying.{has_ended_so, has_stopped_so}
-use Rattle.replay_log.proofs.replay.replay_owned.Goals as goal
+use Rattle.replay_log.proofs.replay.replay_parsed.Goals as goal
 
 pub returns-in-Ok-into_outcome : goal.returns-in-Ok-into_outcome
 returns-in-Ok-into_outcome c =
