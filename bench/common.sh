@@ -22,3 +22,7 @@ aim() {
 count_aims() {
     python3 "$here/aims.py" --count "$work/aims"
 }
+
+# What a fixed loop takes here, so that runs on a slower host don't count.
+PACE=$(cd "$here" && python3 -c 'import quiet; print(min(quiet.pace() for _ in range(20)))')
+export PACE

@@ -9,8 +9,9 @@ for it is the load. Beside it a child process loads the same rows into a databas
 the same statements and takes all their rows. Foreign keys are on in both. A case is refused where the two
 didn't find as many rows with the same sum, or didn't refuse as many statements.
 
-Seconds are the least and MiB the greatest of some runs. `load` is in `all` for both. The aim is of `asked`,
-as aims.py has it, and the last line says how many aims are missed.
+Seconds are the least of a processor and MiB the greatest of some runs; quiet.py says which runs count.
+`load` is in `all` for both. The aim is of `asked`, as aims.py has it, and the last line says how many aims
+are missed.
 """
 import argparse
 import json
@@ -21,6 +22,7 @@ import sys
 import time
 
 import aims
+import quiet
 
 SIZES = [1000, 10000, 100000, 1000000]
 RUNS = 3
@@ -202,17 +204,16 @@ def found_in(path):
 def run(words, source, target):
     """Status, seconds and MiB of a run."""
     with open(source, 'rb') as reader, open(target, 'wb') as writer:
-        before = time.monotonic()
         child = subprocess.Popen(words, stdin=reader, stdout=writer, stderr=subprocess.DEVNULL)
         _, status, usage = os.wait4(child.pid, 0)
-        seconds = time.monotonic() - before
+        seconds = usage.ru_utime + usage.ru_stime
         child.returncode = os.waitstatus_to_exitcode(status)
     return child.returncode, seconds, usage.ru_maxrss / 1024
 
 
 def best(words, source, target, runs):
     """Status, the least seconds and the greatest MiB of some runs."""
-    took = [run(words, source, target) for _ in range(runs)]
+    took = quiet.counted(lambda: run(words, source, target), runs)
     return took[0][0], min(one[1] for one in took), max(one[2] for one in took)
 
 
@@ -234,16 +235,18 @@ def measure_ldv(ldv, folder, case, size, runs):
 def measure_sqlite(folder, case, size, runs):
     """Seconds of all and of the load, MiB, and what was found."""
     told = os.path.join(folder, 'told')
-    parts = []
-    memory = 0.0
-    for _ in range(runs):
-        words = [sys.executable, os.path.abspath(__file__), '--beside', case, str(size)]
-        status, _, one = run(words, os.devnull, told)
+    words = [sys.executable, os.path.abspath(__file__), '--beside', case, str(size)]
+
+    def once_more():
+        status, _, memory = run(words, os.devnull, told)
         if status:
             sys.exit(f'engine: {case}: sqlite3 ended with {status}')
-        memory = max(memory, one)
         with open(told, encoding='utf-8') as text:
-            parts.append(json.load(text))
+            return memory, json.load(text)
+
+    took = quiet.counted(once_more, runs)
+    memory = max(one for one, _ in took)
+    parts = [part for _, part in took]
     load = min(part[0] for part in parts)
     total = min(part[0] + part[1] for part in parts)
     return total, load, memory, tuple(parts[0][2:])
@@ -295,11 +298,11 @@ def beside(case, size):
     # Each statement commits alone.
     database = sqlite3.connect(':memory:', isolation_level=None)
     database.execute('PRAGMA foreign_keys = ON')
-    start = time.monotonic()
+    start = time.process_time()
     load(database, tables, size)
-    loaded = time.monotonic()
+    loaded = time.process_time()
     answers = [ask(database, statement, size) for statement in statements]
-    asked = time.monotonic()
+    asked = time.process_time()
     count = sum(len(rows) + changed for rows, changed, _ in answers)
     total = sum(sum(value for value in row if value is not None) for rows, _, _ in answers for row in rows)
     refused = sum(each for _, _, each in answers)

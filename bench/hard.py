@@ -15,7 +15,6 @@ only ends. At most twice the usual time is aimed at; the last line says how many
 import argparse
 import json
 import os
-import subprocess
 import sys
 
 import aims
@@ -94,17 +93,10 @@ def insert_script(form, size):
 def seconds_of(given, world):
     """The least seconds of a processor, of some runs."""
     outcome = os.path.join(given.folder, 'outcome')
-    least = None
-    for _ in range(given.runs):
-        with open(world, 'rb') as reader, open(outcome, 'wb') as writer:
-            child = subprocess.Popen([given.ldv, 'run', '--steps', STEPS], stdin=reader, stdout=writer)
-            _, status, usage = os.wait4(child.pid, 0)
-            child.returncode = os.waitstatus_to_exitcode(status)
-        if child.returncode:
-            sys.exit(f'hard: {given.ldv} ended with {child.returncode}')
-        took = usage.ru_utime + usage.ru_stime
-        least = took if least is None else min(least, took)
-    return least
+    status, seconds, _ = engine.best([given.ldv, 'run', '--steps', STEPS], world, outcome, given.runs)
+    if status:
+        sys.exit(f'hard: {given.ldv} ended with {status}')
+    return seconds
 
 
 def taken(given, case, column, form):

@@ -5,14 +5,16 @@ usage: measure.py INPUT OUTPUT COMMAND..
 
 INPUT is what the command reads and OUTPUT what it writes. The least seconds and the greatest memory of
 three runs are printed, with a blank between; RUNS says another number of runs. Seconds are those that the
-command and the system for it used, so that what else the machine does counts little. A command that ends with
-another status than 0 is an error.
+command and the system for it used, so that what else the machine does counts little; quiet.py says which runs
+count. A command that ends with another status than 0 is an error.
 The system counts the memory of a child from before it becomes the command, so that less than what python
 itself has, about 14 MiB, shows as that.
 """
 import os
 import subprocess
 import sys
+
+import quiet
 
 RUNS = int(os.environ.get("RUNS", "3"))
 
@@ -30,7 +32,7 @@ def run_once(source, target, words):
 
 def main():
     source, target, *words = sys.argv[1:]
-    runs = [run_once(source, target, words) for _ in range(RUNS)]
+    runs = quiet.counted(lambda: run_once(source, target, words), RUNS)
     print(f"{min(run[0] for run in runs):.3f} {max(run[1] for run in runs):.1f}")
 
 

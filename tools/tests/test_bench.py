@@ -5,6 +5,7 @@ import random
 import shutil
 import subprocess
 import sys
+import tempfile
 import unittest
 from unittest import mock
 
@@ -26,6 +27,7 @@ import hostile                                                               # n
 import hostile_documents                                                     # noqa: E402
 import hostile_joins                                                         # noqa: E402
 import hostile_packages                                                      # noqa: E402
+import quiet                                                                 # noqa: E402
 import refused                                                               # noqa: E402
 
 # A process that read `main` and wrote `g`.
@@ -53,6 +55,43 @@ int main(void) {
     return 0;
 }
 """
+
+
+class QuietRuns(unittest.TestCase):
+    """bench/quiet.py, with what the host is said to withhold and what a loop takes."""
+
+    def counted(self, runs, told, looped):
+        """The numbers of the runs that count, and how many were made."""
+        made = []
+
+        def run():
+            made.append(len(made) + 1)
+            return made[-1]
+
+        told, looped = iter(told), iter(looped)
+        with mock.patch.object(sys, "stderr"), mock.patch.object(quiet, "least", [float("inf")]):
+            return quiet.counted(run, runs, lambda: next(told), lambda: next(looped)), len(made)
+
+    def test_counted(self):
+        """A run is made again where processors were withheld or the loop took longer than it can."""
+        self.assertEqual(self.counted(2, [5, 5, 5, 6, 6, 6], [8, 8, 8]), ([1, 3], 3))
+        self.assertEqual(self.counted(2, [0] * 6, [8, 11, 9]), ([1, 3], 3))
+        self.assertEqual(self.counted(2, range(44), [8] * 22), ([21, 22], 22))
+
+    def test_withheld(self):
+        """The eighth number of the first line, in ticks, or nothing."""
+        with tempfile.TemporaryDirectory() as folder:
+            path = os.path.join(folder, "stat")
+            with open(path, "w", encoding="ascii") as file:
+                file.write("cpu  1 2 3 4 5 6 7 250 9 10\ncpu0 1 2 3 4 5 6 7 8 9 10\n")
+            with mock.patch.object(os, "sysconf", return_value=100):
+                self.assertEqual(quiet.withheld(path), 2.5)
+            self.assertEqual(quiet.withheld(os.path.join(folder, "none")), 0.0)
+            self.assertEqual(quiet.withheld(os.devnull), 0.0)
+
+    def test_pace(self):
+        """The loop takes some time of a processor."""
+        self.assertGreater(quiet.pace(), 0.0)
 
 
 class RefusedMemory(InFolder):

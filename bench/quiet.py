@@ -1,0 +1,64 @@
+"""Runs that count: those during which the host of a virtual machine gave it whole processors.
+
+Linux tells how long a processor had work while the host ran something else, the eighth number of the first
+line of /proc/stat (proc(5), `steal`). A host can also run slower without telling, so that a fixed loop is
+timed after each run. A run is made again where more than 2 % of a processor was withheld, or where the loop
+took more than 1.25 times the least that it ever took here, at most ten times as often as runs are wanted; the
+rest is taken as it comes, and a line on standard error says so. PACE gives the least seconds of the loop so
+far to a process that is started for a single measure.
+"""
+import os
+import sys
+import time
+
+SHARE = 0.02
+PACE = 1.25
+TRIES = 10
+TURNS = 200_000
+
+# The least seconds of the loop, of all calls.
+least = [float(os.environ.get('PACE', 'inf'))]
+
+
+def withheld(path='/proc/stat'):
+    """Seconds of a processor that the host withheld since the machine began, or 0 where it isn't told."""
+    try:
+        with open(path, encoding='ascii') as file:
+            return int(file.readline().split()[8]) / os.sysconf('SC_CLK_TCK')
+    except (OSError, IndexError, ValueError):
+        return 0.0
+
+
+def pace():
+    """Seconds of a processor for a loop that is always the same; the lesser of two tries."""
+    took = []
+    for _ in range(2):
+        start = time.process_time()
+        number = 0
+        while number < TURNS:
+            number += 1
+        took.append(time.process_time() - start)
+    return min(took)
+
+
+def is_quiet(share, loop):
+    """Whether a run counts, by the share that was withheld and the seconds of the loop after it."""
+    least[0] = min(least[0], loop)
+    return share <= SHARE and loop <= PACE * least[0]
+
+
+def counted(run, runs, told=withheld, looped=pace):
+    """What so many runs gave that count; `run` makes one of them."""
+    took = []
+    left = TRIES * runs
+    while len(took) < runs:
+        before, start = told(), time.monotonic()
+        one = run()
+        seconds = max(time.monotonic() - start, 0.001)
+        if is_quiet((told() - before) / seconds, looped()) or left == 0:
+            took.append(one)
+        else:
+            left -= 1
+    if left == 0:
+        print('the host withheld processors: not each run is quiet', file=sys.stderr)
+    return took
