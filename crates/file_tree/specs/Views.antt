@@ -7,8 +7,8 @@ use Rattle.std.specs.FinMap.{FinMap, from_entries, entries, keys}
 use Rattle.ldv_value.specs.declared.file.File.{File}
 use Rattle.ldv_value.specs.FileState.{path_cmp, file_of, put_file, FileState}
 use Rattle.ldv_value.specs.FileState.{FileRefusal, NotFound, AlreadyExists}
-use Rattle.file_tree.specs.declared.error.OpenStop.{OpenStop}
-use Rattle.file_tree.specs.declared.error.OpenStop.TheVariants.{Absent, Taken}
+use Rattle.file_tree.specs.declared.error.TreeStop.{TreeStop}
+use Rattle.file_tree.specs.declared.error.TreeStop.TheVariants.{Absent, Taken}
 
 -- ---- as finite maps by the bytes of the texts
 
@@ -49,8 +49,8 @@ abbrev pub files_from : List File → List File
 files_from [] = []
 files_from (f ∷ fs) = put_file f.path f.content (files_from fs)
 
--- a refusal as an error of an open
-abbrev pub stop_of : FileRefusal → OpenStop
+-- a refusal as an error of a tree
+abbrev pub stop_of : FileRefusal → TreeStop
 stop_of NotFound = Absent
 stop_of AlreadyExists = Taken
 

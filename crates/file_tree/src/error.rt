@@ -1,28 +1,18 @@
 //! Why a call of a tree is refused.
 
 ghost use Rattle.std.specs.Prelude.{◌≡◌};
+ghost use Rattle.file_tree.specs.declared.error.TreeStop.TheVariants as tree_stop;
 ghost use Rattle.file_tree.specs.declared.error.AppendStop.TheVariants as append_stop;
-ghost use Rattle.file_tree.specs.declared.error.OpenStop.TheVariants as open_stop;
-ghost use Rattle.file_tree.specs.declared.error.RemoveStop.TheVariants as remove_stop;
 
 use std::alloc::AllocError;
 
-/// Why a file isn't opened.
+/// Why a file isn't opened or removed.
 #[derive(Clone, Copy, Debug, PartialEq, Eq)]
-pub enum OpenStop {
+pub enum TreeStop {
     /// No file exists at the path.
     Absent,
     /// A file exists at the path.
     Taken,
-    /// Out of memory.
-    NoMemory,
-}
-
-/// Why a file isn't removed.
-#[derive(Clone, Copy, Debug, PartialEq, Eq)]
-pub enum RemoveStop {
-    /// No file exists at the path.
-    Absent,
     /// Out of memory.
     NoMemory,
 }
@@ -36,19 +26,11 @@ pub enum AppendStop {
     NoMemory,
 }
 
-impl From<AllocError> for OpenStop {
-    ghost from_gives = { λ _ stop. stop ≡ open_stop.NoMemory };
+impl From<AllocError> for TreeStop {
+    ghost from_gives = { λ _ stop. stop ≡ tree_stop.NoMemory };
 
     fn from(_error: AllocError) -> Self {
-        OpenStop::NoMemory
-    }
-}
-
-impl From<AllocError> for RemoveStop {
-    ghost from_gives = { λ _ stop. stop ≡ remove_stop.NoMemory };
-
-    fn from(_error: AllocError) -> Self {
-        RemoveStop::NoMemory
+        TreeStop::NoMemory
     }
 }
 

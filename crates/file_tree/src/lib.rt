@@ -10,6 +10,6 @@ mod line;
 mod marks;
 mod tree;
 
-pub use error::{AppendStop, OpenStop, RemoveStop};
+pub use error::{AppendStop, TreeStop};
 pub use ldv_value::LineRead;
 pub use tree::Tree;

@@ -1,6 +1,6 @@
 //! The tree: files by path, and the touched paths.
 
-ghost use Rattle.std.specs.Prelude.{◌≡◌, ◌+◌, ◌<◌, ◌≤◌, ◌↔◌, ◌^◌, true, false, [], drop, length};
+ghost use Rattle.std.specs.Prelude.{◌≡◌, ◌≢◌, ◌+◌, ◌<◌, ◌≤◌, ◌↔◌, ◌^◌, true, false, [], drop, length};
 ghost use Rattle.std.specs.Prelude.{IfOk, IfSome, OnOk, OnErr, IsTrue};
 ghost use Rattle.std.specs.List.{All, list_all};
 ghost use Rattle.std.specs.Option.{option_map};
@@ -15,7 +15,7 @@ ghost use Rattle.ldv_value.specs.FileState.{after_append, after_copy, copy_end, 
 ghost use Rattle.file_tree.specs.Views.{files_from, stop_of};
 
 use crate::contents::Contents;
-use crate::error::{AppendStop, OpenStop, RemoveStop};
+use crate::error::{AppendStop, TreeStop};
 use crate::line::read_at;
 use crate::marks::Marks;
 use ldv_value::{Bytes, FILE_LIMIT, File, Files, LineRead, OpenMode, Paths};
@@ -63,13 +63,13 @@ impl Tree {
     /// Opens a path: `Read` needs the file, `New` needs it absent, `Write` empties or makes it, `Append`
     /// keeps or makes it. Each but `Read` touches the path. `Absent` comes exactly where `Read` finds no
     /// file, `Taken` exactly where `New` finds one. After an `Err` the tree is as it was.
-    pub fn open_path(&mut self, mode: OpenMode, path: &str) -> Result<(), OpenStop>
+    pub fn open_path(&mut self, mode: OpenMode, path: &str) -> Result<(), TreeStop>
         requires { IsTrue (path_test path.now) }
         ensures ok { OnOk result (self.new ≡ after_open mode self.old path.now) }
         ensures allowed { OnOk result (open_refusal mode (is_there self.old path.now) ≡ None) }
-        ensures absent { (result ≡ Err OpenStop.Absent)
+        ensures absent { (result ≡ Err TreeStop.Absent)
             ↔ (open_refusal mode (is_there self.old path.now) ≡ Some NotFound) }
-        ensures taken { (result ≡ Err OpenStop.Taken)
+        ensures taken { (result ≡ Err TreeStop.Taken)
             ↔ (open_refusal mode (is_there self.old path.now) ≡ Some AlreadyExists) }
         ensures err { OnErr result (self.new ≡ self.old) }
     {
@@ -134,11 +134,12 @@ impl Tree {
     }
 
     /// Removes a file and touches its path. `Absent` comes exactly where there is no file; `NoMemory` may
-    /// come, since the touched path is kept. After an `Err` the tree is as it was.
-    pub fn remove(&mut self, path: &str) -> Result<(), RemoveStop>
+    /// come, since the touched path is kept. After an `Err` the tree is as it was. It never returns `Taken`.
+    pub fn remove(&mut self, path: &str) -> Result<(), TreeStop>
         ensures ok { OnOk result (self.new ≡ after_remove self.old path.now) }
         ensures there { OnOk result (IsTrue (is_there self.old path.now)) }
-        ensures absent { (result ≡ Err RemoveStop.Absent) ↔ (is_there self.old path.now ≡ false) }
+        ensures absent { (result ≡ Err TreeStop.Absent) ↔ (is_there self.old path.now ≡ false) }
+        ensures not_taken { result ≢ Err TreeStop.Taken }
         ensures err { OnErr result (self.new ≡ self.old) }
     {
         if self.exists(path) {
@@ -146,7 +147,7 @@ impl Tree {
             self.files.remove(path);
             Ok(())
         } else {
-            Err(RemoveStop::Absent)
+            Err(TreeStop::Absent)
         }
     }
 
@@ -280,12 +281,12 @@ fn put_touched(
 }
 
 // Why an open is refused.
-fn refusal(mode: OpenMode, found: bool) -> Option<OpenStop>
+fn refusal(mode: OpenMode, found: bool) -> Option<TreeStop>
     ensures { result ≡ option_map stop_of (open_refusal mode found) }
 {
     match (mode, found) {
-        (OpenMode::Read, false) => Some(OpenStop::Absent),
-        (OpenMode::New, true) => Some(OpenStop::Taken),
+        (OpenMode::Read, false) => Some(TreeStop::Absent),
+        (OpenMode::New, true) => Some(TreeStop::Taken),
         (_, _) => None,
     }
 }

@@ -5,7 +5,7 @@ ghost use Rattle.std.specs.List.{All};
 ghost use Rattle.ldv_value.specs.Names.{path_test};
 ghost use Rattle.ldv_value.specs.FileState.{IsFile};
 
-use file_tree::{AppendStop, LineRead, OpenStop, RemoveStop, Tree};
+use file_tree::{AppendStop, LineRead, Tree, TreeStop};
 use ldv_value::{Bytes, File, Files, OpenMode, Utf8, is_path};
 use std::alloc::{AllocError, Global};
 use std::process::Abort;
@@ -40,7 +40,7 @@ fn expect_open(
     tree: &mut Tree,
     mode: OpenMode,
     path: &str,
-    want: Result<(), OpenStop>,
+    want: Result<(), TreeStop>,
 ) {
     assert!(rt; is_path(path));
     assert_eq!(rt; tree.open_path(mode, path), want, "open at {path}");
@@ -69,7 +69,7 @@ fn expect_copy(
     assert_eq!(rt; tree.copy_rest(from, at, to), want, "copy to {to}");
 }
 
-fn expect_remove(rt: &impl Abort, tree: &mut Tree, path: &str, want: Result<(), RemoveStop>) {
+fn expect_remove(rt: &impl Abort, tree: &mut Tree, path: &str, want: Result<(), TreeStop>) {
     assert_eq!(rt; tree.remove(path), want, "remove at {path}");
 }
 
@@ -187,8 +187,8 @@ fn three_files(rt: &impl Abort, alloc: Global) -> Result<Tree, AllocError> {
 
 fn open_all(rt: &impl Abort, tree: &mut Tree) {
     for (mode, path, want) in [
-        (OpenMode::Read, "g", Err(OpenStop::Absent)),
-        (OpenMode::New, "c.txt", Err(OpenStop::Taken)),
+        (OpenMode::Read, "g", Err(TreeStop::Absent)),
+        (OpenMode::New, "c.txt", Err(TreeStop::Taken)),
         (OpenMode::Read, "c.txt", Ok(())),
         (OpenMode::New, "z", Ok(())),
         (OpenMode::Append, "b.txt", Ok(())),
@@ -218,7 +218,7 @@ fn copy_all(rt: &impl Abort, tree: &mut Tree) {
 }
 
 fn remove_all(rt: &impl Abort, tree: &mut Tree) {
-    expect_remove(rt, tree, "none", Err(RemoveStop::Absent));
+    expect_remove(rt, tree, "none", Err(TreeStop::Absent));
     expect_remove(rt, tree, "m", Ok(()));
     expect_remove(rt, tree, "c.txt", Ok(()));
 }

@@ -29,7 +29,7 @@ use crate::file_slots::SlotFile;
 use crate::process::SlotProcess;
 use crate::tell::{PathAct, Who, tell_path};
 use crate::variables::{line_of, value_of};
-use file_tree::{AppendStop, OpenStop, RemoveStop, Tree};
+use file_tree::{AppendStop, Tree, TreeStop};
 use ldv_value::{Bytes, LineRead, OpenMode, Utf8, Value, is_path};
 use run_model::Tracer;
 use script_code::{FileInstr, SlotOperand, SlotOperands};
@@ -145,15 +145,15 @@ fn open_there<T: Tracer>(
             finish_open(found, slot, mode, path, process, who, tracer)?;
             Ok(())
         }
-        Err(OpenStop::Absent) => {
+        Err(TreeStop::Absent) => {
             refuse_open(found, &path, place, process, who, tracer)?;
             Ok(())
         }
-        Err(OpenStop::Taken) => {
+        Err(TreeStop::Taken) => {
             refuse_open(found, &path, place, process, who, tracer)?;
             Ok(())
         }
-        Err(OpenStop::NoMemory) => Err(AllocError),
+        Err(TreeStop::NoMemory) => Err(AllocError),
     }
 }
 
@@ -396,12 +396,13 @@ fn remove_path<T: Tracer>(
             process.go_on();
             Ok(())
         }
-        Err(RemoveStop::Absent) => {
+        Err(TreeStop::Absent) => {
             tell_path(who, PathAct::Tested(false), path, tracer)?;
             process.go_to(place);
             Ok(())
         }
-        Err(RemoveStop::NoMemory) => Err(AllocError),
+        Err(TreeStop::Taken) => unreachable!(),
+        Err(TreeStop::NoMemory) => Err(AllocError),
     }
 }
 
