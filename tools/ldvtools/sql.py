@@ -61,13 +61,13 @@ class Item:
 
 @dataclass
 class Core:
-    """A SELECT without its ORDER BY and LIMIT. `items` is None for `*`; `conditions` are ON and WHERE."""
+    """A SELECT without its ORDER BY and LIMIT. `items` is None for `*`; `picks` are ON and WHERE."""
 
     at: int
     is_distinct: bool
     items: Optional[List[Item]]
     sources: List[Source] = field(default_factory=list)
-    conditions: List[Expr] = field(default_factory=list)
+    picks: List[Expr] = field(default_factory=list)
     group: List[Expr] = field(default_factory=list)
     having: Optional[Expr] = None
 
@@ -91,13 +91,13 @@ class Insert:
 class Update:
     table: Source
     sets: List[Tuple[str, int, Expr]]
-    condition: Optional[Expr]
+    pick: Optional[Expr]
 
 
 @dataclass
 class Delete:
     table: Source
-    condition: Optional[Expr]
+    pick: Optional[Expr]
 
 
 Statement = Union[Query, Insert, Update, Delete]
@@ -408,7 +408,7 @@ class Parser:
         self.word("from")
         self.sources(core)
         if self.skip_word("where"):
-            core.conditions.append(self.expr())
+            core.picks.append(self.expr())
         if self.skip_word("group"):
             self.word("by")
             core.group.append(self.column())
@@ -429,7 +429,7 @@ class Parser:
                 self.take()
                 self.source(core)
                 self.word("on")
-                core.conditions.append(self.expr())
+                core.picks.append(self.expr())
             else:
                 return
 

@@ -140,7 +140,7 @@ def is_grouping(core: Core) -> bool:
 
 def check_core_names(core: Core, scope: Scope) -> None:
     items = [item.expr for item in core.items or []]
-    check_names([*items, *core.conditions, *core.group, *([core.having] if core.having else [])], scope)
+    check_names([*items, *core.picks, *core.group, *([core.having] if core.having else [])], scope)
     if not is_grouping(core):
         return
     grouped = {place_of(column, scope) for column in core.group}
@@ -187,7 +187,7 @@ def check_columns(statement: Statement, schemas: Schemas) -> None:
         check_names([expr for row in statement.rows for expr in row], [])
     else:
         sets = [expr for _, _, expr in statement.sets] if isinstance(statement, Update) else []
-        check_names([*sets, *([statement.condition] if statement.condition else [])], scope)
+        check_names([*sets, *([statement.pick] if statement.pick else [])], scope)
 
 
 def targets_of(statement: Statement) -> List[Tuple[str, int]]:
@@ -304,8 +304,8 @@ def check_counts(core: Core) -> None:
 def core_kinds(core: Core, schemas: Schemas, parameters: Sequence[Parameter]) -> List[str]:
     scope = scope_of(core.sources, schemas)
     kinds = Kinds(scope, parameters)
-    for condition in core.conditions:
-        kinds.condition(condition, "ON or WHERE")
+    for pick in core.picks:
+        kinds.condition(pick, "ON or WHERE")
     if core.having is not None:
         kinds.condition(core.having, "HAVING", True)
     check_counts(core)
@@ -359,8 +359,8 @@ def check_kinds(statement: Statement, schemas: Schemas, parameters: Sequence[Par
     kinds = Kinds(scope_of([statement.table], schemas), parameters)
     for name, _, expr in statement.sets if isinstance(statement, Update) else []:
         check_taken(columns, name, expr, kinds.kind(expr, False))
-    if statement.condition is not None:
-        kinds.condition(statement.condition, "WHERE")
+    if statement.pick is not None:
+        kinds.condition(statement.pick, "WHERE")
 
 
 # ---- the whole

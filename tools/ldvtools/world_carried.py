@@ -253,7 +253,7 @@ def scopes_of(statement: Statement, columns: Columns, parameters: Sequence[Writt
         for core in statement.cores:
             scope = Scope(core.sources, columns, parameters)
             found = answer_columns(core, scope)
-            for expr in [*core.conditions, *([core.having] if core.having else [])]:
+            for expr in [*core.picks, *([core.having] if core.having else [])]:
                 scope.look(expr)
             for one, other in zip(first, found):
                 scope.join(core.at, one, other)
@@ -266,8 +266,8 @@ def scopes_of(statement: Statement, columns: Columns, parameters: Sequence[Writt
         scope.look(expr)
         if column is not None:
             scope.meet(Carrier(name, column, column.scale or 0), expr, "")
-    if not isinstance(statement, Insert) and statement.condition is not None:
-        scope.look(statement.condition)
+    if not isinstance(statement, Insert) and statement.pick is not None:
+        scope.look(statement.pick)
     yield scope
 
 

@@ -64,24 +64,24 @@ added-both old mid new op a b expr places after left is conj first second scope 
     )
 
 -- one condition more of those that are left
-pub more-conditions : (scope : List InScope) (conds new : List BoundExpr) (condition : Expr) (rest : List Expr) (places left more : List ℕ)
-    → Adds conds condition places new left → places ≡ places_in scope (flat_map names_in (condition ∷ rest)) ++ more → AreAllPlaced scope conds
+pub more-conditions : (scope : List InScope) (conds new : List BoundExpr) (pick : Expr) (rest : List Expr) (places left more : List ℕ)
+    → Adds conds pick places new left → places ≡ places_in scope (flat_map names_in (pick ∷ rest)) ++ more → AreAllPlaced scope conds
     → (left ≡ places_in scope (flat_map names_in rest) ++ more)
     × AreAllPlaced scope new
-    × ((values : List Value) → (meets scope new values && meets_all rest (environment scope values)) ≡ (meets scope conds values && meets_all (condition ∷ rest) (environment scope values)))
-more-conditions scope conds new condition rest places left more adds is all =
-    let one = adds scope (places_in scope (flat_map names_in rest) ++ more) (is ∙ places-append scope (names_in condition) (flat_map names_in rest) more) in (
+    × ((values : List Value) → (meets scope new values && meets_all rest (environment scope values)) ≡ (meets scope conds values && meets_all (pick ∷ rest) (environment scope values)))
+more-conditions scope conds new pick rest places left more adds is all =
+    let one = adds scope (places_in scope (flat_map names_in rest) ++ more) (is ∙ places-append scope (names_in pick) (flat_map names_in rest) more) in (
       one.0,
       one.1 all,
       (λ values. ap (λ b. b && meets_all rest (environment scope values)) (one.2 values)
-          ∙ and-assoc (meets scope conds values) (is_true (truth condition (environment scope values))) (meets_all rest (environment scope values))),
+          ∙ and-assoc (meets scope conds values) (is_true (truth pick (environment scope values))) (meets_all rest (environment scope values))),
     )
 
 -- one condition, of which the places are given
-pub one-condition : (conds : List BoundExpr) (condition : Expr) (places left : List ℕ) → Adds [] condition places conds left → (scope : List InScope) → places ≡ places_in scope (names_in condition)
-    → AreConditions scope (condition ∷ []) conds
-one-condition conds condition places left adds scope is =
-    let one = adds scope [] (is ∙ sym (append-nil (places_in scope (names_in condition)))) in record {
+pub one-condition : (conds : List BoundExpr) (pick : Expr) (places left : List ℕ) → Adds [] pick places conds left → (scope : List InScope) → places ≡ places_in scope (names_in pick)
+    → AreConditions scope (pick ∷ []) conds
+one-condition conds pick places left adds scope is =
+    let one = adds scope [] (is ∙ sym (append-nil (places_in scope (names_in pick)))) in record {
       placed = one.1 tt;
-      same = λ values. one.2 values ∙ sym (and-true (is_true (truth condition (environment scope values))));
+      same = λ values. one.2 values ∙ sym (and-true (is_true (truth pick (environment scope values))));
     }

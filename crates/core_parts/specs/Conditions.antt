@@ -23,8 +23,6 @@ Adds old expr places new left = (scope : List InScope) (more : List ℕ)
     ≡ (meets scope old values && is_true (truth expr (environment scope values))))
 
 -- the conditions together mean what others do
-pub record AreConditions (scope : List InScope) (conditions : List Expr) (conds : List BoundExpr)
-    : Type 0 where
+pub record AreConditions (scope : List InScope) (picks : List Expr) (conds : List BoundExpr) : Type 0 where
   pub placed : AreAllPlaced scope conds
-  pub same : (values : List Value)
-      → meets scope conds values ≡ meets_all conditions (environment scope values)
+  pub same : (values : List Value) → meets scope conds values ≡ meets_all picks (environment scope values)

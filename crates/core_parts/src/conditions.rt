@@ -14,35 +14,31 @@ use std::alloc::{AllocError, Global};
 /// The conjuncts of conditions, whose places are those from `from` on.
 pub fn conjuncts(
     alloc: Global,
-    conditions: &[Expr],
+    picks: &[Expr],
     places: &Places,
     from: usize,
 ) -> Result<List<BoundExpr>, AllocError>
     ensures { IfOk result (λ conds. (scope : Items InScope) (more : Items ℕ)
-        → drop from places.now ≡ places_in scope (flat_map names_in conditions.now) ++ more
-        → AreConditions scope conditions.now conds) }
+        → drop from places.now ≡ places_in scope (flat_map names_in picks.now) ++ more
+        → AreConditions scope picks.now conds) }
 {
     let mut at = from;
     let mut conds = List::new(alloc);
-    for condition in conditions {
-        add_conjuncts(alloc, &mut conds, condition, places, &mut at)?;
+    for pick in picks {
+        add_conjuncts(alloc, &mut conds, pick, places, &mut at)?;
     }
     Ok(conds)
 }
 
 /// The conjuncts of one condition, of which the places are given.
-pub fn conjuncts_of(
-    alloc: Global,
-    condition: &Expr,
-    places: &Places,
-) -> Result<List<BoundExpr>, AllocError>
+pub fn conjuncts_of(alloc: Global, pick: &Expr, places: &Places) -> Result<List<BoundExpr>, AllocError>
     ensures { IfOk result (λ conds. (scope : Items InScope)
-        → places.now ≡ places_in scope (names_in condition.now)
-        → AreConditions scope (condition.now ∷ []) conds) }
+        → places.now ≡ places_in scope (names_in pick.now)
+        → AreConditions scope (pick.now ∷ []) conds) }
 {
     let mut at = 0;
     let mut conds = List::new(alloc);
-    add_conjuncts(alloc, &mut conds, condition, places, &mut at)?;
+    add_conjuncts(alloc, &mut conds, pick, places, &mut at)?;
     Ok(conds)
 }
 

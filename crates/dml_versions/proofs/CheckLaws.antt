@@ -10,7 +10,7 @@ use Rattle.sql_model.proofs.Databases.{valid_of_database}
 use Rattle.sql_model.proofs.Equations.{table_schema, schema_found}
 use Rattle.sql_model.specs.Kinds.{names_in}
 use Rattle.sql_model.specs.Places.{places_of, checked_statement, checked_unless}
-use Rattle.sql_model.specs.Refusals.{is_missing, insert_names, insert_lacks_column, insert_clashes, update_clashes, row_fits, target_columns, set_fits, condition_fits, check_refusal, has_unresolved_name}
+use Rattle.sql_model.specs.Refusals.{is_missing, insert_names, insert_lacks_column, insert_clashes, update_clashes, row_fits, target_columns, set_fits, pick_fits, check_refusal, has_unresolved_name}
 use Rattle.sql_model.specs.Scope.{InScope, is_table, table_at, catalog_of, schema_at, columns_of, has_column, own_scope, resolves}
 use Rattle.sql_model.specs.Tables.{is_valid_table, are_distinct}
 use Rattle.dml_versions.specs.Changing.{IsCheckedOver}
@@ -130,5 +130,5 @@ module _ (update : Update) (catalog : Catalog) (check : check_refusal (TheUpdate
   sets-fit =
       let own : List InScope = own_scope update.table catalog in
       let clash : update_clashes update schema.columns own ≡ false = sym (ap (λ (s : Option Schema). update_clashes update (columns_of s) own) found) ∙ (check-parts (TheUpdate update) catalog check).2 in
-      (and-parts (list_all (set_fits schema.columns own) update.sets) (condition_fits own update.condition)
-      (second_of _ (list_all (set_fits schema.columns own) update.sets && condition_fits own update.condition) clash)).0
+      (and-parts (list_all (set_fits schema.columns own) update.sets) (pick_fits own update.pick)
+      (second_of _ (list_all (set_fits schema.columns own) update.sets && pick_fits own update.pick) clash)).0

@@ -51,7 +51,7 @@ module _ (store : StoreHistory) (delete : Delete) (table : TableHistory) (there 
   t = table_now table
 
   abbrev test : TableRow → Bool
-  test = test_in table delete.condition
+  test = test_in table delete.pick
 
   -- the rows that it drops
   abbrev gone : List TableRow
@@ -70,7 +70,7 @@ module _ (store : StoreHistory) (delete : Delete) (table : TableHistory) (there 
   own_is = scope-is delete.table store table there
 
   gone_is : matched s (catalog_of db) t ≡ gone
-  gone_is = ap (λ (l : List InScope). matched_in l delete.condition t.rows) own_is
+  gone_is = ap (λ (l : List InScope). matched_in l delete.pick t.rows) own_is
 
   gone_sorted : AreSorted gone
   gone_sorted = some-sorted test t.rows (rows-sorted t valid)
@@ -102,7 +102,7 @@ module _ (store : StoreHistory) (delete : Delete) (table : TableHistory) (there 
     clash = key_clash (after_delete scope delete t)
 
     no_key : clash ≡ None
-    no_key = no_clash_fewer t.schema.key (λ row. not (is_matched scope delete.condition row)) t.rows (table-parts t valid).keys
+    no_key = no_clash_fewer t.schema.key (λ row. not (is_matched scope delete.pick row)) t.rows (table-parts t valid).keys
 
     abbrev own : Option StoreStop
     own = stop_by t false clash false
@@ -116,7 +116,7 @@ module _ (store : StoreHistory) (delete : Delete) (table : TableHistory) (there 
     among_changed : AllByRecursion (λ row. is_among numbers row ≡ is_changed s (catalog_of db) row) t.rows
     among_changed =
         all-weaker (λ (row : TableRow). is_among numbers row ≡ test row) (λ row. is_among numbers row ≡ is_changed s (catalog_of db) row)
-        (λ row is. is ∙ ap (λ (l : List InScope). is_matched l delete.condition row) (sym own_is))
+        (λ row is. is ∙ ap (λ (l : List InScope). is_matched l delete.pick row) (sym own_is))
         t.rows (among-some test t.rows (rows-sorted t valid))
 
     named : t.name ≡ delete.table

@@ -12,7 +12,7 @@ use Rattle.table_store.proofs.ChangeLaws.{version_by as changes_by}
 use Rattle.dml_versions.proofs.CheckLaws.{accepted, checked-places, target-there, target_name, Changes}
 use Rattle.dml_versions.proofs.TableLaws.{scope-is}
 use Rattle.dml_versions.specs.Changing.{IsCheckedOver}
-use Rattle.dml_versions.specs.Finding.{condition_names, scope_in, found_row}
+use Rattle.dml_versions.specs.Finding.{pick_names, scope_in, found_row}
 use Rattle.dml_versions.specs.Types.{Checked, Delete, Update, Statement, TheDelete, TheUpdate, Table, TableRow, StoreHistory, TableHistory}
 
 module _ (db : List Table) (checked : Checked) (is : IsCheckedOver db checked) (s : Statement) (same : checked.statement ≡ s) where
@@ -32,10 +32,10 @@ module _ (db : List Table) (checked : Checked) (is : IsCheckedOver db checked) (
 
 pub delete-placed : (store : StoreHistory) (checked : Checked) → IsCheckedOver (tables_now store) checked → (delete : Delete) → checked.statement ≡ TheDelete delete
     → (table : TableHistory) → history_at delete.table store ≡ Some table
-    → unwrap_or (slice_get checked.places 0) [] ≡ places_in (scope_in table) (condition_names delete.condition)
+    → unwrap_or (slice_get checked.places 0) [] ≡ places_in (scope_in table) (pick_names delete.pick)
 delete-placed store checked is delete same table there =
     first-places (tables_now store) checked is (TheDelete delete) same
-    ∙ ap (λ (scope : List InScope). places_in scope (condition_names delete.condition)) (scope-is delete.table store table there)
+    ∙ ap (λ (scope : List InScope). places_in scope (pick_names delete.pick)) (scope-is delete.table store table there)
 
 pub update-placed : (store : StoreHistory) (checked : Checked) → IsCheckedOver (tables_now store) checked → (update : Update) → checked.statement ≡ TheUpdate update
     → (table : TableHistory) → history_at update.table store ≡ Some table

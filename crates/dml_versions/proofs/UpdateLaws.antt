@@ -66,7 +66,7 @@ module _ (store : StoreHistory) (update : Update) (table : TableHistory) (there 
   columns = table.schema.columns
 
   abbrev test : TableRow → Bool
-  test = test_in table update.condition
+  test = test_in table update.pick
 
   -- the rows that it changes, and what it makes of them
   abbrev old : List TableRow
@@ -91,7 +91,7 @@ module _ (store : StoreHistory) (update : Update) (table : TableHistory) (there 
   own_is = scope-is update.table store table there
 
   old_is : matched s (catalog_of db) t ≡ old
-  old_is = ap (λ (l : List InScope). matched_in l update.condition t.rows) own_is
+  old_is = ap (λ (l : List InScope). matched_in l update.pick t.rows) own_is
 
   new_is : new_rows s (catalog_of db) t ≡ new
   new_is = (λ j. map (updated_row (own_is j) update columns) (old_is j))
@@ -169,7 +169,7 @@ module _ (store : StoreHistory) (update : Update) (table : TableHistory) (there 
   of_changed : AllByRecursion (λ row. is_of new row ≡ is_changed s (catalog_of db) row) t.rows
   of_changed =
       all-weaker (λ (row : TableRow). is_among (map (λ (one : TableRow). one.number) old) row ≡ test row) (λ row. is_of new row ≡ is_changed s (catalog_of db) row)
-      (λ row is. of_test row ∙ is ∙ ap (λ (l : List InScope). is_matched l update.condition row) (sym own_is))
+      (λ row is. of_test row ∙ is ∙ ap (λ (l : List InScope). is_matched l update.pick row) (sym own_is))
       t.rows (among-some test t.rows sorted_all)
 
   others_are : children (is_of new) t.name db ≡ children (is_changed s (catalog_of db)) t.name db

@@ -78,12 +78,12 @@ change_with_lists true change = change
 change_with_lists false change = reply_alone change.reply
 
 -- the rows that WHERE matches in the table of a name
-pub record AreFound (name : List ℕ) (condition : Option Expr) (store : StoreHistory) (found : List Found)
+pub record AreFound (name : List ℕ) (pick : Option Expr) (store : StoreHistory) (found : List Found)
     : Type 0 where
   pub table : TableHistory
   pub there : history_at name store ≡ Some table
   pub held : IsHeld store.time table
-  pub found_is : found ≡ found_from (test_in table condition) table.slots 0
+  pub found_is : found ≡ found_from (test_in table pick) table.slots 0
 
 -- where nothing refuses a change of matched rows that needs some rows
 abbrev pub matched_change : List ℕ → List Found → List Need → Change
@@ -133,7 +133,7 @@ pub record ArePrepared (update : Update) (store : StoreHistory) (found : List Fo
   pub table : TableHistory
   pub there : history_at update.table store ≡ Some table
   pub held : IsHeld store.time table
-  pub found_is : found ≡ found_from (test_in table update.condition) table.slots 0
+  pub found_is : found ≡ found_from (test_in table update.pick) table.slots 0
   pub rows_are : rows ≡ map (updated_row (scope_in table) update table.schema.columns) (map row_of found)
 
 -- the values of the new rows of an INSERT

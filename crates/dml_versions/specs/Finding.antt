@@ -18,17 +18,17 @@ abbrev pub scope_in : TableHistory → List InScope
 scope_in table = map (λ column. record { source = table.name; column = column }) table.schema.columns
 
 -- the columns that WHERE names
-abbrev pub condition_names : Option Expr → List ColumnName
-condition_names condition = flat_map names_in (option_to_list condition)
+abbrev pub pick_names : Option Expr → List ColumnName
+pick_names pick = flat_map names_in (option_to_list pick)
 
 -- the places are those of the columns of WHERE
-abbrev pub IsConditionPlaced : List InScope → Option Expr → List ℕ → Type 0
-IsConditionPlaced scope None places = Unit {0}
-IsConditionPlaced scope (Some expr) places = places_in scope (names_in expr) ≡ places
+abbrev pub IsPickPlaced : List InScope → Option Expr → List ℕ → Type 0
+IsPickPlaced scope None places = Unit {0}
+IsPickPlaced scope (Some expr) places = places_in scope (names_in expr) ≡ places
 
 -- a row of a table matches
 abbrev pub test_in : TableHistory → Option Expr → TableRow → Bool
-test_in table condition = is_matched (scope_in table) condition
+test_in table pick = is_matched (scope_in table) pick
 
 -- ---- rows
 

@@ -10,7 +10,7 @@ use crate::change::{Change, matched_change, refused_by_store};
 use crate::finding::found_rows;
 use crate::found::FoundRows;
 use crate::needs::{needs_of, numbers_of};
-use crate::places::condition_places;
+use crate::places::pick_places;
 use crate::statements::delete_of;
 use crate::tables::table_of;
 use core_parts::column_indexes;
@@ -58,18 +58,13 @@ pub fn delete(
 fn deleted_rows(checked: &Checked, delete: &Delete, store: &Store) -> Result<FoundRows, AllocError>
     requires statement { checked.now.statement ≡ TheDelete delete.now }
     requires checked { IsCheckedOver (tables_now store.now) checked.now }
-    ensures { IfOk result (AreFound delete.now.table delete.now.condition store.now) }
+    ensures { IfOk result (AreFound delete.now.table delete.now.pick store.now) }
 {
     let alloc = checked.places.allocator();
     let none = List::new(alloc);
-    let places = condition_places(
-        alloc,
-        &delete.condition,
-        column_indexes(checked, 0, &none),
-        0,
-    )?;
+    let places = pick_places(alloc, &delete.pick, column_indexes(checked, 0, &none), 0)?;
     store.tell_formed();
     let table = table_of(store, &delete.table);
-    let found = found_rows(alloc, table, &delete.condition, &places)?;
+    let found = found_rows(alloc, table, &delete.pick, &places)?;
     Ok(found)
 }

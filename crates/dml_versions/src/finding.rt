@@ -2,7 +2,7 @@
 
 ghost use Rattle.std.specs.Prelude.{◌≡◌, ◌++◌, ◌^◌, ◌<◌, length, true, IfOk, OnOk};
 ghost use Rattle.std.specs.Prelude.{slice_index_or};
-ghost use Rattle.dml_versions.specs.Finding.{AllPass, CoverFound, IsConditionPlaced, Passes, scope_in, test_in};
+ghost use Rattle.dml_versions.specs.Finding.{AllPass, CoverFound, IsPickPlaced, Passes, scope_in, test_in};
 ghost use Rattle.dml_versions.specs.Finding.{found_at, found_from};
 ghost use Rattle.sql_model.specs.Changes.{is_matched};
 ghost use Rattle.sql_model.specs.Scope.{InScope};
@@ -13,9 +13,9 @@ ghost use Rattle.table_store.specs.Histories.{table_now, no_history};
 ghost use Rattle.std.specs.Prelude.{ℕ, List as Items};
 
 use crate::found::{Found, FoundRows};
-use crate::keys::key_of_condition;
+use crate::keys::picked_key;
 use crate::needs::version_of;
-use crate::tested::tests_of_condition;
+use crate::tested::picked_tests;
 use core_parts::is_certain;
 use lanes::{after_member, next_one};
 use ldv_value::{List, Places, Values};
@@ -28,17 +28,17 @@ use table_store::TableStore;
 pub(crate) fn found_rows(
     alloc: Global,
     table: &TableStore,
-    condition: &Option<Expr>,
+    pick: &Option<Expr>,
     places: &Places,
 ) -> Result<FoundRows, AllocError>
-    requires placed { IsConditionPlaced (scope_in table.now) condition.now places.now }
+    requires placed { IsPickPlaced (scope_in table.now) pick.now places.now }
     requires unique { are_keys_unique table.now.schema.key (row_values (table_now table.now)) ≡ true }
-    ensures { IfOk result (λ found. found ≡ found_from (test_in table.now condition.now) table.now.slots 0) }
+    ensures { IfOk result (λ found. found ≡ found_from (test_in table.now pick.now) table.now.slots 0) }
 {
-    let fixed = key_of_condition(alloc, table.schema(), condition, places)?;
+    let fixed = picked_key(alloc, table.schema(), pick, places)?;
     match fixed {
-        None => found_in_slots(alloc, table, condition, places),
-        Some(values) => found_by_key(alloc, table, &RowKey { values }, condition, places),
+        None => found_in_slots(alloc, table, pick, places),
+        Some(values) => found_by_key(alloc, table, &RowKey { values }, pick, places),
     }
 }
 
@@ -46,19 +46,19 @@ pub(crate) fn found_rows(
 fn found_in_slots(
     alloc: Global,
     table: &TableStore,
-    condition: &Option<Expr>,
+    pick: &Option<Expr>,
     places: &Places,
 ) -> Result<FoundRows, AllocError>
-    requires placed { IsConditionPlaced (scope_in table.now) condition.now places.now }
-    ensures { IfOk result (λ found. found ≡ found_from (test_in table.now condition.now) table.now.slots 0) }
+    requires placed { IsPickPlaced (scope_in table.now) pick.now places.now }
+    ensures { IfOk result (λ found. found ≡ found_from (test_in table.now pick.now) table.now.slots 0) }
 {
-    let made = tests_of_condition(alloc, &table.schema().columns, condition, places)?;
+    let made = picked_tests(alloc, &table.schema().columns, pick, places)?;
     let found = found_by_tests(
         alloc,
         table,
         made.tests.as_slice(),
         made.exact,
-        condition,
+        pick,
         places,
     )?;
     Ok(found)
@@ -69,16 +69,16 @@ fn found_by_tests(
     table: &TableStore,
     tests: &[ColumnTest],
     exact: bool,
-    condition: &Option<Expr>,
+    pick: &Option<Expr>,
     places: &Places,
 ) -> Result<FoundRows, AllocError>
-    requires placed { IsConditionPlaced (scope_in table.now) condition.now places.now }
-    requires tests { AreTests condition.now places.now table.now.schema.columns tests.now }
-    requires exact { exact ≡ true → AreExactTests condition.now places.now tests.now }
-    ensures { IfOk result (λ found. found ≡ found_from (test_in table.now condition.now) table.now.slots 0) }
+    requires placed { IsPickPlaced (scope_in table.now) pick.now places.now }
+    requires tests { AreTests pick.now places.now table.now.schema.columns tests.now }
+    requires exact { exact ≡ true → AreExactTests pick.now places.now tests.now }
+    ensures { IfOk result (λ found. found ≡ found_from (test_in table.now pick.now) table.now.slots 0) }
 {
     let words = table.choose_slots(alloc, tests)?;
-    let found = found_among(alloc, table, words.as_slice(), exact, condition, places)?;
+    let found = found_among(alloc, table, words.as_slice(), exact, pick, places)?;
     Ok(found)
 }
 
@@ -89,14 +89,14 @@ fn found_among(
     table: &TableStore,
     words: &[u64],
     exact: bool,
-    condition: &Option<Expr>,
+    pick: &Option<Expr>,
     places: &Places,
 ) -> Result<FoundRows, AllocError>
-    requires placed { IsConditionPlaced (scope_in table.now) condition.now places.now }
+    requires placed { IsPickPlaced (scope_in table.now) pick.now places.now }
     requires few { length words.now < 2 ^ 57 }
-    requires cover { CoverFound words.now (test_in table.now condition.now) table.now.slots }
-    requires exact { exact ≡ true → AllPass words.now (test_in table.now condition.now) table.now.slots }
-    ensures { IfOk result (λ found. found ≡ found_from (test_in table.now condition.now) table.now.slots 0) }
+    requires cover { CoverFound words.now (test_in table.now pick.now) table.now.slots }
+    requires exact { exact ≡ true → AllPass words.now (test_in table.now pick.now) table.now.slots }
+    ensures { IfOk result (λ found. found ≡ found_from (test_in table.now pick.now) table.now.slots 0) }
 {
     let mut found = List::new(alloc);
     let mut at = 0;
@@ -104,7 +104,7 @@ fn found_among(
         match next_one(words, at) {
             None => return Ok(found),
             Some(slot) => {
-                add_found(alloc, table, slot, exact, condition, places, &mut found)?;
+                add_found(alloc, table, slot, exact, pick, places, &mut found)?;
                 at = after_member(words, slot);
             }
         }
@@ -116,13 +116,13 @@ fn found_by_key(
     alloc: Global,
     table: &TableStore,
     key: &RowKey,
-    condition: &Option<Expr>,
+    pick: &Option<Expr>,
     places: &Places,
 ) -> Result<FoundRows, AllocError>
-    requires placed { IsConditionPlaced (scope_in table.now) condition.now places.now }
-    requires fixed { WhereFixesKey condition.now places.now table.now.schema.key key.now.values }
+    requires placed { IsPickPlaced (scope_in table.now) pick.now places.now }
+    requires fixed { WhereFixesKey pick.now places.now table.now.schema.key key.now.values }
     requires unique { are_keys_unique table.now.schema.key (row_values (table_now table.now)) ≡ true }
-    ensures { IfOk result (λ found. found ≡ found_from (test_in table.now condition.now) table.now.slots 0) }
+    ensures { IfOk result (λ found. found ≡ found_from (test_in table.now pick.now) table.now.slots 0) }
 {
     table.tell_order();
     let mut found = List::new(alloc);
@@ -131,7 +131,7 @@ fn found_by_key(
         Some(number) => match table.slot_of(number) {
             None => unreachable!(),
             Some(slot) => {
-                add_found(alloc, table, slot, false, condition, places, &mut found)?;
+                add_found(alloc, table, slot, false, pick, places, &mut found)?;
                 Ok(found)
             }
         },
@@ -144,21 +144,21 @@ fn add_found(
     table: &TableStore,
     slot: u64,
     known: bool,
-    condition: &Option<Expr>,
+    pick: &Option<Expr>,
     places: &Places,
     found: &mut FoundRows,
 ) -> Result<(), AllocError>
-    requires placed { IsConditionPlaced (scope_in table.now) condition.now places.now }
+    requires placed { IsPickPlaced (scope_in table.now) pick.now places.now }
     requires known { known ≡ true
-        → Passes (test_in table.now condition.now) (slice_index_or table.now.slots slot no_history) }
+        → Passes (test_in table.now pick.now) (slice_index_or table.now.slots slot no_history) }
     ensures { OnOk result
-        (found.new ≡ found.old ++ found_at (test_in table.now condition.now) table.now.slots slot) }
+        (found.new ≡ found.old ++ found_at (test_in table.now pick.now) table.now.slots slot) }
 {
     match table.slot_row(slot) {
         None => Ok(()),
         Some(number) => {
             let values = table.row_values(slot)?;
-            if !is_met(alloc, known, condition, &values, places)? {
+            if !is_met(alloc, known, pick, &values, places)? {
                 return Ok(());
             }
             let version = version_of(table, number);
@@ -175,35 +175,33 @@ fn add_found(
 fn is_met(
     alloc: Global,
     known: bool,
-    condition: &Option<Expr>,
+    pick: &Option<Expr>,
     values: &Values,
     places: &Places,
 ) -> Result<bool, AllocError>
-    ensures { IfOk result (λ is. (scope : Items InScope) (number : ℕ)
-        → IsConditionPlaced scope condition.now places.now
+    ensures { IfOk result (λ is. (scope : Items InScope) (number : ℕ) → IsPickPlaced scope pick.now places.now
         → (known ≡ true
-        → is_matched scope condition.now (record { number = number; values = values.now }) ≡ true)
-        → is ≡ is_matched scope condition.now (record { number = number; values = values.now })) }
+        → is_matched scope pick.now (record { number = number; values = values.now }) ≡ true)
+        → is ≡ is_matched scope pick.now (record { number = number; values = values.now })) }
 {
     if known {
         return Ok(true);
     }
-    let met = meets(alloc, condition, values, places)?;
+    let met = meets(alloc, pick, values, places)?;
     Ok(met)
 }
 
 // Whether WHERE is True over a row, or missing.
 fn meets(
     alloc: Global,
-    condition: &Option<Expr>,
+    pick: &Option<Expr>,
     values: &Values,
     places: &Places,
 ) -> Result<bool, AllocError>
-    ensures { IfOk result (λ is. (scope : Items InScope) (number : ℕ)
-        → IsConditionPlaced scope condition.now places.now
-        → is ≡ is_matched scope condition.now (record { number = number; values = values.now })) }
+    ensures { IfOk result (λ is. (scope : Items InScope) (number : ℕ) → IsPickPlaced scope pick.now places.now
+        → is ≡ is_matched scope pick.now (record { number = number; values = values.now })) }
 {
-    match condition {
+    match pick {
         None => Ok(true),
         Some(expr) => Ok(is_certain(truth_of(alloc, expr, values, places)?)),
     }

@@ -10,15 +10,15 @@ use std::alloc::{AllocError, Global};
 
 /// The key of all rows for which WHERE is True, if WHERE compares each of the key's columns by `=` with a
 /// constant. `places` are those of WHERE's columns.
-pub(crate) fn key_of_condition(
+pub(crate) fn picked_key(
     alloc: Global,
     schema: &Schema,
-    condition: &Option<Expr>,
+    pick: &Option<Expr>,
     places: &Places,
 ) -> Result<Option<Values>, AllocError>
-    ensures { IfOk result (λ fixed. IfSome fixed (WhereFixesKey condition.now places.now schema.now.key)) }
+    ensures { IfOk result (λ fixed. IfSome fixed (WhereFixesKey pick.now places.now schema.now.key)) }
 {
-    match condition {
+    match pick {
         None => Ok(None),
         Some(expr) => key_by(alloc, schema, expr, places),
     }

@@ -2,7 +2,7 @@
 
 ghost use Rattle.std.specs.Prelude.{◌≡◌, ◌++◌, ℕ, List as Items, drop, IfOk};
 ghost use Rattle.std.specs.List.{flat_map};
-ghost use Rattle.dml_versions.specs.Finding.{IsConditionPlaced, condition_names};
+ghost use Rattle.dml_versions.specs.Finding.{IsPickPlaced, pick_names};
 ghost use Rattle.dml_versions.specs.inner.Making.{AreSetsPlaced};
 ghost use Rattle.sql_model.specs.Kinds.{names_in};
 ghost use Rattle.sql_model.specs.Refusals.{update_names};
@@ -17,7 +17,7 @@ use std::alloc::{AllocError, Global};
 #[derive(Drop)]
 pub(crate) struct UpdatePlaces {
     pub sets: PlaceLists,
-    pub condition: Places,
+    pub pick: Places,
 }
 
 /// The places of an UPDATE, part by part.
@@ -28,13 +28,12 @@ pub(crate) fn update_places(
 ) -> Result<UpdatePlaces, AllocError>
     ensures { IfOk result (λ made. (scope : Items InScope)
         → places.now ≡ places_in scope (update_names update.now)
-        → AreSetsPlaced scope update.now.sets made.sets
-        × IsConditionPlaced scope update.now.condition made.condition) }
+        → AreSetsPlaced scope update.now.sets made.sets × IsPickPlaced scope update.now.pick made.pick) }
 {
     let mut at = 0;
     let sets = set_places(alloc, update.sets.items(), places, &mut at)?;
-    let condition = condition_places(alloc, &update.condition, places, at)?;
-    Ok(UpdatePlaces { sets, condition })
+    let pick = pick_places(alloc, &update.pick, places, at)?;
+    Ok(UpdatePlaces { sets, pick })
 }
 
 // The places of the columns of each SET; afterwards `at` is after them.
@@ -58,18 +57,18 @@ fn set_places(
 }
 
 /// The places of the columns of WHERE, which are those from `from` on.
-pub(crate) fn condition_places(
+pub(crate) fn pick_places(
     alloc: Global,
-    condition: &Option<Expr>,
+    pick: &Option<Expr>,
     places: &Places,
     from: usize,
 ) -> Result<Places, AllocError>
     ensures { IfOk result (λ own. (scope : Items InScope)
-        → drop from places.now ≡ places_in scope (condition_names condition.now)
-        → IsConditionPlaced scope condition.now own) }
+        → drop from places.now ≡ places_in scope (pick_names pick.now)
+        → IsPickPlaced scope pick.now own) }
 {
     let mut own = List::new(alloc);
-    match condition {
+    match pick {
         None => Ok(own),
         Some(expr) => {
             let mut at = from;

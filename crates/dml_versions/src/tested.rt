@@ -18,17 +18,17 @@ pub(crate) struct WhereTests {
 }
 
 /// The tests of columns that WHERE makes; none where it is missing. `places` are those of WHERE's columns.
-pub(crate) fn tests_of_condition(
+pub(crate) fn picked_tests(
     alloc: Global,
     columns: &Columns,
-    condition: &Option<Expr>,
+    pick: &Option<Expr>,
     places: &Places,
 ) -> Result<WhereTests, AllocError>
-    ensures tests { IfOk result (λ made. AreTests condition.now places.now columns.now made.tests.items) }
+    ensures tests { IfOk result (λ made. AreTests pick.now places.now columns.now made.tests.items) }
     ensures exact { IfOk result (λ made. made.exact ≡ true
-        → AreExactTests condition.now places.now made.tests.items) }
+        → AreExactTests pick.now places.now made.tests.items) }
 {
-    match condition {
+    match pick {
         None => Ok(WhereTests {
             tests: Vec::new(alloc),
             exact: true,

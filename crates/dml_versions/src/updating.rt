@@ -72,7 +72,7 @@ fn prepare(checked: &Checked, update: &Update, store: &Store) -> Result<Prepared
     let places = update_places(alloc, update, column_indexes(checked, 0, &none))?;
     store.tell_formed();
     let table = table_of(store, &update.table);
-    let found = found_rows(alloc, table, &update.condition, &places.condition)?;
+    let found = found_rows(alloc, table, &update.pick, &places.pick)?;
     let columns = table.schema().columns.items();
     let rows = updated_rows(alloc, columns, update, &places.sets, &found)?;
     Ok(Prepared { found, rows })

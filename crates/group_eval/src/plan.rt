@@ -94,7 +94,7 @@ pub(crate) fn plan_of(alloc: Global, core: &Core, places: &Places) -> Result<Pla
 {
     let mut at = 0;
     let items = planned_items(alloc, &core.items, places, &mut at)?;
-    skip_conditions(core.conditions.items(), places, &mut at);
+    skip_conditions(core.picks.items(), places, &mut at);
     let group = column_places(alloc, core.group.items(), places, &mut at)?;
     let having = plan_having(alloc, &core.having, places, &mut at)?;
     Ok(Plan {

@@ -28,7 +28,7 @@ fn parse_text(alloc: Global, text: &str) -> Result<Statement, ParseStop> {
 // The condition of a DELETE, or the new value of an UPDATE.
 fn expr_of(statement: &Statement) -> Option<&Expr> {
     match statement {
-        Statement::Delete(delete) => match &delete.condition {
+        Statement::Delete(delete) => match &delete.pick {
             Some(expr) => Some(expr),
             None => None,
         },

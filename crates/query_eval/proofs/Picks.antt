@@ -93,13 +93,13 @@ combos-are names versions db (item ∷ from) (stays ∷ keeps) (source ∷ sourc
 pub picked-are : (names : List (List ℕ)) (versions : Versions) (db : List Table) (core : Core) (keeps : List (TableRow → Bool)) (sources : List Source) (conds : List BoundExpr)
     → AreSources names versions db core.from keeps sources
     → LeavesPicked core db keeps
-    → AreConditions (scope_of core.from (catalog_of db)) core.conditions conds
+    → AreConditions (scope_of core.from (catalog_of db)) core.picks conds
     → map table_rows (filter (tests (scope_of core.from (catalog_of db)) conds) (combos (map source_rows sources))) ≡ picked core db
 picked-are names versions db core keeps sources conds are leaves same =
     let scope : List InScope = scope_of core.from (catalog_of db) in
-    let test : Combination → Bool = λ rows. meets_all core.conditions (row_environment scope rows) in
+    let test : Combination → Bool = λ rows. meets_all core.picks (row_environment scope rows) in
     filter-through table_rows (tests scope conds) test
-    (λ rows. same.same (joined_row_values rows) ∙ ap (λ (vs : List Value). meets_all core.conditions (environment scope vs)) (joined_row_values-rows rows))
+    (λ rows. same.same (joined_row_values rows) ∙ ap (λ (vs : List Value). meets_all core.picks (environment scope vs)) (joined_row_values-rows rows))
     (combos (map source_rows sources))
     ∙ ap (filter test) (combos-are names versions db core.from keeps sources are)
     ∙ kept_twice test (are_kept keeps) (combinations core.from db) leaves
@@ -172,7 +172,7 @@ module _ (names : List (List ℕ)) (versions : Versions) where
   pub all-stand : IsStrictlySortedBy (slice_cmp nat_cmp) names → (keep : Bool) (db : List Table) (core : Core) (keeps : List (TableRow → Bool)) (sources : List Source) (conds : List BoundExpr) (picks : List Pick)
       → AreSources names versions db core.from keeps sources
       → LeavesPicked core db keeps
-      → AreConditions (scope_of core.from (catalog_of db)) core.conditions conds
+      → AreConditions (scope_of core.from (catalog_of db)) core.picks conds
       → picks ≡ map (pick_of keep sources) (filter (tests (scope_of core.from (catalog_of db)) conds) (combos (map source_rows sources)))
       → PicksStandFor names versions keep picks (map (joined_row core.from) (picked core db))
   all-stand sorted keep db core keeps sources conds picks are leaves same is =

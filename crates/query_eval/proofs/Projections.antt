@@ -97,7 +97,7 @@ items-projected checked place of items picks placed answers at some exprs placin
     let same : of ≡ core = same-some of core (sym at ∙ got) in
     let scope : List InScope = scope_of core.from catalog in
     let written : core.items ≡ Some items = ap (λ (c : Core). c.items) (sym same) ∙ some in
-    let rest = flat_map names_in core.conditions ++ (core.group ++ flat_map names_in (option_to_list core.having)) in
+    let rest = flat_map names_in core.picks ++ (core.group ++ flat_map names_in (option_to_list core.having)) in
     let places : places_at checked place ≡ places_in scope (names_of_items items) ++ places_in scope rest =
     core-places checked query catalog is place core got
     ∙ ap (λ (o : Option (List Item)). places_in scope (names_of_items (unwrap_or o []) ++ rest)) written

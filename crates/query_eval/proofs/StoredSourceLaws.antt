@@ -356,14 +356,14 @@ stored-picked checked place store keep conds sources picks of formed at conditio
     let scope : List InScope = scope_of core.from catalog in
     let widths : List ℕ = map (width_at store) core.from in
     let whole : IsChecked checked query catalog = checked-is checked query catalog given in
-    let tested : AreConditions scope core.conditions conds = conditions query catalog core whole got in
+    let tested : AreConditions scope core.picks conds = conditions query catalog core whole got in
     let lists : slice_get query.cores place ≡ Some core = ap (λ (s : Statement). slice_get (cores_of s) place) (sym (ap (λ (c : Checked). c.statement) whole)) ∙ got in
     let all : AllThere store core.from =
     all-there store core.from (core-at catalog query.cores place core lists
     (first-false (list_any (is_missing catalog) (flat_map tables_of_core query.cores)) (list_any doubles_source query.cores) (tables-there checked query catalog given))) in
     let keeps : List (TableRow → Bool) = keeps_of store conds core.from 0 sources own in
     let leaves : LeavesPicked core (tables_now store) keeps =
-    all-weaker (HaveWidths widths) (λ rows. meets_all core.conditions (row_environment scope rows) ≡ true → are_kept keeps rows ≡ true)
+    all-weaker (HaveWidths widths) (λ rows. meets_all core.picks (row_environment scope rows) ≡ true → are_kept keeps rows ≡ true)
     (λ rows wide holds.
     let met : meets scope conds (joined_values rows) ≡ true = tested.same (joined_values rows) ∙ holds in
     all-stay scope conds tested.placed store core.from 0 sources own rows [] refl wide met)

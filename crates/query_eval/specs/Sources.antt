@@ -70,6 +70,6 @@ are_kept (kept ∷ keeps) (row ∷ rows) = kept row && are_kept keeps rows
 abbrev pub LeavesPicked : Core → List Table → List (TableRow → Bool) → Type 0
 LeavesPicked core db keeps =
     AllByRecursion
-    (λ rows. meets_all core.conditions (row_environment (scope_of core.from (catalog_of db)) rows) ≡ true
+    (λ rows. meets_all core.picks (row_environment (scope_of core.from (catalog_of db)) rows) ≡ true
     → are_kept keeps rows ≡ true)
     (combinations core.from db)

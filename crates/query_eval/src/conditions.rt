@@ -29,12 +29,11 @@ fn skip_items(items: &[Item], places: &Places, at: &mut usize)
 // The conjuncts of ON and WHERE of a core, with their places among those of the core.
 fn conditions_of(alloc: Global, core: &Core, places: &Places) -> Result<List<BoundExpr>, AllocError>
     ensures { IfOk result (λ conds. (scope : Items InScope)
-        → places.now ≡ places_in scope (core_names core.now)
-        → AreConditions scope core.now.conditions conds) }
+        → places.now ≡ places_in scope (core_names core.now) → AreConditions scope core.now.picks conds) }
 {
     let mut at = 0;
     skip_items(items_of(core), places, &mut at);
-    conjuncts(alloc, core.conditions.items(), places, at)
+    conjuncts(alloc, core.picks.items(), places, at)
 }
 
 /// The conjuncts of ON and WHERE of the core at a place, from 0.

@@ -380,7 +380,7 @@ module _ (table : List ℕ) (row : ℕ) where
 
   number_kept : (scope : List InScope) (update : Update) (columns : List Column) (r : TableRow)
       → (update_one scope update columns r).number ≡ r.number
-  number_kept scope update columns r = elim (cases_Bool (is_matched scope update.condition r)) [
+  number_kept scope update columns r = elim (cases_Bool (is_matched scope update.pick r)) [
     | inl hit ↦ rw hit refl
     | inr miss ↦ rw miss refl
   ]
@@ -418,7 +418,7 @@ module _ (table : List ℕ) (row : ℕ) where
       lacks_by t.name t.rows (map (update_one scope update t.schema.columns) t.rows)
       (λ none. numbers_kept scope update t.schema.columns t.rows ∙ none) lacking
   lacks_changed versions (TheDelete delete) catalog t ns unmade lacking =
-      let stays : TableRow → Bool = λ r. not (is_matched (own_scope delete.table catalog) delete.condition r) in
+      let stays : TableRow → Bool = λ r. not (is_matched (own_scope delete.table catalog) delete.pick r) in
       lacks_by t.name t.rows (filter stays t.rows)
       (λ none. list_any-filter (λ (r : TableRow). r.number == row) stays t.rows none) lacking
 

@@ -76,8 +76,8 @@ matched_rise : (s : Statement) (catalog : Catalog) (t : Table) → rows_sorted t
     → rows_sorted (matched s catalog t) ≡ true
 matched_rise (TheQuery query) catalog t rise = refl
 matched_rise (TheInsert insert) catalog t rise = refl
-matched_rise (TheUpdate update) catalog t rise = filter_sorted (is_matched (own_scope update.table catalog) update.condition) t.rows rise
-matched_rise (TheDelete delete) catalog t rise = filter_sorted (is_matched (own_scope delete.table catalog) delete.condition) t.rows rise
+matched_rise (TheUpdate update) catalog t rise = filter_sorted (is_matched (own_scope update.table catalog) update.pick) t.rows rise
+matched_rise (TheDelete delete) catalog t rise = filter_sorted (is_matched (own_scope delete.table catalog) delete.pick) t.rows rise
 
 -- matched rows are needed as they are
 matched_needed : (s : Statement) (catalog : Catalog) (o : Option Table) → Rises o

@@ -36,7 +36,7 @@ made_of update catalog table row =
 
 module _ (fold : (A : Type 0) → (Expr-F A → A) → Term → A) where
   abbrev is_matched : List InScope → Option Term → TableRow → Bool
-  is_matched scope condition row = queries.meets_all fold (option_to_list condition) (environment scope row.values)
+  is_matched scope pick row = queries.meets_all fold (option_to_list pick) (environment scope row.values)
 
   -- by whether a column is missing and a kind clashes
   abbrev check : TermStatement → Catalog → Bool → Bool → Option SqlRefusal
@@ -44,14 +44,14 @@ module _ (fold : (A : Type 0) → (Expr-F A → A) → Term → A) where
       if lacks_table (statement_of s) catalog then Some NoTable
       else (if lacks then Some NoColumn else (if clashes then Some TypeClash else None))
 
-  abbrev condition_fits : List InScope → Option Term → Bool
-  condition_fits scope condition = list_all (queries.is_row_condition fold scope false) (option_to_list condition)
+  abbrev pick_fits : List InScope → Option Term → Bool
+  pick_fits scope pick = list_all (queries.is_pick fold scope false) (option_to_list pick)
 
   abbrev matched_in : List InScope → Option Term → Table → List TableRow
-  matched_in scope condition table = filter (is_matched scope condition) table.rows
+  matched_in scope pick table = filter (is_matched scope pick) table.rows
 
-  abbrev names_of_condition : Option Term → List ColumnName
-  names_of_condition condition = queries.names_of fold (option_to_list condition)
+  abbrev names_of_pick : Option Term → List ColumnName
+  names_of_pick pick = queries.names_of fold (option_to_list pick)
 
   -- ---- INSERT
 
@@ -118,7 +118,7 @@ module _ (fold : (A : Type 0) → (Expr-F A → A) → Term → A) where
 
   abbrev row_after : List InScope → TermUpdate → List Column → TableRow → TableRow
   row_after scope update columns row =
-      if is_matched scope update.condition row then updated_row scope update columns row else row
+      if is_matched scope update.pick row then updated_row scope update columns row else row
 
   abbrev after_update : List InScope → TermUpdate → Table → Table
   after_update scope update table =
@@ -132,12 +132,12 @@ module _ (fold : (A : Type 0) → (Expr-F A → A) → Term → A) where
   update_lacks update columns scope =
       not (list_all (λ set. has_column columns set.column) update.sets)
       || has_unresolved_name scope (flat_map (λ set. queries.names_in fold set.term) update.sets
-      ++ names_of_condition update.condition)
+      ++ names_of_pick update.pick)
 
   abbrev update_clashes : TermUpdate → List Column → List InScope → Bool
   update_clashes update columns scope =
       repeats same_text (map (λ set. set.column) update.sets)
-      || not (list_all (set_fits columns scope) update.sets && condition_fits scope update.condition)
+      || not (list_all (set_fits columns scope) update.sets && pick_fits scope update.pick)
 
   abbrev update_check : TermUpdate → Catalog → List Column → List InScope → Option SqlRefusal
   update_check update catalog columns scope =
@@ -148,8 +148,8 @@ module _ (fold : (A : Type 0) → (Expr-F A → A) → Term → A) where
   abbrev update_in : List InScope → (TableRow → TableRow) → TermUpdate → Catalog → Table → Parts
   update_in scope made update catalog table = record {
     check = update_check update catalog (columns_of (schema_at update.table catalog)) scope;
-    matched = matched_in scope update.condition table;
-    made = map made (matched_in scope update.condition table);
+    matched = matched_in scope update.pick table;
+    made = map made (matched_in scope update.pick table);
     changed = after_update scope update table;
   }
 
@@ -165,17 +165,17 @@ module _ (fold : (A : Type 0) → (Expr-F A → A) → Term → A) where
 
   abbrev delete_check : TermDelete → Catalog → List InScope → Option SqlRefusal
   delete_check delete catalog scope =
-      check (TheDelete delete) catalog (has_unresolved_name scope (names_of_condition delete.condition))
-      (not (condition_fits scope delete.condition))
+      check (TheDelete delete) catalog (has_unresolved_name scope (names_of_pick delete.pick))
+      (not (pick_fits scope delete.pick))
 
   abbrev after_delete : List InScope → TermDelete → Table → Table
   after_delete scope delete table =
-      with_rows table (filter (λ row. not (is_matched scope delete.condition row)) table.rows) table.next
+      with_rows table (filter (λ row. not (is_matched scope delete.pick row)) table.rows) table.next
 
   abbrev delete_in : List InScope → TermDelete → Catalog → Table → Parts
   delete_in scope delete catalog table = record {
     check = delete_check delete catalog scope;
-    matched = matched_in scope delete.condition table;
+    matched = matched_in scope delete.pick table;
     made = [];
     changed = after_delete scope delete table;
   }

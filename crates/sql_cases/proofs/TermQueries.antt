@@ -28,8 +28,8 @@ module _ (fold : (A : Type 0) → (Expr-F A → A) → Term → A) where
   abbrev pub kind : List InScope → Term → Bool → Option Kind
   kind scope = fold (Bool → Option Kind) (kind_step scope)
 
-  abbrev pub is_row_condition : List InScope → Bool → Term → Bool
-  is_row_condition scope over_groups term = is_condition (kind scope term over_groups)
+  abbrev pub is_pick : List InScope → Bool → Term → Bool
+  is_pick scope over_groups term = is_condition (kind scope term over_groups)
 
   abbrev pub counts : Term → Bool
   counts term = (fold CountUse count_use_step term).counts_rows
@@ -42,7 +42,7 @@ module _ (fold : (A : Type 0) → (Expr-F A → A) → Term → A) where
       title_of (Some name) = Some name
 
   abbrev pub meets_all : List Term → Environment → Bool
-  meets_all conditions env = list_all (λ term. is_true (eval term (env ∷ [])).truth) conditions
+  meets_all picks env = list_all (λ term. is_true (eval term (env ∷ [])).truth) picks
 
   -- ---- cores
 
@@ -60,7 +60,7 @@ module _ (fold : (A : Type 0) → (Expr-F A → A) → Term → A) where
 
   abbrev pub picked : List Table → TermCore → List Combination
   picked db core =
-      filter (λ rows. meets_all core.conditions (row_environment (scope_in db core) rows))
+      filter (λ rows. meets_all core.picks (row_environment (scope_in db core) rows))
       (combinations core.from db)
 
   abbrev pub is_kept : List InScope → Option Term → List Combination → Bool
@@ -152,7 +152,7 @@ module _ (fold : (A : Type 0) → (Expr-F A → A) → Term → A) where
   abbrev pub core_names : TermCore → List ColumnName
   core_names core =
       flat_map (λ item. names_in item.term) (items_of core)
-      ++ (names_of core.conditions ++ (core.group ++ names_of (option_to_list core.having)))
+      ++ (names_of core.picks ++ (core.group ++ names_of (option_to_list core.having)))
 
   abbrev pub item_places : List InScope → Option (List TermItem) → List ℕ
   item_places scope None = range_with_len 0 (length scope)
@@ -184,8 +184,8 @@ module _ (fold : (A : Type 0) → (Expr-F A → A) → Term → A) where
 
   abbrev pub conditions_fit : List InScope → TermCore → Bool
   conditions_fit scope core =
-      list_all (is_row_condition scope false) core.conditions
-      && (list_all (is_row_condition scope true) (option_to_list core.having) && not (counts_joined core))
+      list_all (is_pick scope false) core.picks
+      && (list_all (is_pick scope true) (option_to_list core.having) && not (counts_joined core))
 
   abbrev pub kinds_of_items : List InScope → List TermItem → Option (List Kind)
   kinds_of_items scope [] = Some []

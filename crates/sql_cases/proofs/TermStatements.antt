@@ -13,7 +13,7 @@ pub record TermCore : Type 0 where
   pub distinct : Bool
   pub items : Option (List TermItem)
   pub from : List FromItem
-  pub conditions : List Term
+  pub picks : List Term
   pub group : List ColumnName
   pub having : Option Term
 
@@ -34,11 +34,11 @@ pub record TermSet : Type 0 where
 pub record TermUpdate : Type 0 where
   pub table : List ℕ
   pub sets : List TermSet
-  pub condition : Option Term
+  pub pick : Option Term
 
 pub record TermDelete : Type 0 where
   pub table : List ℕ
-  pub condition : Option Term
+  pub pick : Option Term
 
 pub data TermStatement : Type 0 where
   TheQuery : TermQuery → TermStatement
@@ -57,7 +57,7 @@ core_of core = record {
   distinct = core.distinct;
   items = option_map (map item_of) core.items;
   from = core.from;
-  conditions = map expr_of core.conditions;
+  picks = map expr_of core.picks;
   group = core.group;
   having = option_map expr_of core.having;
 }
@@ -79,11 +79,11 @@ abbrev pub update_of : TermUpdate → Update
 update_of update = record {
   table = update.table;
   sets = map set_of update.sets;
-  condition = option_map expr_of update.condition;
+  pick = option_map expr_of update.pick;
 }
 
 abbrev pub delete_of : TermDelete → Delete
-delete_of delete = record { table = delete.table; condition = option_map expr_of delete.condition }
+delete_of delete = record { table = delete.table; pick = option_map expr_of delete.pick }
 
 abbrev pub statement_of : TermStatement → Statement
 statement_of (TheQuery query) = statement.Query (query_of query)

@@ -61,7 +61,7 @@ first_up =
     record {
       table = codes "t";
       sets = set (codes "v") (Both Add v (number 1)) ∷ [];
-      condition = Some (compared Eq k (number 1));
+      pick = Some (compared Eq k (number 1));
     }
 
 one_updated : Leaves (TheUpdate first_up) (table_t 5) (Changed 1) (needed L 0 ∷ []) t_after_first
@@ -91,7 +91,7 @@ abbrev all_up : TermUpdate
 all_up = record {
   table = codes "t";
   sets = set (codes "k") (Both Add k (number 1)) ∷ [];
-  condition = Some (compared Lt k (number 6));
+  pick = Some (compared Lt k (number 6));
 }
 
 keys_shifted : Leaves (TheUpdate all_up) (table_t 5) (Changed 5)
@@ -108,7 +108,7 @@ some_up =
     record {
       table = codes "t";
       sets = set (codes "k") (Both Add k (number 1)) ∷ [];
-      condition = Some (compared Lt k (number 4));
+      pick = Some (compared Lt k (number 4));
     }
 
 shifted_onto_a_key : Leaves (TheUpdate some_up) (table_t 5)
@@ -143,7 +143,7 @@ one_inserted = insert_by_terms ninth_in (table_t 5) refl refl
 
 -- DELETE FROM t WHERE k = 9, after that
 abbrev ninth_out : TermDelete
-ninth_out = record { table = codes "t"; condition = Some (compared Eq k (number 9)) }
+ninth_out = record { table = codes "t"; pick = Some (compared Eq k (number 9)) }
 
 one_deleted : Leaves (TheDelete ninth_out) t_with_ninth (Changed 1) (needed L 5 ∷ []) t_without_ninth
     (λ versions. next versions 5 ∷ [])
@@ -234,7 +234,7 @@ abbrev swapped : TermUpdate
 swapped = record {
   table = codes "t";
   sets = set (codes "k") v ∷ set (codes "v") k ∷ [];
-  condition = Some (compared Eq k (number 2));
+  pick = Some (compared Eq k (number 2));
 }
 
 from_the_old_row : Leaves (TheUpdate swapped) (table_t 5) (Changed 1) (needed L 1 ∷ [])
@@ -253,7 +253,7 @@ from_the_old_row =
 
 -- UPDATE t SET k = v: refused for the row 3, and all matched rows are needed
 abbrev null_keys : TermUpdate
-null_keys = record { table = codes "t"; sets = set (codes "k") v ∷ []; condition = None }
+null_keys = record { table = codes "t"; sets = set (codes "k") v ∷ []; pick = None }
 
 null_from_a_row : Leaves (TheUpdate null_keys) (table_t 5) (Refused NotNull)
     (needed L 0 ∷ needed L 1 ∷ needed L 2 ∷ needed L 3 ∷ needed L 4 ∷ []) (table_t 5) nothing
@@ -265,7 +265,7 @@ null_from_a_row =
 
 -- DELETE FROM t
 abbrev all_out : TermDelete
-all_out = record { table = codes "t"; condition = None }
+all_out = record { table = codes "t"; pick = None }
 
 all_deleted : Leaves (TheDelete all_out) (table_t 5) (Changed 5)
     (needed L 0 ∷ needed L 1 ∷ needed L 2 ∷ needed L 3 ∷ needed L 4 ∷ []) (t_of [] 5)

@@ -55,14 +55,14 @@ t_twice = source (codes "t") (codes "x") ∷ source (codes "t") (codes "y") ∷ 
 
 -- SELECT items FROM from [WHERE]
 abbrev pub selected : List Term → List FromItem → List Term → TermCore
-selected items from conditions =
+selected items from picks =
     record {
       joined_all = false;
       distinct = false;
       items = Some (map item items);
       from = from;
-      conditions =
-          conditions;
+      picks =
+          picks;
       group = [];
       having = None;
     }

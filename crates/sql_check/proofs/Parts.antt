@@ -33,21 +33,21 @@ module _ (p : ColumnName → Bool) where
   pub all_optional : (e : Expr) → list_all p (flat_map names_in (option_to_list (Some e))) ≡ list_all p (names_in e)
   all_optional e = ap (list_all p) (append-nil (names_in e))
 
-  pub all_core_names : (core : Core) → list_all p (core_names core) ≡ (list_all (λ item. list_all p (names_in item.expr)) (items_of core) && (list_all (λ expr. list_all p (names_in expr)) core.conditions && (list_all p core.group && list_all p (flat_map names_in (option_to_list core.having)))))
+  pub all_core_names : (core : Core) → list_all p (core_names core) ≡ (list_all (λ item. list_all p (names_in item.expr)) (items_of core) && (list_all (λ expr. list_all p (names_in expr)) core.picks && (list_all p core.group && list_all p (flat_map names_in (option_to_list core.having)))))
   all_core_names core =
-      list_all-append p (names_of_items (items_of core)) (flat_map names_in core.conditions ++ (core.group ++ flat_map names_in (option_to_list core.having)))
+      list_all-append p (names_of_items (items_of core)) (flat_map names_in core.picks ++ (core.group ++ flat_map names_in (option_to_list core.having)))
       ∙ (λ j. list_all-flat_map p (λ (item : Item). names_in item.expr) (items_of core) j && later j)
     where
       last : list_all p (core.group ++ flat_map names_in (option_to_list core.having)) ≡ (list_all p core.group && list_all p (flat_map names_in (option_to_list core.having)))
       last = list_all-append p core.group (flat_map names_in (option_to_list core.having))
 
-      later : list_all p (flat_map names_in core.conditions ++ (core.group ++ flat_map names_in (option_to_list core.having))) ≡ (list_all (λ expr. list_all p (names_in expr)) core.conditions && (list_all p core.group && list_all p (flat_map names_in (option_to_list core.having))))
-      later = list_all-append p (flat_map names_in core.conditions) (core.group ++ flat_map names_in (option_to_list core.having)) ∙ (λ j. list_all-flat_map p names_in core.conditions j && last j)
+      later : list_all p (flat_map names_in core.picks ++ (core.group ++ flat_map names_in (option_to_list core.having))) ≡ (list_all (λ expr. list_all p (names_in expr)) core.picks && (list_all p core.group && list_all p (flat_map names_in (option_to_list core.having))))
+      later = list_all-append p (flat_map names_in core.picks) (core.group ++ flat_map names_in (option_to_list core.having)) ∙ (λ j. list_all-flat_map p names_in core.picks j && last j)
 
-  pub all_update_names : (update : Update) → list_all p (update_names update) ≡ (list_all (λ set. list_all p (names_in set.expr)) update.sets && list_all p (flat_map names_in (option_to_list update.condition)))
+  pub all_update_names : (update : Update) → list_all p (update_names update) ≡ (list_all (λ set. list_all p (names_in set.expr)) update.sets && list_all p (flat_map names_in (option_to_list update.pick)))
   all_update_names update =
-      list_all-append p (flat_map (λ set. names_in set.expr) update.sets) (flat_map names_in (option_to_list update.condition))
-      ∙ ap (λ b. b && list_all p (flat_map names_in (option_to_list update.condition))) (list_all-flat_map p (λ set. names_in set.expr) update.sets)
+      list_all-append p (flat_map (λ set. names_in set.expr) update.sets) (flat_map names_in (option_to_list update.pick))
+      ∙ ap (λ b. b && list_all p (flat_map names_in (option_to_list update.pick))) (list_all-flat_map p (λ set. names_in set.expr) update.sets)
 
   rows-names : (rows : List (List Expr)) → list_all p (flat_map (flat_map names_in) rows) ≡ list_all (λ row. list_all (λ expr. list_all p (names_in expr)) row) rows
   rows-names [] = refl

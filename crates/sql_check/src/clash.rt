@@ -4,8 +4,8 @@ ghost use Rattle.std.specs.Prelude.{◌≡◌, ◌&&◌, IfOk, Some, option_to_l
 ghost use Rattle.std.specs.List.{list_all, list_any};
 ghost use Rattle.ldv_value.specs.declared.value.Value.TheVariants.{Int};
 ghost use Rattle.sql_model.specs.Kinds.{is_condition};
-ghost use Rattle.sql_model.specs.Refusals.{is_row_condition, is_having, counts, counts_joined, conditions_fit};
-ghost use Rattle.sql_model.specs.Refusals.{is_limit, query_clashes, takes, set_fits, condition_fits};
+ghost use Rattle.sql_model.specs.Refusals.{is_pick, is_having, counts, counts_joined, conditions_fit};
+ghost use Rattle.sql_model.specs.Refusals.{is_limit, query_clashes, takes, set_fits, pick_fits};
 ghost use Rattle.sql_model.specs.Refusals.{update_clashes, clashes};
 
 use crate::aggregate::counts;
@@ -38,7 +38,7 @@ pub(crate) fn has_type_clash(
         }
         Statement::Delete(delete) => {
             let scope = own_scope(alloc, &delete.table, catalog)?;
-            Ok(!condition_fits(&scope, &delete.condition))
+            Ok(!pick_fits(&scope, &delete.pick))
         }
     }
 }
@@ -79,8 +79,8 @@ fn is_condition(kind: Option<Kind>) -> bool
     }
 }
 
-fn is_row_condition(scope: &[Entry], expr: &Expr) -> bool
-    ensures { result ≡ is_row_condition scope.now expr.now }
+fn is_pick(scope: &[Entry], expr: &Expr) -> bool
+    ensures { result ≡ is_pick scope.now expr.now }
 {
     is_condition(row_kind(scope, expr))
 }
@@ -95,16 +95,14 @@ fn is_having(scope: &[Entry], expr: &Expr) -> bool
 pub(crate) fn conditions_fit(scope: &[Entry], core: &Core) -> bool
     ensures { result ≡ conditions_fit scope.now core.now }
 {
-    are_row_conditions(scope, core.conditions.items())
+    picks_fit(scope, core.picks.items())
         && (having_fits(scope, &core.having) && !counts_joined(core))
 }
 
-fn are_row_conditions(scope: &[Entry], conditions: &[Expr]) -> bool
-    ensures { result ≡ list_all (is_row_condition scope.now) conditions.now }
+fn picks_fit(scope: &[Entry], picks: &[Expr]) -> bool
+    ensures { result ≡ list_all (is_pick scope.now) picks.now }
 {
-    conditions
-        .iter()
-        .all(|condition| is_row_condition(scope, condition))
+    picks.iter().all(|pick| is_pick(scope, pick))
 }
 
 #[tactic(auto, using(crate::proofs::Mapped::last_test))]
@@ -166,9 +164,9 @@ fn update_clashes(
 
 fn update_fits(update: &Update, columns: &[Column], scope: &[Entry]) -> bool
     ensures { result ≡ (list_all (set_fits columns.now scope.now) update.now.sets
-        && condition_fits scope.now update.now.condition) }
+        && pick_fits scope.now update.now.pick) }
 {
-    sets_fit(columns, scope, update.sets.items()) && condition_fits(scope, &update.condition)
+    sets_fit(columns, scope, update.sets.items()) && pick_fits(scope, &update.pick)
 }
 
 fn sets_fit(columns: &[Column], scope: &[Entry], sets: &[Set]) -> bool
@@ -188,11 +186,11 @@ fn set_fits(columns: &[Column], scope: &[Entry], set: &Set) -> bool
 }
 
 #[tactic(auto, using(crate::proofs::Mapped::last_test))]
-fn condition_fits(scope: &[Entry], condition: &Option<Expr>) -> bool
-    ensures { result ≡ condition_fits scope.now condition.now }
+fn pick_fits(scope: &[Entry], pick: &Option<Expr>) -> bool
+    ensures { result ≡ pick_fits scope.now pick.now }
 {
-    match condition {
+    match pick {
         None => true,
-        Some(expr) => is_row_condition(scope, expr),
+        Some(expr) => is_pick(scope, expr),
     }
 }

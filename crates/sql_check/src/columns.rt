@@ -43,7 +43,7 @@ pub(crate) fn has_unknown_column(
         }
         Statement::Delete(delete) => {
             let scope = own_scope(alloc, &delete.table, catalog)?;
-            Ok(!optional_resolves(&scope, &delete.condition))
+            Ok(!optional_resolves(&scope, &delete.pick))
         }
     }
 }
@@ -196,8 +196,7 @@ fn update_lacks_column(update: &Update, columns: &[Column], scope: &[Entry]) -> 
     ensures { result ≡ update_lacks_column update.now columns.now scope.now }
 {
     !sets_have_column(columns, update.sets.items())
-        || !(sets_resolve(scope, update.sets.items())
-            && optional_resolves(scope, &update.condition))
+        || !(sets_resolve(scope, update.sets.items()) && optional_resolves(scope, &update.pick))
 }
 
 fn sets_have_column(columns: &[Column], sets: &[Set]) -> bool

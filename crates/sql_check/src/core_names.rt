@@ -41,7 +41,7 @@ pub(crate) fn core_resolves(scope: &[Entry], core: &Core) -> bool
     ensures { result ≡ list_all (resolves scope.now) (core_names core.now) }
 {
     items_resolve(scope, items_of(core))
-        && (exprs_resolve(scope, core.conditions.items())
+        && (exprs_resolve(scope, core.picks.items())
             && (names_resolve(scope, core.group.items()) && optional_resolves(scope, &core.having)))
 }
 

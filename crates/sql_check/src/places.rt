@@ -95,7 +95,7 @@ fn core_places(alloc: Global, core: &Core, catalog: &Catalog) -> Result<Places, 
     let scope = scope_of(alloc, core.from.items(), catalog)?;
     let mut places = Vec::new(alloc);
     push_item_places(&mut places, &scope, items_of(core))?;
-    push_expr_places(&mut places, &scope, core.conditions.items())?;
+    push_expr_places(&mut places, &scope, core.picks.items())?;
     push_name_places(&mut places, &scope, core.group.items())?;
     push_optional_places(&mut places, &scope, &core.having)?;
     Ok(List::of_vec(places))
@@ -107,7 +107,7 @@ fn update_places(alloc: Global, scope: &[Entry], update: &Update) -> Result<Plac
 {
     let mut places = Vec::new(alloc);
     push_set_places(&mut places, scope, update.sets.items())?;
-    push_optional_places(&mut places, scope, &update.condition)?;
+    push_optional_places(&mut places, scope, &update.pick)?;
     Ok(List::of_vec(places))
 }
 
@@ -115,7 +115,7 @@ fn delete_places(alloc: Global, scope: &[Entry], delete: &Delete) -> Result<Plac
     ensures { IfOk result (λ places. places ≡ places_in scope.now (delete_names delete.now)) }
 {
     let mut places = Vec::new(alloc);
-    push_optional_places(&mut places, scope, &delete.condition)?;
+    push_optional_places(&mut places, scope, &delete.pick)?;
     Ok(List::of_vec(places))
 }
 

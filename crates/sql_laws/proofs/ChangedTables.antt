@@ -14,7 +14,7 @@ use Rattle.sql_model.proofs.UniqueKeys.{unique-clash}
 use Rattle.sql_model.proofs.ValidTables.{TableParts, table-parts, table-from, kinds-fits, row_from}
 use Rattle.sql_model.specs.Changes.{is_matched, update_one, new_values, numbered_rows, rows_of_insert, updated_row, updated_values, after_insert, after_update, after_delete, table_after, has_null, lacks_value, KeyClash, key_clash, key_refusal, is_full, or_else, refusal_if, change_refusal}
 use Rattle.sql_model.specs.Keys.{repeats}
-use Rattle.sql_model.specs.Refusals.{lacks_table, insert_lacks_column, insert_clashes, row_fits, target_columns, update_clashes, set_fits, condition_fits, lacks_column, clashes, check_refusal, has_unresolved_name, insert_names}
+use Rattle.sql_model.specs.Refusals.{lacks_table, insert_lacks_column, insert_clashes, row_fits, target_columns, update_clashes, set_fits, pick_fits, lacks_column, clashes, check_refusal, has_unresolved_name, insert_names}
 use Rattle.sql_model.specs.Scope.{InScope, same_text, has_column, columns_of, own_scope, schema_at}
 use Rattle.sql_model.specs.Tables.{are_distinct, fits, each_value, is_row, numbers_test, is_valid_table}
 
@@ -115,7 +115,7 @@ module _ (catalog : Catalog) (t : Table) (valid : is_valid_table t ≡ true) (di
   delete_valid : (scope : List InScope) (delete : Delete) → key_clash (after_delete scope delete t) ≡ None
       → is_valid_table (after_delete scope delete t) ≡ true
   delete_valid scope delete key =
-      let keep : TableRow → Bool = λ row. not (is_matched scope delete.condition row) in
+      let keep : TableRow → Bool = λ row. not (is_matched scope delete.pick row) in
       table-from (after_delete scope delete t) (record {
         next = parts.next;
         numbers = numbers-filter keep t.next t.rows parts.numbers;
@@ -143,28 +143,28 @@ module _ (catalog : Catalog) (t : Table) (valid : is_valid_table t ≡ true) (di
           (updated_kinds update.table columns update.sets row.values (kinds-fits (zip columns row.values) both.1) fit first) null
 
       updated_rows : (rows : List TableRow) → all_rows columns rows ≡ true
-          → list_any (has_null columns) (map (updated_row scope update columns) (filter (is_matched scope update.condition) rows)) ≡ false
+          → list_any (has_null columns) (map (updated_row scope update columns) (filter (is_matched scope update.pick) rows)) ≡ false
           → all_rows columns (map after_one rows) ≡ true
       updated_rows [] old null = refl
       updated_rows (row ∷ rows) old null =
           let both = and-parts (is_row columns row.values) (all_rows columns rows) old in
-          elim (cases-bool (is_matched scope update.condition row)) [
+          elim (cases-bool (is_matched scope update.pick row)) [
             | inl hit ↦
-                let here : list_any (has_null columns) (map (updated_row scope update columns) (row ∷ filter (is_matched scope update.condition) rows)) ≡ false = rw hit at null in
-                let two = or-parts (has_null columns (updated_row scope update columns row)) (list_any (has_null columns) (map (updated_row scope update columns) (filter (is_matched scope update.condition) rows))) here in
+                let here : list_any (has_null columns) (map (updated_row scope update columns) (row ∷ filter (is_matched scope update.pick) rows)) ≡ false = rw hit at null in
+                let two = or-parts (has_null columns (updated_row scope update columns row)) (list_any (has_null columns) (map (updated_row scope update columns) (filter (is_matched scope update.pick) rows))) here in
                 rw hit (and-from (is_row columns (updated_values scope update.sets columns row.values)) (all_rows columns (map after_one rows)) (updated_is_row row both.0 two.0) (updated_rows rows both.1 two.1))
             | inr miss ↦
-                let rest : list_any (has_null columns) (map (updated_row scope update columns) (filter (is_matched scope update.condition) rows)) ≡ false = rw miss at null in
+                let rest : list_any (has_null columns) (map (updated_row scope update columns) (filter (is_matched scope update.pick) rows)) ≡ false = rw miss at null in
                 rw miss (and-from (is_row columns row.values) (all_rows columns (map after_one rows)) both.0 (updated_rows rows both.1 rest))
           ]
 
       number_same : (row : TableRow) → (after_one row).number ≡ row.number
-      number_same row = elim (cases-bool (is_matched scope update.condition row)) [
+      number_same row = elim (cases-bool (is_matched scope update.pick row)) [
         | inl hit ↦ rw hit refl
         | inr miss ↦ rw miss refl
       ]
 
-      update_valid : list_any (has_null columns) (map (updated_row scope update columns) (filter (is_matched scope update.condition) t.rows)) ≡ false
+      update_valid : list_any (has_null columns) (map (updated_row scope update columns) (filter (is_matched scope update.pick) t.rows)) ≡ false
           → key_clash (after_update scope update t) ≡ None
           → is_valid_table (after_update scope update t) ≡ true
       update_valid null key = table-from (after_update scope update t) (record {
@@ -182,7 +182,7 @@ module _ (catalog : Catalog) (t : Table) (valid : is_valid_table t ≡ true) (di
     -- what an accepted UPDATE gives, over its scope
     abbrev Updates : List InScope → Type 0
     Updates scope = list_all (set_fits columns scope) update.sets ≡ true
-        → list_any (has_null columns) (map (updated_row scope update columns) (filter (is_matched scope update.condition) t.rows)) ≡ false
+        → list_any (has_null columns) (map (updated_row scope update columns) (filter (is_matched scope update.pick) t.rows)) ≡ false
         → key_clash (after_update scope update t) ≡ None
         → is_valid_table (after_update scope update t) ≡ true
 
@@ -210,8 +210,8 @@ module _ (catalog : Catalog) (t : Table) (valid : is_valid_table t ≡ true) (di
       let d = change_parts (TheUpdate update) catalog t change in
       let own : List InScope = own_scope update.table catalog in
       let clash : update_clashes update columns own ≡ false = sym (ap (λ (s : Option Schema). update_clashes update (columns_of s) own) target) ∙ c.2 in
-      let fit : (list_all (set_fits columns own) update.sets && condition_fits own update.condition) ≡ true = second_of (repeats same_text (map (λ set. set.column) update.sets)) (list_all (set_fits columns own) update.sets && condition_fits own update.condition) clash in
-      updates update target (and-parts (list_all (set_fits columns own) update.sets) (condition_fits own update.condition) fit).0 d.0 d.1
+      let fit : (list_all (set_fits columns own) update.sets && pick_fits own update.pick) ≡ true = second_of (repeats same_text (map (λ set. set.column) update.sets)) (list_all (set_fits columns own) update.sets && pick_fits own update.pick) clash in
+      updates update target (and-parts (list_all (set_fits columns own) update.sets) (pick_fits own update.pick) fit).0 d.0 d.1
   table_after-valid (TheDelete delete) target check change =
       let d = change_parts (TheDelete delete) catalog t change in
       delete_valid (own_scope delete.table catalog) delete d.1

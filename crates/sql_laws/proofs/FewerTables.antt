@@ -10,7 +10,7 @@ use Rattle.ldv_value.proofs.SameBytes.{bytes_eq-true, bytes_eq-itself}
 use Rattle.sql_laws.specs.Types.{Foreign, Kind, SqlRefusal, NoTable, NoColumn, TypeClash, Core, FromItem, Order, Statement, TheQuery, TheInsert, TheUpdate, TheDelete, Column, Table}
 use Rattle.sql_model.proofs.Equations.{table_schema, schema_found}
 use Rattle.sql_model.specs.Needs.{NeededRow, need_of, first_names, asked_names, is_asked, table_name, asked_tables}
-use Rattle.sql_model.specs.Refusals.{tables_of_core, tables_of, is_missing, doubles_source, lacks_in_scope, item_columns, answer_columns, is_order_key, kinds_in_scope, core_kinds, union_kinds, kinds_after, query_kinds, is_limit, check_refusal, insert_lacks_column, update_lacks_column, has_unresolved_name, delete_names, insert_clashes, update_clashes, condition_fits}
+use Rattle.sql_model.specs.Refusals.{tables_of_core, tables_of, is_missing, doubles_source, lacks_in_scope, item_columns, answer_columns, is_order_key, kinds_in_scope, core_kinds, union_kinds, kinds_after, query_kinds, is_limit, check_refusal, insert_lacks_column, update_lacks_column, has_unresolved_name, delete_names, insert_clashes, update_clashes, pick_fits}
 use Rattle.sql_model.specs.Scope.{InScope, same_text, is_table, table_at, catalog_of, schema_at, columns_of, scope_of, own_scope}
 use Rattle.sql_laws.specs.StatementLaw.{KeepTables, table_stays, KeepsAsked}
 use Rattle.sql_laws.proofs.ParentTables.{named_taken, parent_taken, parents_there}
@@ -234,4 +234,4 @@ module _ (tables : KeepTables) where
   check_same (TheDelete delete) db k =
       let schema : schema_at delete.table (catalog_of (fewer db)) ≡ schema_at delete.table (catalog_of db) = schema_same delete.table db k.0 in
       let scope : own_scope delete.table (catalog_of (fewer db)) ≡ own_scope delete.table (catalog_of db) = own_same delete.table db k.0 in
-      λ j. first_of ((is_none (schema j) || false) || false) (has_unresolved_name (scope j) (delete_names delete)) (not (condition_fits (scope j) delete.condition))
+      λ j. first_of ((is_none (schema j) || false) || false) (has_unresolved_name (scope j) (delete_names delete)) (not (pick_fits (scope j) delete.pick))

@@ -60,18 +60,18 @@ catalog_fewer tables (TheInsert insert) db k = record {
 catalog_fewer tables (TheUpdate update) db k =
     let scope : own_scope update.table (catalog_of (fewer tables db)) ≡ own_scope update.table (catalog_of db) = own_same tables update.table db k.0 in record {
       check = check_same tables (TheUpdate update) db k;
-      matches = λ table. λ j. matched_in (scope j) update.condition table.rows;
+      matches = λ table. λ j. matched_in (scope j) update.pick table.rows;
       changes = λ table. λ j. after_update (scope j) update table;
-      makes = λ table. λ j. map (updated_row (scope j) update table.schema.columns) (matched_in (scope j) update.condition table.rows);
-      picks = λ j row. is_matched (scope j) update.condition row;
+      makes = λ table. λ j. map (updated_row (scope j) update table.schema.columns) (matched_in (scope j) update.pick table.rows);
+      picks = λ j row. is_matched (scope j) update.pick row;
     }
 catalog_fewer tables (TheDelete delete) db k =
     let scope : own_scope delete.table (catalog_of (fewer tables db)) ≡ own_scope delete.table (catalog_of db) = own_same tables delete.table db k.0 in record {
       check = check_same tables (TheDelete delete) db k;
-      matches = λ table. λ j. matched_in (scope j) delete.condition table.rows;
+      matches = λ table. λ j. matched_in (scope j) delete.pick table.rows;
       changes = λ table. λ j. after_delete (scope j) delete table;
       makes = λ table. refl;
-      picks = λ j row. is_matched (scope j) delete.condition row;
+      picks = λ j row. is_matched (scope j) delete.pick row;
     }
 
 module _ (statement : Statement) (small whole : Catalog) (same : SameCatalog statement small whole) where

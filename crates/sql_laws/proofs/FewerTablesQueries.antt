@@ -24,7 +24,7 @@ module _ (tables : KeepTables) (db : List Table) where
 
   picked_same : (core : Core) → Agrees tables db (tables_of_core core)
       → picked core small ≡ picked core db
-  picked_same core k = λ j. filter (λ rows. meets_all core.conditions (row_environment (scope_same tables core.from db k j) rows)) (combinations_same core.from k j)
+  picked_same core k = λ j. filter (λ rows. meets_all core.picks (row_environment (scope_same tables core.from db k j) rows)) (combinations_same core.from k j)
 
   core_same : (core : Core) → Agrees tables db (tables_of_core core)
       → core_rows small core ≡ core_rows db core

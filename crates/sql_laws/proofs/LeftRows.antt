@@ -69,11 +69,11 @@ module _ (keep : Keep) (t : Table) where
 
   -- an UPDATE's rows
   abbrev updated : List InScope → Update → TableRow → TableRow
-  updated scope update row = if is_matched scope update.condition row then updated_row scope update t.schema.columns row else row
+  updated scope update row = if is_matched scope update.pick row then updated_row scope update t.schema.columns row else row
 
   number_same : (scope : List InScope) (update : Update) (row : TableRow)
       → (updated scope update row).number ≡ row.number
-  number_same scope update row = elim (cases-bool (is_matched scope update.condition row)) [
+  number_same scope update row = elim (cases-bool (is_matched scope update.pick row)) [
     | inl hit ↦ rw hit refl
     | inr miss ↦ rw miss refl
   ]
@@ -94,7 +94,7 @@ module _ (keep : Keep) (t : Table) where
     changed_safe (TheQuery query) new = stood_safe
     changed_safe (TheInsert insert) new = list_all-append safe t.rows (rows_of_insert insert t) ∙ (λ j. stood_safe j && inserted_safe insert new j)
     changed_safe (TheUpdate update) new = updated_safe (own_scope update.table catalog) update
-    changed_safe (TheDelete delete) new = list_all-filter safe (λ row. not (is_matched (own_scope delete.table catalog) delete.condition row)) t.rows stood_safe
+    changed_safe (TheDelete delete) new = list_all-filter safe (λ row. not (is_matched (own_scope delete.table catalog) delete.pick row)) t.rows stood_safe
 
     -- the table after is that after over the whole table, without the same rows
     pub changed_cut : (s : Statement) → KeepsNew
@@ -110,7 +110,7 @@ module _ (keep : Keep) (t : Table) where
         filter_mapped (stays keep t) (updated (own_scope update.table catalog) update) (λ row. ap (keep t.name) (number_same (own_scope update.table catalog) update row)) t.rows in
         (λ j. with_rows t (rows j) t.next)
     changed_cut (TheDelete delete) new =
-        let rows = filter-filter (λ row. not (is_matched (own_scope delete.table catalog) delete.condition row)) (stays keep t) t.rows in
+        let rows = filter-filter (λ row. not (is_matched (own_scope delete.table catalog) delete.pick row)) (stays keep t) t.rows in
         (λ j. with_rows t (rows j) t.next)
 
     -- ---- the rows that are matched
@@ -128,8 +128,8 @@ module _ (keep : Keep) (t : Table) where
         → matched s catalog small ≡ matched s catalog t
     matched_same (TheQuery query) k = refl
     matched_same (TheInsert insert) k = refl
-    matched_same (TheUpdate update) k = filtered_same (is_matched (own_scope update.table catalog) update.condition) k
-    matched_same (TheDelete delete) k = filtered_same (is_matched (own_scope delete.table catalog) delete.condition) k
+    matched_same (TheUpdate update) k = filtered_same (is_matched (own_scope update.table catalog) update.pick) k
+    matched_same (TheDelete delete) k = filtered_same (is_matched (own_scope delete.table catalog) delete.pick) k
 
     -- an INSERT alone is full, and it matches none
     pub matched_full : (s : Statement) → is_full s t ≡ true

@@ -87,6 +87,6 @@ module _ (keep : Keep) (t : Table) (catalog : Catalog) (new : KeepsNew keep t) (
       ∙ sym (append_lost (list_any p t.rows) (list_any p (rows_of_insert insert t)))
       ∙ sym (λ j. list_any p t.rows && not (list_any-append p t.rows (rows_of_insert insert t) j))
   lost_cut (TheUpdate update) stay key =
-      updated_lost (is_matched (own_scope update.table catalog) update.condition) stay key (updated_row (own_scope update.table catalog) update t.schema.columns)
+      updated_lost (is_matched (own_scope update.table catalog) update.pick) stay key (updated_row (own_scope update.table catalog) update t.schema.columns)
   lost_cut (TheDelete delete) stay key =
-      deleted_lost (is_matched (own_scope delete.table catalog) delete.condition) stay key
+      deleted_lost (is_matched (own_scope delete.table catalog) delete.pick) stay key

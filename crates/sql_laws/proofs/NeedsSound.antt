@@ -97,7 +97,7 @@ module _ (P : List ℕ → ℕ → Type 0) (db : List Table) (sound : (name : Li
 
   picked_good : (core : Core) → AllByRecursion (AllOf core.from) (picked core db)
   picked_good core =
-      all_filter (AllOf core.from) (λ rows. meets_all core.conditions (row_environment (scope_of core.from (catalog_of db)) rows))
+      all_filter (AllOf core.from) (λ rows. meets_all core.picks (row_environment (scope_of core.from (catalog_of db)) rows))
       (combinations core.from db) (combinations_good core.from)
 
   -- ---- groups
@@ -262,8 +262,8 @@ module _ (P : List ℕ → ℕ → Type 0) (db : List Table) (sound : (name : Li
       → AllByRecursion (λ row. P t.name row.number) (matched s catalog t)
   matched_of (TheQuery query) catalog t h = tt
   matched_of (TheInsert insert) catalog t h = tt
-  matched_of (TheUpdate update) catalog t h = all_filter (λ row. P t.name row.number) (is_matched (own_scope update.table catalog) update.condition) t.rows h
-  matched_of (TheDelete delete) catalog t h = all_filter (λ row. P t.name row.number) (is_matched (own_scope delete.table catalog) delete.condition) t.rows h
+  matched_of (TheUpdate update) catalog t h = all_filter (λ row. P t.name row.number) (is_matched (own_scope update.table catalog) update.pick) t.rows h
+  matched_of (TheDelete delete) catalog t h = all_filter (λ row. P t.name row.number) (is_matched (own_scope delete.table catalog) delete.pick) t.rows h
 
   matched_good : (s : Statement) (catalog : Catalog) (o : Option Table) → TableGood o → AllByRecursion Needed (matched_rows s catalog o)
   matched_good s catalog None h = tt

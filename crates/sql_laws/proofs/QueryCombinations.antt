@@ -101,7 +101,7 @@ module _ (keep : Keep) where
       ∙ product_cut item from (combinations from db) (rows_of (table_at item.table db))
 
   abbrev picks : Core → List InScope → Combination → Bool
-  picks core scope rows = meets_all core.conditions (row_environment scope rows)
+  picks core scope rows = meets_all core.picks (row_environment scope rows)
 
   pub picked_cut : (core : Core) (db : List Table)
       → picked core (cut_tables keep db) ≡ filter (kept_combination core.from) (picked core db)

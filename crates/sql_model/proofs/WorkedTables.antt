@@ -47,11 +47,11 @@ abbrev pub source : List ℕ → List ℕ → FromItem
 source table name = record { table = table; name = name }
 
 abbrev pub core_of : List Item → List FromItem → List Expr → List ColumnName → Option Expr → Core
-core_of items from conditions group having = record { joined_all = false; distinct = false; items = Some items; from = from; conditions = conditions; group = group; having = having }
+core_of items from picks group having = record { joined_all = false; distinct = false; items = Some items; from = from; picks = picks; group = group; having = having }
 
 -- SELECT items FROM from [WHERE]
 abbrev pub selected : List Item → List FromItem → List Expr → Core
-selected items from conditions = core_of items from conditions [] None
+selected items from picks = core_of items from picks [] None
 
 abbrev pub query_of : List Core → Statement
 query_of cores = TheQuery (record { cores = cores; order = []; limit = None })

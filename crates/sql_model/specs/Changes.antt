@@ -15,11 +15,11 @@ use Rattle.sql_model.specs.Meaning.{Environment, eval, is_null, or_null}
 -- ---- rows that match
 
 abbrev pub is_matched : List InScope → Option Expr → TableRow → Bool
-is_matched scope condition row = meets_all (option_to_list condition) (environment scope row.values)
+is_matched scope pick row = meets_all (option_to_list pick) (environment scope row.values)
 
 -- WHERE is True, or missing
 abbrev pub matched_in : List InScope → Option Expr → List TableRow → List TableRow
-matched_in scope condition rows = filter (is_matched scope condition) rows
+matched_in scope pick rows = filter (is_matched scope pick) rows
 
 -- ---- INSERT
 
@@ -75,7 +75,7 @@ updated_row scope update columns row =
 -- a row that doesn't match stays as it is
 abbrev pub update_one : List InScope → Update → List Column → TableRow → TableRow
 update_one scope update columns row =
-    if is_matched scope update.condition row then updated_row scope update columns row else row
+    if is_matched scope update.pick row then updated_row scope update columns row else row
 
 -- ---- the table after
 
@@ -92,7 +92,7 @@ after_update scope update table =
 
 abbrev pub after_delete : List InScope → Delete → Table → Table
 after_delete scope delete table =
-    with_rows table (filter (λ row. not (is_matched scope delete.condition row)) table.rows) table.next
+    with_rows table (filter (λ row. not (is_matched scope delete.pick row)) table.rows) table.next
 
 abbrev pub table_after : Statement → Catalog → Table → Table
 table_after (TheQuery query) catalog table = table
@@ -122,10 +122,8 @@ changed_in (Some name) statement catalog db =
 abbrev pub matched : Statement → Catalog → Table → List TableRow
 matched (TheQuery query) catalog table = []
 matched (TheInsert insert) catalog table = []
-matched (TheUpdate update) catalog table =
-    matched_in (own_scope update.table catalog) update.condition table.rows
-matched (TheDelete delete) catalog table =
-    matched_in (own_scope delete.table catalog) delete.condition table.rows
+matched (TheUpdate update) catalog table = matched_in (own_scope update.table catalog) update.pick table.rows
+matched (TheDelete delete) catalog table = matched_in (own_scope delete.table catalog) delete.pick table.rows
 
 -- those that are inserted or matched, as they are after it
 abbrev pub new_rows : Statement → Catalog → Table → List TableRow

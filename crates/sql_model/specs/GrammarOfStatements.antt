@@ -99,12 +99,12 @@ abbrev pub JoinedSource : Type 0
 JoinedSource = FromItem × Option Expr
 
 abbrev pub IsConditioned : FromItem → Expr → List Token → Type 0
-IsConditioned source condition ts = Then (IsSource source) (After "on" (IsExpression condition)) ts
+IsConditioned source pick ts = Then (IsSource source) (After "on" (IsExpression pick)) ts
 
 abbrev pub IsJoinedBy : FromItem → Option Expr → List Token → Type 0
 IsJoinedBy source None ts = After "," (IsSource source) ts
-IsJoinedBy source (Some condition) ts = After "join" (IsConditioned source condition) ts
-    ⊎ After "inner" (After "join" (IsConditioned source condition)) ts
+IsJoinedBy source (Some pick) ts = After "join" (IsConditioned source pick) ts
+    ⊎ After "inner" (After "join" (IsConditioned source pick)) ts
 
 abbrev pub IsJoined : JoinedSource → List Token → Type 0
 IsJoined joined ts = IsJoinedBy joined.0 joined.1 ts
@@ -113,16 +113,15 @@ abbrev pub source_of : JoinedSource → FromItem
 source_of joined = joined.0
 
 -- the conditions after ON, in the order of the text
-abbrev pub joined_conditions : List JoinedSource → List Expr
-joined_conditions [] = []
-joined_conditions (joined ∷ more) = option_to_list joined.1 ++ joined_conditions more
+abbrev pub conditions : List JoinedSource → List Expr
+conditions [] = []
+conditions (joined ∷ more) = option_to_list joined.1 ++ conditions more
 
 -- a core has at most max_sources sources
 abbrev pub AreSources : List FromItem → List Expr → List Token → Type 0
-AreSources from conditions ts = (first : FromItem) × (more : List JoinedSource)
+AreSources from picks ts = (first : FromItem) × (more : List JoinedSource)
     × Then (IsSource first) (IsRepetition IsJoined more) ts
-    × (from ≡ first ∷ map source_of more) × (conditions ≡ joined_conditions more)
-    × (length from ≤ max_sources)
+    × (from ≡ first ∷ map source_of more) × (picks ≡ conditions more) × (length from ≤ max_sources)
 
 -- GROUP BY and columns, or nothing
 abbrev pub IsColumnAt : ColumnName → List Token → Type 0
@@ -134,14 +133,13 @@ IsGroup (column ∷ columns) ts = After "group" (After "by" (IsCommaList IsColum
 
 -- What stands after the sources. The conditions of a core are those after ON and the one after WHERE.
 abbrev pub IsCoreEnd : Core → Option Expr → List Token → Type 0
-IsCoreEnd core condition ts =
-    Then (Optionally "where" IsExpression condition)
-    (Then (IsGroup core.group) (Optionally "having" IsExpression core.having)) ts
+IsCoreEnd core pick ts =
+    Then (Optionally "where" IsExpression pick) (Then (IsGroup core.group) (Optionally "having" IsExpression
+    core.having)) ts
 
 abbrev pub IsCoreRest : Core → List Token → Type 0
-IsCoreRest core ts = (conditions : List Expr) × (condition : Option Expr)
-    × (core.conditions ≡ conditions ++ option_to_list condition)
-    × Then (AreSources core.from conditions) (IsCoreEnd core condition) ts
+IsCoreRest core ts = (picks : List Expr) × (pick : Option Expr) × (core.picks ≡ picks ++ option_to_list pick)
+    × Then (AreSources core.from picks) (IsCoreEnd core pick) ts
 
 abbrev pub IsCore : Core → List Token → Type 0
 IsCore core ts =
@@ -207,12 +205,12 @@ IsSet set ts = Then (IsNameToken set.column) (After "=" (IsExpression set.expr))
 abbrev pub IsUpdate : Update → List Token → Type 0
 IsUpdate update ts =
     After "update" (Then (IsNameToken update.table) (After "set" (Then (IsCommaList IsSet update.sets)
-    (Optionally "where" IsExpression update.condition)))) ts
+    (Optionally "where" IsExpression update.pick)))) ts
 
 abbrev pub IsDelete : Delete → List Token → Type 0
 IsDelete delete ts =
     After "delete" (After "from"
-    (Then (IsNameToken delete.table) (Optionally "where" IsExpression delete.condition))) ts
+    (Then (IsNameToken delete.table) (Optionally "where" IsExpression delete.pick))) ts
 
 -- STATEMENTS
 

@@ -63,14 +63,13 @@ reads_source ts = reads_name ts >>= λ t. second_name t.0 t.1
 -- one more source, after a comma
 abbrev pub plain_source : Sources → List Token → Option ((Sources × Bool) × List Token)
 plain_source made ts =
-    reads_source ts >>= λ s.
-    Some ((record { from = made.from ++ s.0 ∷ []; conditions = made.conditions }, true), s.1)
+    reads_source ts >>= λ s. Some ((record { from = made.from ++ s.0 ∷ []; picks = made.picks }, true), s.1)
 
 -- one more source with its condition, after JOIN
 abbrev pub joined_source : Sources → List Token → Option ((Sources × Bool) × List Token)
 joined_source made ts = reads_source ts >>= λ s. after_word (codes "on") s.1 >>= λ rest. reads_expr rest
     >>= λ e.
-    Some ((record { from = made.from ++ s.0 ∷ []; conditions = made.conditions ++ e.0 ∷ [] }, true), e.1)
+    Some ((record { from = made.from ++ s.0 ∷ []; picks = made.picks ++ e.0 ∷ [] }, true), e.1)
 
 abbrev pub another_source : Sources → List Token → Option ((Sources × Bool) × List Token)
 another_source made ts =
@@ -83,7 +82,7 @@ another_source made ts =
 -- at most `most` sources
 abbrev pub reads_sources : ℕ → List Token → Option (Sources × List Token)
 reads_sources most ts =
-    reads_source ts >>= λ s. repeat another_source most (record { from = s.0 ∷ []; conditions = [] }) s.1
+    reads_source ts >>= λ s. repeat another_source most (record { from = s.0 ∷ []; picks = [] }) s.1
 
 -- CORES
 
@@ -94,12 +93,12 @@ reads_group ts = if starts (codes "group") ts
 -- a core of its parts: the conditions are those after ON, and then the one after WHERE
 abbrev pub core_with : Bool → Bool → Option (List Item) → Sources → Option Expr → List ColumnName
     → Option Expr → Core
-core_with all distinct items sources condition group having = record {
+core_with all distinct items sources pick group having = record {
   joined_all = all;
   distinct = distinct;
   items = items;
   from = sources.from;
-  conditions = sources.conditions ++ option_to_list condition;
+  picks = sources.picks ++ option_to_list pick;
   group = group;
   having = having;
 }

@@ -60,7 +60,7 @@ combination_rows (item ∷ from) [] = []
 combination_rows (item ∷ from) (row ∷ rows) = origin item row ∷ combination_rows from rows
 
 abbrev pub meets_all : List Expr → Environment → Bool
-meets_all conditions env = list_all (λ e. is_true (truth e env)) conditions
+meets_all picks env = list_all (λ e. is_true (truth e env)) picks
 
 abbrev pub row_environment : List InScope → Combination → Environment
 row_environment scope rows = environment scope (joined_values rows)
@@ -68,7 +68,7 @@ row_environment scope rows = environment scope (joined_values rows)
 -- those for which each ON condition and WHERE are True over the whole joined row
 abbrev pub picked : Core → List Table → List Combination
 picked core db =
-    filter (λ rows. meets_all core.conditions (row_environment (scope_of core.from (catalog_of db)) rows))
+    filter (λ rows. meets_all core.picks (row_environment (scope_of core.from (catalog_of db)) rows))
     (combinations core.from db)
 
 -- ---- rows of the same values; NULL is the same as NULL

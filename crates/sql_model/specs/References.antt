@@ -152,8 +152,8 @@ first_missing_parent statement catalog table db = first_in
 abbrev pub is_changed : Statement → Catalog → TableRow → Bool
 is_changed (TheQuery query) catalog row = false
 is_changed (TheInsert insert) catalog row = false
-is_changed (TheUpdate update) catalog row = is_matched (own_scope update.table catalog) update.condition row
-is_changed (TheDelete delete) catalog row = is_matched (own_scope delete.table catalog) delete.condition row
+is_changed (TheUpdate update) catalog row = is_matched (own_scope update.table catalog) update.pick row
+is_changed (TheDelete delete) catalog row = is_matched (own_scope delete.table catalog) delete.pick row
 
 -- the first other row that loses its parent
 abbrev pub first_orphan : Statement → Catalog → Table → List Table → Option Orphan

@@ -51,15 +51,15 @@ names_of_items items = flat_map (λ item. names_in item.expr) items
 abbrev pub core_names : Core → List ColumnName
 core_names core =
     names_of_items (items_of core)
-    ++ (flat_map names_in core.conditions ++ (core.group ++ flat_map names_in (option_to_list core.having)))
+    ++ (flat_map names_in core.picks ++ (core.group ++ flat_map names_in (option_to_list core.having)))
 
 -- those of an UPDATE or DELETE
 abbrev pub update_names : Update → List ColumnName
 update_names update =
-    flat_map (λ set. names_in set.expr) update.sets ++ flat_map names_in (option_to_list update.condition)
+    flat_map (λ set. names_in set.expr) update.sets ++ flat_map names_in (option_to_list update.pick)
 
 abbrev pub delete_names : Delete → List ColumnName
-delete_names delete = flat_map names_in (option_to_list delete.condition)
+delete_names delete = flat_map names_in (option_to_list delete.pick)
 
 abbrev pub insert_names : Insert → List ColumnName
 insert_names insert = flat_map (flat_map names_in) insert.rows
@@ -158,8 +158,8 @@ lacks_column (TheDelete delete) catalog = has_unresolved_name
 
 -- ---- code 4
 
-abbrev pub is_row_condition : List InScope → Expr → Bool
-is_row_condition scope expr = is_condition (row_kind scope expr)
+abbrev pub is_pick : List InScope → Expr → Bool
+is_pick scope expr = is_condition (row_kind scope expr)
 
 abbrev pub is_having : List InScope → Expr → Bool
 is_having scope expr = is_condition (group_kind scope expr)
@@ -177,7 +177,7 @@ counts_joined core =
 
 abbrev pub conditions_fit : List InScope → Core → Bool
 conditions_fit scope core =
-    list_all (is_row_condition scope) core.conditions
+    list_all (is_pick scope) core.picks
     && (list_all (is_having scope) (option_to_list core.having) && not (counts_joined core))
 
 -- of a value that is in an answer, stored or inserted
@@ -278,20 +278,20 @@ takes_set (Some column) k = takes column k
 abbrev pub set_fits : List Column → List InScope → Set → Bool
 set_fits columns scope set = takes_set (find (is_column set.column) columns) (row_kind scope set.expr)
 
-abbrev pub condition_fits : List InScope → Option Expr → Bool
-condition_fits scope condition = list_all (is_row_condition scope) (option_to_list condition)
+abbrev pub pick_fits : List InScope → Option Expr → Bool
+pick_fits scope pick = list_all (is_pick scope) (option_to_list pick)
 
 abbrev pub update_clashes : Update → List Column → List InScope → Bool
 update_clashes update columns scope =
     repeats same_text (map (λ set. set.column) update.sets)
-    || not (list_all (set_fits columns scope) update.sets && condition_fits scope update.condition)
+    || not (list_all (set_fits columns scope) update.sets && pick_fits scope update.pick)
 
 abbrev pub clashes : Statement → Catalog → Bool
 clashes (TheQuery query) catalog = query_clashes query catalog
 clashes (TheInsert insert) catalog = insert_clashes insert (columns_of (schema_at insert.table catalog))
 clashes (TheUpdate update) catalog =
     update_clashes update (columns_of (schema_at update.table catalog)) (own_scope update.table catalog)
-clashes (TheDelete delete) catalog = not (condition_fits (own_scope delete.table catalog) delete.condition)
+clashes (TheDelete delete) catalog = not (pick_fits (own_scope delete.table catalog) delete.pick)
 
 -- ---- the first of the three
 

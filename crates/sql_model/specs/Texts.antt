@@ -37,11 +37,11 @@ reads_set ts = reads_name ts >>= λ n. after_word (codes "=") n.1 >>= λ rest. r
 abbrev pub reads_update : List Token → Option (Update × List Token)
 reads_update ts = reads_name ts >>= λ t. after_word (codes "set") t.1 >>= λ rest. list_of_parts reads_set rest
     >>= λ s. reads_optional (codes "where") s.1 >>= λ w.
-    Some (record { table = t.0; sets = s.0; condition = w.0 }, w.1)
+    Some (record { table = t.0; sets = s.0; pick = w.0 }, w.1)
 
 abbrev pub reads_delete : List Token → Option (Delete × List Token)
 reads_delete ts = after_word (codes "from") ts >>= λ rest. reads_name rest
-    >>= λ t. reads_optional (codes "where") t.1 >>= λ w. Some (record { table = t.0; condition = w.0 }, w.1)
+    >>= λ t. reads_optional (codes "where") t.1 >>= λ w. Some (record { table = t.0; pick = w.0 }, w.1)
 
 abbrev pub reads_statement : List Token → Option (Statement × List Token)
 reads_statement ts =

@@ -75,5 +75,5 @@ pub struct Sources {
     /// The sources, from left to right.
     pub from: FromItems,
     /// The conditions of ON, from left to right.
-    pub conditions: Exprs,
+    pub picks: Exprs,
 }

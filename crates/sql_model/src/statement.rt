@@ -39,7 +39,7 @@ pub struct Core {
     pub items: Option<Items>,
     pub from: FromItems,
     /// The ON conditions and then WHERE, in the order of the text.
-    pub conditions: Exprs,
+    pub picks: Exprs,
     /// The columns of GROUP BY.
     pub group: ColumnNames,
     /// The condition of HAVING.
@@ -102,7 +102,7 @@ pub struct Update {
     pub table: Utf8,
     pub sets: Sets,
     /// The condition of WHERE.
-    pub condition: Option<Expr>,
+    pub pick: Option<Expr>,
 }
 
 /// A column that UPDATE sets, and its new value.
@@ -117,7 +117,7 @@ pub struct Set {
 pub struct Delete {
     pub table: Utf8,
     /// The condition of WHERE.
-    pub condition: Option<Expr>,
+    pub pick: Option<Expr>,
 }
 
 /// Cores.
@@ -195,7 +195,7 @@ impl CopyItem for Core {
             distinct: self.distinct,
             items: copy_items(&self.items)?,
             from: self.from.copy()?,
-            conditions: self.conditions.copy()?,
+            picks: self.picks.copy()?,
             group: self.group.copy()?,
             having: copy_expr(alloc, &self.having)?,
         })
@@ -262,7 +262,7 @@ impl CopyItem for Update {
         Ok(Update {
             table: self.table.copy()?,
             sets: self.sets.copy()?,
-            condition: copy_expr(alloc, &self.condition)?,
+            pick: copy_expr(alloc, &self.pick)?,
         })
     }
 }
@@ -271,7 +271,7 @@ impl CopyItem for Delete {
     fn copy_item(&self, alloc: Global) -> Result<Self, AllocError> {
         Ok(Delete {
             table: self.table.copy()?,
-            condition: copy_expr(alloc, &self.condition)?,
+            pick: copy_expr(alloc, &self.pick)?,
         })
     }
 }

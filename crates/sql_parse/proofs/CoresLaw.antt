@@ -38,7 +38,7 @@ group_law = clause_law "group" "by" IsColumnAt after_group IsGroup (λ ts. (λ e
 -- ---- what stands after the sources
 
 abbrev ends_core : Bool → Bool → Option (List Item) → Sources → Option Expr → List ColumnName → Option Expr → Core
-ends_core all distinct items sources w g h = record { joined_all = all; distinct = distinct; items = items; from = sources.from; conditions = sources.conditions ++ option_to_list w; group = g; having = h }
+ends_core all distinct items sources w g h = record { joined_all = all; distinct = distinct; items = items; from = sources.from; picks = sources.picks ++ option_to_list w; group = g; having = h }
 
 abbrev HavingForm : Core → (Option Expr → Core) → List Token → Type 0
 HavingForm core make ts = (h : Option Expr) × (core ≡ make h) × Optionally "having" IsExpression h ts
@@ -93,15 +93,15 @@ abbrev IsCoreOf : Bool → Core → List Token → Type 0
 IsCoreOf all core ts = (core.joined_all ≡ all) × IsCore core ts
 
 core_to : (all : Bool) (core : Core) (ts : List Token) → CoreForm all core ts → IsCoreOf all core ts
-core_to all core ts (more, e, (d, (f1, b1, e1, flag, (i, (f2, b2, e2, items, (m3, e3, (s, (f4, b4, e4, sources, (w, (f5, b5, e5, condition, (g, (f6, b6, e6, group, (h, made, having))))))))))))) =
+core_to all core ts (more, e, (d, (f1, b1, e1, flag, (i, (f2, b2, e2, items, (m3, e3, (s, (f4, b4, e4, sources, (w, (f5, b5, e5, pick, (g, (f6, b6, e6, group, (h, made, having))))))))))))) =
     subst (λ (c : Core). IsCoreOf all c ts) (sym made)
-    (refl, (more, e, (f1, b1, e1, flag, (f2, b2, e2, items, (m3, e3, (s.conditions, w, refl, (f4, b4, e4, sources, (f5, b5, e5, condition, (f6, b6, e6, group, having)))))))))
+    (refl, (more, e, (f1, b1, e1, flag, (f2, b2, e2, items, (m3, e3, (s.picks, w, refl, (f4, b4, e4, sources, (f5, b5, e5, pick, (f6, b6, e6, group, having)))))))))
 
 core_from : (all : Bool) (core : Core) (ts : List Token) → IsCoreOf all core ts → CoreForm all core ts
-core_from all core ts (joined, (more, e, (f1, b1, e1, flag, (f2, b2, e2, items, (m3, e3, (conditions, w, is, (f4, b4, e4, sources, (f5, b5, e5, condition, (f6, b6, e6, group, having))))))))) =
-    let made : core ≡ ends_core all core.distinct core.items (record { from = core.from; conditions = conditions }) w core.group core.having =
-    ap (λ (b : Bool). record core { joined_all = b }) joined ∙ ap (λ (l : List Expr). record core { joined_all = all; conditions = l }) is in
-    (more, e, (core.distinct, (f1, b1, e1, flag, (core.items, (f2, b2, e2, items, (m3, e3, (record { from = core.from; conditions = conditions }, (f4, b4, e4, sources, (w, (f5, b5, e5, condition, (core.group, (f6, b6, e6, group, (core.having, made, having)))))))))))))
+core_from all core ts (joined, (more, e, (f1, b1, e1, flag, (f2, b2, e2, items, (m3, e3, (picks, w, is, (f4, b4, e4, sources, (f5, b5, e5, pick, (f6, b6, e6, group, having))))))))) =
+    let made : core ≡ ends_core all core.distinct core.items (record { from = core.from; picks = picks }) w core.group core.having =
+    ap (λ (b : Bool). record core { joined_all = b }) joined ∙ ap (λ (l : List Expr). record core { joined_all = all; picks = l }) is in
+    (more, e, (core.distinct, (f1, b1, e1, flag, (core.items, (f2, b2, e2, items, (m3, e3, (record { from = core.from; picks = picks }, (f4, b4, e4, sources, (w, (f5, b5, e5, pick, (core.group, (f6, b6, e6, group, (core.having, made, having)))))))))))))
 
 core_law : (all : Bool) → Law (IsCoreOf all) after_core (reads_core all)
 core_law all =

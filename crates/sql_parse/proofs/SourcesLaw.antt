@@ -12,7 +12,7 @@ use Rattle.sql_model.specs.declared.token.Token.{Token}
 use Rattle.sql_model.specs.declared.token.Token.TheVariants.{Word}
 use Rattle.ldv_value.specs.Options.{◌>>=◌}
 use Rattle.sql_model.specs.Grammar.{word, IsName}
-use Rattle.sql_model.specs.GrammarOfStatements.{Then, After, IsNameToken, IsExpression, IsSecondName, IsSource, JoinedSource, IsConditioned, IsJoinedBy, IsJoined, source_of, joined_conditions, AreSources}
+use Rattle.sql_model.specs.GrammarOfStatements.{Then, After, IsNameToken, IsExpression, IsSecondName, IsSource, JoinedSource, IsConditioned, IsJoinedBy, IsJoined, source_of, conditions, AreSources}
 use Rattle.sql_model.specs.Queries.{names, second_name, reads_source, plain_source, joined_source, another_source, reads_sources}
 use Rattle.sql_model.specs.Reader.{starts, tail, after_word, reads_name, repeat}
 use Rattle.sql_parse.proofs.Choices.{choose}
@@ -103,10 +103,10 @@ source_law =
 -- ---- a further source
 
 abbrev pub with_plain : Sources → FromItem → Sources
-with_plain made s = record { from = made.from ++ s ∷ []; conditions = made.conditions }
+with_plain made s = record { from = made.from ++ s ∷ []; picks = made.picks }
 
 abbrev pub with_joined : Sources → FromItem → Expr → Sources
-with_joined made s e = record { from = made.from ++ s ∷ []; conditions = made.conditions ++ e ∷ [] }
+with_joined made s e = record { from = made.from ++ s ∷ []; picks = made.picks ++ e ∷ [] }
 
 abbrev pub with_source : Sources → FromItem → Option Expr → Sources
 with_source made s None = with_plain made s
@@ -142,9 +142,9 @@ joined_made made ts after r h form =
     joined_is : (made : Sources) (ts after : List Token) (r : Going × List Token)
         → ((front : List Token) → after ≡ front ++ r.1 → (s : FromItem) (e : Expr) → IsConditioned s e front → (whole : List Token) × (ts ≡ whole ++ r.1) × IsJoinedBy s (Some e) whole)
         → (front : List Token) → after ≡ front ++ r.1 → (s : FromItem) → Then (IsSource s) (λ ts. After "on" (λ ts. (e : Expr) × (r.0 ≡ (with_joined made s e, true)) × IsExpression e ts) ts) front → MoreSources made ts r
-    joined_is made ts after r form front cut s (one, back, e, source, (more, on, (condition, is, expr))) =
-        let w = form front cut s condition (one, back, e, source, (more, on, expr)) in
-        inl (ap (λ (p : Going). p.1) is, ((s, Some condition), w.0, w.1, w.2, ap (λ (p : Going). p.0) is))
+    joined_is made ts after r form front cut s (one, back, e, source, (more, on, (pick, is, expr))) =
+        let w = form front cut s pick (one, back, e, source, (more, on, expr)) in
+        inl (ap (λ (p : Going). p.1) is, ((s, Some pick), w.0, w.1, w.2, ap (λ (p : Going). p.0) is))
 
 plain_made : (made : Sources) (ts : List Token) (r : Going × List Token) → starts comma ts ≡ true → plain_source made (tail ts) ≡ Some r → MoreSources made ts r
 plain_made made ts r is h =
@@ -177,10 +177,10 @@ source_goes : (made : Sources) (s : FromItem) (o : Option Expr) (front rest : Li
 source_goes made s None front rest (more, e, form) ends =
     let wide : ends_by after_names rest ≡ true = wider rest ends in
     ap (λ (l : List Token). another_source made (l ++ rest)) e ∙ (plain_law made).complete more rest (with_plain made s, true) (s, refl, form) wide
-source_goes made s (Some condition) front rest (inl (more, e, form)) ends =
-    ap (λ (l : List Token). another_source made (l ++ rest)) e ∙ conditioned_goes made s condition more rest form ends
-source_goes made s (Some condition) front rest (inr (more, e, (after, join, form))) ends =
-    ap (λ (l : List Token). another_source made (l ++ rest)) (e ∙ ap (λ (l : List Token). word "inner" ∷ l) join) ∙ conditioned_goes made s condition after rest form ends
+source_goes made s (Some pick) front rest (inl (more, e, form)) ends =
+    ap (λ (l : List Token). another_source made (l ++ rest)) e ∙ conditioned_goes made s pick more rest form ends
+source_goes made s (Some pick) front rest (inr (more, e, (after, join, form))) ends =
+    ap (λ (l : List Token). another_source made (l ++ rest)) (e ∙ ap (λ (l : List Token). word "inner" ∷ l) join) ∙ conditioned_goes made s pick after rest form ends
 
 source_stops : (made : Sources) (rest : List Token) → ends_by after_sources rest ≡ true → another_source made rest ≡ Some ((made, false), rest)
 source_stops made rest ends =
@@ -193,8 +193,8 @@ source_stops made rest ends =
 
 source_begins : (s : FromItem) (o : Option Expr) (ts rest : List Token) → IsJoinedBy s o ts → ends_by after_source (ts ++ rest) ≡ true
 source_begins s None ts rest (more, e, form) = ap (λ (l : List Token). ends_by after_source (l ++ rest)) e
-source_begins s (Some condition) ts rest (inl (more, e, form)) = ap (λ (l : List Token). ends_by after_source (l ++ rest)) e
-source_begins s (Some condition) ts rest (inr (more, e, form)) = ap (λ (l : List Token). ends_by after_source (l ++ rest)) e
+source_begins s (Some pick) ts rest (inl (more, e, form)) = ap (λ (l : List Token). ends_by after_source (l ++ rest)) e
+source_begins s (Some pick) ts rest (inr (more, e, form)) = ap (λ (l : List Token). ends_by after_source (l ++ rest)) e
 
 source_step : StepLaw add_source IsJoined after_sources after_source another_source
 source_step = record {
@@ -208,35 +208,35 @@ source_step = record {
 -- ---- all of them
 
 abbrev pub with_more : Sources → List JoinedSource → Sources
-with_more made js = record { from = made.from ++ map source_of js; conditions = made.conditions ++ joined_conditions js }
+with_more made js = record { from = made.from ++ map source_of js; picks = made.picks ++ conditions js }
 
 abbrev sources : List FromItem → List Expr → Sources
-sources from conditions = record { from = from; conditions = conditions }
+sources from picks = record { from = from; picks = picks }
 
 sources_same : (a b : List FromItem) (p q : List Expr) → a ≡ b → p ≡ q → sources a p ≡ sources b q
 sources_same a b p q e f = ap (λ (l : List FromItem). sources l p) e ∙ ap (λ (l : List Expr). sources b l) f
 
 added_sources : (js : List JoinedSource) (made : Sources) → added add_source made js ≡ with_more made js
-added_sources [] made = sources_same _ _ _ _ (sym (append-nil made.from)) (sym (append-nil made.conditions))
+added_sources [] made = sources_same _ _ _ _ (sym (append-nil made.from)) (sym (append-nil made.picks))
 added_sources ((s, None) ∷ js) made = added_sources js (with_plain made s) ∙ sources_same _ _ _ _ (append_assoc made.from (s ∷ []) (map source_of js)) refl
-added_sources ((s, Some e) ∷ js) made = added_sources js (with_joined made s e) ∙ sources_same _ _ _ _ (append_assoc made.from (s ∷ []) (map source_of js)) (append_assoc made.conditions (e ∷ []) (joined_conditions js))
+added_sources ((s, Some e) ∷ js) made = added_sources js (with_joined made s e) ∙ sources_same _ _ _ _ (append_assoc made.from (s ∷ []) (map source_of js)) (append_assoc made.picks (e ∷ []) (conditions js))
 
 abbrev first_sources : FromItem → Sources
-first_sources s = record { from = s ∷ []; conditions = [] }
+first_sources s = record { from = s ∷ []; picks = [] }
 
 abbrev from_first : FromItem × List Token → Option (Sources × List Token)
 from_first r = repeat another_source 8 (first_sources r.0) r.1
 
 abbrev pub SourcesForm : Sources → List Token → Type 0
-SourcesForm s ts = AreSources s.from s.conditions ts
+SourcesForm s ts = AreSources s.from s.picks ts
 
 sources_complete : (front rest : List Token) (x : Sources) → SourcesForm x front → ends_by after_sources rest ≡ true → reads_sources 8 (front ++ rest) ≡ Some (x, rest)
-sources_complete front rest x (first, more, (one, back, e, source, others), from, conditions, short) ends =
+sources_complete front rest x (first, more, (one, back, e, source, others), from, picks, short) ends =
     let fits : length more < 8 = omega (arith, short, ap length from, length-map more source_of) in
     let follow : ends_by after_names (back ++ rest) ≡ true = wider (back ++ rest) (follows_repeated IsJoined after_sources after_source more refl source_step.begins back rest others ends) in
     let read_first : reads_source (front ++ rest) ≡ Some (first, back ++ rest) =
     ap (λ (l : List Token). reads_source (l ++ rest)) e ∙ ap reads_source (append_assoc one back rest) ∙ source_law.complete one (back ++ rest) first source follow in
-    let all : added add_source (first_sources first) more ≡ x = added_sources more (first_sources first) ∙ sources_same _ _ _ _ (sym from) (sym conditions) in
+    let all : added add_source (first_sources first) more ≡ x = added_sources more (first_sources first) ∙ sources_same _ _ _ _ (sym from) (sym picks) in
     ap (λ (o : Option (FromItem × List Token)). o >>= λ r. from_first r) read_first
     ∙ repeat_complete add_source IsJoined after_sources after_source another_source source_step more 8 (first_sources first) back rest others fits ends
     ∙ ap (λ (s : Sources). Some (s, rest)) all

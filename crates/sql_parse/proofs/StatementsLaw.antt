@@ -91,53 +91,53 @@ set_filled s ts form = then_filled ts (named_filled s.column) form
 where_law : Law (λ o ts. Optionally "where" IsExpression o ts) after_all (reads_optional (codes "where"))
 where_law = optional_law "where" (expr_law after_all refl refl) refl
 
-abbrev ConditionForm : List ℕ → List Set → Update → List Token → Type 0
-ConditionForm t s u ts = (w : Option Expr) × (u ≡ record { table = t; sets = s; condition = w }) × Optionally "where" IsExpression w ts
+abbrev PickForm : List ℕ → List Set → Update → List Token → Type 0
+PickForm t s u ts = (w : Option Expr) × (u ≡ record { table = t; sets = s; pick = w }) × Optionally "where" IsExpression w ts
 
 abbrev SetsForm : List ℕ → Update → List Token → Type 0
-SetsForm t u ts = (s : List Set) × Then (IsCommaList IsSet s) (λ ts. ConditionForm t s u ts) ts
+SetsForm t u ts = (s : List Set) × Then (IsCommaList IsSet s) (λ ts. PickForm t s u ts) ts
 
 abbrev UpdateForm : Update → List Token → Type 0
 UpdateForm u ts = (t : List ℕ) × Then (IsNameToken t) (λ ts. After "set" (λ ts. SetsForm t u ts) ts) ts
 
 abbrev UpdateRest : Update → List Token → Type 0
-UpdateRest u ts = Then (IsNameToken u.table) (After "set" (Then (IsCommaList IsSet u.sets) (Optionally "where" IsExpression u.condition))) ts
+UpdateRest u ts = Then (IsNameToken u.table) (After "set" (Then (IsCommaList IsSet u.sets) (Optionally "where" IsExpression u.pick))) ts
 
 update_to : (u : Update) (ts : List Token) → UpdateForm u ts → UpdateRest u ts
-update_to u ts (t, (f1, b1, e1, named, (more, e, (s, (f2, b2, e2, sets, (w, made, condition)))))) =
-    subst (λ (v : Update). UpdateRest v ts) (sym made) (f1, b1, e1, named, (more, e, (f2, b2, e2, sets, condition)))
+update_to u ts (t, (f1, b1, e1, named, (more, e, (s, (f2, b2, e2, sets, (w, made, pick)))))) =
+    subst (λ (v : Update). UpdateRest v ts) (sym made) (f1, b1, e1, named, (more, e, (f2, b2, e2, sets, pick)))
 
 update_from : (u : Update) (ts : List Token) → UpdateRest u ts → UpdateForm u ts
-update_from u ts (f1, b1, e1, named, (more, e, (f2, b2, e2, sets, condition))) = (u.table, (f1, b1, e1, named, (more, e, (u.sets, (f2, b2, e2, sets, (u.condition, refl, condition))))))
+update_from u ts (f1, b1, e1, named, (more, e, (f2, b2, e2, sets, pick))) = (u.table, (f1, b1, e1, named, (more, e, (u.sets, (f2, b2, e2, sets, (u.pick, refl, pick))))))
 
-follows_condition : (t : List ℕ) (s : List Set) (u : Update) → Follows (ConditionForm t s u) after_all after_sets
-follows_condition t s u ts rest form h = follows_optional IsExpression "where" after_all after_sets form.0 refl refl ts rest form.2 h
+follows_pick : (t : List ℕ) (s : List Set) (u : Update) → Follows (PickForm t s u) after_all after_sets
+follows_pick t s u ts rest form h = follows_optional IsExpression "where" after_all after_sets form.0 refl refl ts rest form.2 h
 
 update_law : Law UpdateRest after_all reads_update
 update_law =
     state_law UpdateForm UpdateRest after_all reads_update
     (named_law (λ t. after_law "set" (then_law (listed_law after_sets set_law set_filled refl refl)
-    (λ s. made_law (λ (w : Option Expr). record { table = t; sets = s; condition = w }) where_law) (λ s u. follows_condition t s u))))
+    (λ s. made_law (λ (w : Option Expr). record { table = t; sets = s; pick = w }) where_law) (λ s u. follows_pick t s u))))
     update_to update_from
 
 -- ---- DELETE
 
 abbrev DeleteForm : Delete → List Token → Type 0
-DeleteForm d ts = After "from" (λ ts. (t : List ℕ) × Then (IsNameToken t) (λ ts. (w : Option Expr) × (d ≡ record { table = t; condition = w }) × Optionally "where" IsExpression w ts) ts) ts
+DeleteForm d ts = After "from" (λ ts. (t : List ℕ) × Then (IsNameToken t) (λ ts. (w : Option Expr) × (d ≡ record { table = t; pick = w }) × Optionally "where" IsExpression w ts) ts) ts
 
 abbrev DeleteRest : Delete → List Token → Type 0
-DeleteRest d ts = After "from" (Then (IsNameToken d.table) (Optionally "where" IsExpression d.condition)) ts
+DeleteRest d ts = After "from" (Then (IsNameToken d.table) (Optionally "where" IsExpression d.pick)) ts
 
 delete_to : (d : Delete) (ts : List Token) → DeleteForm d ts → DeleteRest d ts
-delete_to d ts (more, e, (t, (f1, b1, e1, named, (w, made, condition)))) = subst (λ (x : Delete). DeleteRest x ts) (sym made) (more, e, (f1, b1, e1, named, condition))
+delete_to d ts (more, e, (t, (f1, b1, e1, named, (w, made, pick)))) = subst (λ (x : Delete). DeleteRest x ts) (sym made) (more, e, (f1, b1, e1, named, pick))
 
 delete_from : (d : Delete) (ts : List Token) → DeleteRest d ts → DeleteForm d ts
-delete_from d ts (more, e, (f1, b1, e1, named, condition)) = (more, e, (d.table, (f1, b1, e1, named, (d.condition, refl, condition))))
+delete_from d ts (more, e, (f1, b1, e1, named, pick)) = (more, e, (d.table, (f1, b1, e1, named, (d.pick, refl, pick))))
 
 delete_law : Law DeleteRest after_all reads_delete
 delete_law =
     state_law DeleteForm DeleteRest after_all reads_delete
-    (after_law "from" (named_law (λ t. made_law (λ (w : Option Expr). record { table = t; condition = w }) where_law))) delete_to delete_from
+    (after_law "from" (named_law (λ t. made_law (λ (w : Option Expr). record { table = t; pick = w }) where_law))) delete_to delete_from
 
 -- ---- statements
 

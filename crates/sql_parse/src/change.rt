@@ -47,12 +47,8 @@ pub(crate) fn update(alloc: Global, reader: &mut Reader) -> Result<Update, Parse
     let table = reader.take_name(alloc)?;
     reader.expect("set")?;
     let sets = parse_list::<Set>(alloc, reader)?;
-    let condition = optional_expression(alloc, reader, "where")?;
-    Ok(Update {
-        table,
-        sets,
-        condition,
-    })
+    let pick = optional_expression(alloc, reader, "where")?;
+    Ok(Update { table, sets, pick })
 }
 
 impl Part for Set {
@@ -72,6 +68,6 @@ pub(crate) fn delete(alloc: Global, reader: &mut Reader) -> Result<Delete, Parse
 {
     reader.expect("from")?;
     let table = reader.take_name(alloc)?;
-    let condition = optional_expression(alloc, reader, "where")?;
-    Ok(Delete { table, condition })
+    let pick = optional_expression(alloc, reader, "where")?;
+    Ok(Delete { table, pick })
 }

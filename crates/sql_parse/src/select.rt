@@ -49,30 +49,27 @@ fn core_end(
 ) -> Result<Core, ParseStop>
     ensures { ReadsPart result reader.new (core_end joined_all distinct items sources reader.old) }
 {
-    let condition = optional_expression(alloc, reader, "where")?;
+    let pick = optional_expression(alloc, reader, "where")?;
     let group = group(alloc, reader)?;
     let having = optional_expression(alloc, reader, "having")?;
-    let Sources {
-        from,
-        mut conditions,
-    } = sources;
-    add(&mut conditions, condition)?;
+    let Sources { from, mut picks } = sources;
+    add(&mut picks, pick)?;
     Ok(Core {
         joined_all,
         distinct,
         items,
         from,
-        conditions,
+        picks,
         group,
         having,
     })
 }
 
-fn add(conditions: &mut Exprs, condition: Option<Expr>) -> Result<(), AllocError>
-    ensures { OnOk result (conditions.new ≡ conditions.old ++ option_to_list condition) }
+fn add(picks: &mut Exprs, pick: Option<Expr>) -> Result<(), AllocError>
+    ensures { OnOk result (picks.new ≡ picks.old ++ option_to_list pick) }
 {
-    if let Some(condition) = condition {
-        conditions.push(condition)?;
+    if let Some(pick) = pick {
+        picks.push(pick)?;
     }
     Ok(())
 }

@@ -27,7 +27,7 @@ pub(crate) fn all_sources(
     from.push(source)?;
     let first = Sources {
         from,
-        conditions: Exprs::new(alloc),
+        picks: Exprs::new(alloc),
     };
     all_steps(alloc, reader, most, first)
 }
@@ -71,12 +71,9 @@ fn plain_source(
     ensures { ReadsPart result reader.new (plain_source made reader.old) }
 {
     let source = source(alloc, reader)?;
-    let Sources {
-        mut from,
-        conditions,
-    } = made;
+    let Sources { mut from, picks } = made;
     from.push(source)?;
-    Ok((Sources { from, conditions }, true))
+    Ok((Sources { from, picks }, true))
 }
 
 fn joined_source(
@@ -88,14 +85,14 @@ fn joined_source(
 {
     let source = source(alloc, reader)?;
     reader.expect("on")?;
-    let condition = expression(alloc, reader)?;
+    let pick = expression(alloc, reader)?;
     let Sources {
         mut from,
-        mut conditions,
+        mut picks,
     } = made;
     from.push(source)?;
-    conditions.push(condition)?;
-    Ok((Sources { from, conditions }, true))
+    picks.push(pick)?;
+    Ok((Sources { from, picks }, true))
 }
 
 fn source(alloc: Global, reader: &mut Reader) -> Result<FromItem, ParseStop>

@@ -75,9 +75,9 @@ module _ (db : List Table) (tables : GoodTables db) (valid : list_all is_valid_t
   accepted_good (TheQuery query) good check change = rows_good (answer_rows query db) (answer_fit query db good.cores tables valid)
   accepted_good (TheInsert insert) good check change = count_good (length insert.rows) (inserted_small db valid insert check change)
   accepted_good (TheUpdate update) good check change =
-      count_good _ (matched_small db valid (TheUpdate update) (λ t. is_matched (own_scope update.table catalog) update.condition) update.table (λ t. refl))
+      count_good _ (matched_small db valid (TheUpdate update) (λ t. is_matched (own_scope update.table catalog) update.pick) update.table (λ t. refl))
   accepted_good (TheDelete delete) good check change =
-      count_good _ (matched_small db valid (TheDelete delete) (λ t. is_matched (own_scope delete.table catalog) delete.condition) delete.table (λ t. refl))
+      count_good _ (matched_small db valid (TheDelete delete) (λ t. is_matched (own_scope delete.table catalog) delete.pick) delete.table (λ t. refl))
 
   reply_by : (s : Statement) → GoodStatement s → (o : Option SqlRefusal) → refusal_of (Some s) db ≡ o → GoodRefusal o
       → GoodReply (reply_or o (Some s) db)

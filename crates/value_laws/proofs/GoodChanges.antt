@@ -86,7 +86,7 @@ module _ (scope : List InScope) (update : Update) (sets : AllByRecursion GoodSet
   row_chosen false new old first second = second
 
   one_good : (row : TableRow) → GoodRow row → GoodRow (update_one scope update columns row)
-  one_good row good = row_chosen (is_matched scope update.condition row) (updated_row scope update columns row) row (updated_good row good) good
+  one_good row good = row_chosen (is_matched scope update.pick row) (updated_row scope update columns row) row (updated_good row good) good
 
   rows_good : (rows : List TableRow) → AllByRecursion GoodRow rows
       → AllByRecursion GoodRow (map (update_one scope update columns) rows)
@@ -118,7 +118,7 @@ changed_good (TheUpdate update) catalog t good table =
 changed_good (TheDelete delete) catalog t good table =
     let scope : List InScope = own_scope delete.table catalog in
     with_good t (after_delete scope delete t) refl refl table
-    (all_filter GoodRow (λ row. not (is_matched scope delete.condition row)) t.rows table.rows)
+    (all_filter GoodRow (λ row. not (is_matched scope delete.pick row)) t.rows table.rows)
 
 -- the rows that it inserts or matches, as they are afterwards
 pub new_rows_good : (s : Statement) (catalog : Catalog) (t : Table) → GoodStatement s → GoodTable t
@@ -129,7 +129,7 @@ new_rows_good (TheInsert insert) catalog t good table =
 new_rows_good (TheUpdate update) catalog t good table =
     let scope : List InScope = own_scope update.table catalog in
     each_updated scope update good.sets t.schema.columns (matched (TheUpdate update) catalog t)
-    (all_filter GoodRow (is_matched scope update.condition) t.rows table.rows)
+    (all_filter GoodRow (is_matched scope update.pick) t.rows table.rows)
 new_rows_good (TheDelete delete) catalog t good table = tt
 
 -- ---- the tables after a statement

@@ -204,7 +204,7 @@ module _ (db : List Table) (tables : AllByRecursion NarrowTable db) where
   core_fit core good =
       let scope : List InScope = scope_of core.from (catalog_of db) in
       let few : length core.from ≤ 8 = good.sources in
-      let joined : AllJoined (length core.from) (picked core db) = all_filter (Joined (length core.from)) (λ rows. meets_all core.conditions (row_environment scope rows)) (combinations core.from db) (joined_all core.from db tables) in
+      let joined : AllJoined (length core.from) (picked core db) = all_filter (Joined (length core.from)) (λ rows. meets_all core.picks (row_environment scope rows)) (combinations core.from db) (joined_all core.from db tables) in
       once_fit core.distinct (rows_in_scope scope core (picked core db)) (scope_fit (length core.from) few scope core good (picked core db) joined)
 
   after_fit : (rows : List AnswerRow) → Answers rows → (cores : List Core) → AllByRecursion GoodCore cores

@@ -14,10 +14,10 @@ use Rattle.sql_model.specs.declared.expr.Fold.TheVariants as fold
 use Rattle.sql_model.specs.declared.token.Token.{Token}
 use Rattle.sql_model.specs.declared.token.Token.TheVariants.{Word, Number, Quoted, Given}
 use Rattle.sql_model.specs.Grammar.{word, fold_word, IsConstant, IsExpr}
-use Rattle.sql_model.specs.GrammarOfStatements.{Then, After, Optionally, IsRepetition, IsSeparatedBy, IsCommaList, IsExpression, IsItem, AreItems, JoinedSource, IsConditioned, IsJoinedBy, IsJoined, joined_conditions, AreSources, IsCoreEnd, IsCoreRest, IsCore, IsFirstCore, IsUnited, IsBound, IsQuery, IsTuple, IsInsert, IsSet, IsUpdate, IsDelete, IsStatement, Reads}
+use Rattle.sql_model.specs.GrammarOfStatements.{Then, After, Optionally, IsRepetition, IsSeparatedBy, IsCommaList, IsExpression, IsItem, AreItems, JoinedSource, IsConditioned, IsJoinedBy, IsJoined, conditions, AreSources, IsCoreEnd, IsCoreRest, IsCore, IsFirstCore, IsUnited, IsBound, IsQuery, IsTuple, IsInsert, IsSet, IsUpdate, IsDelete, IsStatement, Reads}
 use Rattle.sql_model.specs.Texts.{statement_of}
 use Rattle.sql_parse.proofs.StatementsLaw.{reading_sound}
-use Rattle.value_laws.specs.Values.{GoodValue, GoodValues, constants_step, constants, GoodExpr, GoodExprs, GoodCondition, GoodItem, GoodItems, GoodCore, GoodLimit, GoodQuery, GoodSet, GoodUpdate, GoodStatement}
+use Rattle.value_laws.specs.Values.{GoodValue, GoodValues, constants_step, constants, GoodExpr, GoodExprs, GoodPick, GoodItem, GoodItems, GoodCore, GoodLimit, GoodQuery, GoodSet, GoodUpdate, GoodStatement}
 use Rattle.value_laws.proofs.GoodTokens.{GoodToken, GoodTokens, tokens_good, tokens_few, given_good, given_few}
 
 -- ---- expressions
@@ -145,9 +145,9 @@ listed_count Form (x ∷ xs) ts (front, back, e, first, more) =
 expression_gives : (e : Expr) → Gives (IsExpression e) (GoodExpr e)
 expression_gives e ts few (level, depth, within, is) = fair level depth ts e is few.0
 
-condition_gives : (s : String) (o : Option Expr) → Gives (Optionally s IsExpression o) (GoodCondition o)
-condition_gives s None ts few form = tt
-condition_gives s (Some e) ts few form = after_gives s (IsExpression e) (GoodExpr e) (expression_gives e) ts few form
+pick_gives : (s : String) (o : Option Expr) → Gives (Optionally s IsExpression o) (GoodPick o)
+pick_gives s None ts few form = tt
+pick_gives s (Some e) ts few form = after_gives s (IsExpression e) (GoodExpr e) (expression_gives e) ts few form
 
 item_gives : (item : Item) → Gives (IsItem item) (GoodItem item)
 item_gives item ts few (front, back, e, is, name) = expression_gives item.expr front (cut_few ts front back e few).0 is
@@ -161,54 +161,54 @@ items_gives (Some items) ts few short form =
     let fits : length items < 2 ^ 16 = omega (arith, count, short) in
     (fits, listed_gives GoodItem IsItem item_gives items ts few form)
 
-conditioned_gives : (source : FromItem) (condition : Expr) → Gives (IsConditioned source condition) (GoodExpr condition)
-conditioned_gives source condition ts few (front, back, e, is, on) =
-    after_gives "on" (IsExpression condition) (GoodExpr condition) (expression_gives condition) back (cut_few ts front back e few).1 on
+conditioned_gives : (source : FromItem) (pick : Expr) → Gives (IsConditioned source pick) (GoodExpr pick)
+conditioned_gives source pick ts few (front, back, e, is, on) =
+    after_gives "on" (IsExpression pick) (GoodExpr pick) (expression_gives pick) back (cut_few ts front back e few).1 on
 
-joined_by_gives : (source : FromItem) (o : Option Expr) → Gives (IsJoinedBy source o) (GoodCondition o)
+joined_by_gives : (source : FromItem) (o : Option Expr) → Gives (IsJoinedBy source o) (GoodPick o)
 joined_by_gives source None ts few form = tt
-joined_by_gives source (Some condition) ts few (inl form) =
-    after_gives "join" (IsConditioned source condition) (GoodExpr condition) (conditioned_gives source condition) ts few form
-joined_by_gives source (Some condition) ts few (inr form) =
-    after_gives "inner" (After "join" (IsConditioned source condition)) (GoodExpr condition)
-    (after_gives "join" (IsConditioned source condition) (GoodExpr condition) (conditioned_gives source condition)) ts few form
+joined_by_gives source (Some pick) ts few (inl form) =
+    after_gives "join" (IsConditioned source pick) (GoodExpr pick) (conditioned_gives source pick) ts few form
+joined_by_gives source (Some pick) ts few (inr form) =
+    after_gives "inner" (After "join" (IsConditioned source pick)) (GoodExpr pick)
+    (after_gives "join" (IsConditioned source pick) (GoodExpr pick) (conditioned_gives source pick)) ts few form
 
 abbrev GoodJoined : JoinedSource → Type 0
-GoodJoined joined = GoodCondition joined.1
+GoodJoined joined = GoodPick joined.1
 
 joined_gives : (joined : JoinedSource) → Gives (IsJoined joined) (GoodJoined joined)
 joined_gives joined ts few form = joined_by_gives joined.0 joined.1 ts few form
 
-option_good : (o : Option Expr) → GoodCondition o → GoodExprs (option_to_list o)
+option_good : (o : Option Expr) → GoodPick o → GoodExprs (option_to_list o)
 option_good None good = tt
 option_good (Some e) good = (good, tt)
 
-conditions_good : (more : List JoinedSource) → AllByRecursion GoodJoined more → GoodExprs (joined_conditions more)
+conditions_good : (more : List JoinedSource) → AllByRecursion GoodJoined more → GoodExprs (conditions more)
 conditions_good [] good = tt
 conditions_good (joined ∷ more) good =
-    all_append GoodExpr (option_to_list joined.1) (joined_conditions more) (option_good joined.1 good.0) (conditions_good more good.1)
+    all_append GoodExpr (option_to_list joined.1) (conditions more) (option_good joined.1 good.0) (conditions_good more good.1)
 
 -- the conditions of the sources, and how many sources there are
-sources_gives : (from : List FromItem) (conditions : List Expr) → Gives (AreSources from conditions) (GoodExprs conditions × (length from ≤ max_sources))
-sources_gives from conditions ts few (first, more, (front, back, e, begins, repeated), sources, are, within) =
+sources_gives : (from : List FromItem) (picks : List Expr) → Gives (AreSources from picks) (GoodExprs picks × (length from ≤ max_sources))
+sources_gives from picks ts few (first, more, (front, back, e, begins, repeated), sources, are, within) =
     let all : AllByRecursion GoodJoined more = repeated_gives GoodJoined IsJoined joined_gives more back (cut_few ts front back e few).1 repeated in
     (subst GoodExprs (sym are) (conditions_good more all), within)
 
-end_gives : (core : Core) (condition : Option Expr) → Gives (IsCoreEnd core condition) (GoodCondition condition × GoodCondition core.having)
-end_gives core condition ts few (front, back, e, is, (group, last, e2, are, having)) =
+end_gives : (core : Core) (pick : Option Expr) → Gives (IsCoreEnd core pick) (GoodPick pick × GoodPick core.having)
+end_gives core pick ts few (front, back, e, is, (group, last, e2, are, having)) =
     let parts = cut_few ts front back e few in
-    (condition_gives "where" condition front parts.0 is, condition_gives "having" core.having last (cut_few back group last e2 parts.1).1 having)
+    (pick_gives "where" pick front parts.0 is, pick_gives "having" core.having last (cut_few back group last e2 parts.1).1 having)
 
 -- what stands after FROM
 abbrev GoodEnd : Core → Type 0
-GoodEnd core = GoodExprs core.conditions × (length core.from ≤ max_sources) × GoodCondition core.having
+GoodEnd core = GoodExprs core.picks × (length core.from ≤ max_sources) × GoodPick core.having
 
 core_rest_gives : (core : Core) → Gives (IsCoreRest core) (GoodEnd core)
-core_rest_gives core ts few (conditions, condition, are, (front, back, e, sources, end)) =
+core_rest_gives core ts few (picks, pick, are, (front, back, e, sources, end)) =
     let parts = cut_few ts front back e few in
-    let from = sources_gives core.from conditions front parts.0 sources in
-    let last = end_gives core condition back parts.1 end in
-    (subst GoodExprs (sym are) (all_append GoodExpr conditions (option_to_list condition) from.0 (option_good condition last.0)), from.1, last.1)
+    let from = sources_gives core.from picks front parts.0 sources in
+    let last = end_gives core pick back parts.1 end in
+    (subst GoodExprs (sym are) (all_append GoodExpr picks (option_to_list pick) from.0 (option_good pick last.0)), from.1, last.1)
 
 core_gives : (core : Core) → Gives (IsCore core) (GoodCore core)
 core_gives core ts few (more, e, (flag, rest, e2, distinct, (front, back, e3, items, (last, e4, form)))) =
@@ -221,7 +221,7 @@ core_gives core ts few (more, e, (flag, rest, e2, distinct, (front, back, e3, it
     record {
       items = items_gives core.items front parts.0 short items;
       sources = end.1;
-      conditions = end.0;
+      picks = end.0;
       having = end.2;
     }
 
@@ -273,21 +273,21 @@ set_gives set ts few (front, back, e, named, is) =
     after_gives "=" (IsExpression set.expr) (GoodExpr set.expr) (expression_gives set.expr) back (cut_few ts front back e few).1 is
 
 update_gives : (update : Update) → Gives (IsUpdate update) (GoodUpdate update)
-update_gives update ts few (m1, e1, (f2, b2, e2, named, (m3, e3, (f4, b4, e4, list, condition)))) =
+update_gives update ts few (m1, e1, (f2, b2, e2, named, (m3, e3, (f4, b4, e4, list, pick)))) =
     let t1 : Few m1 = rest_few (word "update") ts m1 e1 few in
     let t2 : Few b2 = (cut_few m1 f2 b2 e2 t1).1 in
     let t3 : Few m3 = rest_few (word "set") b2 m3 e3 t2 in
     let parts = cut_few m3 f4 b4 e4 t3 in
     record {
       sets = listed_gives GoodSet IsSet set_gives update.sets f4 parts.0 list;
-      condition = condition_gives "where" update.condition b4 parts.1 condition;
+      pick = pick_gives "where" update.pick b4 parts.1 pick;
     }
 
-delete_gives : (delete : Delete) → Gives (IsDelete delete) (GoodCondition delete.condition)
-delete_gives delete ts few (m1, e1, (m2, e2, (f3, b3, e3, named, condition))) =
+delete_gives : (delete : Delete) → Gives (IsDelete delete) (GoodPick delete.pick)
+delete_gives delete ts few (m1, e1, (m2, e2, (f3, b3, e3, named, pick))) =
     let t1 : Few m1 = rest_few (word "delete") ts m1 e1 few in
     let t2 : Few m2 = rest_few (word "from") m1 m2 e2 t1 in
-    condition_gives "where" delete.condition b3 (cut_few m2 f3 b3 e3 t2).1 condition
+    pick_gives "where" delete.pick b3 (cut_few m2 f3 b3 e3 t2).1 pick
 
 -- ---- statements
 

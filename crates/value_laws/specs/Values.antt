@@ -45,9 +45,9 @@ abbrev pub GoodExprs : List Expr → Type 0
 GoodExprs = AllByRecursion GoodExpr
 
 -- a condition that may be missing
-abbrev pub GoodCondition : Option Expr → Type 0
-GoodCondition None = Unit {0}
-GoodCondition (Some e) = GoodExpr e
+abbrev pub GoodPick : Option Expr → Type 0
+GoodPick None = Unit {0}
+GoodPick (Some e) = GoodExpr e
 
 -- ---- statements
 
@@ -62,8 +62,8 @@ GoodItems (Some items) = (length items < 2 ^ 16) × AllByRecursion GoodItem item
 pub record GoodCore (core : Core) : Type 0 where
   pub items : GoodItems core.items
   pub sources : length core.from ≤ max_sources
-  pub conditions : GoodExprs core.conditions
-  pub having : GoodCondition core.having
+  pub picks : GoodExprs core.picks
+  pub having : GoodPick core.having
 
 abbrev pub GoodLimit : Option Value → Type 0
 GoodLimit None = Unit {0}
@@ -78,14 +78,14 @@ GoodSet set = GoodExpr set.expr
 
 pub record GoodUpdate (update : Update) : Type 0 where
   pub sets : AllByRecursion GoodSet update.sets
-  pub condition : GoodCondition update.condition
+  pub pick : GoodPick update.pick
 
 -- each constant in it is good, and a core has neither too many items nor too many sources
 abbrev pub GoodStatement : Statement → Type 0
 GoodStatement (TheQuery query) = GoodQuery query
 GoodStatement (TheInsert insert) = AllByRecursion GoodExprs insert.rows
 GoodStatement (TheUpdate update) = GoodUpdate update
-GoodStatement (TheDelete delete) = GoodCondition delete.condition
+GoodStatement (TheDelete delete) = GoodPick delete.pick
 
 -- ---- tables
 

@@ -11,4 +11,4 @@ abbrev pub AreOfCore : Checked → ℕ → List BoundExpr → Type 0
 AreOfCore checked place conds = (query : Query) (catalog : Catalog) (core : Core)
     → IsChecked checked query catalog
     → core_at checked place ≡ Some core
-    → AreConditions (scope_of core.from catalog) core.conditions conds
+    → AreConditions (scope_of core.from catalog) core.picks conds

@@ -6,9 +6,9 @@ use Rattle.core_parts.proofs.conditions.conjuncts_of.Goals as goal
 
 pub returns : goal.returns
 returns c = λ scope is.
-    let condition = c.args.condition.now in
+    let pick = c.args.pick.now in
     let places = c.args.places.now in
     let left = drop c.add_conjuncts.new.at places in
     let conds : List BoundExpr = c.add_conjuncts.new.conds in
-    one-condition conds condition places left
-    (subst (λ (old : List BoundExpr). Adds old condition places conds left) c.new-conds.ensures c.in_ok-add_conjuncts.ensures) scope is
+    one-condition conds pick places left
+    (subst (λ (old : List BoundExpr). Adds old pick places conds left) c.new-conds.ensures c.in_ok-add_conjuncts.ensures) scope is

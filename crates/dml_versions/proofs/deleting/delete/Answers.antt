@@ -25,7 +25,7 @@ matched_change-requires c =
     let f = c.in_ok-found.ensures in
     subst (λ (l : List Found). AllByRecursion (λ row. row.version + 1 < 2 ^ 32) l) (sym f.found_is)
     (versions-fit c.args.store.now.time f.table.slots f.held.timed c.args.time c.requires.later (omega arith)
-    (filter (test_in f.table c.delete_of-delete.result.now.condition) (rows_now f.table.slots)))
+    (filter (test_in f.table c.delete_of-delete.result.now.pick) (rows_now f.table.slots)))
 
 pub delete_all-requires-clause-there : goal.delete_all-requires-clause-there
 delete_all-requires-clause-there c =
@@ -100,7 +100,7 @@ returns-clause-change c =
     let given = c.in_ok-change.change.needs in
     let refused = c.in_ok-refused-in-Err.refused in
     let whole = all_needed (TheDelete delete) old in
-    let others : List Need = map (need_found delete.table) (map (found_row f.table.slots) (filter (test_in f.table delete.condition) (rows_now f.table.slots))) in
+    let others : List Need = map (need_found delete.table) (map (found_row f.table.slots) (filter (test_in f.table delete.pick) (rows_now f.table.slots))) in
     let check = check-of (tables_now old) c.args.checked.now c.requires.checked (TheDelete delete) c.delete_of-delete.ensures in
     let stops : StopsAs {X = Unit {0}} (option_and_then (delete_refusal (map number_found found) (tables_now old)) (table_at delete.table (tables_now old))) (Err at) =
     subst (λ (n : List ℕ). StopsAs {X = Unit {0}} (option_and_then (delete_refusal (map number_found found) (tables_now old)) (table_at n (tables_now old))) (Err at)) c.as_str-name.ensures

@@ -12,9 +12,9 @@ returns-then-not-branch c =
     let number = c.in-Some.number in
     let values = c.in_ok-values-in-Some.values in
     let here = row-here table.slots c.args.slot number values c.in-Some.ensures c.in_ok-values-in-Some.ensures in
-    found-missed table.slots c.args.slot (test_in table c.args.condition.now) c.args.found.now number values c.in-Some.ensures c.in_ok-values-in-Some.ensures
+    found-missed table.slots c.args.slot (test_in table c.args.pick.now) c.args.found.now number values c.in-Some.ensures c.in_ok-values-in-Some.ensures
     (sym (c.in_ok-is_met-in-Some.ensures (scope_in table) number c.requires.placed
-    (λ is. subst (λ (o : Option TableRow). IfSome o (λ row. test_in table c.args.condition.now row ≡ true)) here (c.requires.known is))) ∙ c.if-not-branch.true)
+    (λ is. subst (λ (o : Option TableRow). IfSome o (λ row. test_in table c.args.pick.now row ≡ true)) here (c.requires.known is))) ∙ c.if-not-branch.true)
 
 pub returns-else-not-branch : goal.returns-else-not-branch
 returns-else-not-branch c =
@@ -23,8 +23,8 @@ returns-else-not-branch c =
     let values = c.in_ok-values-in-Some.values in
     let here = row-here table.slots c.args.slot number values c.in-Some.ensures c.in_ok-values-in-Some.ensures in
     on_ok_weaker c.push.result
-    (λ made. found-met table.slots c.args.slot (test_in table c.args.condition.now) c.args.found.now number values c.in-Some.ensures c.in_ok-values-in-Some.ensures
+    (λ made. found-met table.slots c.args.slot (test_in table c.args.pick.now) c.args.found.now number values c.in-Some.ensures c.in_ok-values-in-Some.ensures
     (sym (c.in_ok-is_met-in-Some.ensures (scope_in table) number c.requires.placed
-    (λ is. subst (λ (o : Option TableRow). IfSome o (λ row. test_in table c.args.condition.now row ≡ true)) here (c.requires.known is))) ∙ c.if-not-branch.false)
+    (λ is. subst (λ (o : Option TableRow). IfSome o (λ row. test_in table c.args.pick.now row ≡ true)) here (c.requires.known is))) ∙ c.if-not-branch.false)
     c.version_of-version.result c.version_of-version.ensures c.push.new.self made)
     c.push.ensures.ok

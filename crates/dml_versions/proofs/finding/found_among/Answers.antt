@@ -5,13 +5,13 @@ use Rattle.dml_versions.proofs.finding.found_among.Goals as goal
 pub returns-in-None : goal.returns-in-None
 returns-in-None c =
     let slots = c.args.table.now.slots in
-    let test = test_in c.args.table.now c.args.condition.now in
+    let test = test_in c.args.table.now c.args.pick.now in
     found_end c.args.words.now test slots c.requires.cover c.slots.found c.slots.at (found_from test slots 0) c.in-None.ensures c.slots.invariant
 
 pub slots-preserved : goal.slots-preserved
 slots-preserved c =
     let slots = c.args.table.now.slots in
-    let test = test_in c.args.table.now c.args.condition.now in
+    let test = test_in c.args.table.now c.args.pick.now in
     found_next c.args.words.now test slots c.requires.cover c.slots.found c.add_found.new.found c.slots.at c.in-Some.slot c.after_member-at.result (found_from test slots 0)
     c.in-Some.ensures c.in_ok-add_found-in-Some.ensures c.after_member-at.ensures.next c.slots.invariant
 

@@ -14,21 +14,21 @@ pub returns-in-None : goal.returns-in-None
 returns-in-None c =
     let table = c.args.table.now in
     c.new-found.ensures
-    ∙ sym (found-none table.slots (last_next_number table.nexts) c.tell_order.ensures table.schema.key c.args.key.now.values (test_in table c.args.condition.now)
+    ∙ sym (found-none table.slots (last_next_number table.nexts) c.tell_order.ensures table.schema.key c.args.key.now.values (test_in table c.args.pick.now)
     (c.requires.fixed.1 (scope_in table) c.requires.placed) c.requires.fixed.0 c.requires.unique (not-there _ c.in-None.ensures))
 
 pub unreachable-requires : goal.unreachable-requires
 unreachable-requires c =
     let table = c.args.table.now in
-    slot-some table.slots (last_next_number table.nexts) c.tell_order.ensures table.schema.key c.args.key.now.values (test_in table c.args.condition.now)
+    slot-some table.slots (last_next_number table.nexts) c.tell_order.ensures table.schema.key c.args.key.now.values (test_in table c.args.pick.now)
     (c.requires.fixed.1 (scope_in table) c.requires.placed) c.requires.fixed.0 c.requires.unique c.in-Some.number c.in-Some.ensures c.in-None-slot_of.ensures
 
 pub returns-in_ok-add_found-in-Some-slot_of : goal.returns-in_ok-add_found-in-Some-slot_of
 returns-in_ok-add_found-in-Some-slot_of c =
     let table = c.args.table.now in
     c.in_ok-add_found-in-Some-slot_of.ensures
-    ∙ ap (λ (l : List Found). l ++ found_at (test_in table c.args.condition.now) table.slots c.in-Some-slot_of.slot) c.new-found.ensures
-    ∙ slot-found table.slots (last_next_number table.nexts) c.tell_order.ensures table.schema.key c.args.key.now.values (test_in table c.args.condition.now)
+    ∙ ap (λ (l : List Found). l ++ found_at (test_in table c.args.pick.now) table.slots c.in-Some-slot_of.slot) c.new-found.ensures
+    ∙ slot-found table.slots (last_next_number table.nexts) c.tell_order.ensures table.schema.key c.args.key.now.values (test_in table c.args.pick.now)
     (c.requires.fixed.1 (scope_in table) c.requires.placed) c.requires.fixed.0 c.requires.unique c.in-Some.number c.in-Some-slot_of.slot c.in-Some.ensures c.in-Some-slot_of.ensures
 
 pub add_found-requires-clause-known : goal.add_found-requires-clause-known

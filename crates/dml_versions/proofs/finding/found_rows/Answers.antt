@@ -6,5 +6,5 @@ use Rattle.dml_versions.proofs.finding.found_rows.Goals as goal
 
 pub found_by_key-requires-clause-fixed : goal.found_by_key-requires-clause-fixed
 found_by_key-requires-clause-fixed c =
-    subst (λ (s : Schema). WhereFixesKey c.args.condition.now c.args.places.now s.key c.in-Some.values) c.schema.ensures
-    (subst (λ (o : Option (List Value)). IfSome o (WhereFixesKey c.args.condition.now c.args.places.now c.schema.result.now.key)) c.in-Some.is c.in_ok-fixed.ensures)
+    subst (λ (s : Schema). WhereFixesKey c.args.pick.now c.args.places.now s.key c.in-Some.values) c.schema.ensures
+    (subst (λ (o : Option (List Value)). IfSome o (WhereFixesKey c.args.pick.now c.args.places.now c.schema.result.now.key)) c.in-Some.is c.in_ok-fixed.ensures)

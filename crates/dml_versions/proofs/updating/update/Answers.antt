@@ -25,7 +25,7 @@ matched_change-requires c =
     let f = c.in_ok-prepared.ensures in
     subst (λ (l : List Found). AllByRecursion (λ row. row.version + 1 < 2 ^ 32) l) (sym f.found_is)
     (versions-fit c.args.store.now.time f.table.slots f.held.timed c.args.time c.requires.later (omega arith)
-    (filter (test_in f.table c.update_of-update.result.now.condition) (rows_now f.table.slots)))
+    (filter (test_in f.table c.update_of-update.result.now.pick) (rows_now f.table.slots)))
 
 pub parent_needs_if-requires-clause-there : goal.parent_needs_if-requires-clause-there
 parent_needs_if-requires-clause-there c =
@@ -131,7 +131,7 @@ returns-clause-change c =
     let given = c.in_ok-change.change.needs in
     let refused = c.in_ok-refused-in-Err.refused in
     let whole = all_needed (TheUpdate update) old in
-    let others : List Need = map (need_found update.table) (map (found_row f.table.slots) (filter (test_in f.table update.condition) (rows_now f.table.slots))) in
+    let others : List Need = map (need_found update.table) (map (found_row f.table.slots) (filter (test_in f.table update.pick) (rows_now f.table.slots))) in
     let check = check-of (tables_now old) c.args.checked.now c.requires.checked (TheUpdate update) c.update_of-update.ensures in
     let stops = subst (λ (n : List ℕ). StopsAs {X = Unit {0}} (option_and_then (replace_refusal rows (tables_now old)) (table_at n (tables_now old))) (Err at)) c.as_str-name.ensures c.in-Err.ensures.stop in
     let made : refused_change (versions_now old) update.table f.table.slots needs given at ≡ Some refused =

@@ -15,4 +15,4 @@ returns c = λ query catalog core whole got.
     let scope : List InScope = scope_of core.from catalog in
     let places : c.column_indexes-places.result.now ≡ places_in scope (core_names own) =
     c.column_indexes-places.ensures ∙ core-places checked query catalog whole c.args.core core got ∙ ap (λ (k : Core). places_in scope (core_names k)) (sym same) in
-    subst (λ (k : Core). AreConditions scope k.conditions c.in_ok-conds.conds) same (c.in_ok-conds.ensures scope places)
+    subst (λ (k : Core). AreConditions scope k.picks c.in_ok-conds.conds) same (c.in_ok-conds.ensures scope places)
