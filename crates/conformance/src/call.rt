@@ -60,8 +60,8 @@ fn written_by(alloc: Global, case: &Case) -> Result<Written, AllocError>
     );
     Ok(Written {
         status,
-        output: Bytes::of_slice(alloc, output.bytes())?,
-        error: Bytes::of_slice(alloc, error.bytes())?,
+        output: Bytes::of_slice(alloc, output.taken())?,
+        error: Bytes::of_slice(alloc, error.taken())?,
     })
 }
 

@@ -168,7 +168,7 @@ impl Tree {
     }
 
     /// The touched paths, sorted by their bytes.
-    pub fn touched_paths(&self) -> Result<Paths, AllocError>
+    pub fn touched(&self) -> Result<Paths, AllocError>
         ensures paths { IfOk result (λ paths. paths ≡ self.now.touched) }
         ensures sorted { IfOk result (λ paths. IsTrue (is_strictly_sorted text_precedes paths)) }
         ensures valid { IfOk result (λ paths. IsTrue (list_all path_test paths)) }

@@ -203,7 +203,7 @@ impl MemorySink {
     }
 
     /// The bytes taken so far.
-    pub fn bytes(&self) -> &[u8]
+    pub fn taken(&self) -> &[u8]
         ensures { result.now ≡ self.now.taken }
     {
         self.held.as_slice()

@@ -89,7 +89,7 @@ fn expect_written(
 ) {
     assert!(rt; taken <= OUTPUT.len());
     assert_eq!(rt; write_all(sink, OUTPUT), want);
-    assert!(rt; sink.bytes() == &OUTPUT[..taken]);
+    assert!(rt; sink.taken() == &OUTPUT[..taken]);
 }
 
 #[test]

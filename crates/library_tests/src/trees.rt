@@ -239,7 +239,7 @@ fn expect_contents(rt: &impl Abort, tree: &Tree) {
 }
 
 fn expect_touched(rt: &impl Abort, tree: &Tree) -> Result<(), AllocError> {
-    let touched = tree.touched_paths()?;
+    let touched = tree.touched()?;
     let paths = ["a.txt", "b.txt", "c.txt", "m", "n", "z"];
     assert!(rt; touched.len() == paths.len());
     for (path, want) in touched.items().iter().zip(paths.iter()) {

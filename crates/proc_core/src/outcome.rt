@@ -141,7 +141,7 @@ fn outcome_at_path(alloc: Global, tree: &Tree, path: &Utf8) -> Result<PathOutcom
 fn outcomes_of_paths(alloc: Global, tree: &Tree) -> Result<PathOutcomes, AllocError>
     ensures { IfOk result (λ outcomes. outcomes ≡ outcomes_of_paths tree.now) }
 {
-    let touched = tree.touched_paths()?;
+    let touched = tree.touched()?;
     let mut outcomes = PathOutcomes::with_capacity(alloc, touched.len())?;
     for path in touched.items() {
         outcomes.push(outcome_at_path(alloc, tree, path)?)?;

@@ -150,7 +150,7 @@ impl<D: Database, T: Tracer> Run<D, T> {
     }
 
     /// Whether all processes have ended.
-    pub fn is_over(&self) -> bool
+    pub fn ended(&self) -> bool
         ensures ended { (s : State D.Db) → Stands self.now.machine (D.seen self.now.db) s
             → result ≡ have_all_ended s.core }
         ensures slots { result ≡ has_ended self.now.machine }

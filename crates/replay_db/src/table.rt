@@ -92,7 +92,7 @@ fn go_on(begun: Run<Engine, NullTracer>, count: u32) -> Result<Run<Engine, NullT
 {
     let mut gone = begun;
     for _made in 0..count {
-        if gone.is_over() {
+        if gone.ended() {
             return Ok(gone);
         }
         gone = step_on(gone)?;
@@ -125,7 +125,7 @@ fn table_verdict(
 ) -> Result<Table, TableStop>
     ensures { result ≡ table_verdict (has_ended gone.now.machine) gone.now.steps step (Ok table) }
 {
-    if !gone.is_over() {
+    if !gone.ended() {
         Err(TableStop::NotEnded)
     } else if gone.steps() < step {
         Err(TableStop::NoStep)

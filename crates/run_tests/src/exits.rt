@@ -19,7 +19,7 @@ fn expect(
     let mut sink = MemorySink::new(alloc, 100, 7, Calls::new(alloc))?;
     assert_eq!(rt; status(exit), number);
     assert_eq!(rt; exit_line(exit, &mut sink), Ok(()));
-    assert!(rt; sink.bytes() == line.as_bytes());
+    assert!(rt; sink.taken() == line.as_bytes());
     Ok(())
 }
 

@@ -28,7 +28,7 @@ fn expect(
     let mut sink = DropSink::new();
     let status = ldv_main(alloc, words.as_slice(), &mut source, &mut sink, &mut errors);
     assert_eq!(rt; status, want.0);
-    assert!(rt; errors.bytes() == want.1.as_bytes());
+    assert!(rt; errors.taken() == want.1.as_bytes());
     Ok(())
 }
 

@@ -35,7 +35,7 @@ fn written_bytes(rt: &impl Abort, alloc: Global, world: &str) -> Result<Vec<u8>,
     let mut sink = MemorySink::new(alloc, 65_536, 4_096, Calls::new(alloc))?;
     let exit = ldv(alloc, &words, &mut source, &mut sink);
     assert!(rt; matches!(&exit, Exit::Done));
-    Vec::from_slice(alloc, sink.bytes())
+    Vec::from_slice(alloc, sink.taken())
 }
 
 /// A world whose script has these lines, with the table t and these files beside the script, as parts of a

@@ -60,8 +60,8 @@ fn left_by(
 ) -> Result<Ended, AllocError> {
     Ok(Ended {
         status,
-        written: Vec::from_slice(alloc, sink.bytes())?,
-        line: Vec::from_slice(alloc, errors.bytes())?,
+        written: Vec::from_slice(alloc, sink.taken())?,
+        line: Vec::from_slice(alloc, errors.taken())?,
     })
 }
 

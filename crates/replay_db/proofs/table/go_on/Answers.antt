@@ -13,19 +13,19 @@ pub step_on-requires-clause-stands : goal.step_on-requires-clause-stands
 step_on-requires-clause-stands c =
     (run sql_base c.loop-made._made [] c.requires.stands.0, c.loop-made.invariant.state c.requires.stands.0 c.requires.stands.1)
 
-pub returns-then-is_over-clause-state : goal.returns-then-is_over-clause-state
-returns-then-is_over-clause-state c =
+pub returns-then-ended-clause-state : goal.returns-then-ended-clause-state
+returns-then-ended-clause-state c =
     let within : c.loop-made._made ≤ c.args.count = omega (arith, c.loop-made-test.true) in
     end_state sql_base c.args.begun.machine c.loop-made.gone.machine (database c.args.begun.db) (database c.loop-made.gone.db) c.loop-made._made c.args.count
-    c.is_over.result within c.loop-made.invariant.state c.is_over.ensures.ended c.if-is_over.true
+    c.ended.result within c.loop-made.invariant.state c.ended.ensures.ended c.if-ended.true
 
-pub returns-then-is_over-clause-steps : goal.returns-then-is_over-clause-steps
-returns-then-is_over-clause-steps c = λ s from.
+pub returns-then-ended-clause-steps : goal.returns-then-ended-clause-steps
+returns-then-ended-clause-steps c = λ s from.
     let within : c.loop-made._made ≤ c.args.count = omega (arith, c.loop-made-test.true) in
     c.loop-made.invariant.steps
     ∙ ap (λ k. c.args.begun.steps + k)
     (end_steps sql_base c.args.begun.machine c.loop-made.gone.machine (database c.args.begun.db) (database c.loop-made.gone.db) c.loop-made._made c.args.count
-    c.is_over.result c.loop-made._made within c.loop-made.invariant.state c.is_over.ensures.ended c.if-is_over.true refl c.loop-made.invariant.made s from)
+    c.ended.result c.loop-made._made within c.loop-made.invariant.state c.ended.ensures.ended c.if-ended.true refl c.loop-made.invariant.made s from)
 
 pub loop-made-init : goal.loop-made-init
 loop-made-init c = record {
@@ -37,9 +37,9 @@ loop-made-init c = record {
 pub loop-made-preserved : goal.loop-made-preserved
 loop-made-preserved c = record {
   state = more_state sql_base c.args.begun.machine c.loop-made.gone.machine (database c.args.begun.db) (database c.loop-made.gone.db) c.loop-made._made c.args.count
-      c.is_over.result c.in_ok-gone.gone.machine (database c.in_ok-gone.gone.db) c.loop-made.invariant.state c.is_over.ensures.ended c.if-is_over.false c.in_ok-gone.ensures.state;
+      c.ended.result c.in_ok-gone.gone.machine (database c.in_ok-gone.gone.db) c.loop-made.invariant.state c.ended.ensures.ended c.if-ended.false c.in_ok-gone.ensures.state;
   made = more_made sql_base c.args.begun.machine c.loop-made.gone.machine (database c.args.begun.db) (database c.loop-made.gone.db) c.loop-made._made c.args.count
-      c.is_over.result c.loop-made.invariant.state c.is_over.ensures.ended c.if-is_over.false c.loop-made.invariant.made;
+      c.ended.result c.loop-made.invariant.state c.ended.ensures.ended c.if-ended.false c.loop-made.invariant.made;
   steps = omega (arith, c.in_ok-gone.ensures.steps, c.loop-made.invariant.steps);
 }
 
