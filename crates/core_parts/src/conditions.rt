@@ -31,7 +31,11 @@ pub fn conjuncts(
 }
 
 /// The conjuncts of one condition, of which the places are given.
-pub fn conjuncts_of(alloc: Global, pick: &Expr, places: &Places) -> Result<List<BoundExpr>, AllocError>
+pub fn conjuncts_of(
+    alloc: Global,
+    pick: &Expr,
+    places: &Places,
+) -> Result<List<BoundExpr>, AllocError>
     ensures { IfOk result (λ conds. (scope : Items InScope)
         → places.now ≡ places_in scope (names_in pick.now)
         → AreConditions scope (pick.now ∷ []) conds) }

@@ -26,7 +26,7 @@ pub use limits::{
 };
 pub use line::LineRead;
 pub use list::{CopyItem, List};
-pub use order::{holds, test};
+pub use order::{compare, holds, same, test};
 pub use path_rules::{is_path, is_word};
 pub use show::{append_number, append_signed, append_text, push_text};
 pub use sorted::{Precedes, is_strictly_sorted};

@@ -1,8 +1,9 @@
 //! The total order of values, and comparisons in three-valued logic.
 
-ghost use Rattle.std.specs.Prelude.{◌≡◌, Some, refl};
+ghost use Rattle.std.specs.Prelude.{◌≡◌, ◌↔◌, IsTrue, Some, refl};
 ghost use Rattle.std.specs.Cmp.{eq_by_cmp_equiv, partial_order_from_agreeing_total, partial_equiv_from_equiv};
-ghost use Rattle.std.specs.Ordering.{eq_by_cmp};
+ghost use Rattle.std.specs.Ordering.{eq_by_cmp, is_eq};
+ghost use Rattle.std.specs.declared.cmp.Ordering.{Ordering};
 ghost use Rattle.ldv_value.specs.Order.{order, order_total, meets, IsTestable, test_of};
 
 use crate::value::{Cmp, Truth, Value};
@@ -56,6 +57,21 @@ impl Ord for Value {
             (Value::Text(s), Value::Text(t)) => s.as_str().cmp(t.as_str()),
         }
     }
+}
+
+/// The total order of `Ord`: NULL first, then numbers, then texts by bytes.
+pub fn compare(a: &Value, b: &Value) -> Ordering
+    ensures { result ≡ order a.now b.now }
+{
+    a.cmp(b)
+}
+
+/// Whether two values are equal in the total order. NULL is the same as NULL.
+pub fn same(a: &Value, b: &Value) -> bool
+    ensures same { IsTrue result ↔ (order a.now b.now ≡ Ordering.Equal) }
+    ensures test { result ≡ is_eq (order a.now b.now) }
+{
+    a.cmp(b).is_eq()
 }
 
 /// Whether a comparison holds in the total order.

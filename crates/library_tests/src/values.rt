@@ -2,7 +2,7 @@
 
 ghost use Rattle.std.specs.Prelude.{◌≡◌};
 
-use ldv_value::{Bytes, Cmp, Truth, Utf8, Value, Values, append_text, holds, test};
+use ldv_value::{Bytes, Cmp, Truth, Utf8, Value, Values, append_text, compare, holds, same, test};
 use std::alloc::{AllocError, Global};
 use std::cmp::Ordering;
 use std::process::Abort;
@@ -22,8 +22,8 @@ fn increasing_values(alloc: Global) -> Result<Values, AllocError> {
 }
 
 fn expect_order(rt: &impl Abort, a: &Value, b: &Value, between: Ordering) {
-    assert!(rt; a.cmp(b) == between);
-    assert_eq!(rt; a == b, between.is_eq());
+    assert!(rt; a.cmp(b) == between && compare(a, b) == between);
+    assert!(rt; (a == b) == between.is_eq() && same(a, b) == between.is_eq());
 }
 
 fn expect_holds(rt: &impl Abort, a: &Value, b: &Value, between: Ordering) {
