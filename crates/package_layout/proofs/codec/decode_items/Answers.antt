@@ -8,7 +8,7 @@ loop-turn-init g c = rw c.in_ok-items.ensures (begins g.X.Decode.reading c.args.
 
 pub returns-in_err-item : goal.returns-in_err-item
 returns-in_err-item g c =
-    let p = err_from_is_err_and c.from_residual.result c.from_residual.ensures.1 in
+    let p = err_from_is_err_and c.from_residual-in_err-item.result c.from_residual-in_err-item.ensures.1 in
     rw (p.1, p.2) (ends g.X.Decode.reading c.loop-turn.items c.args.count c.loop-turn._turn c.loop-turn.cursor c.decode.new.cursor c.decode.new.cursor (items_at g.X.Decode.reading c.args.count c.args.cursor.now) c.in_err-item.field-0.0 c.loop-turn-test.true c.in_err-item.ensures c.loop-turn.invariant)
 
 pub loop-turn-preserved : goal.loop-turn-preserved
