@@ -3,6 +3,7 @@ pub mod NodeLaws
 pub mod PlaceLaws
 pub mod KeyLaws
 pub mod SpanLaws
+pub mod NoteLaws
 pub mod LinkLists
 pub mod EdgeLaws
 pub mod GraphLaw

@@ -3,19 +3,23 @@
 ghost use Rattle.std.specs.Prelude.{◌≡◌, ◌≤◌, IsTrue, IfOk, OnOk};
 ghost use Rattle.ldv_value.specs.Limits.{max_processes};
 ghost use Rattle.run_model.specs.ValidTrace.{made_after};
-ghost use Rattle.trace_graph.specs.Building.{parts_of, no_parts, node_of, with_link, with_events, made_fits};
+ghost use Rattle.trace_graph.specs.Building.{parts_of, no_parts, node_of, with_link, with_time, with_events};
+ghost use Rattle.trace_graph.specs.Building.{made_fits};
 ghost use Rattle.trace_graph.specs.Links.{link};
 
 use crate::key::{NodeKey, NodeKeys, number, place_number};
-use crate::span::{Spans, add_time};
+use crate::note::{Note, Notes, add_notes, empty_notes};
+use crate::span::Spans;
 use run_model::{Act, Event};
 use std::alloc::{AllocError, Global};
 
-/// The nodes and edges so far. Texts are where the events have them.
+/// The nodes and edges so far, and the links that aren't among the edges yet. Texts are where the events have
+/// them.
 #[derive(Drop)]
 pub(crate) struct Building<'a> {
     pub(crate) keys: NodeKeys<'a>,
     pub(crate) spans: Spans,
+    pub(crate) notes: Notes,
 }
 
 impl<'a> Building<'a> {
@@ -27,7 +31,23 @@ impl<'a> Building<'a> {
         Ok(Building {
             keys: NodeKeys::with_capacity(alloc, nodes)?,
             spans: Spans::with_capacity(alloc, edges)?,
+            notes: Notes::new(alloc),
         })
+    }
+
+    // Notes a link between two places at a time.
+    fn note_link(&mut self, source: u32, target: u32, time: u32) -> Result<(), AllocError>
+        ensures { OnOk result (parts_of self.new ≡ record {
+          nodes = (parts_of self.old).nodes;
+          edges = with_time source target time (parts_of self.old).edges;
+        }) }
+    {
+        self.notes.push(Note {
+            source,
+            target,
+            time,
+        })?;
+        Ok(())
     }
 
     /// Links one node to another at a time.
@@ -45,8 +65,25 @@ impl<'a> Building<'a> {
         let to = number(&mut self.keys, target)?;
         let from_number = place_number(from)?;
         let to_number = place_number(to)?;
-        add_time(&mut self.spans, from_number, to_number, time)
+        self.note_link(from_number, to_number, time)
     }
+}
+
+// The same, where all links that were noted are among the edges.
+fn settle_notes<'a>(building: Building<'a>) -> Result<Building<'a>, AllocError>
+    ensures { IfOk result (λ settled. parts_of settled ≡ parts_of building.entry) }
+{
+    let Building {
+        keys,
+        mut spans,
+        notes,
+    } = building;
+    add_notes(&mut spans, notes.as_slice())?;
+    Ok(Building {
+        keys,
+        spans,
+        notes: empty_notes(notes),
+    })
 }
 
 // How many nodes and edges there may be: tables that grow take a sixth of the time.
@@ -111,6 +148,7 @@ pub(crate) fn build<'a>(alloc: Global, events: &'a [Event]) -> Result<Building<'
     let mut made = 1;
     for event in events {
         building.link_event(made, event)?;
+        building = settle_notes(building)?;
         made = made_with(made, &event.act);
     }
     Ok(building)

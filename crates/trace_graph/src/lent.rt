@@ -9,7 +9,7 @@ ghost use Rattle.trace_graph.specs.Lent.{lent_parts};
 use crate::building::{Building, build};
 use crate::edge::Edge;
 use crate::key::{NodeKey, copy_keys, path_place};
-use crate::span::edges_of;
+use crate::note::edges_with;
 use run_model::Events;
 use std::alloc::{AllocError, Global};
 
@@ -47,9 +47,9 @@ impl<'a> LentGraph<'a> {
 fn lend<'a>(alloc: Global, building: Building<'a>) -> Result<LentGraph<'a>, AllocError>
     ensures { IfOk result (λ graph. lent_parts graph ≡ parts_of building.entry) }
 {
-    let Building { keys, spans } = building;
+    let Building { keys, spans, notes } = building;
     // The table of edges is the larger: it is gone before the nodes are copied.
-    let edges = edges_of(alloc, spans)?;
+    let edges = edges_with(alloc, spans, notes, 0)?;
     let nodes = copy_keys(alloc, keys.as_slice())?;
     Ok(LentGraph {
         nodes,

@@ -12,6 +12,7 @@ mod law;
 mod lent;
 mod linking;
 mod node;
+mod note;
 mod span;
 mod well_formed;
 
