@@ -10,11 +10,11 @@ ghost use Rattle.trace_graph.specs.Links.{link};
 use crate::key::{NodeKey, NodeKeys, number, place_number};
 use crate::note::{Note, Notes, add_notes, empty_notes};
 use crate::span::Spans;
-use run_model::{Act, Event};
+use crate::texts::NodeTexts;
+use run_model::{Act, Event, Events};
 use std::alloc::{AllocError, Global};
 
-/// The nodes and edges so far, and the links that aren't among the edges yet. Texts are where the events have
-/// them.
+/// The nodes and edges so far, and the links that aren't among the edges yet.
 #[derive(Drop)]
 pub(crate) struct Building<'a> {
     pub(crate) keys: NodeKeys<'a>,
@@ -86,11 +86,11 @@ fn settle_notes<'a>(building: Building<'a>) -> Result<Building<'a>, AllocError>
     })
 }
 
-// How many nodes and edges there may be: tables that grow take a sixth of the time.
+/// How many nodes and edges there may be: tables that grow take a sixth of the time.
 #[derive(Clone, Copy)]
-struct Room {
-    nodes: usize,
-    edges: usize,
+pub(crate) struct Room {
+    pub(crate) nodes: usize,
+    pub(crate) edges: usize,
 }
 
 impl Room {
@@ -123,7 +123,8 @@ impl Room {
     }
 }
 
-fn room_of(events: &[Event]) -> Room {
+/// The room for the nodes and edges of events.
+pub(crate) fn room_of(events: &[Event]) -> Room {
     let mut room = Room { nodes: 0, edges: 0 };
     for event in events {
         room = room.with_act(&event.act);
@@ -139,16 +140,40 @@ fn made_with(made: u32, act: &Act) -> u32
     if act.is_spawn() { made + 1 } else { made }
 }
 
-/// The nodes and edges of the events of a trace.
-pub(crate) fn build<'a>(alloc: Global, events: &'a [Event]) -> Result<Building<'a>, AllocError>
+/// The nodes and edges of the events of a trace, whose texts are to be among `texts`.
+pub(crate) fn build<'a>(
+    alloc: Global,
+    texts: &'a NodeTexts,
+    events: &[Event],
+) -> Result<Building<'a>, AllocError>
     requires { IsTrue (made_fits 1 events.now) }
     ensures { IfOk result (λ building. parts_of building ≡ with_events no_parts 1 events.now) }
 {
     let mut building = Building::with_room(alloc, room_of(events))?;
     let mut made = 1;
     for event in events {
-        building.link_event(made, event)?;
+        building.link_event(texts, made, event)?;
         building = settle_notes(building)?;
+        made = made_with(made, &event.act);
+    }
+    Ok(building)
+}
+
+/// The same of events that are dropped one by one. Links are only noted, in the memory that the events leave:
+/// the table of edges, which is larger, is to be made once they are gone.
+pub(crate) fn build_from<'a>(
+    alloc: Global,
+    texts: &'a NodeTexts,
+    events: Events,
+    nodes: usize,
+) -> Result<Building<'a>, AllocError>
+    requires { IsTrue (made_fits 1 events) }
+    ensures { IfOk result (λ building. parts_of building ≡ with_events no_parts 1 events) }
+{
+    let mut building = Building::with_room(alloc, Room { nodes, edges: 0 })?;
+    let mut made = 1;
+    for event in events.into_vec() {
+        building.link_event(texts, made, &event)?;
         made = made_with(made, &event.act);
     }
     Ok(building)

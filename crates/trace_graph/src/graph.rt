@@ -11,6 +11,7 @@ use crate::edge::Edges;
 use crate::key::{NodeKey, is_same, keys_of, nodes_of};
 use crate::node::{Node, Nodes};
 use crate::note::edges_with;
+use crate::texts::NodeTexts;
 use run_model::Events;
 use std::alloc::{AllocError, Global};
 use std::marker::Model;
@@ -39,7 +40,8 @@ impl Graph {
         requires { IsTrace events.now }
         ensures { IfOk result (λ graph. graph ≡ graph_of events.now) }
     {
-        let building = build(alloc, events.items())?;
+        let texts = NodeTexts::of_events(alloc, events)?;
+        let building = build(alloc, &texts, events.items())?;
         finish(alloc, building)
     }
 

@@ -4,10 +4,13 @@ ghost use Rattle.std.specs.Prelude.{◌≡◌, ◌++◌, ◌∷◌, [], map, opt
 ghost use Rattle.std.specs.List.{filter_map};
 ghost use Rattle.trace_graph.specs.Building.{parts_of, with_link, with_links};
 ghost use Rattle.trace_graph.specs.Links.{from_path, to_path, between_processes, statement_links, read_link};
-ghost use Rattle.trace_graph.specs.Links.{made_link, version_before, change_link, asked_links, event_links};
+ghost use Rattle.trace_graph.specs.Links.{made_link, version_before, at_version, change_link, asked_links};
+ghost use Rattle.trace_graph.specs.Links.{link, event_links};
+ghost use Rattle.trace_graph.specs.Types.{Row};
 
 use crate::building::Building;
-use crate::key::{NodeKey, row_key, version_key};
+use crate::key::NodeKey;
+use crate::texts::{NodeTexts, lent_path, lent_row, lent_version};
 use ldv_value::Utf8;
 use run_model::{Act, Event};
 use sql_model::{Member, Need};
@@ -15,36 +18,48 @@ use std::alloc::AllocError;
 
 impl<'a> Building<'a> {
     // What is at a path goes to a process.
-    fn link_from_path(&mut self, time: u32, path: &'a Utf8, process: u32) -> Result<(), AllocError>
+    fn link_from_path(
+        &mut self,
+        texts: &'a NodeTexts,
+        time: u32,
+        path: &Utf8,
+        process: u32,
+    ) -> Result<(), AllocError>
         ensures { OnOk result (parts_of self.new
             ≡ with_link (parts_of self.old) (from_path time path.now process)) }
     {
-        self.link(
-            NodeKey::Path(path.as_str()),
-            NodeKey::Process(process),
-            time,
-        )
+        let source = lent_path(texts, path)?;
+        self.link(source, NodeKey::Process(process), time)
     }
 
     // A process decides what is at a path.
-    fn link_to_path(&mut self, time: u32, process: u32, path: &'a Utf8) -> Result<(), AllocError>
+    fn link_to_path(
+        &mut self,
+        texts: &'a NodeTexts,
+        time: u32,
+        process: u32,
+        path: &Utf8,
+    ) -> Result<(), AllocError>
         ensures { OnOk result (parts_of self.new
             ≡ with_link (parts_of self.old) (to_path time process path.now)) }
     {
-        self.link(
-            NodeKey::Process(process),
-            NodeKey::Path(path.as_str()),
-            time,
-        )
+        let target = lent_path(texts, path)?;
+        self.link(NodeKey::Process(process), target, time)
     }
 
     // A process finds what is at a path, and changes it.
-    fn link_both_ways(&mut self, time: u32, path: &'a Utf8, process: u32) -> Result<(), AllocError>
+    fn link_both_ways(
+        &mut self,
+        texts: &'a NodeTexts,
+        time: u32,
+        path: &Utf8,
+        process: u32,
+    ) -> Result<(), AllocError>
         ensures { OnOk result (parts_of self.new ≡ with_links (parts_of self.old)
             (from_path time path.now process ∷ to_path time process path.now ∷ [])) }
     {
-        self.link_from_path(time, path, process)?;
-        self.link_to_path(time, process, path)
+        self.link_from_path(texts, time, path, process)?;
+        self.link_to_path(texts, time, process, path)
     }
 
     fn link_processes(&mut self, time: u32, source: u32, target: u32) -> Result<(), AllocError>
@@ -57,8 +72,9 @@ impl<'a> Building<'a> {
     // A process makes a child, which runs the script at a path.
     fn link_child(
         &mut self,
+        texts: &'a NodeTexts,
         time: u32,
-        path: &'a Utf8,
+        path: &Utf8,
         process: u32,
         child: u32,
     ) -> Result<(), AllocError>
@@ -66,8 +82,8 @@ impl<'a> Building<'a> {
             (from_path time path.now child ∷ from_path time path.now process
             ∷ between_processes time process child ∷ [])) }
     {
-        self.link_from_path(time, path, child)?;
-        self.link_from_path(time, path, process)?;
+        self.link_from_path(texts, time, path, child)?;
+        self.link_from_path(texts, time, path, process)?;
         self.link_processes(time, process, child)
     }
 
@@ -82,45 +98,85 @@ impl<'a> Building<'a> {
     }
 
     // The versions that were read go to the reply.
-    fn link_reads(&mut self, time: u32, statement: u32, reads: &'a [Need]) -> Result<(), AllocError>
+    fn link_reads(
+        &mut self,
+        texts: &'a NodeTexts,
+        time: u32,
+        statement: u32,
+        reads: &[Need],
+    ) -> Result<(), AllocError>
         ensures { OnOk result (parts_of self.new
             ≡ with_links (parts_of self.old) (map (read_link time statement) reads.now)) }
     {
         for need in reads {
-            self.link(row_key(&need.member), NodeKey::Reply(statement), time)?;
+            let source = lent_row(texts, &need.member)?;
+            self.link(source, NodeKey::Reply(statement), time)?;
         }
         Ok(())
     }
 
     // The statement makes versions.
-    fn link_made(&mut self, time: u32, statement: u32, made: &'a [Member]) -> Result<(), AllocError>
+    fn link_made(
+        &mut self,
+        texts: &'a NodeTexts,
+        time: u32,
+        statement: u32,
+        made: &[Member],
+    ) -> Result<(), AllocError>
         ensures { OnOk result (parts_of self.new
             ≡ with_links (parts_of self.old) (map (made_link time statement) made.now)) }
     {
         for member in made {
-            self.link(NodeKey::Ask(statement), row_key(member), time)?;
+            let target = lent_row(texts, member)?;
+            self.link(NodeKey::Ask(statement), target, time)?;
         }
         Ok(())
     }
 
+    // A version of a row goes to that of the row itself.
+    fn link_versions(
+        &mut self,
+        texts: &'a NodeTexts,
+        time: u32,
+        version: u32,
+        member: &Member,
+    ) -> Result<(), AllocError>
+        ensures { OnOk result (parts_of self.new ≡ with_link (parts_of self.old)
+            (link time (Row (at_version member.now version)) (Row member.now))) }
+    {
+        let source = lent_version(texts, member, version)?;
+        let target = lent_row(texts, member)?;
+        self.link(source, target, time)
+    }
+
     // A version goes to the one that is made of it.
-    fn link_change(&mut self, time: u32, member: &'a Member) -> Result<(), AllocError>
+    fn link_change(
+        &mut self,
+        texts: &'a NodeTexts,
+        time: u32,
+        member: &Member,
+    ) -> Result<(), AllocError>
         ensures { OnOk result (parts_of self.new
             ≡ with_links (parts_of self.old) (option_to_list (change_link time member.now))) }
     {
         match version_before(member.version) {
             None => Ok(()),
-            Some(version) => self.link(version_key(member, version), row_key(member), time),
+            Some(version) => self.link_versions(texts, time, version, member),
         }
     }
 
     #[tactic(auto, using(crate::proofs::LinkLists::with_option))]
-    fn link_changes(&mut self, time: u32, made: &'a [Member]) -> Result<(), AllocError>
+    fn link_changes(
+        &mut self,
+        texts: &'a NodeTexts,
+        time: u32,
+        made: &[Member],
+    ) -> Result<(), AllocError>
         ensures { OnOk result (parts_of self.new
             ≡ with_links (parts_of self.old) (filter_map (change_link time) made.now)) }
     {
         for member in made {
-            self.link_change(time, member)?;
+            self.link_change(texts, time, member)?;
         }
         Ok(())
     }
@@ -129,40 +185,47 @@ impl<'a> Building<'a> {
     #[tactic(auto, using(crate::proofs::LinkLists::with_more))]
     fn link_asked(
         &mut self,
+        texts: &'a NodeTexts,
         event: &Event,
         statement: u32,
-        reads: &'a [Need],
-        made: &'a [Member],
+        reads: &[Need],
+        made: &[Member],
     ) -> Result<(), AllocError>
         ensures { OnOk result (parts_of self.new ≡ with_links (parts_of self.old)
             (asked_links event.now.step event.now.process statement reads.now made.now)) }
     {
         self.link_statement(event.step, event.process, statement)?;
-        self.link_reads(event.step, statement, reads)?;
-        self.link_made(event.step, statement, made)?;
-        self.link_changes(event.step, made)
+        self.link_reads(texts, event.step, statement, reads)?;
+        self.link_made(texts, event.step, statement, made)?;
+        self.link_changes(texts, event.step, made)
     }
 
-    /// What an event links, before which a number of processes was made.
-    pub(crate) fn link_event(&mut self, made: u32, event: &'a Event) -> Result<(), AllocError>
+    /// What an event links, before which a number of processes was made. The texts are to have those of the
+    /// event.
+    pub(crate) fn link_event(
+        &mut self,
+        texts: &'a NodeTexts,
+        made: u32,
+        event: &Event,
+    ) -> Result<(), AllocError>
         ensures { OnOk result (parts_of self.new
             ≡ with_links (parts_of self.old) (event_links made event.now)) }
     {
         let time = event.step;
         let process = event.process;
         match &event.act {
-            Act::Started { path } => self.link_from_path(time, path, process),
-            Act::Spawned { path } => self.link_child(time, path, process, made),
-            Act::Unspawned { path, found: _ } => self.link_from_path(time, path, process),
-            Act::OpenedRead { path } => self.link_from_path(time, path, process),
-            Act::OpenedWrite { path } => self.link_to_path(time, process, path),
-            Act::OpenedAppend { path, found: _ } => self.link_to_path(time, process, path),
-            Act::OpenedNew { path } => self.link_both_ways(time, path, process),
-            Act::Unopened { path, found: _ } => self.link_from_path(time, path, process),
-            Act::Read { path } => self.link_from_path(time, path, process),
-            Act::Wrote { path } => self.link_to_path(time, process, path),
-            Act::Removed { path } => self.link_both_ways(time, path, process),
-            Act::Tested { path, found: _ } => self.link_from_path(time, path, process),
+            Act::Started { path } => self.link_from_path(texts, time, path, process),
+            Act::Spawned { path } => self.link_child(texts, time, path, process, made),
+            Act::Unspawned { path, found: _ } => self.link_from_path(texts, time, path, process),
+            Act::OpenedRead { path } => self.link_from_path(texts, time, path, process),
+            Act::OpenedWrite { path } => self.link_to_path(texts, time, process, path),
+            Act::OpenedAppend { path, found: _ } => self.link_to_path(texts, time, process, path),
+            Act::OpenedNew { path } => self.link_both_ways(texts, time, path, process),
+            Act::Unopened { path, found: _ } => self.link_from_path(texts, time, path, process),
+            Act::Read { path } => self.link_from_path(texts, time, path, process),
+            Act::Wrote { path } => self.link_to_path(texts, time, process, path),
+            Act::Removed { path } => self.link_both_ways(texts, time, path, process),
+            Act::Tested { path, found: _ } => self.link_from_path(texts, time, path, process),
             Act::Waited { child } => self.link_processes(time, *child, process),
             Act::Ended { status: _ } => Ok(()),
             Act::Asked {
@@ -170,7 +233,7 @@ impl<'a> Building<'a> {
                 tables: _,
                 reads,
                 made,
-            } => self.link_asked(event, *statement, reads.items(), made.items()),
+            } => self.link_asked(texts, event, *statement, reads.items(), made.items()),
         }
     }
 }

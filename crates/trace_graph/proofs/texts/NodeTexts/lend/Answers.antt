@@ -1,0 +1,13 @@
+-- What a set finds is what it was asked for.
+use Rattle.std.proofs.Common.{◌≡◌, ◌∙◌, sym, ap, subst, ℕ, List}
+use Rattle.std.specs.Prelude.{Option, IfSome, option_copied}
+use Rattle.std.proofs.lemmas.Map.Made.{IfSome-find_same}
+use Rattle.std.proofs.lemmas.Slice.Eq.{bytes_eq-Decides}
+use Rattle.trace_graph.proofs.texts.NodeTexts.lend.Goals as goal
+
+pub returns-in-Some : goal.returns-in-Some
+returns-in-Some c =
+    c.as_str.ensures
+    ∙ subst (λ (found : Option (List ℕ)). IfSome found (λ (text : List ℕ). text ≡ c.args.text.now))
+    (sym (ap option_copied (sym c.in-Some.is) ∙ c.get.ensures.key))
+    (IfSome-find_same bytes_eq-Decides c.args.text.now c.args.self.now.held.keys)
