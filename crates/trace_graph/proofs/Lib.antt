@@ -5,6 +5,7 @@ pub mod KeyLaws
 pub mod SpanLaws
 pub mod NoteLaws
 pub mod LinkLists
+pub mod KnownPlaces
 pub mod EdgeLaws
 pub mod GraphLaw
 pub mod LentLaws

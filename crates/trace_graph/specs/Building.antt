@@ -1,6 +1,6 @@
 -- How a graph grows link by link, which is what the code does.
-use Rattle.std.specs.Prelude.{ℕ, min, max, List, [], ◌∷◌, ◌++◌, map, Bool, true, ◌&&◌, ◌==◌, nat_le}
-use Rattle.std.specs.Prelude.{if◌then◌else◌, Option, Some, None}
+use Rattle.std.specs.Prelude.{◌≡◌, ℕ, min, max, List, [], ◌∷◌, ◌++◌, map, Bool, true, ◌&&◌, ◌==◌}
+use Rattle.std.specs.Prelude.{if◌then◌else◌, nat_le, Option, Some, None}
 use Rattle.std.specs.List.{list_any}
 use Rattle.ldv_value.specs.Limits.{max_processes}
 use Rattle.run_model.specs.ValidTrace.{made_after}
@@ -81,6 +81,18 @@ parts_of building = record {
   nodes = map node_of building.keys.keys;
   edges = with_notes (map edge_at building.spans.entries) building.notes.items;
 }
+
+-- with a node at the end, if it isn't there yet, and no edge more
+abbrev pub with_place : Parts → Node → Parts
+with_place parts node = record parts { nodes = with_node parts.nodes node }
+
+-- with a time more of the edge between two places
+abbrev pub with_noted : Parts → ℕ → ℕ → ℕ → Parts
+with_noted parts source target time = record parts { edges = with_time source target time parts.edges }
+
+-- a node is there, at a place
+abbrev pub IsAt : List Node → Node → ℕ → Type 0
+IsAt nodes node place = (list_any (same_node node) nodes ≡ true) × (place ≡ place_in nodes node)
 
 unfoldable pub with_link : Parts → Link → Parts
 with_link parts l = record {

@@ -3,8 +3,9 @@
 ghost use Rattle.std.specs.Prelude.{◌≡◌, ◌≤◌, IsTrue, IfOk, OnOk};
 ghost use Rattle.ldv_value.specs.Limits.{max_processes};
 ghost use Rattle.run_model.specs.ValidTrace.{made_after};
-ghost use Rattle.trace_graph.specs.Building.{parts_of, no_parts, node_of, with_link, with_time, with_events};
-ghost use Rattle.trace_graph.specs.Building.{made_fits};
+ghost use Rattle.trace_graph.specs.Building.{parts_of, no_parts, node_of, with_link, with_place, with_noted};
+ghost use Rattle.trace_graph.specs.Building.{with_events, made_fits};
+ghost use Rattle.trace_graph.specs.Graph.{place_in};
 ghost use Rattle.trace_graph.specs.Links.{link};
 
 use crate::key::{NodeKey, NodeKeys, number, place_number};
@@ -35,12 +36,26 @@ impl<'a> Building<'a> {
         })
     }
 
-    // Notes a link between two places at a time.
-    fn note_link(&mut self, source: u32, target: u32, time: u32) -> Result<(), AllocError>
-        ensures { OnOk result (parts_of self.new ≡ record {
-          nodes = (parts_of self.old).nodes;
-          edges = with_time source target time (parts_of self.old).edges;
-        }) }
+    /// The place of a node, which comes last if it isn't there yet.
+    pub(crate) fn place(&mut self, key: NodeKey<'a>) -> Result<u32, AllocError>
+        ensures parts { OnOk result (parts_of self.new
+            ≡ with_place (parts_of self.old) (node_of key.entry)) }
+        ensures place { IfOk result (λ place. place
+            ≡ place_in (parts_of self.old).nodes (node_of key.entry)) }
+    {
+        let at = number(&mut self.keys, key)?;
+        let place = place_number(at)?;
+        Ok(place)
+    }
+
+    /// Notes a link between two places at a time.
+    pub(crate) fn note_link(
+        &mut self,
+        source: u32,
+        target: u32,
+        time: u32,
+    ) -> Result<(), AllocError>
+        ensures { OnOk result (parts_of self.new ≡ with_noted (parts_of self.old) source target time) }
     {
         self.notes.push(Note {
             source,

@@ -1,12 +1,12 @@
 //! What each event links.
 
-ghost use Rattle.std.specs.Prelude.{◌≡◌, ◌++◌, ◌∷◌, [], map, option_to_list, OnOk};
+ghost use Rattle.std.specs.Prelude.{◌≡◌, ◌++◌, ◌∷◌, [], map, option_to_list, IfOk, OnOk};
 ghost use Rattle.std.specs.List.{filter_map};
-ghost use Rattle.trace_graph.specs.Building.{parts_of, with_link, with_links};
+ghost use Rattle.trace_graph.specs.Building.{parts_of, with_link, with_links, IsAt};
 ghost use Rattle.trace_graph.specs.Links.{from_path, to_path, between_processes, statement_links, read_link};
 ghost use Rattle.trace_graph.specs.Links.{made_link, version_before, at_version, change_link, asked_links};
 ghost use Rattle.trace_graph.specs.Links.{link, event_links};
-ghost use Rattle.trace_graph.specs.Types.{Row};
+ghost use Rattle.trace_graph.specs.Types.{Row, Ask, Reply};
 
 use crate::building::Building;
 use crate::key::NodeKey;
@@ -87,48 +87,99 @@ impl<'a> Building<'a> {
         self.link_processes(time, process, child)
     }
 
-    // A process asks, and gets the reply.
-    fn link_statement(&mut self, time: u32, process: u32, statement: u32) -> Result<(), AllocError>
-        ensures { OnOk result (parts_of self.new
+    // A process asks, and gets the reply. Returns the places of the statement and of the reply.
+    fn link_statement(
+        &mut self,
+        time: u32,
+        process: u32,
+        statement: u32,
+    ) -> Result<(u32, u32), AllocError>
+        ensures parts { OnOk result (parts_of self.new
             ≡ with_links (parts_of self.old) (statement_links time process statement)) }
+        ensures statement { IfOk result (λ places. IsAt (parts_of self.new).nodes (Ask statement) places.0) }
+        ensures reply { IfOk result (λ places. IsAt (parts_of self.new).nodes (Reply statement) places.1) }
     {
-        self.link(NodeKey::Process(process), NodeKey::Ask(statement), time)?;
-        self.link(NodeKey::Ask(statement), NodeKey::Reply(statement), time)?;
-        self.link(NodeKey::Reply(statement), NodeKey::Process(process), time)
+        let from = self.place(NodeKey::Process(process))?;
+        let ask = self.place(NodeKey::Ask(statement))?;
+        let reply = self.place(NodeKey::Reply(statement))?;
+        self.note_link(from, ask, time)?;
+        self.note_link(ask, reply, time)?;
+        self.note_link(reply, from, time)?;
+        Ok((ask, reply))
     }
 
-    // The versions that were read go to the reply.
+    // A version that was read goes to the reply, which is at a place.
+    fn link_read(
+        &mut self,
+        texts: &'a NodeTexts,
+        time: u32,
+        statement: u32,
+        reply: u32,
+        need: &Need,
+    ) -> Result<(), AllocError>
+        requires { IsAt (parts_of self.old).nodes (Reply statement) reply }
+        ensures parts { OnOk result (parts_of self.new
+            ≡ with_link (parts_of self.old) (read_link time statement need.now)) }
+        ensures reply { OnOk result (IsAt (parts_of self.new).nodes (Reply statement) reply) }
+    {
+        let key = lent_row(texts, &need.member)?;
+        let source = self.place(key)?;
+        self.note_link(source, reply, time)?;
+        Ok(())
+    }
+
     fn link_reads(
         &mut self,
         texts: &'a NodeTexts,
         time: u32,
         statement: u32,
+        reply: u32,
         reads: &[Need],
     ) -> Result<(), AllocError>
+        requires { IsAt (parts_of self.old).nodes (Reply statement) reply }
         ensures { OnOk result (parts_of self.new
             ≡ with_links (parts_of self.old) (map (read_link time statement) reads.now)) }
     {
         for need in reads {
-            let source = lent_row(texts, &need.member)?;
-            self.link(source, NodeKey::Reply(statement), time)?;
+            self.link_read(texts, time, statement, reply, need)?;
         }
         Ok(())
     }
 
-    // The statement makes versions.
+    // The statement, which is at a place, makes a version.
+    fn link_version(
+        &mut self,
+        texts: &'a NodeTexts,
+        time: u32,
+        statement: u32,
+        ask: u32,
+        member: &Member,
+    ) -> Result<(), AllocError>
+        requires { IsAt (parts_of self.old).nodes (Ask statement) ask }
+        ensures parts { OnOk result (parts_of self.new
+            ≡ with_link (parts_of self.old) (made_link time statement member.now)) }
+        ensures statement { OnOk result (IsAt (parts_of self.new).nodes (Ask statement) ask) }
+    {
+        let key = lent_row(texts, member)?;
+        let target = self.place(key)?;
+        self.note_link(ask, target, time)?;
+        Ok(())
+    }
+
     fn link_made(
         &mut self,
         texts: &'a NodeTexts,
         time: u32,
         statement: u32,
+        ask: u32,
         made: &[Member],
     ) -> Result<(), AllocError>
+        requires { IsAt (parts_of self.old).nodes (Ask statement) ask }
         ensures { OnOk result (parts_of self.new
             ≡ with_links (parts_of self.old) (map (made_link time statement) made.now)) }
     {
         for member in made {
-            let target = lent_row(texts, member)?;
-            self.link(NodeKey::Ask(statement), target, time)?;
+            self.link_version(texts, time, statement, ask, member)?;
         }
         Ok(())
     }
@@ -194,9 +245,10 @@ impl<'a> Building<'a> {
         ensures { OnOk result (parts_of self.new ≡ with_links (parts_of self.old)
             (asked_links event.now.step event.now.process statement reads.now made.now)) }
     {
-        self.link_statement(event.step, event.process, statement)?;
-        self.link_reads(texts, event.step, statement, reads)?;
-        self.link_made(texts, event.step, statement, made)?;
+        let places = self.link_statement(event.step, event.process, statement)?;
+        let (ask, reply) = places;
+        self.link_reads(texts, event.step, statement, reply, reads)?;
+        self.link_made(texts, event.step, statement, ask, made)?;
         self.link_changes(texts, event.step, made)
     }
 
