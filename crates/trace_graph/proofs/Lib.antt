@@ -9,6 +9,7 @@ pub mod KnownPlaces
 pub mod EdgeLaws
 pub mod GraphLaw
 pub mod LentLaws
+pub mod TextLaws
 pub mod TraceLaws
 pub mod GraphFacts
 pub mod VersionFacts

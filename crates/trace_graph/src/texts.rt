@@ -1,14 +1,15 @@
 //! The texts of the nodes of a trace.
 
-ghost use Rattle.std.specs.Prelude.{◌≡◌, IfOk};
+ghost use Rattle.std.specs.Prelude.{◌≡◌, ◌++◌, [], map, IfOk, IsTrue, OnOk};
 ghost use Rattle.trace_graph.specs.Building.{node_of};
 ghost use Rattle.trace_graph.specs.Links.{at_version};
+ghost use Rattle.trace_graph.specs.NodeTexts.{act_texts, event_texts, with_text, with_texts, are_held};
 ghost use Rattle.trace_graph.specs.Types.{Path, Row};
 
 use crate::key::NodeKey;
 use indexmap::IndexSet;
 use ldv_value::Utf8;
-use run_model::{Act, Events};
+use run_model::{Act, Event, Events};
 use sql_model::{Member, Need};
 use std::alloc::{AllocError, Global};
 
@@ -23,43 +24,74 @@ pub struct NodeTexts {
 
 impl NodeTexts {
     /// The texts of the nodes of events. `AllocError` means out of memory only.
-    pub fn of_events(alloc: Global, events: &Events) -> Result<NodeTexts, AllocError> {
-        let mut texts = NodeTexts {
-            held: TextSet::new(alloc),
-        };
-        for event in events.items() {
-            texts.add_act(&event.act)?;
-        }
+    pub fn of_events(alloc: Global, events: &Events) -> Result<NodeTexts, AllocError>
+        ensures { IfOk result (λ texts. IsTrue (are_held texts.held.keys (event_texts events.now))) }
+    {
+        let texts = texts_of(alloc, events.items())?;
         Ok(texts)
     }
 
-    fn add_act(&mut self, act: &Act) -> Result<(), AllocError> {
+    #[tactic(auto, using(crate::proofs::TextLaws::texts_more))]
+    fn add_events(&mut self, events: &[Event]) -> Result<(), AllocError>
+        ensures { OnOk result (self.new.held.keys ≡ with_texts self.old.held.keys (event_texts events.now)) }
+    {
+        for event in events {
+            self.add_act(&event.act)?;
+        }
+        Ok(())
+    }
+
+    fn add_act(&mut self, act: &Act) -> Result<(), AllocError>
+        ensures { OnOk result (self.new.held.keys ≡ with_texts self.old.held.keys (act_texts act.now)) }
+    {
         match act {
+            Act::Started { path } => self.add(path),
+            Act::Spawned { path } => self.add(path),
+            Act::Unspawned { path, found: _ } => self.add(path),
+            Act::OpenedRead { path } => self.add(path),
+            Act::OpenedWrite { path } => self.add(path),
+            Act::OpenedAppend { path, found: _ } => self.add(path),
+            Act::OpenedNew { path } => self.add(path),
+            Act::Unopened { path, found: _ } => self.add(path),
+            Act::Read { path } => self.add(path),
+            Act::Wrote { path } => self.add(path),
+            Act::Removed { path } => self.add(path),
+            Act::Tested { path, found: _ } => self.add(path),
+            Act::Waited { child: _ } => Ok(()),
+            Act::Ended { status: _ } => Ok(()),
             Act::Asked {
                 statement: _,
                 tables: _,
                 reads,
                 made,
             } => self.add_tables(reads.items(), made.items()),
-            _ => self.add_path(act.path()),
         }
     }
 
-    fn add_path(&mut self, path: Option<&Utf8>) -> Result<(), AllocError> {
-        match path {
-            None => Ok(()),
-            Some(path) => self.add(path),
-        }
-    }
-
-    fn add_tables(&mut self, reads: &[Need], made: &[Member]) -> Result<(), AllocError> {
-        for need in reads {
-            self.add(&need.member.table)?;
-        }
+    #[tactic(auto, using(crate::proofs::TextLaws::texts_more))]
+    fn add_tables(&mut self, reads: &[Need], made: &[Member]) -> Result<(), AllocError>
+        ensures { OnOk result (self.new.held.keys ≡ with_texts self.old.held.keys
+            (map (λ need. need.member.table) reads.now
+            ++ map (λ member. member.table) made.now)) }
+    {
+        self.add_reads(reads)?;
         self.add_made(made)
     }
 
-    fn add_made(&mut self, made: &[Member]) -> Result<(), AllocError> {
+    fn add_reads(&mut self, reads: &[Need]) -> Result<(), AllocError>
+        ensures { OnOk result (self.new.held.keys
+            ≡ with_texts self.old.held.keys (map (λ need. need.member.table) reads.now)) }
+    {
+        for need in reads {
+            self.add(&need.member.table)?;
+        }
+        Ok(())
+    }
+
+    fn add_made(&mut self, made: &[Member]) -> Result<(), AllocError>
+        ensures { OnOk result (self.new.held.keys
+            ≡ with_texts self.old.held.keys (map (λ member. member.table) made.now)) }
+    {
         for member in made {
             self.add(&member.table)?;
         }
@@ -67,11 +99,14 @@ impl NodeTexts {
     }
 
     // Adds a copy of a text, if it isn't there yet.
-    fn add(&mut self, text: &Utf8) -> Result<(), AllocError> {
+    fn add(&mut self, text: &Utf8) -> Result<(), AllocError>
+        ensures { OnOk result (self.new.held.keys ≡ with_text self.old.held.keys text.now) }
+    {
         if self.held.contains(text) {
             return Ok(());
         }
-        self.held.insert(text.copy()?)?;
+        let copy = text.copy()?;
+        self.held.insert(copy)?;
         Ok(())
     }
 
@@ -85,6 +120,16 @@ impl NodeTexts {
             Some(found) => Ok(found.as_str()),
         }
     }
+}
+
+fn texts_of(alloc: Global, events: &[Event]) -> Result<NodeTexts, AllocError>
+    ensures { IfOk result (λ texts. texts.held.keys ≡ with_texts [] (event_texts events.now)) }
+{
+    let mut texts = NodeTexts {
+        held: TextSet::new(alloc),
+    };
+    texts.add_events(events)?;
+    Ok(texts)
 }
 
 /// The key of a path.

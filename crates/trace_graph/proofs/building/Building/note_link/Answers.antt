@@ -1,4 +1,4 @@
-use Rattle.std.proofs.Common.{◌≡◌, ◌∙◌, ap, map, List}
+use Rattle.std.proofs.Common.{◌∙◌, ap, map, List}
 use Rattle.trace_graph.specs.Types.{Edge}
 use Rattle.trace_graph.specs.Building.{node_of, edge_at, with_notes}
 use Rattle.trace_graph.proofs.NoteLaws.{noted_more}
