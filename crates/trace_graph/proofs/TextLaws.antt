@@ -1,10 +1,12 @@
 -- Texts that are held, each once.
-use Rattle.std.proofs.Common.{◌≡◌, ℕ, true, List, [], ◌∷◌, ◌++◌, refl}
+use Rattle.std.proofs.Common.{◌≡◌, ◌∙◌, sym, ℕ, true, ◌&&◌, List, [], ◌∷◌, ◌++◌, refl}
 use Rattle.std.specs.Prelude.{bytes_eq}
 use Rattle.std.specs.List.{list_any}
 use Rattle.std.specs.Cmp.Lexicographic.{nat_list_eq_equiv}
-use Rattle.ldv_value.proofs.Booleans.{and-from}
-use Rattle.trace_graph.specs.NodeTexts.{with_text, with_texts, are_held}
+use Rattle.std.proofs.lemmas.List.Folds.{list_all-append}
+use Rattle.ldv_value.proofs.Booleans.{and-first, and-second, and-from}
+use Rattle.trace_graph.specs.Types.{Event}
+use Rattle.trace_graph.specs.NodeTexts.{act_texts, event_texts, with_text, with_texts, is_held, are_held, acts_held}
 use Rattle.trace_graph.proofs.PlaceLaws.{any_more, any_own}
 
 pub texts_more : (held ts us : List (List ℕ)) → with_texts held (ts ++ us) ≡ with_texts (with_texts held ts) us
@@ -23,3 +25,22 @@ all_held held (t ∷ ts) =
     and-from (list_any (bytes_eq t) (with_texts (with_text held t) ts)) (are_held (with_texts (with_text held t) ts) ts)
     (stay_held t (with_text held t) ts (any_own nat_list_eq_equiv held t))
     (all_held (with_text held t) ts)
+
+both_held : (held ts us : List (List ℕ)) → are_held held (ts ++ us) ≡ true → (are_held held ts && are_held held us) ≡ true
+both_held held ts us all = sym (list_all-append (is_held held) ts us) ∙ all
+
+-- of texts one after another, the first are held
+pub first_held : (held ts us : List (List ℕ)) → are_held held (ts ++ us) ≡ true → are_held held ts ≡ true
+first_held held ts us all = and-first (are_held held ts) (are_held held us) (both_held held ts us all)
+
+-- and the others
+pub others_held : (held ts us : List (List ℕ)) → are_held held (ts ++ us) ≡ true → are_held held us ≡ true
+others_held held ts us all = and-second (are_held held ts) (are_held held us) (both_held held ts us all)
+
+-- where the texts of a trace are held, those of each act are
+pub each_held : (held : List (List ℕ)) (es : List Event) → are_held held (event_texts es) ≡ true → acts_held held es ≡ true
+each_held held [] all = refl
+each_held held (e ∷ es) all =
+    and-from (are_held held (act_texts e.act)) (acts_held held es)
+    (first_held held (act_texts e.act) (event_texts es) all)
+    (each_held held es (others_held held (act_texts e.act) (event_texts es) all))

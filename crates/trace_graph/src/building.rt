@@ -7,6 +7,7 @@ ghost use Rattle.trace_graph.specs.Building.{parts_of, no_parts, node_of, with_l
 ghost use Rattle.trace_graph.specs.Building.{with_events, made_fits};
 ghost use Rattle.trace_graph.specs.Graph.{place_in};
 ghost use Rattle.trace_graph.specs.Links.{link};
+ghost use Rattle.trace_graph.specs.NodeTexts.{acts_held};
 
 use crate::key::{NodeKey, NodeKeys, number, place_number};
 use crate::note::{Note, Notes, add_notes, empty_notes};
@@ -155,13 +156,14 @@ fn made_with(made: u32, act: &Act) -> u32
     if act.is_spawn() { made + 1 } else { made }
 }
 
-/// The nodes and edges of the events of a trace, whose texts are to be among `texts`.
+/// The nodes and edges of the events of a trace.
 pub(crate) fn build<'a>(
     alloc: Global,
     texts: &'a NodeTexts,
     events: &[Event],
 ) -> Result<Building<'a>, AllocError>
-    requires { IsTrue (made_fits 1 events.now) }
+    requires fits { IsTrue (made_fits 1 events.now) }
+    requires held { IsTrue (acts_held texts.now.held.keys events.now) }
     ensures { IfOk result (λ building. parts_of building ≡ with_events no_parts 1 events.now) }
 {
     let mut building = Building::with_room(alloc, room_of(events))?;
@@ -182,7 +184,8 @@ pub(crate) fn build_from<'a>(
     events: Events,
     nodes: usize,
 ) -> Result<Building<'a>, AllocError>
-    requires { IsTrue (made_fits 1 events) }
+    requires fits { IsTrue (made_fits 1 events) }
+    requires held { IsTrue (acts_held texts.now.held.keys events) }
     ensures { IfOk result (λ building. parts_of building ≡ with_events no_parts 1 events) }
 {
     let mut building = Building::with_room(alloc, Room { nodes, edges: 0 })?;

@@ -5,6 +5,7 @@ ghost use Rattle.run_model.specs.ValidTrace.{IsTrace};
 ghost use Rattle.trace_graph.specs.Building.{parts_of};
 ghost use Rattle.trace_graph.specs.Graph.{graph_of, place_of, are_between};
 ghost use Rattle.trace_graph.specs.Lent.{lent_parts};
+ghost use Rattle.trace_graph.specs.NodeTexts.{lends_texts};
 
 use crate::building::{Building, build_from, room_of};
 use crate::edge::Edge;
@@ -24,14 +25,15 @@ pub struct LentGraph<'a> {
 }
 
 impl<'a> LentGraph<'a> {
-    /// The graph of a trace, whose events are dropped one by one. `texts` are those of the trace, by
-    /// `NodeTexts::of_events`. `AllocError` means out of memory, or that a text isn't among them.
+    /// The graph of a trace, whose events are dropped one by one. `texts` have those of the trace, as
+    /// `NodeTexts::of_events` gives them. `AllocError` means out of memory only.
     pub fn of_events(
         alloc: Global,
         texts: &'a NodeTexts,
         events: Events,
     ) -> Result<LentGraph<'a>, AllocError>
-        requires { IsTrace events }
+        requires trace { IsTrace events }
+        requires texts { IsTrue (lends_texts texts.now events) }
         ensures graph { IfOk result (λ graph. lent_parts graph ≡ graph_of events) }
         ensures between { IfOk result (λ graph. IsTrue (are_between (length graph.nodes.items)
             graph.edges.items)) }

@@ -1,11 +1,12 @@
 //! What each event links.
 
-ghost use Rattle.std.specs.Prelude.{◌≡◌, ◌++◌, ◌∷◌, [], map, option_to_list, IfOk, OnOk};
+ghost use Rattle.std.specs.Prelude.{◌≡◌, ◌++◌, ◌∷◌, [], map, option_to_list, IfOk, IsTrue, OnOk};
 ghost use Rattle.std.specs.List.{filter_map};
 ghost use Rattle.trace_graph.specs.Building.{parts_of, with_link, with_links, IsAt};
 ghost use Rattle.trace_graph.specs.Links.{from_path, to_path, between_processes, statement_links, read_link};
 ghost use Rattle.trace_graph.specs.Links.{made_link, version_before, at_version, change_link, asked_links};
 ghost use Rattle.trace_graph.specs.Links.{link, event_links};
+ghost use Rattle.trace_graph.specs.NodeTexts.{act_texts, read_texts, made_texts, is_held, are_held};
 ghost use Rattle.trace_graph.specs.Types.{Row, Ask, Reply};
 
 use crate::building::Building;
@@ -25,10 +26,11 @@ impl<'a> Building<'a> {
         path: &Utf8,
         process: u32,
     ) -> Result<(), AllocError>
+        requires { IsTrue (is_held texts.now.held.keys path.now) }
         ensures { OnOk result (parts_of self.new
             ≡ with_link (parts_of self.old) (from_path time path.now process)) }
     {
-        let source = lent_path(texts, path)?;
+        let source = lent_path(texts, path);
         self.link(source, NodeKey::Process(process), time)
     }
 
@@ -40,10 +42,11 @@ impl<'a> Building<'a> {
         process: u32,
         path: &Utf8,
     ) -> Result<(), AllocError>
+        requires { IsTrue (is_held texts.now.held.keys path.now) }
         ensures { OnOk result (parts_of self.new
             ≡ with_link (parts_of self.old) (to_path time process path.now)) }
     {
-        let target = lent_path(texts, path)?;
+        let target = lent_path(texts, path);
         self.link(NodeKey::Process(process), target, time)
     }
 
@@ -55,6 +58,7 @@ impl<'a> Building<'a> {
         path: &Utf8,
         process: u32,
     ) -> Result<(), AllocError>
+        requires { IsTrue (is_held texts.now.held.keys path.now) }
         ensures { OnOk result (parts_of self.new ≡ with_links (parts_of self.old)
             (from_path time path.now process ∷ to_path time process path.now ∷ [])) }
     {
@@ -78,6 +82,7 @@ impl<'a> Building<'a> {
         process: u32,
         child: u32,
     ) -> Result<(), AllocError>
+        requires { IsTrue (is_held texts.now.held.keys path.now) }
         ensures { OnOk result (parts_of self.new ≡ with_links (parts_of self.old)
             (from_path time path.now child ∷ from_path time path.now process
             ∷ between_processes time process child ∷ [])) }
@@ -117,12 +122,13 @@ impl<'a> Building<'a> {
         reply: u32,
         need: &Need,
     ) -> Result<(), AllocError>
-        requires { IsAt (parts_of self.old).nodes (Reply statement) reply }
+        requires place { IsAt (parts_of self.old).nodes (Reply statement) reply }
+        requires held { IsTrue (is_held texts.now.held.keys need.now.member.table) }
         ensures parts { OnOk result (parts_of self.new
             ≡ with_link (parts_of self.old) (read_link time statement need.now)) }
         ensures reply { OnOk result (IsAt (parts_of self.new).nodes (Reply statement) reply) }
     {
-        let key = lent_row(texts, &need.member)?;
+        let key = lent_row(texts, &need.member);
         let source = self.place(key)?;
         self.note_link(source, reply, time)?;
         Ok(())
@@ -136,7 +142,8 @@ impl<'a> Building<'a> {
         reply: u32,
         reads: &[Need],
     ) -> Result<(), AllocError>
-        requires { IsAt (parts_of self.old).nodes (Reply statement) reply }
+        requires place { IsAt (parts_of self.old).nodes (Reply statement) reply }
+        requires held { IsTrue (are_held texts.now.held.keys (read_texts reads.now)) }
         ensures { OnOk result (parts_of self.new
             ≡ with_links (parts_of self.old) (map (read_link time statement) reads.now)) }
     {
@@ -155,12 +162,13 @@ impl<'a> Building<'a> {
         ask: u32,
         member: &Member,
     ) -> Result<(), AllocError>
-        requires { IsAt (parts_of self.old).nodes (Ask statement) ask }
+        requires place { IsAt (parts_of self.old).nodes (Ask statement) ask }
+        requires held { IsTrue (is_held texts.now.held.keys member.now.table) }
         ensures parts { OnOk result (parts_of self.new
             ≡ with_link (parts_of self.old) (made_link time statement member.now)) }
         ensures statement { OnOk result (IsAt (parts_of self.new).nodes (Ask statement) ask) }
     {
-        let key = lent_row(texts, member)?;
+        let key = lent_row(texts, member);
         let target = self.place(key)?;
         self.note_link(ask, target, time)?;
         Ok(())
@@ -174,7 +182,8 @@ impl<'a> Building<'a> {
         ask: u32,
         made: &[Member],
     ) -> Result<(), AllocError>
-        requires { IsAt (parts_of self.old).nodes (Ask statement) ask }
+        requires place { IsAt (parts_of self.old).nodes (Ask statement) ask }
+        requires held { IsTrue (are_held texts.now.held.keys (made_texts made.now)) }
         ensures { OnOk result (parts_of self.new
             ≡ with_links (parts_of self.old) (map (made_link time statement) made.now)) }
     {
@@ -192,11 +201,12 @@ impl<'a> Building<'a> {
         version: u32,
         member: &Member,
     ) -> Result<(), AllocError>
+        requires { IsTrue (is_held texts.now.held.keys member.now.table) }
         ensures { OnOk result (parts_of self.new ≡ with_link (parts_of self.old)
             (link time (Row (at_version member.now version)) (Row member.now))) }
     {
-        let source = lent_version(texts, member, version)?;
-        let target = lent_row(texts, member)?;
+        let source = lent_version(texts, member, version);
+        let target = lent_row(texts, member);
         self.link(source, target, time)
     }
 
@@ -207,6 +217,7 @@ impl<'a> Building<'a> {
         time: u32,
         member: &Member,
     ) -> Result<(), AllocError>
+        requires { IsTrue (is_held texts.now.held.keys member.now.table) }
         ensures { OnOk result (parts_of self.new
             ≡ with_links (parts_of self.old) (option_to_list (change_link time member.now))) }
     {
@@ -223,6 +234,7 @@ impl<'a> Building<'a> {
         time: u32,
         made: &[Member],
     ) -> Result<(), AllocError>
+        requires { IsTrue (are_held texts.now.held.keys (made_texts made.now)) }
         ensures { OnOk result (parts_of self.new
             ≡ with_links (parts_of self.old) (filter_map (change_link time) made.now)) }
     {
@@ -242,6 +254,8 @@ impl<'a> Building<'a> {
         reads: &[Need],
         made: &[Member],
     ) -> Result<(), AllocError>
+        requires { IsTrue (are_held texts.now.held.keys
+            (read_texts reads.now ++ made_texts made.now)) }
         ensures { OnOk result (parts_of self.new ≡ with_links (parts_of self.old)
             (asked_links event.now.step event.now.process statement reads.now made.now)) }
     {
@@ -252,14 +266,14 @@ impl<'a> Building<'a> {
         self.link_changes(texts, event.step, made)
     }
 
-    /// What an event links, before which a number of processes was made. The texts are to have those of the
-    /// event.
+    /// What an event links, before which a number of processes was made.
     pub(crate) fn link_event(
         &mut self,
         texts: &'a NodeTexts,
         made: u32,
         event: &Event,
     ) -> Result<(), AllocError>
+        requires { IsTrue (are_held texts.now.held.keys (act_texts event.now.act)) }
         ensures { OnOk result (parts_of self.new
             ≡ with_links (parts_of self.old) (event_links made event.now)) }
     {

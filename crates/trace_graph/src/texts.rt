@@ -1,9 +1,10 @@
 //! The texts of the nodes of a trace.
 
-ghost use Rattle.std.specs.Prelude.{◌≡◌, ◌++◌, [], map, IfOk, IsTrue, OnOk};
+ghost use Rattle.std.specs.Prelude.{◌≡◌, ◌++◌, [], IfOk, IsTrue, OnOk};
 ghost use Rattle.trace_graph.specs.Building.{node_of};
 ghost use Rattle.trace_graph.specs.Links.{at_version};
-ghost use Rattle.trace_graph.specs.NodeTexts.{act_texts, event_texts, with_text, with_texts, are_held};
+ghost use Rattle.trace_graph.specs.NodeTexts.{act_texts, event_texts, read_texts, made_texts, with_text};
+ghost use Rattle.trace_graph.specs.NodeTexts.{with_texts, is_held, lends_texts};
 ghost use Rattle.trace_graph.specs.Types.{Path, Row};
 
 use crate::key::NodeKey;
@@ -25,7 +26,7 @@ pub struct NodeTexts {
 impl NodeTexts {
     /// The texts of the nodes of events. `AllocError` means out of memory only.
     pub fn of_events(alloc: Global, events: &Events) -> Result<NodeTexts, AllocError>
-        ensures { IfOk result (λ texts. IsTrue (are_held texts.held.keys (event_texts events.now))) }
+        ensures { IfOk result (λ texts. IsTrue (lends_texts texts events.now)) }
     {
         let texts = texts_of(alloc, events.items())?;
         Ok(texts)
@@ -70,9 +71,8 @@ impl NodeTexts {
 
     #[tactic(auto, using(crate::proofs::TextLaws::texts_more))]
     fn add_tables(&mut self, reads: &[Need], made: &[Member]) -> Result<(), AllocError>
-        ensures { OnOk result (self.new.held.keys ≡ with_texts self.old.held.keys
-            (map (λ need. need.member.table) reads.now
-            ++ map (λ member. member.table) made.now)) }
+        ensures { OnOk result (self.new.held.keys
+            ≡ with_texts self.old.held.keys (read_texts reads.now ++ made_texts made.now)) }
     {
         self.add_reads(reads)?;
         self.add_made(made)
@@ -80,7 +80,7 @@ impl NodeTexts {
 
     fn add_reads(&mut self, reads: &[Need]) -> Result<(), AllocError>
         ensures { OnOk result (self.new.held.keys
-            ≡ with_texts self.old.held.keys (map (λ need. need.member.table) reads.now)) }
+            ≡ with_texts self.old.held.keys (read_texts reads.now)) }
     {
         for need in reads {
             self.add(&need.member.table)?;
@@ -90,7 +90,7 @@ impl NodeTexts {
 
     fn add_made(&mut self, made: &[Member]) -> Result<(), AllocError>
         ensures { OnOk result (self.new.held.keys
-            ≡ with_texts self.old.held.keys (map (λ member. member.table) made.now)) }
+            ≡ with_texts self.old.held.keys (made_texts made.now)) }
     {
         for member in made {
             self.add(&member.table)?;
@@ -110,14 +110,14 @@ impl NodeTexts {
         Ok(())
     }
 
-    // The text that is equal to another; `AllocError` where there is none, which isn't so for a text of one
-    // of the events.
-    fn lend(&self, text: &Utf8) -> Result<&str, AllocError>
-        ensures { IfOk result (λ lent. lent.now ≡ text.now) }
+    // The text that is equal to another.
+    fn lend(&self, text: &Utf8) -> &str
+        requires { IsTrue (is_held self.now.held.keys text.now) }
+        ensures { result.now ≡ text.now }
     {
         match self.held.get(text) {
-            None => Err(AllocError),
-            Some(found) => Ok(found.as_str()),
+            None => unreachable!(),
+            Some(found) => found.as_str(),
         }
     }
 }
@@ -133,28 +133,25 @@ fn texts_of(alloc: Global, events: &[Event]) -> Result<NodeTexts, AllocError>
 }
 
 /// The key of a path.
-pub(crate) fn lent_path<'a>(texts: &'a NodeTexts, path: &Utf8) -> Result<NodeKey<'a>, AllocError>
-    ensures { IfOk result (λ key. node_of key ≡ Path path.now) }
+pub(crate) fn lent_path<'a>(texts: &'a NodeTexts, path: &Utf8) -> NodeKey<'a>
+    requires { IsTrue (is_held texts.now.held.keys path.now) }
+    ensures { node_of result ≡ Path path.now }
 {
-    let found = texts.lend(path)?;
-    Ok(NodeKey::Path(found))
+    NodeKey::Path(texts.lend(path))
 }
 
 /// The key of a row at a version, which needn't be its own.
-pub(crate) fn lent_version<'a>(
-    texts: &'a NodeTexts,
-    member: &Member,
-    version: u32,
-) -> Result<NodeKey<'a>, AllocError>
-    ensures { IfOk result (λ key. node_of key ≡ Row (at_version member.now version)) }
+pub(crate) fn lent_version<'a>(texts: &'a NodeTexts, member: &Member, version: u32) -> NodeKey<'a>
+    requires { IsTrue (is_held texts.now.held.keys member.now.table) }
+    ensures { node_of result ≡ Row (at_version member.now version) }
 {
-    let table = texts.lend(&member.table)?;
-    Ok(NodeKey::Row(table, member.row, version))
+    NodeKey::Row(texts.lend(&member.table), member.row, version)
 }
 
 /// The key of a row at its version.
-pub(crate) fn lent_row<'a>(texts: &'a NodeTexts, member: &Member) -> Result<NodeKey<'a>, AllocError>
-    ensures { IfOk result (λ key. node_of key ≡ Row member.now) }
+pub(crate) fn lent_row<'a>(texts: &'a NodeTexts, member: &Member) -> NodeKey<'a>
+    requires { IsTrue (is_held texts.now.held.keys member.now.table) }
+    ensures { node_of result ≡ Row member.now }
 {
     lent_version(texts, member, member.version)
 }

@@ -1,6 +1,20 @@
--- The statement stays where it is while reads are linked.
+-- The statement stays where it is while reads are linked, and all texts are held.
+use Rattle.trace_graph.specs.NodeTexts.{read_texts, made_texts}
 use Rattle.trace_graph.proofs.KnownPlaces.{at_after}
+use Rattle.trace_graph.proofs.TextLaws.{first_held, others_held}
 use Rattle.trace_graph.proofs.building.Building.link_asked.Goals as goal
 
-pub link_made-requires : goal.link_made-requires
-link_made-requires c = at_after _ _ _ _ _ c.in_ok-link_reads.ensures c.in_ok-places.ensures.statement
+pub link_reads-requires-clause-held : goal.link_reads-requires-clause-held
+link_reads-requires-clause-held c =
+    first_held c.args.texts.now.held.keys (read_texts c.args.reads.now) (made_texts c.args.made.now) c.requires
+
+pub link_made-requires-clause-place : goal.link_made-requires-clause-place
+link_made-requires-clause-place c = at_after _ _ _ _ _ c.in_ok-link_reads.ensures c.in_ok-places.ensures.statement
+
+pub link_made-requires-clause-held : goal.link_made-requires-clause-held
+link_made-requires-clause-held c =
+    others_held c.args.texts.now.held.keys (read_texts c.args.reads.now) (made_texts c.args.made.now) c.requires
+
+pub link_changes-requires : goal.link_changes-requires
+link_changes-requires c =
+    others_held c.args.texts.now.held.keys (read_texts c.args.reads.now) (made_texts c.args.made.now) c.requires

@@ -1,9 +1,13 @@
--- What a set finds is what it was asked for.
+-- What a set finds is what it was asked for, and it finds what is there.
 use Rattle.std.proofs.Common.{◌≡◌, ◌∙◌, sym, ap, subst, ℕ, List}
-use Rattle.std.specs.Prelude.{Option, IfSome, option_copied}
+use Rattle.std.specs.Prelude.{Option, IfSome, option_copied, is_some}
 use Rattle.std.proofs.lemmas.Map.Made.{IfSome-find_same}
 use Rattle.std.proofs.lemmas.Slice.Eq.{bytes_eq-Decides}
+use Rattle.ldv_value.proofs.Booleans.{false≢true}
 use Rattle.trace_graph.proofs.texts.NodeTexts.lend.Goals as goal
+
+pub unreachable-requires : goal.unreachable-requires
+unreachable-requires c = absurd (false≢true (ap is_some (sym c.in-None.is) ∙ c.get.ensures.found ∙ c.requires))
 
 pub returns-in-Some : goal.returns-in-Some
 returns-in-Some c =
