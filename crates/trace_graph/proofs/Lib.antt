@@ -10,6 +10,7 @@ pub mod EdgeLaws
 pub mod GraphLaw
 pub mod LentLaws
 pub mod TextLaws
+pub mod EventSteps
 pub mod TraceLaws
 pub mod GraphFacts
 pub mod VersionFacts

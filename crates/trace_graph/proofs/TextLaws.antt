@@ -1,10 +1,11 @@
 -- Texts that are held, each once.
-use Rattle.std.proofs.Common.{◌≡◌, ◌∙◌, sym, ℕ, true, ◌&&◌, List, [], ◌∷◌, ◌++◌, refl}
+use Rattle.std.proofs.Common.{◌≡◌, ◌∙◌, sym, ap, ℕ, ◌+◌, ◌<◌, true, ◌&&◌, List, [], ◌∷◌, ◌++◌, length, get_or, drop, refl}
 use Rattle.std.specs.Prelude.{bytes_eq}
 use Rattle.std.specs.List.{list_any}
 use Rattle.std.specs.Cmp.Lexicographic.{nat_list_eq_equiv}
 use Rattle.std.proofs.lemmas.List.Folds.{list_all-append}
 use Rattle.ldv_value.proofs.Booleans.{and-first, and-second, and-from}
+use Rattle.ldv_value.proofs.Places.{drop_item}
 use Rattle.trace_graph.specs.Types.{Event}
 use Rattle.trace_graph.specs.NodeTexts.{act_texts, event_texts, with_text, with_texts, is_held, are_held, acts_held}
 use Rattle.trace_graph.proofs.PlaceLaws.{any_more, any_own}
@@ -12,6 +13,13 @@ use Rattle.trace_graph.proofs.PlaceLaws.{any_more, any_own}
 pub texts_more : (held ts us : List (List ℕ)) → with_texts held (ts ++ us) ≡ with_texts (with_texts held ts) us
 texts_more held [] us = refl
 texts_more held (t ∷ ts) us = texts_more (with_text held t) ts us
+
+-- those of one event more
+pub texts_step : (held : List (List ℕ)) (es : List Event) (i : ℕ) (e : Event) → i < length es → e ≡ get_or es i e
+    → with_texts (with_texts held (act_texts e.act)) (event_texts (drop (i + 1) es)) ≡ with_texts held (event_texts (drop i es))
+texts_step held es i e within is =
+    sym (texts_more held (act_texts e.act) (event_texts (drop (i + 1) es)))
+    ∙ ap (λ (rest : List Event). with_texts held (event_texts rest)) (sym (drop_item es i e within is))
 
 -- what is held stays
 stay_held : (text : List ℕ) (held ts : List (List ℕ)) → list_any (bytes_eq text) held ≡ true → list_any (bytes_eq text) (with_texts held ts) ≡ true

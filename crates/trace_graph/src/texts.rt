@@ -32,7 +32,6 @@ impl NodeTexts {
         Ok(texts)
     }
 
-    #[tactic(auto, using(crate::proofs::TextLaws::texts_more))]
     fn add_events(&mut self, events: &[Event]) -> Result<(), AllocError>
         ensures { OnOk result (self.new.held.keys ≡ with_texts self.old.held.keys (event_texts events.now)) }
     {

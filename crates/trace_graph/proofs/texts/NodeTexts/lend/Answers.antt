@@ -9,8 +9,8 @@ use Rattle.trace_graph.proofs.texts.NodeTexts.lend.Goals as goal
 pub unreachable-requires : goal.unreachable-requires
 unreachable-requires c = absurd (false≢true (ap is_some (sym c.in-None.is) ∙ c.get.ensures.found ∙ c.requires))
 
-pub returns-in-Some : goal.returns-in-Some
-returns-in-Some c =
+pub returns : goal.returns
+returns c =
     c.as_str.ensures
     ∙ subst (λ (found : Option (List ℕ)). IfSome found (λ (text : List ℕ). text ≡ c.args.text.now))
     (sym (ap option_copied (sym c.in-Some.is) ∙ c.get.ensures.key))
