@@ -34,7 +34,7 @@ AIMS = {
     ("engine", "update 1000000"): 1.2,
     ("engine", "delete 1000000"): 1.0,
     ("depends us", "rows 1000000"): 4.5,
-    ("depends MiB", "rows 1000000"): 16.0,
+    ("depends MiB", "rows 1000000"): 8.0,
     ("hard", None): 2.0,
 }
 

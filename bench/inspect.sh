@@ -3,7 +3,7 @@
 #
 #   depends  `inspect depends out` of runs with 1,000 to 1,000,000 events, in three forms: each event has another file
 #            (files), all have the same (one), each changes a row (rows). The microseconds for each event are to stay
-#            about the same; of a million that change rows at most 4.5 are aimed at, and 16 times the bytes in memory
+#            about the same; of a million that change rows at most 4.5 are aimed at, and 8 times the bytes in memory
 #   table    `table t STEP` of packages of runs over 1,000 to 1,000,000 rows at the first, the middle and the last step,
 #            as a multiple of `replay` of the same package. At most 1.1 is aimed at
 #   prov     `prov` of the same runs, and `prov depends out` of what it wrote where that isn't longer than an input may

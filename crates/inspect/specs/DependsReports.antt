@@ -1,7 +1,7 @@
 -- `inspect depends`: what the content of a path came from.
 use Rattle.std.specs.Prelude.{ℕ, List, Option, option_map}
 use Rattle.std.specs.List.{flat_map}
-use Rattle.inspect.specs.Types.{Event, Node}
+use Rattle.inspect.specs.Types.{Event, Node, NamedProcess}
 use Rattle.trace_graph.specs.Graph.{Parts, graph_of, place_of}
 use Rattle.reach.specs.Depends.{depends_of}
 use Rattle.reach.specs.NodeLines.{node_line}
@@ -20,7 +20,8 @@ depends_at events time place = nodes_report events (depends_of (graph_of events)
 abbrev pub depends_report : List Event → ℕ → List ℕ → Option (List ℕ)
 depends_report events steps path = option_map (depends_at events steps) (place_of (graph_of events) path)
 
--- the same by a graph, which is to be that of the events
-abbrev pub report_on : Parts → List Event → ℕ → List ℕ → Option (List ℕ)
-report_on graph events steps path =
-    option_map (λ place. nodes_report events (depends_of graph place steps)) (place_of graph path)
+-- the same by a graph and processes, which are to be those of the events
+abbrev pub report_on : Parts → List NamedProcess → ℕ → List ℕ → Option (List ℕ)
+report_on graph processes steps path =
+    option_map (λ place. flat_map (node_line (name_in processes)) (depends_of graph place steps))
+    (place_of graph path)

@@ -11,7 +11,7 @@ ghost use Rattle.run_model.specs.ValidTrace.{IsTrace};
 ghost use Rattle.trace_graph.specs.Building.{node_of};
 ghost use Rattle.trace_graph.specs.Graph.{are_between};
 ghost use Rattle.trace_graph.specs.Lent.{lent_parts};
-ghost use Rattle.inspect.specs.DependsReports.{depends_report, nodes_report, report_on};
+ghost use Rattle.inspect.specs.DependsReports.{depends_report, report_on};
 ghost use Rattle.inspect.specs.ProcessNames.{name_in};
 ghost use Rattle.inspect.specs.Stopping.{Stops};
 
@@ -19,57 +19,66 @@ use crate::error::InspectStop;
 use crate::process_names::{Processes, append_process, processes_of};
 use ldv_value::Bytes;
 use reach::{append_number_line, append_path, append_version, depends};
-use run_model::{Events, Package};
+use run_model::Package;
 use std::alloc::{AllocError, Global};
-use trace_graph::{LentGraph, NodeKey};
+use trace_graph::{LentGraph, NodeKey, NodeTexts};
 
 /// A line for each node from which information may have got to a path by the end of the recorded run: paths
 /// sorted by bytes, then processes by creation number, rows by table, row and version, and statements and
 /// then replies by number. `NoSuch` exactly where the path is no node of the graph of the package's events.
-pub fn depends_text(alloc: Global, package: &Package, path: &str) -> Result<Bytes, InspectStop>
-    requires { IsTrace «package».now.events }
-    ensures { Gives Stops result
-        (depends_report «package».now.events «package».now.steps path.now) }
+/// The events are dropped on the way, so that their memory serves the graph.
+pub fn depends_text(alloc: Global, package: Package, path: &str) -> Result<Bytes, InspectStop>
+    requires { IsTrace «package».events }
+    ensures { Gives Stops result (depends_report «package».events «package».steps path.now) }
 {
-    let graph = LentGraph::of_events(alloc, &package.events)?;
-    report_on(alloc, &package.events, &graph, path, package.steps)
+    let Package {
+        mode: _,
+        start: _,
+        seed: _,
+        steps,
+        files: _,
+        tables: _,
+        logs: _,
+        events,
+    } = package;
+    let processes = processes_of(alloc, events.items())?;
+    let texts = NodeTexts::of_events(alloc, &events)?;
+    let graph = LentGraph::of_events(alloc, &texts, events)?;
+    report_on(alloc, &processes, &graph, path, steps)
 }
 
 // The report on a path of a graph, for a run of this number of steps.
 fn report_on(
     alloc: Global,
-    events: &Events,
+    processes: &Processes,
     graph: &LentGraph<'_>,
     path: &str,
     steps: u32,
 ) -> Result<Bytes, InspectStop>
-    requires trace { IsTrace events.now }
     requires between { IsTrue (are_between (length graph.now.nodes.items) graph.now.edges.items) }
-    ensures { Gives Stops result (report_on (lent_parts graph.now) events.now steps path.now) }
+    ensures { Gives Stops result (report_on (lent_parts graph.now) processes.now steps path.now) }
 {
     match graph.place(path) {
         None => Err(InspectStop::NoSuch),
-        Some(place) => Ok(report_at(alloc, events, graph, place, steps)?),
+        Some(place) => Ok(report_at(alloc, processes, graph, place, steps)?),
     }
 }
 
 fn report_at(
     alloc: Global,
-    events: &Events,
+    processes: &Processes,
     graph: &LentGraph<'_>,
     place: usize,
     time: u32,
 ) -> Result<Bytes, AllocError>
-    requires trace { IsTrace events.now }
     requires between { IsTrue (are_between (length graph.now.nodes.items) graph.now.edges.items) }
     requires place { place < length graph.now.nodes.items }
     ensures { IfOk result (λ text. text
-        ≡ nodes_report events.now (depends_of (lent_parts graph.now) place time)) }
+        ≡ flat_map (node_line (name_in processes.now)) (depends_of (lent_parts graph.now) place time)) }
 {
     let sources = sources_of(alloc, graph, place, time)?;
-    let processes = processes_of(alloc, events.items())?;
     let mut text = Bytes::new(alloc);
-    append_nodes(&mut text, &processes, sources.as_slice())?;
+    append_nodes(&mut text, processes, sources.as_slice())?;
     Ok(text)
 }
 

@@ -156,26 +156,22 @@ fn whole_response(alloc: Global, report: &Report, input: Bytes) -> Result<Respon
     ensures { IfOk result (λ response. response_due response ≡ due_inspect report.now input) }
 {
     match read_package_of(alloc, input) {
-        Ok(package) => report_response(alloc, report, &package),
+        Ok(package) => report_response(alloc, report, package),
         Err(PackageStop::Damaged(kind)) => Ok(Response::Damaged(kind)),
         Err(PackageStop::NoMemory) => Err(AllocError),
     }
 }
 
-fn report_response(
-    alloc: Global,
-    report: &Report,
-    package: &Package,
-) -> Result<Response, AllocError>
-    requires { IsTrace «package».now.events }
-    ensures { IfOk result (λ response. response_due response ≡ report_due report.now «package».now) }
+fn report_response(alloc: Global, report: &Report, package: Package) -> Result<Response, AllocError>
+    requires { IsTrace «package».events }
+    ensures { IfOk result (λ response. response_due response ≡ report_due report.now «package») }
 {
     match report {
-        Report::Rows => Ok(Response::Written(rows_text(alloc, package)?)),
-        Report::Files => Ok(Response::Written(files_text(alloc, package)?)),
-        Report::Trace => Ok(Response::Written(trace_text(alloc, package)?)),
+        Report::Rows => Ok(Response::Written(rows_text(alloc, &package)?)),
+        Report::Files => Ok(Response::Written(files_text(alloc, &package)?)),
+        Report::Trace => Ok(Response::Written(trace_text(alloc, &package)?)),
         Report::Why { table, row } => {
-            item_response(why_text(alloc, package, table.as_str(), *row))
+            item_response(why_text(alloc, &package, table.as_str(), *row))
         }
         Report::Depends { path } => { item_response(depends_text(alloc, package, path.as_str())) }
     }

@@ -3,10 +3,14 @@ pub mod NodeLaws
 pub mod PlaceLaws
 pub mod KeyLaws
 pub mod SpanLaws
+pub mod NoteLaws
 pub mod LinkLists
+pub mod KnownPlaces
 pub mod EdgeLaws
 pub mod GraphLaw
 pub mod LentLaws
+pub mod TextLaws
+pub mod EventSteps
 pub mod TraceLaws
 pub mod GraphFacts
 pub mod VersionFacts

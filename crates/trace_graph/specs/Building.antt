@@ -1,6 +1,6 @@
 -- How a graph grows link by link, which is what the code does.
-use Rattle.std.specs.Prelude.{ℕ, min, max, List, [], ◌∷◌, ◌++◌, map, Bool, true, ◌&&◌, ◌==◌, nat_le}
-use Rattle.std.specs.Prelude.{if◌then◌else◌, Option, Some, None}
+use Rattle.std.specs.Prelude.{◌≡◌, ℕ, min, max, List, [], ◌∷◌, ◌++◌, map, Bool, true, ◌&&◌, ◌==◌}
+use Rattle.std.specs.Prelude.{if◌then◌else◌, nat_le, Option, Some, None}
 use Rattle.std.specs.List.{list_any}
 use Rattle.ldv_value.specs.Limits.{max_processes}
 use Rattle.run_model.specs.ValidTrace.{made_after}
@@ -8,6 +8,7 @@ use Rattle.trace_graph.specs.Types.{Event, Node, Path, Process, Row, Ask, Reply,
 use Rattle.trace_graph.specs.declared.key.NodeKey.{NodeKey}
 use Rattle.trace_graph.specs.declared.key.NodeKey.TheVariants as keys
 use Rattle.trace_graph.specs.declared.span.Span.{Span}
+use Rattle.trace_graph.specs.declared.note.Note.{Note}
 use Rattle.trace_graph.specs.declared.building.Building.{Building}
 use Rattle.trace_graph.specs.Links.{Link, event_links}
 use Rattle.trace_graph.specs.Graph.{Parts, same_node, place_in}
@@ -29,12 +30,6 @@ edge_at entry = record {
   target = entry.0.1;
   first = entry.1.first;
   last = entry.1.last;
-}
-
-abbrev pub parts_of : Building → Parts
-parts_of building = record {
-  nodes = map node_of building.keys.keys;
-  edges = map edge_at building.spans.entries;
 }
 
 -- ---- one link more
@@ -74,6 +69,30 @@ with_time source target time [] = edge_from source target (instant time) ∷ []
 with_time source target time (edge ∷ edges) =
     if joins source target edge then edge_with_time edge time ∷ edges
     else edge ∷ with_time source target time edges
+
+-- with the times of links between places
+abbrev pub with_notes : List Edge → List Note → List Edge
+with_notes edges [] = edges
+with_notes edges (n ∷ ns) = with_notes (with_time n.source n.target n.time edges) ns
+
+-- what was built so far: links that were noted are edges of it
+abbrev pub parts_of : Building → Parts
+parts_of building = record {
+  nodes = map node_of building.keys.keys;
+  edges = with_notes (map edge_at building.spans.entries) building.notes.items;
+}
+
+-- with a node at the end, if it isn't there yet, and no edge more
+abbrev pub with_place : Parts → Node → Parts
+with_place parts node = record parts { nodes = with_node parts.nodes node }
+
+-- with a time more of the edge between two places
+abbrev pub with_noted : Parts → ℕ → ℕ → ℕ → Parts
+with_noted parts source target time = record parts { edges = with_time source target time parts.edges }
+
+-- a node is there, at a place
+abbrev pub IsAt : List Node → Node → ℕ → Type 0
+IsAt nodes node place = (list_any (same_node node) nodes ≡ true) × (place ≡ place_in nodes node)
 
 unfoldable pub with_link : Parts → Link → Parts
 with_link parts l = record {

@@ -5,4 +5,5 @@ pub mod GraphLaws
 pub mod VersionLaws
 pub mod Building
 pub mod Lent
+pub mod NodeTexts
 pub mod WellFormed

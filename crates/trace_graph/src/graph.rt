@@ -10,7 +10,8 @@ use crate::building::{Building, build};
 use crate::edge::Edges;
 use crate::key::{NodeKey, is_same, keys_of, nodes_of};
 use crate::node::{Node, Nodes};
-use crate::span::edges_of;
+use crate::note::edges_with;
+use crate::texts::NodeTexts;
 use run_model::Events;
 use std::alloc::{AllocError, Global};
 use std::marker::Model;
@@ -39,7 +40,8 @@ impl Graph {
         requires { IsTrace events.now }
         ensures { IfOk result (λ graph. graph ≡ graph_of events.now) }
     {
-        let building = build(alloc, events.items())?;
+        let texts = NodeTexts::of_events(alloc, events)?;
+        let building = build(alloc, &texts, events.items())?;
         finish(alloc, building)
     }
 
@@ -92,9 +94,9 @@ fn finish(alloc: Global, building: Building<'_>) -> Result<Graph, AllocError>
     requires { IsTrue (are_between (length (parts_of building).nodes) (parts_of building).edges) }
     ensures { IfOk result (λ graph. graph ≡ parts_of building.entry) }
 {
-    let Building { keys, spans } = building;
-    // The map of edges is the larger: it is gone before the nodes are made.
-    let edges = edges_of(alloc, spans)?;
+    let Building { keys, spans, notes } = building;
+    // The table of edges is the larger: it is gone before the nodes are made.
+    let edges = edges_with(alloc, spans, notes, 0)?;
     let nodes = nodes_of(alloc, keys.as_slice())?;
     Ok(Graph { nodes, edges })
 }

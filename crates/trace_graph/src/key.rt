@@ -32,15 +32,15 @@ pub enum NodeKey<'a> {
 /// Nodes with their places, in the order in which they were first seen.
 pub(crate) type NodeKeys<'a> = IndexSet<NodeKey<'a>>;
 
-/// A row at a version, which needn't be its own.
-pub(crate) fn version_key(member: &Member, version: u32) -> NodeKey<'_>
+// A row at a version, which needn't be its own.
+fn version_key(member: &Member, version: u32) -> NodeKey<'_>
     ensures { node_of result ≡ Row (at_version member.now version) }
 {
     NodeKey::Row(member.table.as_str(), member.row, version)
 }
 
-/// A row at its version.
-pub(crate) fn row_key(member: &Member) -> NodeKey<'_>
+// A row at its version.
+fn row_key(member: &Member) -> NodeKey<'_>
     ensures { node_of result ≡ Row member.now }
 {
     version_key(member, member.version)
@@ -88,11 +88,19 @@ pub(crate) fn keys_of<'a>(alloc: Global, nodes: &'a [Node]) -> Result<Vec<NodeKe
     Ok(keys)
 }
 
-/// A copy of keys, whose texts stay where they are.
-pub(crate) fn copy_keys<'a>(
+/// The keys of a table, without what it finds them by. Their texts stay where they are.
+pub(crate) fn keys_alone<'a>(
     alloc: Global,
-    keys: &[NodeKey<'a>],
+    keys: NodeKeys<'a>,
 ) -> Result<Vec<NodeKey<'a>>, AllocError>
+    ensures { IfOk result (λ alone. alone.items ≡ keys.entry.keys) }
+{
+    let alone = copy_keys(alloc, keys.as_slice())?;
+    Ok(alone)
+}
+
+// A copy of keys, whose texts stay where they are.
+fn copy_keys<'a>(alloc: Global, keys: &[NodeKey<'a>]) -> Result<Vec<NodeKey<'a>>, AllocError>
     ensures { IfOk result (λ copied. copied.items ≡ keys.now) }
 {
     let mut copied = Vec::with_capacity(alloc, keys.len())?;

@@ -12,7 +12,9 @@ mod law;
 mod lent;
 mod linking;
 mod node;
+mod note;
 mod span;
+mod texts;
 mod well_formed;
 
 pub use edge::{Edge, Edges};
@@ -21,4 +23,5 @@ pub use key::NodeKey;
 pub use law::{graph_law, well_formed_law};
 pub use lent::LentGraph;
 pub use node::{Node, Nodes};
+pub use texts::NodeTexts;
 pub use well_formed::is_well_formed;
