@@ -10,8 +10,9 @@ use Rattle.package_join.proofs.judging.parsed_anew.Goals as goal
 
 pub returns : goal.returns
 returns c =
-    let first : c.in_ok-first.first ≡ picked_runs First c.args.joined = c.in_ok-first.ensures.first in
-    let second : c.in_ok-first.second ≡ picked_runs Second c.args.joined = c.in_ok-first.ensures.second in
+    let pair = c.in_ok-first.field-0 in
+    let first : pair.first ≡ picked_runs First c.args.joined = c.in_ok-first.ensures.first in
+    let second : pair.second ≡ picked_runs Second c.args.joined = c.in_ok-first.ensures.second in
     subst (λ (made : Option ParsedJoined). Makes c.parsed_join.result made)
-    (ap (λ (a : CompactPackage). parsed_join a c.in_ok-first.second) first ∙ ap (λ (b : CompactPackage). parsed_join (picked_runs First c.args.joined) b) second)
+    (ap (λ (a : CompactPackage). parsed_join a pair.second) first ∙ ap (λ (b : CompactPackage). parsed_join (picked_runs First c.args.joined) b) second)
     c.parsed_join.ensures
