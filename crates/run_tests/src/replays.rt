@@ -4,18 +4,19 @@
 ghost use Rattle.std.specs.Prelude.{◌≡◌, IfOk, true};
 ghost use Rattle.ldv_value.specs.FileState.{files_test, initial_files};
 ghost use Rattle.package_layout.specs.Valid.{IsValidPackage};
+ghost use Rattle.package_layout.specs.Whole.{IsTyped};
 ghost use Rattle.replay_db.specs.Runs.{CanRun};
 
 use crate::worlds::world_of_text;
 use file_tree::Tree;
 use ldv_value::{Bytes, Files, Parts, RowList, Utf8, Value, Values, is_strictly_sorted};
 use package_layout::{read_package, spell};
-use proc_core::{Run, RunStop};
-use replay_db::{Recorder, record_world};
-use replay_log::{ReplyLog, can_replay_law, replay_excluded};
+use proc_core::Run;
+use replay_db::{Recorder, package_law, record_world, replay_included, table_at};
+use replay_log::{ReplyLog, can_replay_law, replay_excluded, replay_seeded};
 use run_model::{
-    Act, Database, Entries, Entry, Event, Events, ListTracer, Log, Logs, Mode, Outcome, Package,
-    ProcName, World,
+    Act, Database, Entries, Entry, Event, Events, ListTracer, Log, Logs, Mode, Package, ProcName,
+    World,
 };
 use sql_model::Reply;
 use std::alloc::{AllocError, Global};
@@ -99,9 +100,9 @@ fn logs(alloc: Global) -> Result<Logs, AllocError> {
 
 // ---- packages
 
-fn recorded_package(rt: &impl Abort, alloc: Global) -> Package {
+fn recorded_package(rt: &impl Abort, alloc: Global, mode: Mode) -> Package {
     let world = world_of_text(rt, alloc, WORLD);
-    match record_world(alloc, &world, Mode::Excluded, BUDGET) {
+    match record_world(alloc, &world, mode, BUDGET) {
         Ok(package) => package,
         Err(stop) => panic!(rt; "{stop:?}"),
     }
@@ -236,7 +237,7 @@ fn kept_logs(rt: &impl Abort, alloc: Global) -> Result<Logs, AllocError> {
 
 // The bytes of the recorded package with these replies.
 fn spelled_with(rt: &impl Abort, alloc: Global, logs: Logs) -> Bytes {
-    let package = with_logs(recorded_package(rt, alloc), logs);
+    let package = with_logs(recorded_package(rt, alloc, Mode::Excluded), logs);
     spelling_of(rt, alloc, &package)
 }
 
@@ -250,27 +251,78 @@ fn keeps_the_replies_that_it_has(rt: HostRuntime) -> Result<(), Fail> {
 
 // ---- a package that stays
 
-fn outcome_of_package(alloc: Global, package: &Package) -> Result<Outcome, RunStop>
+fn read_recorded(rt: &impl Abort, alloc: Global, mode: Mode) -> Package
+    ensures typed { IsTyped result }
+    ensures valid { IsValidPackage result }
+{
+    let bytes = spelling_of(rt, alloc, &recorded_package(rt, alloc, mode));
+    match read_package(alloc, bytes.as_slice()) {
+        Ok(package) => package,
+        Err(_) => panic!(rt; "no package"),
+    }
+}
+
+// How many processes the run of a package has over its replies.
+fn count_by_replies(alloc: Global, package: &Package) -> Option<usize>
     requires { IsValidPackage «package».now }
 {
     can_replay_law();
-    replay_excluded(alloc, package, BUDGET)
+    match replay_excluded(alloc, package, BUDGET) {
+        Ok(outcome) => Some(outcome.processes.len()),
+        Err(_) => None,
+    }
 }
 
-// How many processes the run of the recorded package has over its replies.
-fn count_of_processes(rt: &impl Abort, alloc: Global) -> usize {
-    let bytes = spelling_of(rt, alloc, &recorded_package(rt, alloc));
-    match read_package(alloc, bytes.as_slice()) {
-        Ok(package) => match outcome_of_package(alloc, &package) {
-            Ok(outcome) => outcome.processes.len(),
-            Err(_) => panic!(rt; "no end"),
-        },
-        Err(_) => panic!(rt; "no package"),
+// How many it has under another seed.
+fn count_by_seed(alloc: Global, package: &Package, seed: u64) -> Option<usize>
+    requires { IsValidPackage «package».now }
+{
+    can_replay_law();
+    match replay_seeded(alloc, package, seed, BUDGET) {
+        Ok(outcome) => Some(outcome.processes.len()),
+        Err(_) => None,
+    }
+}
+
+// How many processes the run of a package's own world has.
+fn count_by_rows(alloc: Global, package: &Package) -> Option<usize>
+    requires typed { IsTyped «package».now }
+    requires valid { IsValidPackage «package».now }
+{
+    package_law();
+    match replay_included(alloc, package, BUDGET) {
+        Ok(outcome) => Some(outcome.processes.len()),
+        Err(_) => None,
+    }
+}
+
+// How many rows the table has after a step of it.
+fn rows_after(alloc: Global, package: &Package, step: u32) -> Option<usize>
+    requires typed { IsTyped «package».now }
+    requires valid { IsValidPackage «package».now }
+{
+    package_law();
+    match table_at(alloc, package, "t", step, BUDGET) {
+        Ok(table) => Some(table.rows.len()),
+        Err(_) => None,
     }
 }
 
 #[test]
 fn replays_a_package_that_stays(rt: HostRuntime) -> Result<(), Fail> {
-    assert_eq!(rt; count_of_processes(&rt, rt.alloc()), 2);
+    let package = read_recorded(&rt, rt.alloc(), Mode::Excluded);
+    assert_eq!(rt; count_by_replies(rt.alloc(), &package), Some(2));
+    assert_eq!(rt; count_by_seed(rt.alloc(), &package, 7), Some(2));
+    Ok(())
+}
+
+// The DELETE of its two rows is the sixth of its seven steps.
+#[test]
+fn runs_an_included_package_that_stays(rt: HostRuntime) -> Result<(), Fail> {
+    let package = read_recorded(&rt, rt.alloc(), Mode::Included);
+    assert_eq!(rt; count_by_rows(rt.alloc(), &package), Some(2));
+    assert_eq!(rt; rows_after(rt.alloc(), &package, 5), Some(2));
+    assert_eq!(rt; rows_after(rt.alloc(), &package, 6), Some(0));
+    assert_eq!(rt; rows_after(rt.alloc(), &package, 8), None);
     Ok(())
 }
