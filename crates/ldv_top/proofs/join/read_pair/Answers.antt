@@ -7,7 +7,7 @@ returns-in-Some-clause-due c =
     let same : c.as_slice.result.now ≡ c.args.input = search rules in
     subst (PairReadsAs c.read_both.result) (ap pair_reading (c.in-Some.ensures ∙ ap pair_in same)) c.read_both.ensures.due
 
-pub returns-in-None-clause-due : goal.returns-in-None-clause-due
-returns-in-None-clause-due c =
+pub returns-clause-due : goal.returns-clause-due
+returns-clause-due c =
     let same : c.as_slice.result.now ≡ c.args.input = search rules in
     sym (ap pair_reading (c.in-None.ensures ∙ ap pair_in same))
