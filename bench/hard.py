@@ -45,7 +45,7 @@ CASES = {
     'group': ('SELECT {c}, COUNT(*), MIN(k), MAX(k) FROM t GROUP BY {c}', True),
     'distinct': ('SELECT DISTINCT {c} FROM t', True),
     'union': ('SELECT {c} FROM t WHERE k < {half} UNION SELECT {c} FROM t WHERE k >= {half}', True),
-    'order': ('SELECT k FROM t ORDER BY {c}', True),
+    'order': ('SELECT {c}, k FROM t ORDER BY {c}', True),
     'join': ('SELECT a.k FROM t a JOIN t b ON a.{c} = b.{c}', False),
     'update': ('UPDATE t SET {c} = {c}', True),
 }
@@ -96,6 +96,8 @@ def seconds_of(given, world):
     status, seconds, _ = engine.best([given.ldv, 'run', '--steps', STEPS], world, outcome, given.runs)
     if status:
         sys.exit(f'hard: {given.ldv} ended with {status}')
+    if engine.found_in(outcome)[2]:
+        sys.exit('hard: a statement is refused, and so says nothing of its values')
     return seconds
 
 
