@@ -1,1 +1,3 @@
 mod Named
+pub mod OneTable
+pub mod StoreFacts

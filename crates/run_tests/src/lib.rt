@@ -1,20 +1,12 @@
-//! Tests of what neither a proof nor a case of bytes shows: which rows each row of an answer comes from,
-//! tables through time, sizes, streams that fail, and calls that no command makes.
+//! Tests of what neither a proof nor a case of bytes shows: sizes, streams that fail, graphs of traces, and
+//! calls that no command makes.
 //!
-//! It has the tests of all that runs: queries, changes, worlds, packages and the program. `library_tests` has
-//! those of the libraries below. Neither has any code but tests, so that no library is proved twice for its
-//! tests; they are two so that the gate runs them side by side. What bytes can show belongs into the cases of
-//! `conformance`.
-//!
-//! Statements are over one table t with the columns k INT NOT NULL, g TEXT and v INT, the key k and a few
-//! rows (`rows.rt`), but for those over hundreds of thousands of rows (`sizes.rt`). What they give was
-//! worked out by hand.
+//! It has the tests of runs, packages and the program, and `library_tests` those of the libraries up to the
+//! engine. Neither has any code but tests, so that no library is proved twice for its tests; they are two so
+//! that the gate proves the other one while the upper libraries are. What bytes can show belongs into the
+//! cases of `conformance`. What is expected was worked out by hand.
 #![tactic(auto)]
 
-#[cfg(test)]
-mod answered;
-#[cfg(test)]
-mod asked;
 #[cfg(test)]
 mod copies;
 #[cfg(test)]
@@ -28,32 +20,14 @@ mod joins;
 #[cfg(test)]
 mod limits;
 #[cfg(test)]
-mod lineages;
-#[cfg(test)]
 mod long_packages;
-#[cfg(test)]
-mod needs;
 #[cfg(test)]
 mod recorded;
 #[cfg(test)]
 mod replays;
 #[cfg(test)]
-mod rows;
-#[cfg(test)]
-mod schemas;
-#[cfg(test)]
-mod session;
-#[cfg(test)]
-mod shown;
-#[cfg(test)]
 mod sizes;
 #[cfg(test)]
-mod stored;
-#[cfg(test)]
 mod streams;
-#[cfg(test)]
-mod times;
-#[cfg(test)]
-mod validity;
 #[cfg(test)]
 mod worlds;

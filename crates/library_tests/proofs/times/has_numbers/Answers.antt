@@ -1,9 +1,9 @@
 use Rattle.std.proofs.Common.{◌≡◌, Some, false}
 use Rattle.std.specs.Prelude.{slice_get}
 use Rattle.std.specs.Option.{option_map}
-use Rattle.run_tests.proofs.StoreFacts.{history_has}
+use Rattle.library_tests.proofs.StoreFacts.{history_has}
 use Rattle.table_store.specs.Histories.{TableHistory}
-use Rattle.run_tests.proofs.times.has_numbers.Goals as goal
+use Rattle.library_tests.proofs.times.has_numbers.Goals as goal
 
 pub returns-in-Some : goal.returns-in-Some
 returns-in-Some c = λ numbers. history_has (λ (history : TableHistory). option_map (λ column. column.text)

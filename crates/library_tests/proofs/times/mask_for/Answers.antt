@@ -1,8 +1,8 @@
 use Rattle.std.proofs.Common.{◌≡◌, ◌∙◌, ap, length, ℕ, List}
 use Rattle.std.proofs.lemmas.List.{length-replicate}
-use Rattle.run_tests.proofs.StoreFacts.{words_due}
+use Rattle.library_tests.proofs.StoreFacts.{words_due}
 use Rattle.table_store.specs.Histories.{history_at}
-use Rattle.run_tests.proofs.times.mask_for.Goals as goal
+use Rattle.library_tests.proofs.times.mask_for.Goals as goal
 
 pub returns : goal.returns
 returns c = words_due (history_at c.args.name.now c.args.store.now) c.slots.result (length c.in_ok-mask.mask.items)

@@ -1,7 +1,7 @@
 use Rattle.std.proofs.Common.{◌<◌, length}
-use Rattle.run_tests.proofs.StoreFacts.{table_has}
+use Rattle.library_tests.proofs.StoreFacts.{table_has}
 use Rattle.sql_model.specs.declared.table.Table.{Table}
-use Rattle.run_tests.proofs.times.is_keyed.Goals as goal
+use Rattle.library_tests.proofs.times.is_keyed.Goals as goal
 
 pub returns-in-Some : goal.returns-in-Some
 returns-in-Some c = λ keyed. table_has (λ (table : Table). 0 < length table.schema.key) c.args.name.now c.args.store.now

@@ -1,2 +1,0 @@
-pub mod StoreFacts
-pub mod OneTable
