@@ -206,13 +206,15 @@ class Aims(InFolder):
         self.assertEqual(command([*words, "engine"])[:2], (1, b""))
 
     def test_hard_values(self):
-        """Each case of hard.py is asked over each form of values, and a program that fails is said."""
+        """Each case of hard.py is asked over each form of values; that a program fails or refuses is said."""
         program = self.put("program", "#!/bin/sh\ncat > /dev/null\n")
         os.chmod(program, 0o755)
         words = [sys.executable, os.path.join(ROOT, "bench/hard.py"), program, self.folder,
                  "--size", "10", "--runs", "1"]
         status, out, err = command(words)
-        self.assertEqual((status, err), (0, b""))
+        # Where the machine is a slow host's, that is said, and it is no fault.
+        told = set(err.decode().splitlines())
+        self.assertEqual((status, told - {"the host withheld processors: not each run is quiet"}), (0, set()))
         rows = [line.split()[:3] for line in out.decode().splitlines()]
         forms = {"number": ["usual", "falling", "equal"], "text": ["usual", "falling", "equal", "last"]}
         cases = ("group", "distinct", "union", "order", "join", "update", "insert")
@@ -222,6 +224,10 @@ class Aims(InFolder):
         self.assertEqual(rows[-1][:2], ["aims", "missed:"])
         self.put("program", "#!/bin/sh\ncat > /dev/null\nexit 7\n")
         self.assertEqual(command([*words, "--cases", "join"])[0], 1)
+        self.put("program", "#!/bin/sh\ncat > /dev/null\necho refused 3\n")
+        status, _, err = command([*words, "--cases", "order"])
+        self.assertEqual(status, 1)
+        self.assertIn(b"hard: a statement is refused", err)
 
 
 class FakeCalls:
