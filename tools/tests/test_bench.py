@@ -30,6 +30,8 @@ import hostile_packages                                                      # n
 import quiet                                                                 # noqa: E402
 import refused                                                               # noqa: E402
 
+# What a bench says where the machine is a slow host's: that is no fault.
+WITHHELD = "the host withheld processors: not each run is quiet"
 # A process that read `main` and wrote `g`.
 PROVENANCE = document_text(Provenance(
     [Node("path", "main"), Node("process", "0"), Node("path", "g")],
@@ -212,9 +214,7 @@ class Aims(InFolder):
         words = [sys.executable, os.path.join(ROOT, "bench/hard.py"), program, self.folder,
                  "--size", "10", "--runs", "1"]
         status, out, err = command(words)
-        # Where the machine is a slow host's, that is said, and it is no fault.
-        told = set(err.decode().splitlines())
-        self.assertEqual((status, told - {"the host withheld processors: not each run is quiet"}), (0, set()))
+        self.assertEqual((status, set(err.decode().splitlines()) - {WITHHELD}), (0, set()))
         rows = [line.split()[:3] for line in out.decode().splitlines()]
         forms = {"number": ["usual", "falling", "equal"], "text": ["usual", "falling", "equal", "last"]}
         cases = ("group", "distinct", "union", "order", "join", "update", "insert")
@@ -444,7 +444,7 @@ class HostileInputs(InFolder):
                        stderr=subprocess.DEVNULL, check=False)
         done = subprocess.run(["bench/tools.py"], cwd=ROOT, stdout=subprocess.PIPE, stderr=subprocess.PIPE,
                               check=False, env={**os.environ, "SIZES": "20", "RUNS": "1", "CALLS": "1"})
-        self.assertEqual((done.returncode, done.stderr), (0, b""))
+        self.assertEqual((done.returncode, set(done.stderr.decode().splitlines()) - {WITHHELD}), (0, set()))
         rows = [line.split() for line in done.stdout.decode().split("\n")]
         self.assertEqual([row[:2] for row in rows[:4]],
                          [["file", "rows"], ["plain", "20"], ["excel", "20"], ["guessed", "20"]])
