@@ -10,6 +10,7 @@ pub mod OriginSets
 pub mod ParentSchemas
 pub mod ReferenceLists
 pub mod RepeatedNames
+pub mod ReservedWords
 pub mod SameValues
 pub mod Seen
 pub mod SortedLists
