@@ -3,7 +3,7 @@ use Rattle.std.proofs.Common.{◌≡◌, ap, ℕ, Bool, true, List, None}
 use Rattle.std.specs.Prelude.{◌&&◌, nat_le, slice_get, if◌then◌else◌}
 use Rattle.std.specs.List.{filter_map}
 use Rattle.trace_graph.specs.Graph.{Parts}
-use Rattle.trace_graph.proofs.NodeLaws.{same_tests}
+use Rattle.ldv_value.proofs.Booleans.{same-tests}
 use Rattle.reach.specs.Types.{Node, Edge}
 use Rattle.reach.specs.Found.{Times, time_at, reaches, is_open, open_source, in_order, open_sources}
 use Rattle.reach.specs.Search.{HasPath, AreLatest}
@@ -21,7 +21,7 @@ module _ (edges : List Edge) (node time : ℕ) where
   module _ (latest other : Times) (are : AreLatest edges node time latest) (others : AreLatest edges node time other) where
     reach_same : (a place : ℕ) → reaches a (time_at latest place) ≡ reaches a (time_at other place)
     reach_same a place =
-        same_tests (reaches a (time_at latest place)) (reaches a (time_at other place))
+        same-tests (reaches a (time_at latest place)) (reaches a (time_at other place))
         (λ is. let path = reaches_path latest are a place is in in_time edges node time other others path.0 place a path.1)
         (λ is. let path = reaches_path other others a place is in in_time edges node time latest are path.0 place a path.1)
 

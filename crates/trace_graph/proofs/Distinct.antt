@@ -5,8 +5,7 @@ use Rattle.std.specs.List.{filter, list_any, AllByRecursion}
 use Rattle.std.specs.Cmp.{IsEquivalence}
 use Rattle.std.proofs.lemmas.Map.Views.{any-filter_same}
 use Rattle.ldv_value.proofs.ItemLists.{all_filter}
-use Rattle.ldv_value.proofs.Lists.{append-nil, filter-append}
-use Rattle.ldv_value.proofs.Booleans.{or-parts}
+use Rattle.ldv_value.proofs.Lists.{append-nil, filter-append, list_any-filter}
 use Rattle.trace_graph.specs.Graph.{distinct_items}
 
 -- an item at the end, if none that is the same is there
@@ -97,20 +96,12 @@ AllApart same [] = Unit {0}
 AllApart same (x ∷ xs) = (list_any (same x) xs ≡ false) × AllApart same xs
 
 -- a filter finds nothing that was not there
-any_filter : {X : Type 0} (q p : X → Bool) (xs : List X) → list_any q xs ≡ false → list_any q (filter p xs) ≡ false
-any_filter q p [] none = refl
-any_filter q p (x ∷ xs) none = by (any_filter q p xs (or-parts (q x) (list_any q xs) none).1) (p x)
-  where
-    by : list_any q (filter p xs) ≡ false → (b : Bool) → list_any q (cond b (x ∷ filter p xs) (filter p xs)) ≡ false
-    by rest true = ap (λ c. c || list_any q (filter p xs)) (or-parts (q x) (list_any q xs) none).0 ∙ rest
-    by rest false = rest
-
 apart_filter : {X : Type 0} (same : X → X → Bool) (p : X → Bool) (xs : List X) → AllApart same xs → AllApart same (filter p xs)
 apart_filter same p [] apart = tt
 apart_filter same p (x ∷ xs) apart = by (apart_filter same p xs apart.1) (p x)
   where
     by : AllApart same (filter p xs) → (b : Bool) → AllApart same (cond b (x ∷ filter p xs) (filter p xs))
-    by rest true = (any_filter (same x) p xs apart.0, rest)
+    by rest true = (list_any-filter (same x) p xs apart.0, rest)
     by rest false = rest
 
 list_any-filter-not : {X : Type 0} (q : X → Bool) (xs : List X) → list_any q (filter (λ z. not (q z)) xs) ≡ false

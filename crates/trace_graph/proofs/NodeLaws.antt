@@ -1,11 +1,11 @@
 -- That nodes are the same is equality, and that links are between the same nodes is an equivalence.
-use Rattle.std.proofs.Common.{◌≡◌, sym, ap, subst, refl, Bool, true, false}
+use Rattle.std.proofs.Common.{◌≡◌, ap, subst, refl, Bool, true}
 use Rattle.std.specs.Prelude.{◌&&◌, ◌==◌, bytes_eq}
 use Rattle.std.specs.Cmp.{IsEquivalence}
 use Rattle.std.proofs.lemmas.Cmp.{on_equiv, and_equiv}
 use Rattle.std.proofs.lemmas.Bool.{eq-eqb, eqb-true}
 use Rattle.std.proofs.lemmas.Slice.Eq.{bytes_eq-Decides}
-use Rattle.ldv_value.proofs.Booleans.{and-first, and-second, and-from}
+use Rattle.ldv_value.proofs.Booleans.{and-first, and-second, and-from, same-tests}
 use Rattle.trace_graph.specs.Types.{Member, Node, Path, Process, Row, Ask, Reply}
 use Rattle.trace_graph.specs.Graph.{same_member, same_node, same_ends}
 use Rattle.trace_graph.specs.Links.{Link}
@@ -57,17 +57,11 @@ node_itself (Row a) = member_itself a
 node_itself (Ask a) = eq-eqb a a refl
 node_itself (Reply a) = eq-eqb a a refl
 
-pub same_tests : (a b : Bool) → (a ≡ true → b ≡ true) → (b ≡ true → a ≡ true) → a ≡ b
-same_tests true true there back = refl
-same_tests true false there back = sym (there refl)
-same_tests false true there back = back refl
-same_tests false false there back = refl
-
 -- a test of equality is an equivalence
 equivalence_of : {X : Type 0} {same : X → X → Bool} → ((a b : X) → same a b ≡ true → a ≡ b) → ((a : X) → same a a ≡ true) → IsEquivalence same
 equivalence_of {X} {same} is itself = record {
   refl = itself;
-  symm = λ a b. same_tests (same a b) (same b a)
+  symm = λ a b. same-tests (same a b) (same b a)
       (λ h. subst (λ (c : X). same c a ≡ true) (is a b h) (itself a))
       (λ h. subst (λ (c : X). same c b ≡ true) (is b a h) (itself b));
   congr = λ a b c h. ap (λ (d : X). same d c) (is a b h);

@@ -5,7 +5,6 @@ use Rattle.std.specs.Cmp.{unsigned_tied}
 use Rattle.std.specs.Cmp.Lexicographic.{slice_cmp}
 use Rattle.std.specs.Ordering.{nat_cmp, ordering_then, is_eq, eq_by_cmp}
 use Rattle.std.specs.declared.cmp.Ordering.{Ordering}
-use Rattle.std.specs.declared.cmp.Ordering.TheVariants.{Less, Equal, Greater}
 use Rattle.std.proofs.lemmas.Map.Text.{is_eq-slice_cmp}
 use Rattle.sql_model.specs.Keys.{repeats}
 use Rattle.sql_model.proofs.Seen.{repeats_map}
@@ -16,11 +15,7 @@ use Rattle.trace_graph.specs.WellFormed.{places_of, same_places}
 use Rattle.trace_graph.specs.declared.key.NodeKey.{NodeKey}
 use Rattle.trace_graph.specs.declared.key.NodeKey.TheVariants as keys
 use Rattle.trace_graph.specs.contracts.key.NodeKeyOrd.TheImpl as key_order
-
-then_tied : (a b : Ordering) → is_eq (ordering_then a b) ≡ (is_eq a && is_eq b)
-then_tied Less b = refl
-then_tied Equal b = refl
-then_tied Greater b = refl
+use Rattle.ldv_value.proofs.Orderings.{then-tied}
 
 -- ---- keys
 
@@ -31,8 +26,8 @@ row_tied : (a b : Bor (List ℕ)) (q r u v : ℕ)
     → is_eq (ordering_then (slice_cmp nat_cmp a.now b.now) (ordering_then (nat_cmp q r) (nat_cmp u v)))
     ≡ same_node (node_of (keys.Row a q u)) (node_of (keys.Row b r v))
 row_tied a b q r u v =
-    then_tied (slice_cmp nat_cmp a.now b.now) (ordering_then (nat_cmp q r) (nat_cmp u v))
-    ∙ (λ j. is_eq-slice_cmp a.now b.now j && (then_tied (nat_cmp q r) (nat_cmp u v) ∙ (λ i. unsigned_tied q r i && unsigned_tied u v i)) j)
+    then-tied (slice_cmp nat_cmp a.now b.now) (ordering_then (nat_cmp q r) (nat_cmp u v))
+    ∙ (λ j. is_eq-slice_cmp a.now b.now j && (then-tied (nat_cmp q r) (nat_cmp u v) ∙ (λ i. unsigned_tied q r i && unsigned_tied u v i)) j)
 
 key_tied : (a b : NodeKey) → eq_by_cmp key_cmp a b ≡ same_node (node_of a) (node_of b)
 key_tied (keys.Path a) (keys.Path b) = is_eq-slice_cmp a.now b.now
@@ -75,7 +70,7 @@ place_cmp a b = ordering_then (nat_cmp a.0 b.0) (nat_cmp a.1 b.1)
 
 place_tied : (a b : Edge) → eq_by_cmp place_cmp (places_of a) (places_of b) ≡ same_places a b
 place_tied a b =
-    then_tied (nat_cmp a.source b.source) (nat_cmp a.target b.target)
+    then-tied (nat_cmp a.source b.source) (nat_cmp a.target b.target)
     ∙ (λ j. unsigned_tied a.source b.source j && unsigned_tied a.target b.target j)
 
 pub places_repeat : (places : List (ℕ × ℕ)) (edges : List Edge) → places ≡ map places_of edges

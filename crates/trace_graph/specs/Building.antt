@@ -79,7 +79,7 @@ with_notes edges (n ∷ ns) = with_notes (with_time n.source n.target n.time edg
 abbrev pub parts_of : Building → Parts
 parts_of building = record {
   nodes = map node_of building.keys.keys;
-  edges = with_notes (map edge_at building.spans.entries) building.notes.items;
+  edges = with_notes (map edge_at building.spans.entries) building.notes;
 }
 
 -- with a node at the end, if it isn't there yet, and no edge more

@@ -10,7 +10,7 @@ ghost use Rattle.trace_graph.specs.Links.{link};
 ghost use Rattle.trace_graph.specs.NodeTexts.{acts_held};
 
 use crate::key::{NodeKey, NodeKeys, number, place_number};
-use crate::note::{Note, Notes, add_notes, empty_notes};
+use crate::note::{Note, Notes, add_notes};
 use crate::span::Spans;
 use crate::texts::NodeTexts;
 use run_model::{Act, Event, Events};
@@ -92,14 +92,11 @@ fn settle_notes<'a>(building: Building<'a>) -> Result<Building<'a>, AllocError>
     let Building {
         keys,
         mut spans,
-        notes,
+        mut notes,
     } = building;
-    add_notes(&mut spans, notes.as_slice())?;
-    Ok(Building {
-        keys,
-        spans,
-        notes: empty_notes(notes),
-    })
+    add_notes(&mut spans, &notes)?;
+    notes.clear();
+    Ok(Building { keys, spans, notes })
 }
 
 /// How many nodes and edges there may be: tables that grow take a sixth of the time.

@@ -1,11 +1,18 @@
 //! Links that are noted, and become edges later.
 
-ghost use Rattle.std.specs.Prelude.{◌≡◌, [], map, IfOk, OnOk};
+ghost use Rattle.std.specs.Prelude.{◌≡◌, ◌++◌, ◌∷◌, [], map, IfOk, OnOk};
 ghost use Rattle.trace_graph.specs.Building.{edge_at, with_notes};
+ghost use Rattle.trace_graph.specs.Pieces.{in_pieces};
 
 use crate::edge::Edges;
 use crate::span::{Spans, add_time, edges_of};
+use ldv_value::List;
 use std::alloc::{AllocError, Global};
+use std::marker::Model;
+use std::mem;
+
+// The notes of a piece, which takes 48 KiB.
+const PIECE: usize = 4_096;
 
 /// A link between two places of nodes at a time.
 #[derive(Clone, Copy)]
@@ -16,11 +23,72 @@ pub(crate) struct Note {
 }
 
 /// Links in the order in which they were noted. A note takes a third of what an edge and its entry in a table
-/// do.
-pub(crate) type Notes = Vec<Note>;
+/// do. They are in pieces, for which an allocator has room where events lay that were dropped. For one long
+/// list it asks the system for more, as it does for all that takes more than some 128 KiB.
+#[derive(Drop)]
+pub(crate) struct Notes {
+    earlier: Vec<List<Note>>,
+    latest: List<Note>,
+}
 
-/// Adds the times of links to those of the edges.
-pub(crate) fn add_notes(spans: &mut Spans, notes: &[Note]) -> Result<(), AllocError>
+impl Model for Notes {
+    ghost use Rattle.std.specs.Prelude.{List as Items};
+    ghost use Rattle.trace_graph.specs.Pieces.{in_pieces};
+    ghost use Rattle.trace_graph.specs.declared.note.Note.{Note};
+
+    ghost Value = { Items Note };
+
+    ghost view = { λ a. in_pieces a.earlier.items a.latest };
+}
+
+impl Notes {
+    /// No note. It takes no memory.
+    pub(crate) fn new(alloc: Global) -> Notes
+        ensures { result ≡ [] }
+    {
+        Notes {
+            earlier: Vec::new(alloc),
+            latest: List::new(alloc),
+        }
+    }
+
+    /// Adds a note at the end.
+    #[tactic(auto, using(crate::proofs::NoteLaws::latest_more))]
+    pub(crate) fn push(&mut self, note: Note) -> Result<(), AllocError>
+        ensures { OnOk result (self.new ≡ self.old ++ note ∷ []) }
+    {
+        if self.latest.len() >= PIECE {
+            self.begin_piece()?;
+        }
+        self.latest.push(note)
+    }
+
+    // Begins a piece after the latest.
+    #[tactic(auto, using(crate::proofs::NoteLaws::piece_more))]
+    fn begin_piece(&mut self) -> Result<(), AllocError>
+        ensures { OnOk result (self.new ≡ self.old) }
+    {
+        let alloc = self.latest.allocator();
+        let next = List::with_capacity(alloc, PIECE)?;
+        let full = mem::replace(&mut self.latest, next);
+        self.earlier.push(full)?;
+        Ok(())
+    }
+
+    /// Takes all notes out, and keeps the memory of the latest.
+    pub(crate) fn clear(&mut self)
+        ensures { self.new ≡ [] }
+    {
+        let alloc = self.latest.allocator();
+        let mut kept = mem::replace(&mut self.latest, List::new(alloc)).into_vec();
+        kept.clear();
+        self.earlier.clear();
+        self.latest = List::of_vec(kept);
+    }
+}
+
+// Adds the times of the links of a piece.
+fn add_piece(spans: &mut Spans, notes: &[Note]) -> Result<(), AllocError>
     ensures { OnOk result (map edge_at spans.new.entries
         ≡ with_notes (map edge_at spans.old.entries) notes.now) }
 {
@@ -30,23 +98,35 @@ pub(crate) fn add_notes(spans: &mut Spans, notes: &[Note]) -> Result<(), AllocEr
     Ok(())
 }
 
-/// No notes, in the memory of others.
-pub(crate) fn empty_notes(notes: Notes) -> Notes
-    ensures { result.items ≡ [] }
+#[tactic(auto, using(crate::proofs::NoteLaws::notes_then))]
+fn add_pieces(spans: &mut Spans, pieces: &[List<Note>]) -> Result<(), AllocError>
+    ensures { OnOk result (map edge_at spans.new.entries
+        ≡ with_notes (map edge_at spans.old.entries) (in_pieces pieces.now [])) }
 {
-    let mut kept = notes;
-    kept.clear();
-    kept
+    for piece in pieces {
+        add_piece(spans, piece.items())?;
+    }
+    Ok(())
+}
+
+/// Adds the times of links to those of the edges.
+#[tactic(auto, using(crate::proofs::NoteLaws::latest_then))]
+pub(crate) fn add_notes(spans: &mut Spans, notes: &Notes) -> Result<(), AllocError>
+    ensures { OnOk result (map edge_at spans.new.entries
+        ≡ with_notes (map edge_at spans.old.entries) notes.now) }
+{
+    add_pieces(spans, notes.earlier.as_slice())?;
+    add_piece(spans, notes.latest.items())
 }
 
 // The notes are gone once it returns.
 fn spans_with(spans: Spans, notes: Notes, room: usize) -> Result<Spans, AllocError>
     ensures { IfOk result (λ all. map edge_at all.entries
-        ≡ with_notes (map edge_at spans.entries) notes.items) }
+        ≡ with_notes (map edge_at spans.entries) notes) }
 {
     let mut all = spans;
     all.reserve(room)?;
-    add_notes(&mut all, notes.as_slice())?;
+    add_notes(&mut all, &notes)?;
     Ok(all)
 }
 
@@ -57,7 +137,7 @@ pub(crate) fn edges_with(
     notes: Notes,
     room: usize,
 ) -> Result<Edges, AllocError>
-    ensures { IfOk result (λ edges. edges ≡ with_notes (map edge_at spans.entries) notes.items) }
+    ensures { IfOk result (λ edges. edges ≡ with_notes (map edge_at spans.entries) notes) }
 {
     let all = spans_with(spans, notes, room)?;
     let edges = edges_of(alloc, all)?;

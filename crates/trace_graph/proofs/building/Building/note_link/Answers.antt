@@ -9,6 +9,6 @@ returns c =
     let edges : List Edge = map edge_at c.args.self.now.spans.entries in
     λ j. record {
       nodes = map node_of c.args.self.now.keys.keys;
-      edges = (ap (with_notes edges) c.in_ok-push.ensures.items
-          ∙ noted_more edges c.args.self.now.notes.items (record { source = c.args.source; target = c.args.target; time = c.args.time })) j;
+      edges = (ap (with_notes edges) c.in_ok-push.ensures
+          ∙ noted_more edges c.args.self.now.notes (record { source = c.args.source; target = c.args.target; time = c.args.time })) j;
     }
