@@ -7,6 +7,7 @@ use Rattle.std.proofs.lemmas.List.FromFn.{length-map-range_with_len, get_or-map-
 use Rattle.std.proofs.lemmas.List.{length-set}
 use Rattle.std.proofs.lemmas.Nat.Bits.{bit_at-zero, bit_at_set_same, bit_at_set_other, bit_at_clear_same, bit_at_clear_other}
 use Rattle.column_store.specs.Flags.{Flags, flag_in, flags_of}
+use Rattle.ldv_value.proofs.Lists.{zero-last}
 
 pub flags_len : (words : List ℕ) (count : ℕ) → length (flags_of words count) ≡ count
 flags_len words count = length-map-range_with_len (flag_in words) 0 count
@@ -107,12 +108,7 @@ flags_more_seen old wide new count bit seen spare is same put = flags_more old w
 
 -- a further empty word has no bit
 pub zero_word : (words : List ℕ) (n : ℕ) → flag_in (words ++ 0 ∷ []) n ≡ flag_in words n
-zero_word words n = ap (λ (w : ℕ). bit_at w (n % 64) == 1) (at words (n / 64)) where
-  at : (xs : List ℕ) (k : ℕ) → get_or (xs ++ 0 ∷ []) k 0 ≡ get_or xs k 0
-  at [] zero = refl
-  at [] (suc k) = refl
-  at (x ∷ xs) zero = refl
-  at (x ∷ xs) (suc k) = at xs k
+zero_word words n = ap (λ (w : ℕ). bit_at w (n % 64) == 1) (zero-last words (n / 64))
 
 -- ---- no bit past the slots
 

@@ -18,6 +18,7 @@ use Rattle.table_store.specs.Stops.{stood_number}
 use Rattle.dml_versions.specs.Needing.{put_need, put_some}
 use Rattle.dml_versions.proofs.NumberLaws.{AreSorted}
 use Rattle.dml_versions.specs.Types.{Need, Rule, L, K, Table, TableRow}
+use Rattle.ldv_value.proofs.Numbers.{apart-above}
 
 -- a row by its number, and the rule by which it is needed
 abbrev pub Numbered : Type 0
@@ -46,12 +47,6 @@ is_same a b same = eq-eqb a b same
 not_before : (a b : ℕ) → a < b → (a == b) ≡ false
 not_before a b less = ne_eqb a b (λ same. absurd (omega (arith, less, same)))
 
-not_after : (a b : ℕ) → b < a → (a == b) ≡ false
-not_after a b more = ne_eqb a b (λ same. absurd (omega (arith, more, same)))
-
-is_before : (a b : ℕ) → a < b → nat_lt a b ≡ true
-is_before a b less = lt-ltb a b less
-
 is_after : (a b : ℕ) → b < a → nat_lt a b ≡ false
 is_after a b more = le-ltb a b (omega (arith, more))
 
@@ -76,8 +71,8 @@ module _ (a k : Numbered) where
   put_add : (ms : List Numbered) → put a (add k ms) ≡ add k (put a ms)
   put_add [] = elim (order_of a.0 k.0) [
     | Same is ↦ simp (is_same a.0 k.0 is, is_same k.0 a.0 (sym is))
-    | Before less ↦ simp (not_before a.0 k.0 less, is_before a.0 k.0 less, not_after k.0 a.0 less, is_after k.0 a.0 less)
-    | After more ↦ simp (not_after a.0 k.0 more, is_after a.0 k.0 more, not_before k.0 a.0 more, is_before k.0 a.0 more)
+    | Before less ↦ simp (not_before a.0 k.0 less, lt-ltb a.0 k.0 less, apart-above k.0 a.0 less, is_after k.0 a.0 less)
+    | After more ↦ simp (apart-above a.0 k.0 more, is_after a.0 k.0 more, not_before k.0 a.0 more, lt-ltb k.0 a.0 more)
   ]
   put_add (m ∷ ms) = by (order_of k.0 m.0) (order_of a.0 m.0) (order_of a.0 k.0) (put_add ms)
     where
@@ -85,24 +80,24 @@ module _ (a k : Numbered) where
       by (Same km) (Same am) ak rest = let ka : k.0 ≡ a.0 = km ∙ sym am in simp (is_same k.0 m.0 km, is_same a.0 m.0 am, is_same k.0 a.0 ka)
       by (Same km) (Before am) ak rest =
           let ka : a.0 < k.0 = omega (arith, km, am) in
-          simp (is_same k.0 m.0 km, not_before a.0 m.0 am, is_before a.0 m.0 am, not_after k.0 a.0 ka, is_after k.0 a.0 ka)
-      by (Same km) (After am) ak rest = simp (is_same k.0 m.0 km, not_after a.0 m.0 am, is_after a.0 m.0 am)
+          simp (is_same k.0 m.0 km, not_before a.0 m.0 am, lt-ltb a.0 m.0 am, apart-above k.0 a.0 ka, is_after k.0 a.0 ka)
+      by (Same km) (After am) ak rest = simp (is_same k.0 m.0 km, apart-above a.0 m.0 am, is_after a.0 m.0 am)
       by (Before km) (Same am) ak rest =
           let ka : k.0 < a.0 = omega (arith, km, am) in
-          simp (not_before k.0 m.0 km, is_before k.0 m.0 km, is_same a.0 m.0 am, not_before k.0 a.0 ka, is_before k.0 a.0 ka, not_after a.0 k.0 ka, is_after a.0 k.0 ka)
-      by (Before km) (Before am) (Same is) rest = simp (not_before k.0 m.0 km, is_before k.0 m.0 km, not_before a.0 m.0 am, is_before a.0 m.0 am, is_same a.0 k.0 is, is_same k.0 a.0 (sym is))
-      by (Before km) (Before am) (Before less) rest = simp (not_before k.0 m.0 km, is_before k.0 m.0 km, not_before a.0 m.0 am, is_before a.0 m.0 am, not_before a.0 k.0 less, is_before a.0 k.0 less, not_after k.0 a.0 less, is_after k.0 a.0 less)
-      by (Before km) (Before am) (After more) rest = simp (not_before k.0 m.0 km, is_before k.0 m.0 km, not_before a.0 m.0 am, is_before a.0 m.0 am, not_after a.0 k.0 more, is_after a.0 k.0 more, not_before k.0 a.0 more, is_before k.0 a.0 more)
+          simp (not_before k.0 m.0 km, lt-ltb k.0 m.0 km, is_same a.0 m.0 am, not_before k.0 a.0 ka, lt-ltb k.0 a.0 ka, apart-above a.0 k.0 ka, is_after a.0 k.0 ka)
+      by (Before km) (Before am) (Same is) rest = simp (not_before k.0 m.0 km, lt-ltb k.0 m.0 km, not_before a.0 m.0 am, lt-ltb a.0 m.0 am, is_same a.0 k.0 is, is_same k.0 a.0 (sym is))
+      by (Before km) (Before am) (Before less) rest = simp (not_before k.0 m.0 km, lt-ltb k.0 m.0 km, not_before a.0 m.0 am, lt-ltb a.0 m.0 am, not_before a.0 k.0 less, lt-ltb a.0 k.0 less, apart-above k.0 a.0 less, is_after k.0 a.0 less)
+      by (Before km) (Before am) (After more) rest = simp (not_before k.0 m.0 km, lt-ltb k.0 m.0 km, not_before a.0 m.0 am, lt-ltb a.0 m.0 am, apart-above a.0 k.0 more, is_after a.0 k.0 more, not_before k.0 a.0 more, lt-ltb k.0 a.0 more)
       by (Before km) (After am) ak rest =
           let ka : k.0 < a.0 = omega (arith, km, am) in
-          simp (not_before k.0 m.0 km, is_before k.0 m.0 km, not_after a.0 m.0 am, is_after a.0 m.0 am, not_after a.0 k.0 ka, is_after a.0 k.0 ka)
+          simp (not_before k.0 m.0 km, lt-ltb k.0 m.0 km, apart-above a.0 m.0 am, is_after a.0 m.0 am, apart-above a.0 k.0 ka, is_after a.0 k.0 ka)
       by (After km) (Same am) ak rest =
           let ka : a.0 < k.0 = omega (arith, km, am) in
-          simp (not_after k.0 m.0 km, is_after k.0 m.0 km, is_same a.0 m.0 am, not_after k.0 a.0 ka, is_after k.0 a.0 ka)
+          simp (apart-above k.0 m.0 km, is_after k.0 m.0 km, is_same a.0 m.0 am, apart-above k.0 a.0 ka, is_after k.0 a.0 ka)
       by (After km) (Before am) ak rest =
           let ka : a.0 < k.0 = omega (arith, km, am) in
-          simp (not_after k.0 m.0 km, is_after k.0 m.0 km, not_before a.0 m.0 am, is_before a.0 m.0 am, not_after k.0 a.0 ka, is_after k.0 a.0 ka)
-      by (After km) (After am) ak rest = rw (not_after k.0 m.0 km, is_after k.0 m.0 km, not_after a.0 m.0 am, is_after a.0 m.0 am) (simp (not_after k.0 m.0 km, is_after k.0 m.0 km) (ap (λ (l : List Numbered). m ∷ l) rest))
+          simp (apart-above k.0 m.0 km, is_after k.0 m.0 km, not_before a.0 m.0 am, lt-ltb a.0 m.0 am, apart-above k.0 a.0 ka, is_after k.0 a.0 ka)
+      by (After km) (After am) ak rest = rw (apart-above k.0 m.0 km, is_after k.0 m.0 km, apart-above a.0 m.0 am, is_after a.0 m.0 am) (simp (apart-above k.0 m.0 km, is_after k.0 m.0 km) (ap (λ (l : List Numbered). m ∷ l) rest))
 
 -- rows that are put onto a list
 abbrev put_all : List Numbered → List Numbered → List Numbered
@@ -128,8 +123,8 @@ alone rule n = (n, rule) ∷ []
 two_of : (rule : Rule) (a b : ℕ) → put (a, rule) ((b, rule) ∷ []) ≡ add (a, rule) ((b, rule) ∷ [])
 two_of rule a b = elim (order_of a b) [
   | Same is ↦ simp (is_same a b is) (ap (alone rule) is)
-  | Before less ↦ simp (not_before a b less, is_before a b less)
-  | After more ↦ simp (not_after a b more, is_after a b more)
+  | Before less ↦ simp (not_before a b less, lt-ltb a b less)
+  | After more ↦ simp (apart-above a b more, is_after a b more)
 ]
 
 -- the two rows of a refused key, as far as they stood
@@ -222,7 +217,7 @@ sorted_rows (row ∷ next ∷ rows) is =
     let both = and-parts (row_precedes row next) (is_strictly_sorted row_precedes (next ∷ rows)) is in
     let less : row.number < next.number = ltb-true row.number next.number both.0 in
     ap (put (matched_at row)) (sorted_rows (next ∷ rows) both.1)
-    ∙ simp (not_before row.number next.number less, is_before row.number next.number less)
+    ∙ simp (not_before row.number next.number less, lt-ltb row.number next.number less)
 
 -- they are needed in their order
 pub needs-matched : (t : Table) (rows : List TableRow) → AreSorted rows → sorted_needs (map (matched_row t) rows) ≡ map (matched_row t) rows
@@ -288,10 +283,10 @@ put_placed n (m ∷ ms) =
       | Same is ↦ ap same (is_same a b is) ∙ sym (ap (placed_at n (m ∷ ms)) (first (le-leb a b (omega (arith, is)))) ∙ ap here (is_same a b is))
       | Before under ↦
           ap same (not_before a b under)
-          ∙ ap less (is_before a b under)
+          ∙ ap less (lt-ltb a b under)
           ∙ sym (ap (placed_at n (m ∷ ms)) (first (le-leb a b (omega (arith, under)))) ∙ ap here (not_before a b under))
       | After over ↦
-          ap same (not_after a b over)
+          ap same (apart-above a b over)
           ∙ ap less (is_after a b over)
           ∙ ap (λ (l : List Need). m ∷ l) (put_placed n ms)
           ∙ one_later n m ms (position_or_len (is_at n) ms)

@@ -1,5 +1,6 @@
 -- What INSERT, UPDATE and DELETE return over a store, and what they make of it.
-use Rattle.std.specs.Prelude.{◌≡◌, ℕ, ◌≤◌, List, [], map, length, Bool, true, false, IsTrue, Option, Some, None, Ok}
+use Rattle.std.specs.Prelude.{◌≡◌, ℕ, ◌≤◌, List, [], map, length, Bool, true, false, IsTrue, Option, Some, None}
+use Rattle.std.specs.Prelude.{Result, Ok, IfOk, OnOk, OnErr}
 use Rattle.sql_model.specs.Changes.{numbered_rows, new_values, updated_row}
 use Rattle.sql_model.specs.Needs.{Versions, need_of, made_by, updated_rows, versions_after, read_of}
 use Rattle.sql_model.specs.Places.{checked_of}
@@ -59,6 +60,15 @@ pub record IsStoreAfter (statement : Statement) (time : ℕ) (old new : StoreHis
       ≡ versions_after (updated_rows (Some statement) (tables_now old)) (versions_now old)
   pub latest : new.time ≤ time
   pub earlier : AreKeptBefore time old new
+
+-- what INSERT, UPDATE or DELETE returns at a time, and what it makes of the store, which is as it was where
+-- memory is out
+pub record ChangesStore {E : Type 0} (statement : Statement) (keep : Bool) (time : ℕ) (old new : StoreHistory)
+    (result : Result Change E)
+    : Type 0 where
+  pub change : IfOk result (IsChange statement keep old)
+  pub after : OnOk result (IsStoreAfter statement time old new)
+  pub err : OnErr result (new ≡ old)
 
 -- ---- on the way
 

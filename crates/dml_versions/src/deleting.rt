@@ -1,7 +1,7 @@
 //! DELETE.
 
-ghost use Rattle.std.specs.Prelude.{◌≡◌, ◌<◌, IfOk, OnOk, OnErr};
-ghost use Rattle.dml_versions.specs.Changing.{IsDelete, IsCheckedOver, IsChange, IsStoreAfter};
+ghost use Rattle.std.specs.Prelude.{◌≡◌, ◌<◌, IfOk};
+ghost use Rattle.dml_versions.specs.Changing.{IsDelete, IsCheckedOver, ChangesStore};
 ghost use Rattle.dml_versions.specs.Changing.{AreFound};
 ghost use Rattle.dml_versions.specs.Types.{TheDelete};
 ghost use Rattle.table_store.specs.Histories.{tables_now};
@@ -32,9 +32,7 @@ pub fn delete(
     requires kind { IsDelete checked.now.statement }
     requires checked { IsCheckedOver (tables_now store.old) checked.now }
     requires later { store.old.time < time }
-    ensures change { IfOk result (IsChange checked.now.statement keep store.old) }
-    ensures after { OnOk result (IsStoreAfter checked.now.statement time store.old store.new) }
-    ensures err { OnErr result (store.new ≡ store.old) }
+    ensures { ChangesStore checked.now.statement keep time store.old store.new result }
 {
     let alloc = checked.places.allocator();
     let delete = delete_of(checked);

@@ -1,10 +1,9 @@
 //! INSERT.
 
-ghost use Rattle.std.specs.Prelude.{◌≡◌, ◌+◌, ◌^◌, ◌<◌, [], false, length, nat_lt, Some, IfOk, IsTrue, OnOk};
-ghost use Rattle.std.specs.Prelude.{OnErr};
+ghost use Rattle.std.specs.Prelude.{◌≡◌, ◌+◌, ◌^◌, ◌<◌, [], false, length, nat_lt, Some, IfOk, IsTrue};
 ghost use Rattle.std.specs.Option.{option_map};
 ghost use Rattle.ldv_value.specs.Limits.{max_next};
-ghost use Rattle.dml_versions.specs.Changing.{IsInsert, IsCheckedOver, IsChange, IsStoreAfter};
+ghost use Rattle.dml_versions.specs.Changing.{IsInsert, IsCheckedOver, ChangesStore};
 ghost use Rattle.dml_versions.specs.Changing.{AreNewRows};
 ghost use Rattle.dml_versions.specs.Needing.{HaveParents};
 ghost use Rattle.dml_versions.specs.Types.{TheInsert};
@@ -35,9 +34,7 @@ pub fn insert(
     requires kind { IsInsert checked.now.statement }
     requires checked { IsCheckedOver (tables_now store.old) checked.now }
     requires later { store.old.time < time }
-    ensures change { IfOk result (IsChange checked.now.statement keep store.old) }
-    ensures after { OnOk result (IsStoreAfter checked.now.statement time store.old store.new) }
-    ensures err { OnErr result (store.new ≡ store.old) }
+    ensures { ChangesStore checked.now.statement keep time store.old store.new result }
 {
     let alloc = checked.places.allocator();
     let insert = insert_of(checked);

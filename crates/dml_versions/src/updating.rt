@@ -1,7 +1,7 @@
 //! UPDATE.
 
-ghost use Rattle.std.specs.Prelude.{◌≡◌, ◌<◌, IfOk, OnOk, OnErr};
-ghost use Rattle.dml_versions.specs.Changing.{IsUpdate, IsCheckedOver, IsChange, IsStoreAfter};
+ghost use Rattle.std.specs.Prelude.{◌≡◌, ◌<◌, IfOk};
+ghost use Rattle.dml_versions.specs.Changing.{IsUpdate, IsCheckedOver, ChangesStore};
 ghost use Rattle.dml_versions.specs.Changing.{ArePrepared};
 ghost use Rattle.dml_versions.specs.Types.{TheUpdate};
 ghost use Rattle.table_store.specs.Histories.{tables_now};
@@ -33,9 +33,7 @@ pub fn update(
     requires kind { IsUpdate checked.now.statement }
     requires checked { IsCheckedOver (tables_now store.old) checked.now }
     requires later { store.old.time < time }
-    ensures change { IfOk result (IsChange checked.now.statement keep store.old) }
-    ensures after { OnOk result (IsStoreAfter checked.now.statement time store.old store.new) }
-    ensures err { OnErr result (store.new ≡ store.old) }
+    ensures { ChangesStore checked.now.statement keep time store.old store.new result }
 {
     let alloc = checked.places.allocator();
     let update = update_of(checked);

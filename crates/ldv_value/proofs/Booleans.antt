@@ -38,6 +38,12 @@ pub or-assoc : (a b c : Bool) → ((a || b) || c) ≡ (a || (b || c))
 or-assoc true b c = refl
 or-assoc false b c = refl
 
+-- tests of which each holds where the other does
+pub same-tests : (a b : Bool) → (a ≡ true → b ≡ true) → (b ≡ true → a ≡ true) → a ≡ b
+same-tests true b there back = sym (there refl)
+same-tests false true there back = back refl
+same-tests false false there back = refl
+
 pub false-not : (b : Bool) → b ≡ false → ¬ IsTrue b
 false-not b h is = false≢true (sym h ∙ is)
 

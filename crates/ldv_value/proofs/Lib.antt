@@ -5,6 +5,7 @@ pub mod FileLists
 pub mod FirstItems
 pub mod ItemLists
 pub mod Lists
+pub mod Numbers
 pub mod Options
 pub mod Orderings
 pub mod Places

@@ -1,12 +1,12 @@
 -- Lists: tests over them, what is found in them, and their fronts.
-use Rattle.std.proofs.Common.{◌≡◌, List, [], ◌∷◌, ◌++◌, length, take, drop, get_or, map, Bool, true, false, ◌&&◌, ◌||◌, cond, refl, ap, subst, inl, inr, Some, IsTrue}
+use Rattle.std.proofs.Common.{◌≡◌, suc, zero, ℕ, List, [], ◌∷◌, ◌++◌, length, take, drop, get_or, map, Bool, true, false, ◌&&◌, ◌||◌, cond, refl, ap, subst, inl, inr, Some, IsTrue}
 use Rattle.std.specs.Prelude.{find}
 use Rattle.std.specs.List.{list_any, list_all, filter, AllByRecursion}
 pub use Rattle.std.proofs.lemmas.List.{append-nil, nil_from_length as nil-from-length, length-append, length-map}
 pub use Rattle.std.proofs.lemmas.List.Folds.{find-append, list_all-append, list_any-append, list_all-map}
 pub use Rattle.std.proofs.lemmas.List.Elements.{filter-append, filter_map-append, filter_agree as filter-agree}
 pub use Rattle.std.proofs.lemmas.Simd.{map-map}
-use Rattle.ldv_value.proofs.Booleans.{and-first, and-second, and-from, and-parts}
+use Rattle.ldv_value.proofs.Booleans.{and-first, and-second, and-from, and-parts, or-from, or-parts}
 use Rattle.ldv_value.proofs.Cases.{cases-bool}
 use Rattle.ldv_value.specs.Sorted.{is_strictly_sorted}
 
@@ -24,6 +24,13 @@ module _ {A : Type 0} where
   pub get_or-front : (xs : List A) (y : A) (ys : List A) (d : A) → get_or (xs ++ y ∷ ys) (length xs) d ≡ y
   get_or-front [] y ys d = refl
   get_or-front (x ∷ xs) y ys d = get_or-front xs y ys d
+
+-- a zero more at the end
+pub zero-last : (numbers : List ℕ) (k : ℕ) → get_or (numbers ++ 0 ∷ []) k 0 ≡ get_or numbers k 0
+zero-last [] zero = refl
+zero-last [] (suc k) = refl
+zero-last (n ∷ ns) zero = refl
+zero-last (n ∷ ns) (suc k) = zero-last ns k
 
 -- ---- any, all and found
 
@@ -75,6 +82,16 @@ module _ {X : Type 0} where
       let rest = list_all-filter p q xs (and-second (p x) (list_all p xs) all) in
       elim (q x) as (λ b. list_all p (cond b (x ∷ filter q xs) (filter q xs)) ≡ true) [
         | true ↦ and-from (p x) (list_all p (filter q xs)) (and-first (p x) (list_all p xs) all) rest
+        | false ↦ rest
+      ]
+
+  pub list_any-filter : (p q : X → Bool) (xs : List X) → list_any p xs ≡ false → list_any p (filter q xs) ≡ false
+  list_any-filter p q [] none = refl
+  list_any-filter p q (x ∷ xs) none =
+      let parts = or-parts (p x) (list_any p xs) none in
+      let rest = list_any-filter p q xs parts.1 in
+      elim (q x) as (λ b. list_any p (cond b (x ∷ filter q xs) (filter q xs)) ≡ false) [
+        | true ↦ or-from (p x) (list_any p (filter q xs)) parts.0 rest
         | false ↦ rest
       ]
 

@@ -1,8 +1,8 @@
 -- What an order is of which it is known that it's less, or equal.
-use Rattle.std.proofs.Common.{◌≡◌, refl, true, T}
+use Rattle.std.proofs.Common.{◌≡◌, ◌&&◌, refl, true, T}
 use Rattle.std.specs.declared.cmp.Ordering.{Ordering}
 use Rattle.std.specs.declared.cmp.Ordering.TheVariants.{Less, Equal, Greater}
-use Rattle.std.specs.Ordering.{is_lt, is_eq}
+use Rattle.std.specs.Ordering.{is_lt, is_eq, ordering_then}
 use Rattle.ldv_value.proofs.Booleans.{t-to}
 
 pub is_lt-true : (r : Ordering) → is_lt r ≡ true → r ≡ Less
@@ -14,6 +14,12 @@ pub is_eq-true : (r : Ordering) → is_eq r ≡ true → r ≡ Equal
 is_eq-true Less h = cc
 is_eq-true Equal h = refl
 is_eq-true Greater h = cc
+
+-- two orders, the second where the first is Equal
+pub then-tied : (a b : Ordering) → is_eq (ordering_then a b) ≡ (is_eq a && is_eq b)
+then-tied Less b = refl
+then-tied Equal b = refl
+then-tied Greater b = refl
 
 -- the same over `T`
 pub t-less : (r : Ordering) → T (is_lt r) → r ≡ Less

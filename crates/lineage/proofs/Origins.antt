@@ -7,7 +7,7 @@ use Rattle.std.specs.Cmp.{both_ways, unsigned_tied}
 use Rattle.std.specs.Cmp.Lexicographic.{slice_cmp}
 use Rattle.std.specs.FinMap.{empty}
 use Rattle.std.specs.List.Sorted.{IsStrictlySortedBy}
-use Rattle.std.specs.Ordering.{nat_cmp, is_eq, eq_by_cmp, ordering_then}
+use Rattle.std.specs.Ordering.{nat_cmp, is_eq, eq_by_cmp}
 use Rattle.std.specs.declared.cmp.Ordering.{Ordering}
 use Rattle.std.specs.declared.cmp.Ordering.TheVariants.{Less, Equal, Greater}
 use Rattle.std.proofs.lemmas.Bool.{cases_lt}
@@ -24,6 +24,7 @@ use Rattle.sql_model.specs.QueryAnswer.{Origin}
 use Rattle.sql_model.specs.Needs.{Versions}
 use Rattle.sql_model.specs.Origins.{is_origin, has_origin, SameSet}
 use Rattle.sql_model.specs.Scope.{same_text}
+use Rattle.ldv_value.proofs.Orderings.{then-tied}
 
 -- ---- tables by places and by names
 
@@ -49,11 +50,6 @@ module _ (names : List (List ℕ)) where
     ]
   ]
 
-  tied : (a b : Ordering) → is_eq (ordering_then a b) ≡ (is_eq a && is_eq b)
-  tied Less b = refl
-  tied Equal b = refl
-  tied Greater b = refl
-
   -- two rows are the same by places where they are by names
   row-origin : AreDistinct names → (a b : Row) → a.0 < length names → b.0 < length names
       → eq_by_cmp row_cmp a b ≡ is_origin (origin_at names a) (origin_at names b)
@@ -61,7 +57,7 @@ module _ (names : List (List ℕ)) where
       let table : (a.0 == b.0) ≡ same_text (name_at names a.0) (name_at names b.0) = both_ways (a.0 == b.0) (same_text (name_at names a.0) (name_at names b.0))
       (λ is. ap (λ n. same_text (name_at names a.0) (name_at names n)) (sym ((Decides-eqb a.0 b.0).0 is)) ∙ bytes_eq-itself (name_at names a.0))
       (λ is. (Decides-eqb a.0 b.0).1 (distinct a.0 b.0 first second (bytes_eq-true (name_at names a.0) (name_at names b.0) is))) in
-      tied (nat_cmp a.0 b.0) (nat_cmp a.1 b.1)
+      then-tied (nat_cmp a.0 b.0) (nat_cmp a.1 b.1)
       ∙ (λ j. (unsigned_tied a.0 b.0 ∙ table) j && unsigned_tied a.1 b.1 j)
 
   -- ---- sets that stand for lineages

@@ -318,9 +318,5 @@ put_there None false v gone = refl
 put_there (Some w) true v gone = let no : Some w ≡ None = gone refl in cc
 put_there (Some w) false v gone = refl
 
-pub none_of : (a : Option ℕ) → is_some a ≡ false → a ≡ None
-none_of None is = refl
-none_of (Some v) is = cc
-
 pub row_at_place : (rows : List (Row × ℕ)) (i : ℕ) (d : Row × ℕ) → i < length rows → drop i rows ≡ get_or rows i d ∷ drop (i + 1) rows
 row_at_place rows i d below = drop-cons rows i d below ∙ ap (λ (n : ℕ). get_or rows i d ∷ drop n rows) (sym (add-one i))

@@ -1,11 +1,12 @@
 -- Versions of rows, written and moved.
-use Rattle.std.proofs.Common.{◌≡◌, ◌≢◌, ◌==◌, ◌∙◌, sym, ap, refl, ℕ, zero, suc, ◌+◌, ◌-◌, ◌<◌, ◌≤◌, List, [], ◌∷◌, ◌++◌, length, true, false, cond, get_or, set, replicate, arith, inl, inr, lt-ltb, eq-eqb, get_or-set_same, get_or-set_other}
+use Rattle.std.proofs.Common.{◌≡◌, ◌≢◌, ◌==◌, ◌∙◌, sym, ap, ℕ, ◌+◌, ◌-◌, ◌<◌, ◌≤◌, List, [], ◌∷◌, ◌++◌, length, true, false, cond, get_or, set, replicate, arith, inl, inr, lt-ltb, eq-eqb, get_or-set_same, get_or-set_other}
 use Rattle.std.specs.Prelude.{nat_lt}
 use Rattle.std.proofs.lemmas.List.{get_or_append_left, get_or-replicate, length-replicate}
 use Rattle.std.proofs.Math.Seq.{get_or-append_right}
 use Rattle.std.proofs.lemmas.Bool.{cases_lt, le-ltb, ne_eqb, cases_eq}
 use Rattle.lineage.specs.Blocks.{version_of, HasPlace}
 use Rattle.lineage.specs.declared.versions.Versions.{Versions}
+use Rattle.ldv_value.proofs.Lists.{zero-last}
 
 -- before the first there is none
 pub version_before : (v : Versions) (n : ℕ) → n < v.first → version_of v n ≡ 0
@@ -34,16 +35,10 @@ lowered old new numbers first m =
     ∙ ap (λ (k : ℕ). get_or (replicate old.first 0 ++ old.numbers) k 0) (omega arith)
     ∙ zeros_first old.numbers old.first m
 
-zero_last : (numbers : List ℕ) (k : ℕ) → get_or (numbers ++ 0 ∷ []) k 0 ≡ get_or numbers k 0
-zero_last [] zero = refl
-zero_last [] (suc k) = refl
-zero_last (w ∷ ws) zero = refl
-zero_last (w ∷ ws) (suc k) = zero_last ws k
-
 -- a zero more at the end
 pub longer : (first : ℕ) (numbers : List ℕ) (m : ℕ)
     → cond (nat_lt m first) 0 (get_or (numbers ++ 0 ∷ []) (m - first) 0) ≡ cond (nat_lt m first) 0 (get_or numbers (m - first) 0)
-longer first numbers m = ap (λ (v : ℕ). cond (nat_lt m first) 0 v) (zero_last numbers (m - first))
+longer first numbers m = ap (λ (v : ℕ). cond (nat_lt m first) 0 v) (zero-last numbers (m - first))
 
 -- one version written
 pub noted : (old new : Versions) (n version : ℕ) → HasPlace old n → new.numbers ≡ set old.numbers (n - old.first) version → new.first ≡ old.first

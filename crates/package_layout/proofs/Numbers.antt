@@ -7,7 +7,7 @@ use Rattle.std.specs.Int.{Width, w8, w16, w32, w64, byte_len, to_be_bytes, from_
 use Rattle.std.specs.Int.RustNames.{FitsSigned}
 use Rattle.std.proofs.lemmas.Int.{to_z-of_z, of_z-to_z, ints}
 use Rattle.std.proofs.lemmas.Str.{IsUtf8-from_is_utf8, is_utf8-from_IsUtf8}
-use Rattle.std.proofs.lemmas.Bool.{ltb-false, le-ltb, ltb-true, eqb-true, eq-eqb}
+use Rattle.std.proofs.lemmas.Bool.{ltb-false, le-ltb, ltb-true, eqb-true, eq-eqb, lt-ltb}
 use Rattle.std.proofs.lemmas.List.{take_at, drop_at, take-append-drop, length-append, length-take}
 use Rattle.std.proofs.lemmas.Nat.{be_bytes_2, be_bytes_4, be_bytes_8, from_be_bytes-to_be_bytes_2, from_be_bytes-to_be_bytes_4, from_be_bytes-to_be_bytes_8}
 use Rattle.ldv_value.proofs.Booleans.{and-parts, and-from}
@@ -219,15 +219,12 @@ pub long_law : {X : Type 0} (s : X → List ℕ) (t : X → Type 0) (f : X → B
 long_law s t f {c = c} r one filled = list_law w32 (2 ^ 32) wide32 s t f c r one always IsCountable
     (λ xs k n. n) (λ xs lt. (refl, lt)) (λ xs len. omega (arith, len, few_items s filled xs))
 
-pub ltb_from : (a b : ℕ) → a < b → nat_lt a b ≡ true
-ltb_from a b lt = grind arith
-
 pub byte_list_law : {X : Type 0} (s : X → List ℕ) (t : X → Type 0) (f : X → Bool) {c : X → Type 0} (r : List ℕ → DecodeResult X) → IsField s t f c r
     → IsField (list_spelling w8 s) (AllByRecursion t) (λ xs. nat_lt (length xs) 256 && list_all f xs) (AllByRecursion c) (list_at w8 r)
-byte_list_law s t f {c = c} r one = recount (AllByRecursion c) (list_law w8 256 wide8 s t f c r one (λ xs. nat_lt (length xs) 256) Uncounted (λ xs k n. ltb-true _ _ k) (λ xs lt. (ltb_from _ _ lt, tt)) (λ xs len. tt))
+byte_list_law s t f {c = c} r one = recount (AllByRecursion c) (list_law w8 256 wide8 s t f c r one (λ xs. nat_lt (length xs) 256) Uncounted (λ xs k n. ltb-true _ _ k) (λ xs lt. (lt-ltb _ _ lt, tt)) (λ xs len. tt))
     (λ xs n. (tt, n)) (λ xs n. n.1)
 
 pub short_list_law : {X : Type 0} (s : X → List ℕ) (t : X → Type 0) (f : X → Bool) {c : X → Type 0} (r : List ℕ → DecodeResult X) → IsField s t f c r
     → IsField (list_spelling w16 s) (AllByRecursion t) (λ xs. nat_lt (length xs) (2 ^ 16) && list_all f xs) (AllByRecursion c) (list_at w16 r)
-short_list_law s t f {c = c} r one = recount (AllByRecursion c) (list_law w16 (2 ^ 16) wide16 s t f c r one (λ xs. nat_lt (length xs) (2 ^ 16)) Uncounted (λ xs k n. ltb-true _ _ k) (λ xs lt. (ltb_from _ _ lt, tt)) (λ xs len. tt))
+short_list_law s t f {c = c} r one = recount (AllByRecursion c) (list_law w16 (2 ^ 16) wide16 s t f c r one (λ xs. nat_lt (length xs) (2 ^ 16)) Uncounted (λ xs k n. ltb-true _ _ k) (λ xs lt. (lt-ltb _ _ lt, tt)) (λ xs len. tt))
     (λ xs n. (tt, n)) (λ xs n. n.1)

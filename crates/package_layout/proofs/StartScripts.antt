@@ -1,14 +1,11 @@
 -- The script of a valid package: where there is one, and that its own world starts with it.
-use Rattle.std.proofs.Common.{◌≡◌, ℕ, List, [], ◌∷◌, length, map, find, Bool, true, false, if◌then◌else◌, Option, Some, None, is_some, refl, sym, ap, ◌∙◌, inl, inr}
-use Rattle.std.specs.Prelude.{◌&&◌, nat_le, bytes_eq, option_map, option_and_then, Result, Ok, Err, IfOk}
-use Rattle.std.proofs.lemmas.Bool.{cases_Bool}
+use Rattle.std.proofs.Common.{◌≡◌, ℕ, List, [], ◌∷◌, length, map, find, Bool, true, false, if◌then◌else◌, Option, Some, None, is_some, refl, sym, ap, ◌∙◌}
+use Rattle.std.specs.Prelude.{◌&&◌, nat_le, bytes_eq, option_map, Result, Ok, Err, IfOk}
 use Rattle.ldv_value.proofs.Booleans.{and-true, and-false, and-parts}
-use Rattle.ldv_value.specs.FileState.{file_at}
 use Rattle.ldv_value.specs.Limits.{file_limit}
-use Rattle.ldv_value.specs.declared.file.File.{File}
 use Rattle.script_parse.specs.Script.{script_of}
 use Rattle.script_parse.specs.declared.script.Instr.{Instr}
-use Rattle.run_model.proofs.StartScripts.{first_script}
+use Rattle.run_model.proofs.StartScripts.{first_script, own_at, world_script}
 use Rattle.run_model.specs.Package.{or_empty, own_file, own_world}
 use Rattle.run_model.specs.Start.{start_script}
 use Rattle.run_model.specs.declared.package.Package.{Package}
@@ -93,20 +90,9 @@ content_own : (o : Option (List ℕ)) (script : List Instr) → script_in o ≡ 
 content_own None script is = cc
 content_own (Some bytes) script is = unwrapped (nat_le (length bytes) file_limit) (script_of bytes) script is
 
-abbrev world_script : Option File → Option (List Instr)
-world_script o = option_and_then (λ (file : File). script_of file.content) o
-
 file_own : (o : Option PackedFile) (script : List Instr) → file_script o ≡ Some script → world_script (option_map own_file o) ≡ Some script
 file_own None script is = cc
 file_own (Some file) script is = content_own file.content script is
-
-own_at : (word : List ℕ) (files : List PackedFile)
-    → file_at word (map own_file files) ≡ option_map own_file (find (λ f. bytes_eq word f.path) files)
-own_at word [] = refl
-own_at word (file ∷ files) = elim (cases_Bool (bytes_eq word file.path)) [
-  | inl hit ↦ rw hit refl
-  | inr miss ↦ rw miss (own_at word files)
-]
 
 own_start : (start : List (List ℕ)) (files : List PackedFile) (script : List Instr) → packed_script start files ≡ Some script
     → first_script start (map own_file files) ≡ Some script

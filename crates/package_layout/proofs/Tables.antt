@@ -6,7 +6,7 @@ use Rattle.std.specs.Prelude.{nat_lt, ◌==◌}
 use Rattle.std.specs.List.{list_all, AllByRecursion}
 use Rattle.std.specs.Str.{IsUtf8}
 use Rattle.std.specs.Int.{w8, w32, to_be_bytes}
-use Rattle.std.proofs.lemmas.Bool.{ltb-true, eqb-true}
+use Rattle.std.proofs.lemmas.Bool.{ltb-true, eqb-true, lt-ltb}
 use Rattle.ldv_value.specs.declared.value.Value.{Value}
 use Rattle.ldv_value.proofs.Booleans.{and-parts, and-from}
 use Rattle.sql_model.specs.declared.need.Rule.{Rule}
@@ -23,7 +23,7 @@ use Rattle.package_layout.specs.Room.{fits_u8_count, key_room, foreign_room, for
 use Rattle.package_layout.specs.Counts.{CountedList, CountedValue, CountedColumn, CountedForeign, CountedForeigns, CountedSchema, CountedRow, CountedTable}
 use Rattle.package_layout.specs.Reading.{value_at, kind_of, kind_at, column_at, rule_of, rule_at, reason_at, cells_at, row_at, rows_at, places_at, foreign_at, foreigns_at, schema_at, table_at}
 use Rattle.package_layout.proofs.Laws.{number_is, Took, IsField, always, list_all-always, Uncounted, all_uncounted, restate, recount, made_law, then_law, struct_law}
-use Rattle.package_layout.proofs.Numbers.{wide8, wide32, number_law, text_law, items_law, byte_list_law, long_law, ltb_from}
+use Rattle.package_layout.proofs.Numbers.{wide8, wide32, number_law, text_law, items_law, byte_list_law, long_law}
 use Rattle.package_layout.proofs.Values.{value_law}
 
 abbrev pub u32_law : IsField (to_be_bytes w32) IsU32 always Uncounted (number_at w32)
@@ -148,7 +148,7 @@ rows_law columns = long_law row_spelling TypedRow (row_room columns) (row_at col
 
 bytes_test : (key : List ℕ) → AllByRecursion (λ n. n < 256) key → list_all (λ place. nat_lt place 256) key ≡ true
 bytes_test [] h = refl
-bytes_test (k ∷ key) h = and-from (nat_lt k 256) (list_all (λ place. nat_lt place 256) key) (ltb_from k 256 h.0) (bytes_test key h.1)
+bytes_test (k ∷ key) h = and-from (nat_lt k 256) (list_all (λ place. nat_lt place 256) key) (lt-ltb k 256 h.0) (bytes_test key h.1)
 
 bytes_fact : (key : List ℕ) → list_all (λ place. nat_lt place 256) key ≡ true → AllByRecursion (λ n. n < 256) key
 bytes_fact [] h = tt

@@ -14,8 +14,10 @@ use Rattle.package_layout.specs.inner.Order.{rises, is_below}
 use Rattle.run_laws.proofs.ListMembers.{found_in, none_in, any_in, in_any, in_filter, filter_in, in_filter_map, filter_map_in}
 use Rattle.replay_db.specs.Laws.{MembershipLaw}
 use Rattle.replay_db.proofs.SortedLists.{same_item, at, at_key, at_item, found_all}
-use Rattle.replay_db.proofs.TraceLists.{below_next, below_itself, less_next}
+use Rattle.replay_db.proofs.TraceLists.{below_itself}
 use Rattle.replay_db.proofs.WorldRules.{SortedWorld, sorted_world}
+use Rattle.ldv_value.proofs.Numbers.{less-trans}
+use Rattle.ldv_value.proofs.TextOrders.{text_trans}
 
 -- ---- files, tables and rows by their keys
 
@@ -35,13 +37,13 @@ lt_itself : (n : ℕ) → nat_lt n n ≡ false
 lt_itself n = grind (arith, nat_tests)
 
 abbrev file_found : List ℕ → List File → Option File
-file_found = at path_of is_below below_itself below_next same_text bytes_eq-true bytes_eq-itself
+file_found = at path_of is_below below_itself text_trans same_text bytes_eq-true bytes_eq-itself
 
 abbrev table_found : List ℕ → List Table → Option Table
-table_found = at name_of is_below below_itself below_next same_text bytes_eq-true bytes_eq-itself
+table_found = at name_of is_below below_itself text_trans same_text bytes_eq-true bytes_eq-itself
 
 abbrev row_found : ℕ → List TableRow → Option TableRow
-row_found = at number_of nat_lt lt_itself less_next (λ a b. a == b) nat_eq-true itself
+row_found = at number_of nat_lt lt_itself less-trans (λ a b. a == b) nat_eq-true itself
 
 -- ---- from what is in them to what was cut
 
@@ -80,7 +82,7 @@ module _ (events : List Event) (v w : World) (sv : SortedWorld v) (sw : SortedWo
   file_keeps None None = tt
 
   same_file : (f g : File) → IsIn f w.files → IsIn g w.files → g.path ≡ f.path → g ≡ f
-  same_file f g in_f in_g same = same_item path_of is_below below_itself below_next w.files sw.files g f in_g in_f same
+  same_file f g in_f in_g same = same_item path_of is_below below_itself text_trans w.files sw.files g f in_g in_f same
 
   -- a file without a need that is there is the world's
   other_is : (f g : File) → IsIn f w.files → file_need f.path events ≡ None → g.path ≡ f.path → IsIn g w.files ⊎ IsPresent events w.files g → f ≡ g
@@ -92,16 +94,16 @@ module _ (events : List Event) (v w : World) (sv : SortedWorld v) (sw : SortedWo
   file_becomes : (f : File) → IsIn f w.files → (need : Option FileNeed) → file_need f.path events ≡ need
       → (there : Option File) → file_found f.path v.files ≡ there → kept_file (file_as need there) f ≡ there
   file_becomes f in_f (Some Whole) is there found =
-      sym (at_item path_of is_below below_itself below_next same_text bytes_eq-true bytes_eq-itself v.files sv.files f (l.whole f in_f is)) ∙ found
+      sym (at_item path_of is_below below_itself text_trans same_text bytes_eq-true bytes_eq-itself v.files sv.files f (l.whole f in_f is)) ∙ found
   file_becomes f in_f (Some Present) is (Some g) found =
-      let same : g.path ≡ f.path = at_key path_of is_below below_itself below_next same_text bytes_eq-true bytes_eq-itself f.path v.files g found in
+      let same : g.path ≡ f.path = at_key path_of is_below below_itself text_trans same_text bytes_eq-true bytes_eq-itself f.path v.files g found in
       λ j. Some (record { path = sym same j; content = g.content })
   file_becomes f in_f (Some Present) is None none =
       let there = l.present f in_f is in
       let never : true ≡ false = sym (bytes_eq-itself f.path) ∙ none_in (λ (x : File). same_text x.path f.path) v.files (with_content f there.0) none there.1 in cc
   file_becomes f in_f None is (Some g) found =
       let in_g : IsIn g v.files = found_in (λ (x : File). same_text x.path f.path) v.files g found in
-      let same : g.path ≡ f.path = at_key path_of is_below below_itself below_next same_text bytes_eq-true bytes_eq-itself f.path v.files g found in
+      let same : g.path ≡ f.path = at_key path_of is_below below_itself text_trans same_text bytes_eq-true bytes_eq-itself f.path v.files g found in
       ap Some (other_is f g in_f is same (l.others g in_g))
   file_becomes f in_f None is None none = refl
 
@@ -120,7 +122,7 @@ module _ (events : List Event) (v w : World) (sv : SortedWorld v) (sw : SortedWo
   files_same : cut_files made_cut w.files ≡ v.files
   files_same =
       files_become w.files (λ f is. is)
-      ∙ found_all path_of is_below below_itself below_next same_text bytes_eq-true bytes_eq-itself v.files w.files sv.files sw.files (λ g is. file_covered g (l.others g is))
+      ∙ found_all path_of is_below below_itself text_trans same_text bytes_eq-true bytes_eq-itself v.files w.files sv.files sw.files (λ g is. file_covered g (l.others g is))
 
   -- ---- rows
 
@@ -136,8 +138,8 @@ module _ (events : List Event) (v w : World) (sv : SortedWorld v) (sw : SortedWo
         → cons_option there [] ≡ filter (λ (r : TableRow). list_any (λ (s : TableRow). s.number == r.number) small.rows) (row ∷ [])
     row_becomes row is (Some s) found =
         let in_s : IsIn s small.rows = found_in (λ (x : TableRow). x.number == row.number) small.rows s found in
-        let number : s.number ≡ row.number = at_key number_of nat_lt lt_itself less_next (λ a b. a == b) nat_eq-true itself row.number small.rows s found in
-        let same : s ≡ row = same_item number_of nat_lt lt_itself less_next table.rows sorted_table s row (b.rows s in_s) is number in
+        let number : s.number ≡ row.number = at_key number_of nat_lt lt_itself less-trans (λ a b. a == b) nat_eq-true itself row.number small.rows s found in
+        let same : s ≡ row = same_item number_of nat_lt lt_itself less-trans table.rows sorted_table s row (b.rows s in_s) is number in
         let hit : list_any (λ (x : TableRow). x.number == row.number) small.rows ≡ true =
         in_any (λ (x : TableRow). x.number == row.number) small.rows s in_s (ap (λ n. n == row.number) number ∙ itself row.number) in
         rw hit (ap (λ (r : TableRow). r ∷ []) same)
@@ -169,12 +171,12 @@ module _ (events : List Event) (v w : World) (sv : SortedWorld v) (sw : SortedWo
     rows_same : filter (λ (r : TableRow). list_any (λ (s : TableRow). s.number == r.number) small.rows) table.rows ≡ small.rows
     rows_same =
         rows_become table.rows (λ row is. is)
-        ∙ found_all number_of nat_lt lt_itself less_next (λ a b. a == b) nat_eq-true itself small.rows table.rows sorted_small sorted_table (λ row is. (row, (b.rows row is, refl)))
+        ∙ found_all number_of nat_lt lt_itself less-trans (λ a b. a == b) nat_eq-true itself small.rows table.rows sorted_small sorted_table (λ row is. (row, (b.rows row is, refl)))
 
   -- ---- tables
 
   same_table : (t u : Table) → IsIn t w.tables → IsIn u w.tables → t.name ≡ u.name → t ≡ u
-  same_table t u in_t in_u same = same_item name_of is_below below_itself below_next w.tables sw.tables t u in_t in_u same
+  same_table t u in_t in_u same = same_item name_of is_below below_itself text_trans w.tables sw.tables t u in_t in_u same
 
   table_is : (small table : Table) → (found : table_found table.name v.tables ≡ Some small) → IsIn small v.tables → IsIn table w.tables
       → TableBetween events small table → cut_table made_cut table ≡ small
@@ -188,12 +190,12 @@ module _ (events : List Event) (v w : World) (sv : SortedWorld v) (sw : SortedWo
       → cond (table_as there (table_found table.name w.tables)) (Some (cut_table made_cut table)) None ≡ there
   table_becomes table is (Some small) found =
       let in_small : IsIn small v.tables = found_in (λ (x : Table). same_text x.name table.name) v.tables small found in
-      let name : small.name ≡ table.name = at_key name_of is_below below_itself below_next same_text bytes_eq-true bytes_eq-itself table.name v.tables small found in
+      let name : small.name ≡ table.name = at_key name_of is_below below_itself text_trans same_text bytes_eq-true bytes_eq-itself table.name v.tables small found in
       let of = l.tables small in_small in
       let same : of.0 ≡ table = same_table of.0 table of.1 is (sym of.2.name ∙ name) in
       ap Some (table_is small table found in_small is (subst (TableBetween events small) same of.2))
   table_becomes table is None none =
-      let there : table_found table.name w.tables ≡ Some table = at_item name_of is_below below_itself below_next same_text bytes_eq-true bytes_eq-itself w.tables sw.tables table is in
+      let there : table_found table.name w.tables ≡ Some table = at_item name_of is_below below_itself text_trans same_text bytes_eq-true bytes_eq-itself w.tables sw.tables table is in
       ap (λ (o : Option Table). cond (is_none o) (Some (cut_table made_cut table)) None) there
 
   tables_become : (ts : List Table) → ((t : Table) → IsIn t ts → IsIn t w.tables)
@@ -216,7 +218,7 @@ module _ (events : List Event) (v w : World) (sv : SortedWorld v) (sw : SortedWo
   tables_same : cut_tables made_cut w.tables ≡ v.tables
   tables_same =
       tables_become w.tables (λ t is. is)
-      ∙ found_all name_of is_below below_itself below_next same_text bytes_eq-true bytes_eq-itself v.tables w.tables sv.tables sw.tables
+      ∙ found_all name_of is_below below_itself text_trans same_text bytes_eq-true bytes_eq-itself v.tables w.tables sv.tables sw.tables
       (λ small is. let of = l.tables small is in (of.0, (of.1, sym of.2.name)))
 
   -- ---- what is needed stays
@@ -236,7 +238,7 @@ module _ (events : List Event) (v w : World) (sv : SortedWorld v) (sw : SortedWo
       by None none = or-right (is_some (table_found name v.tables)) (is_none (table_found name w.tables)) (ap is_none none)
       by (Some t) found =
           let is : IsIn t w.tables = found_in (λ (x : Table). same_text x.name name) w.tables t found in
-          let same : t.name ≡ name = at_key name_of is_below below_itself below_next same_text bytes_eq-true bytes_eq-itself name w.tables t found in
+          let same : t.name ≡ name = at_key name_of is_below below_itself text_trans same_text bytes_eq-true bytes_eq-itself name w.tables t found in
           let there = l.needed t is (ap (is_table_needed events) same ∙ needed) in
           or-left (is_some (table_found name v.tables)) (is_none (table_found name w.tables)) (table_there name there.0 there.1 (there.2 ∙ same))
 
@@ -244,7 +246,7 @@ module _ (events : List Event) (v w : World) (sv : SortedWorld v) (sw : SortedWo
       → is_row_needed events name number ≡ true → list_any (λ (r : TableRow). r.number == number) small.rows ≡ true
   row_in name number small found first needed =
       let in_small : IsIn small v.tables = found_in (λ (x : Table). same_text x.name name) v.tables small found in
-      let named : small.name ≡ name = at_key name_of is_below below_itself below_next same_text bytes_eq-true bytes_eq-itself name v.tables small found in
+      let named : small.name ≡ name = at_key name_of is_below below_itself text_trans same_text bytes_eq-true bytes_eq-itself name v.tables small found in
       let of = l.tables small in_small in
       let b : TableBetween events small of.0 = of.2 in
       let some = any_in (has_row name number) w.tables first in

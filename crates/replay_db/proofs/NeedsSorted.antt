@@ -21,7 +21,8 @@ use Rattle.sql_model.proofs.Equations.{need_is}
 use Rattle.sql_laws.proofs.StatementParts.{need_parts}
 use Rattle.package_layout.specs.inner.Order.{is_below_next, rises, row_after_table, need_below}
 use Rattle.replay_db.specs.Types.{Statement, Table}
-use Rattle.replay_db.proofs.TraceLists.{equal_itself, less_next}
+use Rattle.replay_db.proofs.TraceLists.{equal_itself}
+use Rattle.ldv_value.proofs.Numbers.{less-trans}
 
 -- ---- one row below another
 
@@ -94,7 +95,7 @@ under_by a b c Equal Less first second h k =
     ap (λ (o : Ordering). row_after_table o a.row c.row)
     (ap (λ (t : List ℕ). slice_cmp nat_cmp t c.table) (exact_bytes a.table b.table first) ∙ second)
 under_by a b c Equal Equal first second h k =
-    under_in_table a c (exact_bytes a.table b.table first ∙ exact_bytes b.table c.table second) ∙ less_next a.row b.row c.row h k
+    under_in_table a c (exact_bytes a.table b.table first ∙ exact_bytes b.table c.table second) ∙ less-trans a.row b.row c.row h k
 under_by a b c Equal Greater first second h k = cc
 under_by a b c Greater p first second h k = cc
 

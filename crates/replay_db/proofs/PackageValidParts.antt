@@ -18,7 +18,8 @@ use Rattle.run_model.specs.ValidPackage.{packed_catalog}
 use Rattle.run_model.proofs.ValidWorlds.{RuledList, ruled_list}
 use Rattle.replay_db.specs.Worlds.{all_of_file, all_of_row, all_of_table}
 use Rattle.replay_db.proofs.PackageValidLists.{kept_if, tests_stay, within_still, rises_still, unique_still, some_kept}
-use Rattle.replay_db.proofs.TraceLists.{below_next, less_next}
+use Rattle.ldv_value.proofs.Numbers.{less-trans}
+use Rattle.ldv_value.proofs.TextOrders.{text_trans}
 
 -- ---- files
 
@@ -41,7 +42,7 @@ files_valid events files met =
     let rest = and_parts (list_all file_rule all) (rises file_below all) parts.1 in
     let few_files : nat_le (length kept) 65536 ≡ true = within_still all_of_file f files 65536 parts.0 in
     let each : list_all file_rule kept ≡ true = tests_stay all_of_file f file_rule file_rule (λ file y is. (file_kept file (file_need file.path events) y is).1) files rest.0 in
-    let rising : rises file_below kept ≡ true = rises_still all_of_file f (λ y. y.path) (λ file y is. (file_kept file (file_need file.path events) y is).0) is_below below_next files rest.1 in
+    let rising : rises file_below kept ≡ true = rises_still all_of_file f (λ y. y.path) (λ file y is. (file_kept file (file_need file.path events) y is).0) is_below text_trans files rest.1 in
     and_from (nat_le (length kept) 65536) (list_all file_rule kept && rises file_below kept) few_files (and_from (list_all file_rule kept) (rises file_below kept) each rising)
 
 -- a file of another path is passed over
@@ -135,7 +136,7 @@ module _ (events : List Event) (table : Table) where
   numbers_valid : numbered all_rows ≡ true → numbered kept_rows ≡ true
   numbers_valid met =
       let parts = and_parts (sorted all_rows) (below all_rows) met in
-      let rising : sorted kept_rows ≡ true = rises_still all_of_row (packed_row events table.name) (λ y. y.number) same_number nat_lt less_next table.rows parts.0 in
+      let rising : sorted kept_rows ≡ true = rises_still all_of_row (packed_row events table.name) (λ y. y.number) same_number nat_lt less-trans table.rows parts.0 in
       and_from (sorted kept_rows) (below kept_rows) rising (numbers_still (λ n. nat_lt n table.next) parts.1)
 
   rows_valid : rows_rule (all_of_table table) ≡ true → rows_rule (packed_table events table) ≡ true
@@ -188,7 +189,7 @@ module _ (events : List Event) where
       ∙ within_still all_of_table (table_kept events) tables 256 list.few in
       let each : list_all table_rule kept ≡ true = each_table table_rule (table_valid events) tables list.each in
       let rising : rises table_below kept ≡ true = ap (rises table_below) (tables_as events tables)
-      ∙ rises_still all_of_table (table_kept events) (λ y. y.name) (λ table y is. ap (λ (t : PackedTable). t.name) (table_is events table y is)) is_below below_next tables list.sorted in
+      ∙ rises_still all_of_table (table_kept events) (λ y. y.name) (λ table y is. ap (λ (t : PackedTable). t.name) (table_is events table y is)) is_below text_trans tables list.sorted in
       and_from (nat_le (length kept) 256) (list_all table_rule kept && rises table_below kept && have_parents (packed_catalog kept)) few_tables
       (and_from (list_all table_rule kept && rises table_below kept) (have_parents (packed_catalog kept))
       (and_from (list_all table_rule kept) (rises table_below kept) each rising) parents)

@@ -15,7 +15,8 @@ use Rattle.sql_model.specs.Scope.{same_text}
 use Rattle.package_layout.specs.Groups.{groups, group_of_one, after, add_all}
 use Rattle.package_layout.specs.inner.Order.{rises, is_below, row_after_table}
 use Rattle.package_layout.proofs.Groups.{add_last}
-use Rattle.replay_db.proofs.TraceLists.{below_next, below_itself, filter_most, filter_fewer}
+use Rattle.replay_db.proofs.TraceLists.{below_itself, filter_most, filter_fewer}
+use Rattle.ldv_value.proofs.TextOrders.{text_trans}
 
 -- a name is one of the names
 abbrev pub is_name_of : List (List ℕ) → List ℕ → Bool
@@ -29,13 +30,13 @@ fewer_above low high below (name ∷ names) there = elim (cases_Bool (same_text 
       let same : name ≡ high = bytes_eq-true name high hit in
       let out : is_below high name ≡ false = ap (is_below high) same ∙ below_itself high in
       let among : is_below low name ≡ true = ap (is_below low) same ∙ below in
-      let rest : length (filter (is_below high) names) ≤ length (filter (is_below low) names) = filter_fewer (is_below high) (is_below low) (λ other h. below_next low high other below h) names in
+      let rest : length (filter (is_below high) names) ≤ length (filter (is_below low) names) = filter_fewer (is_below high) (is_below low) (λ other h. text_trans low high other below h) names in
       rw (out, among) (omega arith)
   | inr miss ↦
       let later : is_name_of names high ≡ true = rw miss at there in
       let rest : length (filter (is_below high) names) + 1 ≤ length (filter (is_below low) names) = fewer_above low high below names later in
       elim (cases_Bool (is_below high name)) [
-        | inl above ↦ let also : is_below low name ≡ true = below_next low high name below above in rw (above, also) (omega arith)
+        | inl above ↦ let also : is_below low name ≡ true = text_trans low high name below above in rw (above, also) (omega arith)
         | inr under ↦ elim (cases_Bool (is_below low name)) [
           | inl more ↦ rw (under, more) (omega arith)
           | inr less ↦ rw (under, less) rest

@@ -9,7 +9,7 @@ use Rattle.std.proofs.lemmas.Bool.Decides.{nat_tests}
 use Rattle.ldv_value.specs.Sorted.{is_strictly_sorted}
 use Rattle.ldv_value.specs.declared.value.Value.{Value}
 use Rattle.ldv_value.proofs.Booleans.{and-parts, and-assoc, and-true, and-false, or-parts, or-from, or-false, not-true}
-use Rattle.ldv_value.proofs.Lists.{list_any-map, list_any-append, list_any-false, found-passes, found-all}
+use Rattle.ldv_value.proofs.Lists.{list_any-map, list_any-append, list_any-false, found-passes, found-all, list_any-filter}
 use Rattle.ldv_value.proofs.SameBytes.{bytes_eq-true, nat_eq-true, bytes_eq-sym}
 use Rattle.sql_model.specs.declared.catalog.Catalog.{Catalog}
 use Rattle.sql_model.specs.declared.reply.SqlRefusal.{SqlRefusal}
@@ -37,26 +37,15 @@ use Rattle.slicer.specs.InitialRows.{at_first}
 use Rattle.replay_db.specs.Types.{Statement, Table, TableRow, Member}
 use Rattle.run_laws.proofs.SortedNeeds.{is_lineage, lineage}
 use Rattle.run_laws.proofs.StatementVersions.{next_of, origin_of, made_if, updated_if, made_parts, updated_parts, made_none, updated_none, target_rises}
+use Rattle.ldv_value.proofs.Numbers.{apart-above, eq-turned}
 
 -- ---- tests
-
-swapped_numbers : (m n : ℕ) → (m == n) ≡ (n == m)
-swapped_numbers m n = elim (cases_Bool (m == n)) [
-  | inl same ↦ let e : m ≡ n = nat_eq-true m n same in λ j. e j == sym e j
-  | inr other ↦ elim (cases_Bool (n == m)) [
-    | inl same ↦ let e : n ≡ m = nat_eq-true n m same in λ j. sym e j == e j
-    | inr back ↦ other ∙ sym back
-  ]
-]
 
 never_zero : (v : ℕ) → (0 == (v + 1)) ≡ false
 never_zero v = grind (arith, nat_tests)
 
 next_not_zero : (v : ℕ) → ((v + 1) == 0) ≡ false
 next_not_zero v = grind (arith, nat_tests)
-
-apart_below : (n m : ℕ) → m < n → (n == m) ≡ false
-apart_below n m below = grind (arith, nat_tests, below)
 
 before_next : (v : ℕ) → version_before (v + 1) ≡ Some v
 before_next v =
@@ -78,15 +67,6 @@ module _ {X : Type 0} (p : X → Bool) where
   none_of : (xs : List X) → AllByRecursion (λ x. p x ≡ false) xs → list_any p xs ≡ false
   none_of [] none = refl
   none_of (x ∷ xs) none = or-from (p x) (list_any p xs) none.0 (none_of xs none.1)
-
-  list_any-filter : (keep : X → Bool) (xs : List X) → list_any p xs ≡ false → list_any p (filter keep xs) ≡ false
-  list_any-filter keep [] none = refl
-  list_any-filter keep (x ∷ xs) none =
-      let parts = or-parts (p x) (list_any p xs) none in
-      elim (cases_Bool (keep x)) [
-        | inl stays ↦ rw stays (or-from (p x) (list_any p (filter keep xs)) parts.0 (list_any-filter keep xs parts.1))
-        | inr goes ↦ rw goes (list_any-filter keep xs parts.1)
-      ]
 
 none_changed : (change : Table → Table) (name : List ℕ) (ts : List Table) → find (is_table name) ts ≡ None
     → map (change_named change name) ts ≡ ts
@@ -152,7 +132,7 @@ module _ (table : List ℕ) (row : ℕ) where
   same_first : (other : List ℕ) (number version : ℕ)
       → same_member first (record { table = other; row = number; version = version }) ≡ (is_it other number && 0 == version)
   same_first other number version =
-      (λ j. bytes_eq-sym table other j && (swapped_numbers row number j && 0 == version))
+      (λ j. bytes_eq-sym table other j && (eq-turned row number j && 0 == version))
       ∙ sym (and-assoc (bytes_eq other table) (number == row) (0 == version))
 
   -- ---- what is read
@@ -275,7 +255,7 @@ module _ (table : List ℕ) (row : ℕ) where
 
   fresh_at : (name : List ℕ) (number : ℕ) → (same_text name table ≡ true → row < number) → is_it name number ≡ false
   fresh_at name number below = elim (cases_Bool (same_text name table)) [
-    | inl named ↦ rw named (apart_below number row (below named))
+    | inl named ↦ rw named (apart-above number row (below named))
     | inr other ↦ rw other refl
   ]
 

@@ -1,34 +1,27 @@
 -- What holds of each item of a list, and lists that rise.
-use Rattle.std.proofs.Common.{◌≡◌, ℕ, ◌≤◌, List, [], ◌∷◌, ◌++◌, length, refl, ap, subst, Bool, true, false, arith, inl, inr}
-use Rattle.std.specs.Prelude.{Some, map, filter, find, nat_lt}
-use Rattle.std.specs.List.{flat_map, AllByRecursion}
+use Rattle.std.proofs.Common.{◌≡◌, ℕ, ◌≤◌, List, [], ◌∷◌, length, ap, Bool, true, false, arith, inl, inr}
+use Rattle.std.specs.Prelude.{filter}
 use Rattle.std.specs.declared.cmp.Ordering.TheVariants.{Less, Equal}
 use Rattle.std.specs.Ordering.{nat_cmp, is_lt}
 use Rattle.std.specs.Cmp.Lexicographic.{slice_cmp}
 use Rattle.std.proofs.lemmas.Bool.{cases_Bool}
 use Rattle.std.proofs.lemmas.Cmp.{nat_list_cmp_total, tied_itself}
-use Rattle.std.proofs.lemmas.Bool.Decides.{nat_tests}
 pub use Rattle.ldv_value.proofs.ItemLists.{all_append, all_filter, all_found, all_map, all_of_map, all_flat_map}
 use Rattle.sql_model.proofs.SortedLists.{sorted-filter}
 use Rattle.ldv_value.proofs.Orderings.{is_lt-true}
 use Rattle.package_layout.specs.inner.Order.{rises, is_below}
+use Rattle.ldv_value.proofs.TextOrders.{text_trans}
 
 -- ---- one text, or number, below another
 
 pub below_less : (a b : List ℕ) → is_below a b ≡ true → slice_cmp nat_cmp a b ≡ Less
 below_less a b h = is_lt-true (slice_cmp nat_cmp a b) h
 
-pub below_next : (a b c : List ℕ) → is_below a b ≡ true → is_below b c ≡ true → is_below a c ≡ true
-below_next a b c h k = ap is_lt (nat_list_cmp_total.trans a b c (below_less a b h) (below_less b c k))
-
 pub equal_itself : (a : List ℕ) → slice_cmp nat_cmp a a ≡ Equal
 equal_itself a = tied_itself nat_list_cmp_total a
 
 pub below_itself : (a : List ℕ) → is_below a a ≡ false
 below_itself a = ap is_lt (equal_itself a)
-
-pub less_next : (a b c : ℕ) → nat_lt a b ≡ true → nat_lt b c ≡ true → nat_lt a c ≡ true
-less_next a b c h k = grind (arith, nat_tests)
 
 -- ---- lists that rise
 
@@ -38,7 +31,7 @@ module _ {X : Type 0} (name : X → List ℕ) (p : X → Bool) where
   under x y = is_below (name x) (name y)
 
   pub filter_rises : (xs : List X) → rises under xs ≡ true → rises under (filter p xs) ≡ true
-  filter_rises xs sorted = sorted-filter under (λ a b c. below_next (name a) (name b) (name c)) p xs sorted
+  filter_rises xs sorted = sorted-filter under (λ a b c. text_trans (name a) (name b) (name c)) p xs sorted
 
 -- ---- how many are left
 

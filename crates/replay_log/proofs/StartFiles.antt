@@ -1,29 +1,18 @@
 -- The script that a package's own world starts with is that of the package's file.
-use Rattle.std.proofs.Common.{◌≡◌, ℕ, List, [], ◌∷◌, map, find, refl, sym, ap, ◌∙◌, true, false, inl, inr}
+use Rattle.std.proofs.Common.{◌≡◌, ℕ, List, map, find, refl, sym, ap, ◌∙◌, true, false}
 use Rattle.std.specs.Prelude.{bytes_eq, slice_get, Option, Some, None, is_some, option_map, option_and_then, IsSome}
-use Rattle.std.proofs.lemmas.Bool.{cases_Bool}
 use Rattle.ldv_value.specs.FileState.{file_at}
 use Rattle.script_parse.specs.Script.{script_of}
+use Rattle.run_model.proofs.StartScripts.{own_at, world_script}
 use Rattle.run_model.specs.Package.{or_empty, own_file, own_world}
 use Rattle.run_model.specs.Start.{start_script}
 use Rattle.run_model.specs.declared.package.PackedFile.{PackedFile}
-use Rattle.replay_log.specs.Types.{File, Instr, Package}
+use Rattle.replay_log.specs.Types.{Instr, Package}
 use Rattle.replay_log.specs.inner.Starts.{packed_start, script_in}
-
-abbrev world_script : Option File → Option (List Instr)
-world_script o = option_and_then (λ (file : File). script_of file.content) o
 
 by_file : (o : Option PackedFile) → world_script (option_map own_file o) ≡ script_in o
 by_file None = refl
 by_file (Some file) = refl
-
-own_at : (word : List ℕ) (files : List PackedFile)
-    → file_at word (map own_file files) ≡ option_map own_file (find (λ f. bytes_eq word f.path) files)
-own_at word [] = refl
-own_at word (file ∷ files) = elim (cases_Bool (bytes_eq word file.path)) [
-  | inl hit ↦ rw hit refl
-  | inr miss ↦ rw miss (own_at word files)
-]
 
 by_word : (o : Option (List ℕ)) (files : List PackedFile)
     → world_script (option_and_then (λ (word : List ℕ). file_at word (map own_file files)) o)

@@ -1,6 +1,6 @@
 -- The script of the file that the first start word names: of a world, and of a package as that of its own world.
-use Rattle.std.proofs.Common.{◌≡◌, ℕ, ◌<◌, List, [], ◌∷◌, length, true, arith, inl, inr}
-use Rattle.std.specs.Prelude.{map, find, nat_le, bytes_eq, slice_get, Option, Some, None, is_some, option_and_then}
+use Rattle.std.proofs.Common.{◌≡◌, ℕ, ◌<◌, List, [], ◌∷◌, length, true, arith, refl, inl, inr}
+use Rattle.std.specs.Prelude.{map, find, nat_le, bytes_eq, slice_get, Option, Some, None, is_some, option_and_then, option_map}
 use Rattle.std.proofs.lemmas.Bool.{cases_Bool}
 use Rattle.ldv_value.proofs.Booleans.{and-parts}
 use Rattle.ldv_value.proofs.Options.{is_some-true}
@@ -38,11 +38,21 @@ content_script : (content : Option (List ℕ)) → is_script content ≡ true �
 content_script None rule = absurd cc
 content_script (Some bytes) rule = (and-parts (nat_le (length bytes) file_limit) (is_some (script_of bytes)) rule).1
 
-abbrev script_at : List ℕ → List File → Option (List Instr)
-script_at word files = option_and_then (λ (file : File). script_of file.content) (file_at word files)
+-- the script of a file, where there is one
+abbrev pub world_script : Option File → Option (List Instr)
+world_script o = option_and_then (λ (file : File). script_of file.content) o
+
+-- the own world's file of a path is that of the package's file of this path
+pub own_at : (word : List ℕ) (files : List PackedFile)
+    → file_at word (map own_file files) ≡ option_map own_file (find (λ f. bytes_eq word f.path) files)
+own_at word [] = refl
+own_at word (file ∷ files) = elim (cases_Bool (bytes_eq word file.path)) [
+  | inl hit ↦ rw hit refl
+  | inr miss ↦ rw miss (own_at word files)
+]
 
 script_found : (word : List ℕ) (files : List PackedFile) → is_script_file (find (λ f. bytes_eq word f.path) files) ≡ true
-    → is_some (script_at word (map own_file files)) ≡ true
+    → is_some (world_script (file_at word (map own_file files))) ≡ true
 script_found word [] rule = absurd cc
 script_found word (file ∷ files) rule = elim (cases_Bool (bytes_eq word file.path)) [
   | inl hit ↦ rw hit (content_script file.content (rw hit at rule))

@@ -1,5 +1,5 @@
 -- Sets of rows, step by step.
-use Rattle.std.proofs.Common.{◌≡◌, ◌==◌, ◌/◌, ◌%◌, ℕ, zero, suc, List, [], ◌∷◌, ◌++◌, get_or, Bool, true, false, refl, sym, ap, ◌∙◌, cond, arith, inl, inr, eq-eqb}
+use Rattle.std.proofs.Common.{◌≡◌, ◌==◌, ◌/◌, ◌%◌, ℕ, List, [], ◌∷◌, ◌++◌, Bool, true, false, refl, sym, ap, ◌∙◌, cond, arith, inl, inr, eq-eqb}
 use Rattle.std.specs.Prelude.{Option, Some, None, String, bytes_eq, unwrap_or, ◌&&◌}
 use Rattle.std.specs.declared.alloc.Global.{Global}
 use Rattle.std.specs.BTreeMap.{BTreeMap, get, get_by_text, is_at, Updates}
@@ -16,18 +16,13 @@ use Rattle.lanes.specs.Sets.{member}
 use Rattle.sql_model.specs.Scope.{same_text}
 use Rattle.slicer.specs.inner.Rows.{words_at, words_among, words_in, has_number, has_among, has_row, is_row}
 use Rattle.slicer.proofs.ReasonLaws.{number_equal}
+use Rattle.ldv_value.proofs.Lists.{zero-last}
 
 -- ---- the bits of a block
 
-end_zero : (words : List ℕ) (k : ℕ) → get_or (words ++ 0 ∷ []) k 0 ≡ get_or words k 0
-end_zero [] zero = refl
-end_zero [] (suc k) = refl
-end_zero (w ∷ ws) zero = refl
-end_zero (w ∷ ws) (suc k) = end_zero ws k
-
 -- a word more has no member
 pub padded : (words : List ℕ) (n : ℕ) → member (words ++ 0 ∷ []) n ≡ member words n
-padded words n = ap (λ (w : ℕ). bit_at w (n % 64) == 1) (end_zero words (n / 64))
+padded words n = ap (λ (w : ℕ). bit_at w (n % 64) == 1) (zero-last words (n / 64))
 
 no_bit : (k : ℕ) → member [] k ≡ false
 no_bit k = ap (λ (p : ℕ). p == 1) (bit_at-zero (k % 64))

@@ -4,7 +4,7 @@ use Rattle.std.specs.Prelude.{map, filter, not, ◌&&◌, ◌||◌}
 use Rattle.std.specs.List.{list_any, list_all}
 use Rattle.std.specs.Ordering.{is_gt}
 use Rattle.std.specs.declared.cmp.Ordering.{Ordering}
-use Rattle.ldv_value.proofs.Booleans.{or-parts, or-from, not-so}
+use Rattle.ldv_value.proofs.Booleans.{or-from, not-so}
 use Rattle.ldv_value.proofs.Cases.{cases-bool}
 use Rattle.sql_laws.specs.LineageLaw.{MergeLaw, UnitesLaw, MergeSetsLaw, SortLaw, SortSetsLaw, CutSetsLaw}
 use Rattle.sql_laws.specs.QueryLaw.{Keep}
@@ -16,6 +16,7 @@ use Rattle.sql_model.specs.QueryAnswer.{Origin, AnswerRow, SortKey, order_by, an
 use Rattle.sql_model.specs.Keys.{same_values}
 use Rattle.sql_model.specs.Origins.{is_origin, has_origin, SameSet, SameRows}
 use Rattle.sql_model.specs.Sorting.{put_sorted, sorted_by}
+use Rattle.ldv_value.proofs.Lists.{list_any-filter}
 
 -- ---- merging loses no row
 
@@ -32,21 +33,12 @@ kept_unless o (p ∷ ps) = ap (λ b. not (is_origin o p) && b) (kept_unless o ps
     by true b = refl
     by false b = refl
 
-any_filter : {X : Type 0} (p q : X → Bool) (xs : List X) → list_any p xs ≡ false → list_any p (filter q xs) ≡ false
-any_filter p q [] none = refl
-any_filter p q (x ∷ xs) none =
-    let parts = or-parts (p x) (list_any p xs) none in
-    elim (cases-bool (q x)) [
-      | inl here ↦ rw here (or-from (p x) (list_any p (filter q xs)) parts.0 (any_filter p q xs parts.1))
-      | inr gone ↦ rw gone (any_filter p q xs parts.1)
-    ]
-
 none_merged : (o : Origin) (rows : List AnswerRow) → has_origin o (lineage_of rows) ≡ false
     → has_origin o (lineage_of (merge rows)) ≡ false
 none_merged o rows none =
     let has : AnswerRow → Bool = λ row. has_origin o row.lineage in
     let among : list_any has rows ≡ false = sym (has_origin-lineage o rows) ∙ none in
-    let each : (v : List Value) → has (merged_row rows v) ≡ false = λ v. has_origin-lineage o (filter (has_values v) rows) ∙ any_filter has (has_values v) rows among in
+    let each : (v : List Value) → has (merged_row rows v) ≡ false = λ v. has_origin-lineage o (filter (has_values v) rows) ∙ list_any-filter has (has_values v) rows among in
     has_origin-lineage o (merge rows) ∙ by has each (distinct_values (map answer_values rows))
   where
     by : (has : AnswerRow → Bool) → ((v : List Value) → has (merged_row rows v) ≡ false) → (vs : List (List Value))

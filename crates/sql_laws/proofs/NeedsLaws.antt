@@ -17,6 +17,7 @@ use Rattle.sql_laws.specs.Types.{Rule}
 use Rattle.sql_model.specs.QueryAnswer.{Origin}
 use Rattle.sql_model.specs.Needs.{NeededRow, needed_row, needed_by, is_same_row, is_earlier_row, put_row, sorted_needs}
 use Rattle.sql_model.specs.Origins.{is_origin, has_origin, RuleOrigins, rows_by_rules, SameRuleOrigins}
+use Rattle.ldv_value.proofs.Orderings.{then-tied}
 
 -- ---- as entries of a map
 
@@ -106,14 +107,9 @@ rising-same ns ms same =
 abbrev origin_at : RowKey → Origin
 origin_at k = record { table = k.0; row = k.1 }
 
-tied : (a b : Ordering) → is_eq (ordering_then a b) ≡ (is_eq a && is_eq b)
-tied Less b = refl
-tied Equal b = refl
-tied Greater b = refl
-
 key_is : (k : RowKey) (o : Origin) → eq_by_cmp key_cmp k (o.table, o.row) ≡ is_origin (origin_at k) o
 key_is k o =
-    tied (slice_cmp nat_cmp k.0 o.table) (nat_cmp k.1 o.row)
+    then-tied (slice_cmp nat_cmp k.0 o.table) (nat_cmp k.1 o.row)
     ∙ (λ j. is_eq-slice_cmp k.0 o.table j && unsigned_tied k.1 o.row j)
 
 either_found : (a b : Bool) (rule : Rule) (o : Option Rule) → cond a (Some rule) (cond b (Some rule) o) ≡ cond (a || b) (Some rule) o

@@ -1,6 +1,6 @@
 -- What is looked up for children: sets of keys, the keys of rows by their numbers, and what the row in a slot
 -- refers to.
-use Rattle.std.proofs.Common.{◌≡◌, ◌==◌, ℕ, ◌+◌, ◌<◌, List, [], ◌∷◌, ◌++◌, take, length, get_or, refl, sym, ap, ◌∙◌, Bool, true, false, cond, not, ◌&&◌, ◌||◌, inl, inr, Option, Some, None, is_some, eq-eqb}
+use Rattle.std.proofs.Common.{◌≡◌, ◌==◌, ℕ, ◌+◌, ◌<◌, List, [], ◌∷◌, ◌++◌, take, length, get_or, refl, sym, ap, ◌∙◌, Bool, true, false, cond, not, ◌&&◌, ◌||◌, inl, inr, Option, Some, None, is_some}
 use Rattle.std.specs.Prelude.{find, if◌then◌else◌}
 use Rattle.std.specs.BTreeMap.{is_at}
 use Rattle.std.specs.BTreeSet.{BTreeSet, IsEmpty, Updates}
@@ -12,7 +12,6 @@ use Rattle.std.proofs.lemmas.List.Quantifiers.{position-Some}
 use Rattle.ldv_value.proofs.Booleans.{or-false}
 use Rattle.ldv_value.proofs.Lists.{list_any-append, list_any-false}
 use Rattle.ldv_value.proofs.Options.{none-some, same-some}
-use Rattle.ldv_value.proofs.SameBytes.{nat_eq-true}
 use Rattle.row_version.specs.History.{current_values}
 use Rattle.sql_model.specs.KeyOrder.{key_order}
 use Rattle.sql_model.specs.Keys.{same_values, values_at}
@@ -26,9 +25,10 @@ use Rattle.table_store.specs.RowOrder.{AreInOrder}
 use Rattle.table_store.specs.Stops.{is_among}
 use Rattle.table_store.specs.Types.{Foreign, RowKey, Table, TableRow, Value}
 use Rattle.table_store.proofs.IndexLaws.{no_slot_has, row_in_slot}
-use Rattle.table_store.proofs.PutLaws.{any_same, bool_same}
+use Rattle.table_store.proofs.PutLaws.{any_same}
 use Rattle.table_store.proofs.StandingRows.{not-there, there-by-number}
 use Rattle.table_store.proofs.TableLaws.{slot_here_is}
+use Rattle.ldv_value.proofs.Numbers.{eq-turned}
 
 -- ---- tests of lists
 
@@ -149,9 +149,6 @@ module _ (given : List Value → Bool) (t : Table) (key : List Value) where
 
 -- ---- the row of a number
 
-eq_turned : (a b : ℕ) → (a == b) ≡ (b == a)
-eq_turned a b = bool_same (a == b) (b == a) (λ same. eq-eqb b a (sym (nat_eq-true a b same))) (λ same. eq-eqb a b (sym (nat_eq-true b a same)))
-
 module _ (places : List ℕ) (key : List Value) (number : ℕ) where
   abbrev has_at : TableRow → Bool
   has_at row = is_among (number ∷ []) row && has_key places key row
@@ -161,7 +158,7 @@ module _ (places : List ℕ) (key : List Value) (number : ℕ) where
 
   turned : (rows : List TableRow) → list_any has_at rows ≡ is_some (find is_it rows)
   turned rows =
-      any_same has_at is_it (λ row. ap (λ (b : Bool). b && has_key places key row) (or-false (number == row.number) ∙ eq_turned number row.number)) rows
+      any_same has_at is_it (λ row. ap (λ (b : Bool). b && has_key places key row) (or-false (number == row.number) ∙ eq-turned number row.number)) rows
       ∙ any_found is_it rows
 
   module _ (slots : List RowHistory) (next : ℕ) (order : AreInOrder slots next) where

@@ -1,6 +1,6 @@
 -- Numbers under keys, by any order of the keys.
-use Rattle.std.proofs.Common.{◌≡◌, ℕ, inl, inr, true, false, cond, List, ◌∷◌, refl, ap, sym, subst, ◌∙◌, Option, Some, None}
-use Rattle.std.specs.Prelude.{IsSome, is_some}
+use Rattle.std.proofs.Common.{◌≡◌, ℕ, inl, inr, true, cond, List, ◌∷◌, refl, ap, sym, subst, ◌∙◌, Option, Some, None}
+use Rattle.std.specs.Prelude.{IsSome}
 use Rattle.std.specs.Option.{option_or}
 use Rattle.std.specs.Map.{lookup}
 use Rattle.std.specs.BTreeMap.{BTreeMap, get, get_by, is_at}
@@ -9,10 +9,6 @@ use Rattle.std.specs.declared.cmp.Ordering.{Ordering}
 use Rattle.std.proofs.lemmas.Bool.{cases_Bool}
 use Rattle.ldv_value.proofs.Orderings.{is_eq-true}
 use Rattle.table_store.specs.KeyIndex.{in_place}
-
-pub none_of : (o : Option ℕ) → is_some o ≡ false → o ≡ None
-none_of None is = refl
-none_of (Some n) is = cc
 
 pub some_now : {o : Option ℕ} (n : ℕ) → o ≡ Some n → IsSome o
 some_now n is = subst (λ (o : Option ℕ). IsSome o) (sym is) refl

@@ -1,11 +1,11 @@
 -- Which parents are missing once rows are given: by the tables before, with the given rows and those that keep
 -- their place.
-use Rattle.std.proofs.Common.{◌≡◌, ℕ, ◌+◌, ◌<◌, ◌≤◌, List, [], ◌∷◌, ◌++◌, refl, sym, ap, ◌∙◌, subst, Bool, true, false, ◌⊎◌, inl, inr, arith}
+use Rattle.std.proofs.Common.{◌≡◌, ℕ, ◌+◌, ◌<◌, ◌≤◌, List, [], ◌∷◌, refl, sym, ap, ◌∙◌, subst, Bool, true, false, ◌⊎◌, inl, inr, arith}
 use Rattle.std.specs.Prelude.{Option, Some, None, map, find, length, not, unwrap_or, ◌&&◌, ◌||◌, ◌==◌, if◌then◌else◌}
 use Rattle.std.specs.List.{filter_map, list_any, list_all}
 use Rattle.std.specs.Option.{option_map, option_map_or}
 use Rattle.std.proofs.lemmas.Bool.{cases_Bool, ne_eqb}
-use Rattle.ldv_value.proofs.Booleans.{and-parts, and-true, or-comm, or-left, or-right, or-false, or-cases, or-parts, not-so, true≢false}
+use Rattle.ldv_value.proofs.Booleans.{and-parts, and-true, or-comm, or-left, or-right, or-false, or-cases, or-parts, not-so, true≢false, same-tests}
 use Rattle.ldv_value.proofs.Lists.{list_any-append, found-passes}
 use Rattle.ldv_value.proofs.Options.{none-some, same-some}
 use Rattle.ldv_value.proofs.SameBytes.{bytes_eq-true, nat_eq-true}
@@ -26,11 +26,6 @@ use Rattle.table_store.proofs.GivenKeyLaws.{given_rise}
 use Rattle.table_store.proofs.InsertLaws.{RisesFrom}
 
 -- two tests that follow from each other
-pub bool_same : (a b : Bool) → (a ≡ true → b ≡ true) → (b ≡ true → a ≡ true) → a ≡ b
-bool_same true b one two = sym (one refl)
-bool_same false true one two = two refl
-bool_same false false one two = refl
-
 pub any_same : {X : Type 0} (p q : X → Bool) → ((x : X) → p x ≡ q x) → (xs : List X) → list_any p xs ≡ list_any q xs
 any_same p q same [] = refl
 any_same p q same (x ∷ xs) = λ j. same x j || any_same p q same xs j
@@ -294,7 +289,7 @@ module _ (given : List TableRow) (t : Table) where
       → list_any p (map (replaced_by given) t.rows)
       ≡ (list_any p given || list_any (λ row. p row && not (is_among (map (λ (r : TableRow). r.number) given) row)) t.rows)
   replaced_has takes there p =
-      bool_same (list_any p (map (replaced_by given) t.rows))
+      same-tests (list_any p (map (replaced_by given) t.rows))
       (list_any p given || list_any (λ row. p row && not (is_among (map (λ (r : TableRow). r.number) given) row)) t.rows)
       (one_way given p t.rows)
       (λ is. elim (or-cases (list_any p given) (list_any (λ row. p row && not (is_among (map (λ (r : TableRow). r.number) given) row)) t.rows) is) [

@@ -1,10 +1,10 @@
 -- What a binary search in sorted numbers finds.
-use Rattle.std.proofs.Common.{◌≡◌, ◌==◌, ℕ, zero, suc, ◌<◌, ◌≤◌, List, [], ◌∷◌, length, get_or, Result, Ok, Err, Bool, true, false, refl, sym, ap, ◌∙◌, inl, inr, arith}
-use Rattle.std.specs.Prelude.{is_ok, nat_lt, ◌||◌}
+use Rattle.std.proofs.Common.{◌≡◌, ◌==◌, ℕ, zero, suc, ◌<◌, ◌≤◌, List, [], ◌∷◌, length, get_or, Result, Ok, Err, Bool, true, sym, inl, inr, arith}
+use Rattle.std.specs.Prelude.{is_ok, nat_lt}
 use Rattle.std.specs.List.{list_any, list_all}
 use Rattle.std.specs.Ordering.{nat_cmp}
-use Rattle.std.specs.List.Sorted.{IsBinarySearchResult, IsNonDecreasing}
-use Rattle.std.proofs.lemmas.Bool.{ltb-true, lt-ltb}
+use Rattle.std.specs.List.Sorted.{IsBinarySearchResult}
+use Rattle.std.proofs.lemmas.Bool.{ltb-true}
 use Rattle.std.proofs.lemmas.Bool.Decides.{Decides-eqb}
 use Rattle.std.proofs.lemmas.List.Sorted.{searched}
 use Rattle.ldv_value.proofs.Booleans.{not-so, or-cases, or-left, or-right}
@@ -12,20 +12,18 @@ use Rattle.ldv_value.proofs.SameBytes.{nat_eq-true}
 use Rattle.sql_model.proofs.SortedLists.{sorted-all, sorted-tail}
 use Rattle.table_store.specs.Stops.{are_sorted_numbers}
 use Rattle.table_store.proofs.FormedLaws.{all_at}
-
-less_trans : (a b c : ℕ) → nat_lt a b ≡ true → nat_lt b c ≡ true → nat_lt a c ≡ true
-less_trans a b c one two = lt-ltb a c (omega (arith, ltb-true a b one, ltb-true b c two))
+use Rattle.ldv_value.proofs.Numbers.{less-trans}
 
 rises : (xs : List ℕ) → are_sorted_numbers xs ≡ true → (i j d : ℕ) → i ≤ j → j < length xs → get_or xs i d ≤ get_or xs j d
 rises [] sorted i j d order inside = absurd (omega (arith, inside))
 rises (x ∷ xs) sorted zero zero d order inside = omega arith
 rises (x ∷ xs) sorted zero (suc j) d order inside =
-    let after : list_all (nat_lt x) xs ≡ true = sorted-all nat_lt less_trans x xs sorted in
+    let after : list_all (nat_lt x) xs ≡ true = sorted-all nat_lt less-trans x xs sorted in
     let above : x < get_or xs j d = ltb-true x (get_or xs j d) (all_at (nat_lt x) xs j d after (omega (arith, inside))) in
     omega (arith, above)
 rises (x ∷ xs) sorted (suc i) zero d order inside = absurd (omega (arith, order))
 rises (x ∷ xs) sorted (suc i) (suc j) d order inside =
-    rises xs (sorted-tail nat_lt less_trans x xs sorted) i j d (omega (arith, order)) (omega (arith, inside))
+    rises xs (sorted-tail nat_lt less-trans x xs sorted) i j d (omega (arith, order)) (omega (arith, inside))
 
 any_at : (p : ℕ → Bool) (xs : List ℕ) (i d : ℕ) → i < length xs → p (get_or xs i d) ≡ true → list_any p xs ≡ true
 any_at p [] i d inside hit = absurd (omega (arith, inside))

@@ -5,6 +5,7 @@ pub mod Referring
 pub mod RowOrder
 pub mod Scans
 pub mod Stops
+pub mod StoreChange
 pub mod StoreView
 pub mod TableView
 pub mod Types

@@ -1,14 +1,13 @@
 //! Changes of rows, where all room that they take is there.
 
-ghost use Rattle.std.specs.Prelude.{◌≡◌, ◌==◌, ℕ, ◌+◌, ◌<◌, ◌≤◌, Bool, true, false, List, [], ◌∷◌, Option};
-ghost use Rattle.std.specs.Prelude.{Some, None, OnOk, OnErr, IfOk, IsOk, IsSome, length, map, slice_index_or};
+ghost use Rattle.std.specs.Prelude.{◌≡◌, ◌<◌, true, Some, None, IsOk, length, map, slice_index_or};
 ghost use Rattle.std.specs.Ordering.{nat_cmp};
 ghost use Rattle.std.specs.BTreeMap.{get};
 ghost use Rattle.table_store.specs.inner.Grid.{no_slot, fits_kinds};
 ghost use Rattle.table_store.specs.Histories.{changed_by};
 ghost use Rattle.table_store.specs.inner.RowChains.{AreChained, histories_of, HasRoom, IsReady};
-ghost use Rattle.table_store.specs.inner.RowChanges.{change_given, changes_given, RiseFrom, FitKinds, AllFitKinds};
-ghost use Rattle.table_store.specs.inner.RowChanges.{AreReady};
+ghost use Rattle.table_store.specs.inner.RowChanges.{changes_given, RiseFrom, FitKinds, AllFitKinds};
+ghost use Rattle.table_store.specs.inner.RowChanges.{AreReady, ChangesRow};
 
 use crate::chains::Chains;
 use crate::change::{Copies, RowChange};
@@ -50,14 +49,8 @@ fn apply(
     requires ready { IsReady (get nat_cmp chains.old.held given.number) time }
     requires room { HasRoom (get nat_cmp chains.old.held given.number) }
     requires fits { FitKinds grid.old.kinds given.copies }
-    ensures chained { AreChained (λ q. get nat_cmp chains.new.held q) grid.new.slots grid.new.next }
-    ensures seen { histories_of (λ q. get nat_cmp chains.new.held q) grid.new.slots
-        ≡ map (changed_by (change_given time given ∷ []))
-        (histories_of (λ q. get nat_cmp chains.old.held q) grid.old.slots) }
-    ensures others { (q : ℕ) → (q == given.number) ≡ false
-        → get nat_cmp chains.new.held q ≡ get nat_cmp chains.old.held q }
-    ensures kinds { grid.new.kinds ≡ grid.old.kinds }
-    ensures next { grid.new.next ≡ grid.old.next }
+    ensures row { ChangesRow time given (λ q. get nat_cmp chains.old.held q)
+        (λ q. get nat_cmp chains.new.held q) grid.old grid.new }
     ensures succeeds { IsOk result }
 {
     let RowChange { number, copies } = given;
@@ -79,14 +72,8 @@ fn drop_at(grid: &mut Grid, chains: &mut Chains, slot: usize, number: u32, time:
     requires within { slot < length grid.old.slots }
     requires is { (slice_index_or grid.old.slots slot no_slot).number ≡ number }
     requires ready { IsReady (get nat_cmp chains.old.held number) time }
-    ensures chained { AreChained (λ q. get nat_cmp chains.new.held q) grid.new.slots grid.new.next }
-    ensures seen { histories_of (λ q. get nat_cmp chains.new.held q) grid.new.slots
-        ≡ map (changed_by (change_given time (record { number = number; copies = None }) ∷ []))
-        (histories_of (λ q. get nat_cmp chains.old.held q) grid.old.slots) }
-    ensures others { (q : ℕ) → (q == number) ≡ false
-        → get nat_cmp chains.new.held q ≡ get nat_cmp chains.old.held q }
-    ensures kinds { grid.new.kinds ≡ grid.old.kinds }
-    ensures next { grid.new.next ≡ grid.old.next }
+    ensures { ChangesRow time (record { number = number; copies = None })
+        (λ q. get nat_cmp chains.old.held q) (λ q. get nat_cmp chains.new.held q) grid.old grid.new }
 {
     grid.tell_order();
     chains.end(number, time);
@@ -109,14 +96,8 @@ fn write_at(
     requires room { HasRoom (get nat_cmp chains.old.held number) }
     requires fits { fits_kinds grid.old.kinds copies.for_columns ≡ true }
     requires same { copies.for_columns ≡ copies.for_chain }
-    ensures chained { AreChained (λ q. get nat_cmp chains.new.held q) grid.new.slots grid.new.next }
-    ensures seen { histories_of (λ q. get nat_cmp chains.new.held q) grid.new.slots
-        ≡ map (changed_by (change_given time (record { number = number; copies = Some copies }) ∷ []))
-        (histories_of (λ q. get nat_cmp chains.old.held q) grid.old.slots) }
-    ensures others { (q : ℕ) → (q == number) ≡ false
-        → get nat_cmp chains.new.held q ≡ get nat_cmp chains.old.held q }
-    ensures kinds { grid.new.kinds ≡ grid.old.kinds }
-    ensures next { grid.new.next ≡ grid.old.next }
+    ensures row { ChangesRow time (record { number = number; copies = Some copies })
+        (λ q. get nat_cmp chains.old.held q) (λ q. get nat_cmp chains.new.held q) grid.old grid.new }
     ensures succeeds { IsOk result }
 {
     grid.tell_order();

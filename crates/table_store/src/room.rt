@@ -1,12 +1,11 @@
 //! Room in the chains of rows that are about to change, made before anything changes.
 
-ghost use Rattle.std.specs.Prelude.{◌≡◌, ◌==◌, ℕ, ◌+◌, ◌<◌, ◌≤◌, Bool, true, false, List, [], ◌∷◌, Option};
-ghost use Rattle.std.specs.Prelude.{Some, None, OnOk, OnErr, IfOk, IsSome, length, slice_index_or};
+ghost use Rattle.std.specs.Prelude.{◌≡◌, ◌<◌, OnOk, IsSome, length, slice_index_or};
 ghost use Rattle.std.specs.Ordering.{nat_cmp};
 ghost use Rattle.std.specs.BTreeMap.{get};
 ghost use Rattle.table_store.specs.inner.Grid.{no_slot};
 ghost use Rattle.table_store.specs.inner.RowChains.{AreChained, histories_of, HasRoom};
-ghost use Rattle.table_store.specs.inner.RowChanges.{IsThere, AllThere, AllHaveRoom};
+ghost use Rattle.table_store.specs.inner.RowChanges.{IsThere, AllThere, AllHaveRoom, LeavesRows};
 
 use crate::chains::Chains;
 use crate::change::RowChange;
@@ -45,11 +44,8 @@ fn make_room_for(
 ) -> Result<(), AllocError>
     requires chained { AreChained (λ q. get nat_cmp chains.old.held q) grid.now.slots grid.now.next }
     requires there { IsThere grid.now.slots number }
-    ensures chained { AreChained (λ q. get nat_cmp chains.new.held q) grid.now.slots grid.now.next }
-    ensures seen { histories_of (λ q. get nat_cmp chains.new.held q) grid.now.slots
-        ≡ histories_of (λ q. get nat_cmp chains.old.held q) grid.now.slots }
-    ensures kept { (q : ℕ) → HasRoom (get nat_cmp chains.old.held q)
-        → HasRoom (get nat_cmp chains.new.held q) }
+    ensures rows { LeavesRows (λ q. get nat_cmp chains.old.held q) (λ q. get nat_cmp chains.new.held q)
+        grid.now.slots grid.now.next }
     ensures room { OnOk result (HasRoom (get nat_cmp chains.new.held number)) }
 {
     match grid.find(number) {
@@ -72,11 +68,8 @@ fn open_at(
     requires chained { AreChained (λ q. get nat_cmp chains.old.held q) grid.now.slots grid.now.next }
     requires within { slot < length grid.now.slots }
     requires is { (slice_index_or grid.now.slots slot no_slot).number ≡ number }
-    ensures chained { AreChained (λ q. get nat_cmp chains.new.held q) grid.now.slots grid.now.next }
-    ensures seen { histories_of (λ q. get nat_cmp chains.new.held q) grid.now.slots
-        ≡ histories_of (λ q. get nat_cmp chains.old.held q) grid.now.slots }
-    ensures kept { (q : ℕ) → HasRoom (get nat_cmp chains.old.held q)
-        → HasRoom (get nat_cmp chains.new.held q) }
+    ensures rows { LeavesRows (λ q. get nat_cmp chains.old.held q) (λ q. get nat_cmp chains.new.held q)
+        grid.now.slots grid.now.next }
     ensures open { OnOk result (IsSome (get nat_cmp chains.new.held number)) }
 {
     if chains.has(number) {
@@ -92,11 +85,8 @@ fn open_at(
 fn grow(grid: &Grid, chains: &mut Chains, number: u32) -> Result<(), AllocError>
     requires chained { AreChained (λ q. get nat_cmp chains.old.held q) grid.now.slots grid.now.next }
     requires open { IsSome (get nat_cmp chains.old.held number) }
-    ensures chained { AreChained (λ q. get nat_cmp chains.new.held q) grid.now.slots grid.now.next }
-    ensures seen { histories_of (λ q. get nat_cmp chains.new.held q) grid.now.slots
-        ≡ histories_of (λ q. get nat_cmp chains.old.held q) grid.now.slots }
-    ensures kept { (q : ℕ) → HasRoom (get nat_cmp chains.old.held q)
-        → HasRoom (get nat_cmp chains.new.held q) }
+    ensures rows { LeavesRows (λ q. get nat_cmp chains.old.held q) (λ q. get nat_cmp chains.new.held q)
+        grid.now.slots grid.now.next }
     ensures room { OnOk result (HasRoom (get nat_cmp chains.new.held number)) }
 {
     let _slots = grid.len();

@@ -4,16 +4,16 @@ ghost use Rattle.std.specs.Prelude.{◌≡◌, ◌==◌, ℕ, ◌+◌, ◌*◌, 
 ghost use Rattle.std.specs.Prelude.{◌++◌, Option, Some, None, find, OnOk, OnErr, IfOk, IsOk, IsSome, IfSome};
 ghost use Rattle.std.specs.Prelude.{length, map, slice_get, slice_index_or, slice_set};
 ghost use Rattle.std.specs.List.{AllByRecursion, list_all};
-ghost use Rattle.std.specs.Option.{option_map, option_map_or, option_and_then, option_or};
+ghost use Rattle.std.specs.Option.{option_map, option_map_or, option_or};
 ghost use Rattle.lanes.specs.Sets.{member};
 ghost use Rattle.ldv_value.specs.Sorted.{text_precedes};
 ghost use Rattle.sql_model.specs.Scope.{catalog_of, table_at};
 ghost use Rattle.sql_model.specs.Tables.{AreWellFormed, have_distinct_columns, is_database, is_valid_table};
 ghost use Rattle.table_store.specs.Scans.{passes_test};
 ghost use Rattle.table_store.specs.Histories.{history_at, is_history, table_now, tables_now, last_since};
-ghost use Rattle.table_store.specs.Histories.{rows_after, next_number_after, AreKeptBefore, changed_at};
-ghost use Rattle.table_store.specs.Histories.{table_with_rows, table_with_values, table_without, version_now, history_of_row};
-ghost use Rattle.table_store.specs.Histories.{row_now, no_history};
+ghost use Rattle.table_store.specs.Histories.{rows_after, next_number_after, row_now, no_history};
+ghost use Rattle.table_store.specs.Histories.{table_with_rows, table_with_values, table_without};
+ghost use Rattle.table_store.specs.Histories.{version_now, history_of_row};
 ghost use Rattle.table_store.specs.Stops.{have_shape, values_of, are_sorted_rows, are_sorted_numbers};
 ghost use Rattle.table_store.specs.Stops.{had_rows, all_stand, insert_stop, replace_stop, with_changed};
 ghost use Rattle.table_store.specs.Stops.{is_among, with_inserted, with_replaced, with_removed, StopsAs};
@@ -22,6 +22,7 @@ ghost use Rattle.sql_model.specs.References.{has_key};
 ghost use Rattle.table_store.specs.Referring.{are_apart, insert_refusal, replace_refusal, delete_refusal};
 ghost use Rattle.table_store.specs.Referring.{parents_now};
 ghost use Rattle.table_store.specs.Referring.{CanBePut, IsAtVersion, is_of, missing_stop, orphan_stop};
+ghost use Rattle.table_store.specs.StoreChange.{IsStoreChange};
 ghost use Rattle.table_store.specs.StoreView.{store_at_start, no_table, are_sorted};
 ghost use Rattle.table_store.specs.TableView.{history_at_start};
 ghost use Rattle.table_store.specs.Types.{Null, Value};
@@ -241,17 +242,12 @@ impl Store {
         requires later { self.old.time < time }
         requires shape { IfSome (table_at table.now (tables_now self.old))
             (λ table. have_shape rows table ≡ true) }
-        ensures stop { StopsAs (option_and_then (insert_refusal rows (tables_now self.old))
-            (table_at table.now (tables_now self.old))) result }
+        ensures change { IsStoreChange (insert_refusal rows (tables_now self.old)) (table_with_rows time rows)
+            (with_inserted rows) table.now time self.old self.new result }
         ensures childless { (child : List ℕ) (row : ℕ) (key : List Value)
             → ¬ (result ≡ Err (StoreStop.HasChild child row key)) }
         ensures first { IfOk result (λ first. option_map (λ table. table.next)
             (table_at table.now (tables_now self.old)) ≡ Some first) }
-        ensures ok { OnOk result (self.new ≡ changed_at time table.now (table_with_rows time rows) self.old) }
-        ensures now { OnOk result (tables_now self.new
-            ≡ with_changed table.now (with_inserted rows) (tables_now self.old)) }
-        ensures earlier { OnOk result (AreKeptBefore time self.old self.new) }
-        ensures err { OnErr result (self.new ≡ self.old) }
     {
         match place_in(&self.tables, table) {
             None => unreachable!(),
@@ -281,14 +277,8 @@ impl Store {
         requires sorted { are_sorted_rows rows ≡ true }
         requires stand { IfSome (table_at table.now (tables_now self.old))
             (λ table. had_rows rows table ≡ true) }
-        ensures stop { StopsAs (option_and_then (replace_refusal rows (tables_now self.old))
-            (table_at table.now (tables_now self.old))) result }
-        ensures ok { OnOk result (self.new
-            ≡ changed_at time table.now (table_with_values time rows) self.old) }
-        ensures now { OnOk result (tables_now self.new
-            ≡ with_changed table.now (with_replaced rows) (tables_now self.old)) }
-        ensures earlier { OnOk result (AreKeptBefore time self.old self.new) }
-        ensures err { OnErr result (self.new ≡ self.old) }
+        ensures { IsStoreChange (replace_refusal rows (tables_now self.old)) (table_with_values time rows)
+            (with_replaced rows) table.now time self.old self.new result }
     {
         match place_in(&self.tables, table) {
             None => unreachable!(),
@@ -314,14 +304,9 @@ impl Store {
         requires sorted { are_sorted_numbers numbers.now ≡ true }
         requires stand { IfSome (table_at table.now (tables_now self.old))
             (λ table. all_stand numbers.now table ≡ true) }
-        ensures stop { StopsAs (option_and_then (delete_refusal numbers.now (tables_now self.old))
-            (table_at table.now (tables_now self.old))) result }
-        ensures ok { OnOk result (self.new
-            ≡ changed_at time table.now (table_without time numbers.now) self.old) }
-        ensures now { OnOk result (tables_now self.new
-            ≡ with_changed table.now (with_removed numbers.now) (tables_now self.old)) }
-        ensures earlier { OnOk result (AreKeptBefore time self.old self.new) }
-        ensures err { OnErr result (self.new ≡ self.old) }
+        ensures { IsStoreChange (delete_refusal numbers.now (tables_now self.old))
+            (table_without time numbers.now) (with_removed numbers.now) table.now time self.old self.new
+            result }
     {
         match place_in(&self.tables, table) {
             None => unreachable!(),

@@ -1,12 +1,12 @@
 -- Changes that are given for rows, each by the number of its row.
-use Rattle.std.specs.Prelude.{◌≡◌, ℕ, ◌+◌, ◌<◌, ◌≤◌, Bool, true, List, [], ◌∷◌, length, map, Option, Some}
-use Rattle.std.specs.Prelude.{None, IsSome, slice_index_or}
+use Rattle.std.specs.Prelude.{◌≡◌, ◌==◌, ℕ, ◌+◌, ◌<◌, ◌≤◌, Bool, true, false, List, [], ◌∷◌, length, map}
+use Rattle.std.specs.Prelude.{Option, Some, None, IsSome, slice_index_or}
 use Rattle.std.specs.Option.{option_map}
 use Rattle.row_version.specs.History.{Change, current_values, last_time, IsSorted}
 use Rattle.table_store.specs.Types.{TableRow}
-use Rattle.table_store.specs.inner.Grid.{Slot, no_slot, fits_kinds}
-use Rattle.table_store.specs.Histories.{RowHistory, no_history}
-use Rattle.table_store.specs.inner.RowChains.{Chains, IsReady, HasRoom}
+use Rattle.table_store.specs.inner.Grid.{Rows, Slot, no_slot, fits_kinds}
+use Rattle.table_store.specs.Histories.{RowHistory, changed_by, no_history}
+use Rattle.table_store.specs.inner.RowChains.{Chains, AreChained, IsReady, HasRoom, histories_of}
 use Rattle.table_store.specs.declared.change.Copies.{Copies}
 use Rattle.table_store.specs.declared.change.RowChange.{RowChange}
 
@@ -57,6 +57,21 @@ AllThere slots given = (j : ℕ) → j < length given → IsThere slots (slice_i
 abbrev pub AllHaveRoom : Chains → List RowChange → Type 0
 AllHaveRoom chains given = (j : ℕ) → j < length given
     → HasRoom (chains (slice_index_or given j no_change).number)
+
+-- What room in chains leaves as it is: what is seen of the rows in slots, and room that was made before.
+pub record LeavesRows (before after : Chains) (slots : List Slot) (next : ℕ) : Type 0 where
+  pub chained : AreChained after slots next
+  pub seen : histories_of after slots ≡ histories_of before slots
+  pub kept : (q : ℕ) → HasRoom (before q) → HasRoom (after q)
+
+-- What a change of one row at a time makes of the slots and of the chains.
+pub record ChangesRow (time : ℕ) (given : RowChange) (before after : Chains) (old new : Rows) : Type 0 where
+  pub chained : AreChained after new.slots new.next
+  pub seen : histories_of after new.slots
+      ≡ map (changed_by (change_given time given ∷ [])) (histories_of before old.slots)
+  pub others : (q : ℕ) → (q == given.number) ≡ false → after q ≡ before q
+  pub kinds : new.kinds ≡ old.kinds
+  pub next : new.next ≡ old.next
 
 -- each chain takes a change at a time
 abbrev pub AreReady : Chains → ℕ → List RowChange → Type 0

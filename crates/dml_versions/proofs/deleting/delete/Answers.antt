@@ -50,8 +50,8 @@ delete_all-requires-clause-stand c =
 
 -- ---- accepted
 
-pub returns-in-Ok-clause-change : goal.returns-in-Ok-clause-change
-returns-in-Ok-clause-change c =
+pub returns-in-Ok : goal.returns-in-Ok
+returns-in-Ok c =
     let f = c.in_ok-found.ensures in
     let delete = c.delete_of-delete.result.now in
     let old = c.args.store.now in
@@ -60,25 +60,20 @@ returns-in-Ok-clause-change c =
     let whole = all_needed (TheDelete delete) old in
     let check = check-of (tables_now old) c.args.checked.now c.requires.checked (TheDelete delete) c.delete_of-delete.ensures in
     let fine = (λ j. option_and_then (delete_refusal (sym c.in_ok-numbers.ensures j) (tables_now old)) (table_at (sym c.as_str-name.ensures j) (tables_now old))) ∙ c.in-Ok.ensures.stop in
-    subst (λ (s : Statement). IsChange s c.args.keep old c.in_ok-change.change) (sym c.delete_of-delete.ensures)
-    (change_with_lists-change (TheDelete delete) c.args.keep old (matched_change delete.table found whole) c.in_ok-change.change
-    (delete-change old delete f.table f.there f.held.order formed found f.found_is check fine)
-    (c.in_ok-change.ensures
-    ∙ change_with_lists-over c.args.keep (matched_change delete.table found) (λ a b. refl) c.in_ok-needs.needs whole
-    (λ kept. delete-needs old delete f.table f.there f.held.order formed found f.found_is check c.in_ok-needs.needs (c.in_ok-needs.ensures kept))))
-
-pub returns-in-Ok-clause-after : goal.returns-in-Ok-clause-after
-returns-in-Ok-clause-after c =
-    let f = c.in_ok-found.ensures in
-    let delete = c.delete_of-delete.result.now in
-    let old = c.args.store.now in
-    let check = check-of (tables_now old) c.args.checked.now c.requires.checked (TheDelete delete) c.delete_of-delete.ensures in
-    let fine = (λ j. option_and_then (delete_refusal (sym c.in_ok-numbers.ensures j) (tables_now old)) (table_at (sym c.as_str-name.ensures j) (tables_now old))) ∙ c.in-Ok.ensures.stop in
-    subst (λ (s : Statement). IsStoreAfter s c.args.time old c.delete_all.new.self) (sym c.delete_of-delete.ensures)
-    (delete-after old delete f.table f.there f.held.order c.tell_formed.ensures c.in_ok-found.found f.found_is check fine c.args.time c.delete_all.new.self
-    (c.in-Ok.ensures.now ∙ (λ j. with_changed (c.as_str-name.ensures j) (with_removed (c.in_ok-numbers.ensures j)) (tables_now old)))
-    (c.in-Ok.ensures.ok ∙ (λ j. changed_at c.args.time (c.as_str-name.ensures j) (table_without c.args.time (c.in_ok-numbers.ensures j)) old))
-    c.in-Ok.ensures.earlier)
+    record {
+      change = subst (λ (s : Statement). IsChange s c.args.keep old c.in_ok-change.change) (sym c.delete_of-delete.ensures)
+          (change_with_lists-change (TheDelete delete) c.args.keep old (matched_change delete.table found whole) c.in_ok-change.change
+          (delete-change old delete f.table f.there f.held.order formed found f.found_is check fine)
+          (c.in_ok-change.ensures
+          ∙ change_with_lists-over c.args.keep (matched_change delete.table found) (λ a b. refl) c.in_ok-needs.needs whole
+          (λ kept. delete-needs old delete f.table f.there f.held.order formed found f.found_is check c.in_ok-needs.needs (c.in_ok-needs.ensures kept))));
+      after = subst (λ (s : Statement). IsStoreAfter s c.args.time old c.delete_all.new.self) (sym c.delete_of-delete.ensures)
+          (delete-after old delete f.table f.there f.held.order formed c.in_ok-found.found f.found_is check fine c.args.time c.delete_all.new.self
+          (c.in-Ok.ensures.now ∙ (λ j. with_changed (c.as_str-name.ensures j) (with_removed (c.in_ok-numbers.ensures j)) (tables_now old)))
+          (c.in-Ok.ensures.ok ∙ (λ j. changed_at c.args.time (c.as_str-name.ensures j) (table_without c.args.time (c.in_ok-numbers.ensures j)) old))
+          c.in-Ok.ensures.earlier);
+      err = tt;
+    }
 
 -- ---- refused
 
@@ -89,8 +84,8 @@ refused_by_store-requires c =
     (history-some delete.table c.args.store.now
     (there-of (tables_now c.args.store.now) c.args.checked.now c.requires.checked (TheDelete delete) c.delete_of-delete.ensures tt))
 
-pub returns-clause-change : goal.returns-clause-change
-returns-clause-change c =
+pub returns : goal.returns
+returns c =
     let f = c.in_ok-found.ensures in
     let delete = c.delete_of-delete.result.now in
     let old = c.args.store.now in
@@ -110,32 +105,16 @@ returns-clause-change c =
     ∙ told-here delete.table c.delete_all.new.self old f.table c.new-none.result given at refused c.in-Err.ensures.err f.there c.in_ok-refused-in-Err.ensures
     (delete-child old delete f.table f.there f.held.order formed found f.found_is check (Unit {0}) at stops) in
     let over = refused-over (versions_now old) delete.table f.table.slots [] others given whole at refused made in
-    subst (λ (s : Statement). IsChange s c.args.keep old refused) (sym c.delete_of-delete.ensures)
-    (refused-change_with_lists (versions_now old) delete.table f.table.slots [] others given whole (TheDelete delete) c.args.keep old at refused over
-    (λ kept. delete-own old delete f.table f.there f.held.order formed found f.found_is check (Unit {0}) at stops [] others)
-    (λ kept. delete-same old delete f.table f.there f.held.order formed found f.found_is check (Unit {0}) at stops given
-    (change_with_lists-needs c.args.keep (matched_change delete.table found c.in_ok-needs.needs) c.in_ok-change.change c.in_ok-change.ensures kept
-    ∙ delete-needs old delete f.table f.there f.held.order formed found f.found_is check c.in_ok-needs.needs (c.in_ok-needs.ensures kept)))
-    (delete-refused old delete f.table f.there f.held.order formed found f.found_is check (Unit {0}) at stops over.whole over.is))
-
-pub returns-clause-after : goal.returns-clause-after
-returns-clause-after c =
-    let f = c.in_ok-found.ensures in
-    let delete = c.delete_of-delete.result.now in
-    let old = c.args.store.now in
-    let formed = c.tell_formed.ensures in
-    let found = c.in_ok-found.found in
-    let at = c.in-Err.stop in
-    let given = c.in_ok-change.change.needs in
-    let refused = c.in_ok-refused-in-Err.refused in
-    let check = check-of (tables_now old) c.args.checked.now c.requires.checked (TheDelete delete) c.delete_of-delete.ensures in
-    let stops : StopsAs {X = Unit {0}} (option_and_then (delete_refusal (map number_found found) (tables_now old)) (table_at delete.table (tables_now old))) (Err at) =
-    subst (λ (n : List ℕ). StopsAs {X = Unit {0}} (option_and_then (delete_refusal (map number_found found) (tables_now old)) (table_at n (tables_now old))) (Err at)) c.as_str-name.ensures
-    (subst (λ (l : List ℕ). StopsAs {X = Unit {0}} (option_and_then (delete_refusal l (tables_now old)) (table_at c.as_str-name.result.now (tables_now old))) (Err at)) c.in_ok-numbers.ensures c.in-Err.ensures.stop) in
-    let made : refused_change (versions_now old) delete.table f.table.slots [] given at ≡ Some refused =
-    ap (λ (none : List Need). refused_change (versions_now old) delete.table f.table.slots none given at) (sym c.new-none.ensures)
-    ∙ told-here delete.table c.delete_all.new.self old f.table c.new-none.result given at refused c.in-Err.ensures.err f.there c.in_ok-refused-in-Err.ensures
-    (delete-child old delete f.table f.there f.held.order formed found f.found_is check (Unit {0}) at stops) in
-    subst (λ (s : Statement). IsStoreAfter s c.args.time old c.delete_all.new.self) (sym c.delete_of-delete.ensures)
-    (delete-kept old delete f.table f.there f.held.order formed found f.found_is check (Unit {0}) at stops [] given refused made
-    c.args.time c.delete_all.new.self c.requires.later c.in-Err.ensures.err)
+    record {
+      change = subst (λ (s : Statement). IsChange s c.args.keep old refused) (sym c.delete_of-delete.ensures)
+          (refused-change_with_lists (versions_now old) delete.table f.table.slots [] others given whole (TheDelete delete) c.args.keep old at refused over
+          (λ kept. delete-own old delete f.table f.there f.held.order formed found f.found_is check (Unit {0}) at stops [] others)
+          (λ kept. delete-same old delete f.table f.there f.held.order formed found f.found_is check (Unit {0}) at stops given
+          (change_with_lists-needs c.args.keep (matched_change delete.table found c.in_ok-needs.needs) c.in_ok-change.change c.in_ok-change.ensures kept
+          ∙ delete-needs old delete f.table f.there f.held.order formed found f.found_is check c.in_ok-needs.needs (c.in_ok-needs.ensures kept)))
+          (delete-refused old delete f.table f.there f.held.order formed found f.found_is check (Unit {0}) at stops over.whole over.is));
+      after = subst (λ (s : Statement). IsStoreAfter s c.args.time old c.delete_all.new.self) (sym c.delete_of-delete.ensures)
+          (delete-kept old delete f.table f.there f.held.order formed found f.found_is check (Unit {0}) at stops [] given refused made
+          c.args.time c.delete_all.new.self c.requires.later c.in-Err.ensures.err);
+      err = tt;
+    }

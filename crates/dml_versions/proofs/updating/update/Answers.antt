@@ -76,8 +76,8 @@ replace_all-requires-clause-stand c =
 
 -- ---- accepted
 
-pub returns-in-Ok-clause-change : goal.returns-in-Ok-clause-change
-returns-in-Ok-clause-change c =
+pub returns-in-Ok : goal.returns-in-Ok
+returns-in-Ok c =
     let f = c.in_ok-prepared.ensures in
     let update = c.update_of-update.result.now in
     let old = c.args.store.now in
@@ -90,24 +90,18 @@ returns-in-Ok-clause-change c =
     let own = update-fine old update f.table f.there f.held.order formed check found rows f.found_is f.rows_are fine in
     let needs_are : IsTrue c.args.keep → c.in_ok-all.all ≡ whole = λ kept.
     update-needs old update f.table f.there f.held.order formed check found rows f.found_is f.rows_are c.in_ok-needs.needs c.in_ok-all.all (c.in_ok-needs.ensures kept) (c.in_ok-all.ensures kept) own in
-    subst (λ (s : Statement). IsChange s c.args.keep old c.in_ok-change.change) (sym c.update_of-update.ensures)
-    (change_with_lists-change (TheUpdate update) c.args.keep old (matched_change update.table found whole) c.in_ok-change.change
-    (update-change old update f.table f.there f.held.order formed check found rows f.found_is f.rows_are fine)
-    (c.in_ok-change.ensures ∙ change_with_lists-over c.args.keep (matched_change update.table found) (λ a b. refl) c.in_ok-all.all whole needs_are))
-
-pub returns-in-Ok-clause-after : goal.returns-in-Ok-clause-after
-returns-in-Ok-clause-after c =
-    let f = c.in_ok-prepared.ensures in
-    let update = c.update_of-update.result.now in
-    let old = c.args.store.now in
-    let rows = c.in_ok-prepared.prepared.rows in
-    let check = check-of (tables_now old) c.args.checked.now c.requires.checked (TheUpdate update) c.update_of-update.ensures in
-    let fine = ap (λ (n : List ℕ). option_and_then (replace_refusal rows (tables_now old)) (table_at n (tables_now old))) (sym c.as_str-name.ensures) ∙ c.in-Ok.ensures.stop in
-    subst (λ (s : Statement). IsStoreAfter s c.args.time old c.replace_all.new.self) (sym c.update_of-update.ensures)
-    (update-after old update f.table f.there f.held.order c.tell_formed.ensures check c.in_ok-prepared.prepared.found rows f.found_is f.rows_are fine c.args.time c.replace_all.new.self
-    (c.in-Ok.ensures.now ∙ ap (λ (n : List ℕ). with_changed n (with_replaced rows) (tables_now old)) c.as_str-name.ensures)
-    (c.in-Ok.ensures.ok ∙ ap (λ (n : List ℕ). changed_at c.args.time n (table_with_values c.args.time rows) old) c.as_str-name.ensures)
-    c.in-Ok.ensures.earlier)
+    record {
+      change = subst (λ (s : Statement). IsChange s c.args.keep old c.in_ok-change.change) (sym c.update_of-update.ensures)
+          (change_with_lists-change (TheUpdate update) c.args.keep old (matched_change update.table found whole) c.in_ok-change.change
+          (update-change old update f.table f.there f.held.order formed check found rows f.found_is f.rows_are fine)
+          (c.in_ok-change.ensures ∙ change_with_lists-over c.args.keep (matched_change update.table found) (λ a b. refl) c.in_ok-all.all whole needs_are));
+      after = subst (λ (s : Statement). IsStoreAfter s c.args.time old c.replace_all.new.self) (sym c.update_of-update.ensures)
+          (update-after old update f.table f.there f.held.order formed check c.in_ok-prepared.prepared.found rows f.found_is f.rows_are fine c.args.time c.replace_all.new.self
+          (c.in-Ok.ensures.now ∙ ap (λ (n : List ℕ). with_changed n (with_replaced rows) (tables_now old)) c.as_str-name.ensures)
+          (c.in-Ok.ensures.ok ∙ ap (λ (n : List ℕ). changed_at c.args.time n (table_with_values c.args.time rows) old) c.as_str-name.ensures)
+          c.in-Ok.ensures.earlier);
+      err = tt;
+    }
 
 -- ---- refused
 
@@ -118,8 +112,8 @@ refused_by_store-requires c =
     (history-some update.table c.args.store.now
     (there-of (tables_now c.args.store.now) c.args.checked.now c.requires.checked (TheUpdate update) c.update_of-update.ensures tt))
 
-pub returns-clause-change : goal.returns-clause-change
-returns-clause-change c =
+pub returns : goal.returns
+returns c =
     let f = c.in_ok-prepared.ensures in
     let update = c.update_of-update.result.now in
     let old = c.args.store.now in
@@ -138,31 +132,16 @@ returns-clause-change c =
     told-here update.table c.replace_all.new.self old f.table needs given at refused c.in-Err.ensures.err f.there c.in_ok-refused-in-Err.ensures
     (update-child old update f.table f.there f.held.order formed check found rows f.found_is f.rows_are (Unit {0}) at stops) in
     let over = refused-over (versions_now old) update.table f.table.slots needs others given whole at refused made in
-    subst (λ (s : Statement). IsChange s c.args.keep old refused) (sym c.update_of-update.ensures)
-    (refused-change_with_lists (versions_now old) update.table f.table.slots needs others given whole (TheUpdate update) c.args.keep old at refused over
-    (λ kept. same-own at needs others (update-own old update f.table f.there f.held.order formed check found rows f.found_is f.rows_are needs (c.in_ok-needs.ensures kept)))
-    (λ kept. update-same old update f.table f.there f.held.order formed check found rows f.found_is f.rows_are (Unit {0}) at stops given (λ own.
-    change_with_lists-needs c.args.keep (matched_change update.table found c.in_ok-all.all) c.in_ok-change.change c.in_ok-change.ensures kept
-    ∙ update-needs old update f.table f.there f.held.order formed check found rows f.found_is f.rows_are needs c.in_ok-all.all (c.in_ok-needs.ensures kept) (c.in_ok-all.ensures kept) own))
-    (update-refused old update f.table f.there f.held.order formed check found rows f.found_is f.rows_are (Unit {0}) at stops over.whole over.is))
-
-pub returns-clause-after : goal.returns-clause-after
-returns-clause-after c =
-    let f = c.in_ok-prepared.ensures in
-    let update = c.update_of-update.result.now in
-    let old = c.args.store.now in
-    let formed = c.tell_formed.ensures in
-    let found = c.in_ok-prepared.prepared.found in
-    let rows = c.in_ok-prepared.prepared.rows in
-    let at = c.in-Err.stop in
-    let needs = c.in_ok-needs.needs in
-    let given = c.in_ok-change.change.needs in
-    let refused = c.in_ok-refused-in-Err.refused in
-    let check = check-of (tables_now old) c.args.checked.now c.requires.checked (TheUpdate update) c.update_of-update.ensures in
-    let stops = subst (λ (n : List ℕ). StopsAs {X = Unit {0}} (option_and_then (replace_refusal rows (tables_now old)) (table_at n (tables_now old))) (Err at)) c.as_str-name.ensures c.in-Err.ensures.stop in
-    let made : refused_change (versions_now old) update.table f.table.slots needs given at ≡ Some refused =
-    told-here update.table c.replace_all.new.self old f.table needs given at refused c.in-Err.ensures.err f.there c.in_ok-refused-in-Err.ensures
-    (update-child old update f.table f.there f.held.order formed check found rows f.found_is f.rows_are (Unit {0}) at stops) in
-    subst (λ (s : Statement). IsStoreAfter s c.args.time old c.replace_all.new.self) (sym c.update_of-update.ensures)
-    (update-kept old update f.table f.there f.held.order formed check found rows f.found_is f.rows_are (Unit {0}) at stops needs given refused made
-    c.args.time c.replace_all.new.self c.requires.later c.in-Err.ensures.err)
+    record {
+      change = subst (λ (s : Statement). IsChange s c.args.keep old refused) (sym c.update_of-update.ensures)
+          (refused-change_with_lists (versions_now old) update.table f.table.slots needs others given whole (TheUpdate update) c.args.keep old at refused over
+          (λ kept. same-own at needs others (update-own old update f.table f.there f.held.order formed check found rows f.found_is f.rows_are needs (c.in_ok-needs.ensures kept)))
+          (λ kept. update-same old update f.table f.there f.held.order formed check found rows f.found_is f.rows_are (Unit {0}) at stops given (λ own.
+          change_with_lists-needs c.args.keep (matched_change update.table found c.in_ok-all.all) c.in_ok-change.change c.in_ok-change.ensures kept
+          ∙ update-needs old update f.table f.there f.held.order formed check found rows f.found_is f.rows_are needs c.in_ok-all.all (c.in_ok-needs.ensures kept) (c.in_ok-all.ensures kept) own))
+          (update-refused old update f.table f.there f.held.order formed check found rows f.found_is f.rows_are (Unit {0}) at stops over.whole over.is));
+      after = subst (λ (s : Statement). IsStoreAfter s c.args.time old c.replace_all.new.self) (sym c.update_of-update.ensures)
+          (update-kept old update f.table f.there f.held.order formed check found rows f.found_is f.rows_are (Unit {0}) at stops needs given refused made
+          c.args.time c.replace_all.new.self c.requires.later c.in-Err.ensures.err);
+      err = tt;
+    }

@@ -36,16 +36,16 @@ loop-change-preserved c =
     let fits : AllFitKinds c.loop-change.grid.kinds (change ∷ rest) = subst (λ (l : List RowChange). AllFitKinds c.loop-change.grid.kinds l) split inv.fits in
     let next : change.number < change.number + 1 = omega arith in
     record {
-      chained = c.apply.ensures.chained;
+      chained = c.apply.ensures.row.chained;
       apart = rise_lower (change.number + 1) 0 rest (omega arith) apart.1;
-      ready = still_ready old new change.number time (change.number + 1) rest c.apply.ensures.others next apart.1 ready.2;
-      fits = subst (λ (k : List Bool). AllFitKinds k rest) (sym c.apply.ensures.kinds) fits.1;
-      seen = ap (map (changed_by (changes_given time rest))) c.apply.ensures.seen
+      ready = still_ready old new change.number time (change.number + 1) rest c.apply.ensures.row.others next apart.1 ready.2;
+      fits = subst (λ (k : List Bool). AllFitKinds k rest) (sym c.apply.ensures.row.kinds) fits.1;
+      seen = ap (map (changed_by (changes_given time rest))) c.apply.ensures.row.seen
           ∙ sym (changed_first time 0 change rest apart (histories_of old c.loop-change.grid.slots))
           ∙ ap (λ (l : List RowChange). map (changed_by (changes_given time l)) (histories_of old c.loop-change.grid.slots)) (sym split)
           ∙ inv.seen;
-      kinds = c.apply.ensures.kinds ∙ inv.kinds;
-      next = c.apply.ensures.next ∙ inv.next;
+      kinds = c.apply.ensures.row.kinds ∙ inv.kinds;
+      next = c.apply.ensures.row.next ∙ inv.next;
     }
 
 pub returns-clause-seen : goal.returns-clause-seen

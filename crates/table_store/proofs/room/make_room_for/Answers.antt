@@ -1,4 +1,9 @@
+use Rattle.std.proofs.Common.{◌∙◌}
 use Rattle.table_store.proofs.room.make_room_for.Goals as goal
 
-pub returns-clause-kept : goal.returns-clause-kept
-returns-clause-kept c = λ q room. c.grow.ensures.kept q (c.open_at.ensures.kept q room)
+pub returns-clause-rows : goal.returns-clause-rows
+returns-clause-rows c = record {
+  chained = c.grow.ensures.rows.chained;
+  seen = c.grow.ensures.rows.seen ∙ c.open_at.ensures.rows.seen;
+  kept = λ q room. c.grow.ensures.rows.kept q (c.open_at.ensures.rows.kept q room);
+}

@@ -46,33 +46,8 @@ invariant_of-self-in-Ok c =
     after_stored a.catalog tables a.time c.self.invariant c.args.self.now c.self.view_is c.args.table.now place found c.args.time c.requires.later (table_without c.args.time c.args.numbers.now) (remove_is c.args.time c.args.numbers.now) c.delete_in.new.tables.items c.in-Ok.ensures.ok
     (ap is_valid_table (removed_now c.args.time c.args.numbers.now there) ∙ removed_valid (table_now there) valid c.args.numbers.now)
 
-pub returns-in-Ok-clause-ok : goal.returns-in-Ok-clause-ok
-returns-in-Ok-clause-ok c =
-    let a = c.self.inside in
-    let tables = a.tables.items in
-    let place = c.in-Some.place in
-    let found = c.in-Some.ensures.found in
-    after_is a.catalog tables a.time c.self.invariant c.args.self.now c.self.view_is c.args.table.now place found c.args.time c.requires.later (table_without c.args.time c.args.numbers.now) (remove_is c.args.time c.args.numbers.now) c.delete_in.new.tables.items c.in-Ok.ensures.ok
-
-pub returns-in-Ok-clause-now : goal.returns-in-Ok-clause-now
-returns-in-Ok-clause-now c =
-    let a = c.self.inside in
-    let tables = a.tables.items in
-    let place = c.in-Some.place in
-    let found = c.in-Some.ensures.found in
-    let there : TableHistory = get_or tables place no_table in
-    after_now a.catalog tables a.time c.self.invariant c.args.self.now c.self.view_is c.args.table.now place found c.args.time c.requires.later (table_without c.args.time c.args.numbers.now) (remove_is c.args.time c.args.numbers.now) c.delete_in.new.tables.items c.in-Ok.ensures.ok (with_removed c.args.numbers.now) (removed_now c.args.time c.args.numbers.now there)
-
-pub returns-in-Ok-clause-earlier : goal.returns-in-Ok-clause-earlier
-returns-in-Ok-clause-earlier c =
-    let a = c.self.inside in
-    let tables = a.tables.items in
-    let place = c.in-Some.place in
-    let found = c.in-Some.ensures.found in
-    after_kept a.catalog tables a.time c.self.invariant c.args.self.now c.self.view_is c.args.table.now place found c.args.time c.requires.later (table_without c.args.time c.args.numbers.now) (remove_is c.args.time c.args.numbers.now) c.delete_in.new.tables.items c.in-Ok.ensures.ok
-
-pub returns-in-Ok-clause-stop : goal.returns-in-Ok-clause-stop
-returns-in-Ok-clause-stop c =
+pub returns-in-Ok : goal.returns-in-Ok
+returns-in-Ok c =
     let a = c.self.inside in
     let tables = a.tables.items in
     let place = c.in-Some.place in
@@ -86,10 +61,17 @@ returns-in-Ok-clause-stop c =
     let same : rest (table_now there) ≡ c.in_ok-reference_stop-in-Some.reference_stop =
     (λ j. orphan_stop (is_among (sym c.items.ensures j)) (table_now there) (with_removed (sym c.items.ensures j) (table_now there)) db)
     ∙ later_is told o (table_now there) c.in_ok-reference_stop-in-Some.reference_stop at c.in_ok-reference_stop-in-Some.ensures in
-    alone_is rest o (table_now there) c.in_ok-reference_stop-in-Some.reference_stop at same ∙ c.in-Ok.ensures.stop
+    let made = c.delete_in.new.tables.items in
+    record {
+      stop = alone_is rest o (table_now there) c.in_ok-reference_stop-in-Some.reference_stop at same ∙ c.in-Ok.ensures.stop;
+      ok = after_is a.catalog tables a.time c.self.invariant c.args.self.now c.self.view_is c.args.table.now place found c.args.time c.requires.later (table_without c.args.time c.args.numbers.now) (remove_is c.args.time c.args.numbers.now) made c.in-Ok.ensures.ok;
+      now = after_now a.catalog tables a.time c.self.invariant c.args.self.now c.self.view_is c.args.table.now place found c.args.time c.requires.later (table_without c.args.time c.args.numbers.now) (remove_is c.args.time c.args.numbers.now) made c.in-Ok.ensures.ok (with_removed c.args.numbers.now) (removed_now c.args.time c.args.numbers.now there);
+      earlier = after_kept a.catalog tables a.time c.self.invariant c.args.self.now c.self.view_is c.args.table.now place found c.args.time c.requires.later (table_without c.args.time c.args.numbers.now) (remove_is c.args.time c.args.numbers.now) made c.in-Ok.ensures.ok;
+      err = tt;
+    }
 
-pub returns-in-Err-clause-stop : goal.returns-in-Err-clause-stop
-returns-in-Err-clause-stop c =
+pub returns-in-Err : goal.returns-in-Err
+returns-in-Err c =
     let a = c.self.inside in
     let tables = a.tables.items in
     let place = c.in-Some.place in
@@ -103,4 +85,10 @@ returns-in-Err-clause-stop c =
     let same : rest (table_now there) ≡ c.in_ok-reference_stop-in-Some.reference_stop =
     (λ j. orphan_stop (is_among (sym c.items.ensures j)) (table_now there) (with_removed (sym c.items.ensures j) (table_now there)) db)
     ∙ later_is told o (table_now there) c.in_ok-reference_stop-in-Some.reference_stop at c.in_ok-reference_stop-in-Some.ensures in
-    subst (λ (due : Option StoreStop). StopsAs {X = Unit {0}} due (Err c.in-Err.stop)) (sym (alone_is rest o (table_now there) c.in_ok-reference_stop-in-Some.reference_stop at same)) c.in-Err.ensures.stop
+    record {
+      stop = subst (λ (due : Option StoreStop). StopsAs {X = Unit {0}} due (Err c.in-Err.stop)) (sym (alone_is rest o (table_now there) c.in_ok-reference_stop-in-Some.reference_stop at same)) c.in-Err.ensures.stop;
+      ok = tt;
+      now = tt;
+      earlier = tt;
+      err = (λ j. record { tables = c.in-Err.ensures.err j; time = a.time }) ∙ c.self.view_is;
+    }

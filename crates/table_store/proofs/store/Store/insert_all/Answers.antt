@@ -50,33 +50,8 @@ invariant_of-self-in-Ok c =
     after_stored a.catalog tables a.time c.self.invariant c.args.self.now c.self.view_is c.args.table.now place found c.args.time c.requires.later (table_with_rows c.args.time c.args.rows) (insert_is c.args.time c.args.rows) c.insert_in.new.tables.items c.in-Ok.ensures.ok
     (ap is_valid_table (inserted_now c.args.time c.args.rows there) ∙ inserted_valid (table_now there) valid c.args.rows (given_there a.catalog tables a.time c.self.invariant c.args.self.now c.self.view_is c.args.table.now place found c.args.time c.requires.later (λ table. have_shape c.args.rows table ≡ true) c.requires.shape) (or_none (insert_stop c.args.rows (table_now there)) c.in_ok-reference_stop-in-Some.reference_stop c.in-Ok.ensures.stop).0)
 
-pub returns-in-Ok-clause-ok : goal.returns-in-Ok-clause-ok
-returns-in-Ok-clause-ok c =
-    let a = c.self.inside in
-    let tables = a.tables.items in
-    let place = c.in-Some.place in
-    let found = c.in-Some.ensures.found in
-    after_is a.catalog tables a.time c.self.invariant c.args.self.now c.self.view_is c.args.table.now place found c.args.time c.requires.later (table_with_rows c.args.time c.args.rows) (insert_is c.args.time c.args.rows) c.insert_in.new.tables.items c.in-Ok.ensures.ok
-
-pub returns-in-Ok-clause-now : goal.returns-in-Ok-clause-now
-returns-in-Ok-clause-now c =
-    let a = c.self.inside in
-    let tables = a.tables.items in
-    let place = c.in-Some.place in
-    let found = c.in-Some.ensures.found in
-    let there : TableHistory = get_or tables place no_table in
-    after_now a.catalog tables a.time c.self.invariant c.args.self.now c.self.view_is c.args.table.now place found c.args.time c.requires.later (table_with_rows c.args.time c.args.rows) (insert_is c.args.time c.args.rows) c.insert_in.new.tables.items c.in-Ok.ensures.ok (with_inserted c.args.rows) (inserted_now c.args.time c.args.rows there)
-
-pub returns-in-Ok-clause-earlier : goal.returns-in-Ok-clause-earlier
-returns-in-Ok-clause-earlier c =
-    let a = c.self.inside in
-    let tables = a.tables.items in
-    let place = c.in-Some.place in
-    let found = c.in-Some.ensures.found in
-    after_kept a.catalog tables a.time c.self.invariant c.args.self.now c.self.view_is c.args.table.now place found c.args.time c.requires.later (table_with_rows c.args.time c.args.rows) (insert_is c.args.time c.args.rows) c.insert_in.new.tables.items c.in-Ok.ensures.ok
-
-pub returns-in-Ok-clause-stop : goal.returns-in-Ok-clause-stop
-returns-in-Ok-clause-stop c =
+pub returns-in-Ok-clause-change : goal.returns-in-Ok-clause-change
+returns-in-Ok-clause-change c =
     let a = c.self.inside in
     let tables = a.tables.items in
     let place = c.in-Some.place in
@@ -87,10 +62,17 @@ returns-in-Ok-clause-stop c =
     let at : o ≡ Some (table_now there) = at_place a.catalog tables a.time c.self.invariant c.args.self.now c.self.view_is c.args.table.now place found c.args.time c.requires.later in
     let rest : Table → Option StoreStop = λ (own : Table). missing_stop own.schema.foreign (numbered_rows own.next c.args.rows) (with_changed own.name (with_inserted c.args.rows) db) in
     let same : rest (table_now there) ≡ c.in_ok-reference_stop-in-Some.reference_stop = later_is rest o (table_now there) c.in_ok-reference_stop-in-Some.reference_stop at c.in_ok-reference_stop-in-Some.ensures in
-    whole_none (insert_stop c.args.rows) rest o (table_now there) c.in_ok-reference_stop-in-Some.reference_stop at same c.in-Ok.ensures.stop
+    let made = c.insert_in.new.tables.items in
+    record {
+      stop = whole_none (insert_stop c.args.rows) rest o (table_now there) c.in_ok-reference_stop-in-Some.reference_stop at same c.in-Ok.ensures.stop;
+      ok = after_is a.catalog tables a.time c.self.invariant c.args.self.now c.self.view_is c.args.table.now place found c.args.time c.requires.later (table_with_rows c.args.time c.args.rows) (insert_is c.args.time c.args.rows) made c.in-Ok.ensures.ok;
+      now = after_now a.catalog tables a.time c.self.invariant c.args.self.now c.self.view_is c.args.table.now place found c.args.time c.requires.later (table_with_rows c.args.time c.args.rows) (insert_is c.args.time c.args.rows) made c.in-Ok.ensures.ok (with_inserted c.args.rows) (inserted_now c.args.time c.args.rows there);
+      earlier = after_kept a.catalog tables a.time c.self.invariant c.args.self.now c.self.view_is c.args.table.now place found c.args.time c.requires.later (table_with_rows c.args.time c.args.rows) (insert_is c.args.time c.args.rows) made c.in-Ok.ensures.ok;
+      err = tt;
+    }
 
-pub returns-in-Err-clause-stop : goal.returns-in-Err-clause-stop
-returns-in-Err-clause-stop c =
+pub returns-in-Err-clause-change : goal.returns-in-Err-clause-change
+returns-in-Err-clause-change c =
     let a = c.self.inside in
     let tables = a.tables.items in
     let place = c.in-Some.place in
@@ -101,7 +83,13 @@ returns-in-Err-clause-stop c =
     let at : o ≡ Some (table_now there) = at_place a.catalog tables a.time c.self.invariant c.args.self.now c.self.view_is c.args.table.now place found c.args.time c.requires.later in
     let rest : Table → Option StoreStop = λ (own : Table). missing_stop own.schema.foreign (numbered_rows own.next c.args.rows) (with_changed own.name (with_inserted c.args.rows) db) in
     let same : rest (table_now there) ≡ c.in_ok-reference_stop-in-Some.reference_stop = later_is rest o (table_now there) c.in_ok-reference_stop-in-Some.reference_stop at c.in_ok-reference_stop-in-Some.ensures in
-    whole_stops (ℕ) (insert_stop c.args.rows) rest o (table_now there) c.in_ok-reference_stop-in-Some.reference_stop c.in-Err.stop at same c.in-Err.ensures.stop
+    record {
+      stop = whole_stops (ℕ) (insert_stop c.args.rows) rest o (table_now there) c.in_ok-reference_stop-in-Some.reference_stop c.in-Err.stop at same c.in-Err.ensures.stop;
+      ok = tt;
+      now = tt;
+      earlier = tt;
+      err = (λ j. record { tables = c.in-Err.ensures.err j; time = a.time }) ∙ c.self.view_is;
+    }
 
 pub returns-in-Err-clause-childless : goal.returns-in-Err-clause-childless
 returns-in-Err-clause-childless c = λ child row key is.

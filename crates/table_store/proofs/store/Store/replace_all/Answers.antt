@@ -54,33 +54,8 @@ invariant_of-self-in-Ok c =
     after_stored a.catalog tables a.time c.self.invariant c.args.self.now c.self.view_is c.args.table.now place found c.args.time c.requires.later (table_with_values c.args.time c.args.rows) (replace_is c.args.time c.args.rows) c.replace_in.new.tables.items c.in-Ok.ensures.ok
     (ap is_valid_table c.in-Ok.ensures.now ∙ replaced_valid (table_now there) valid c.args.rows (given_there a.catalog tables a.time c.self.invariant c.args.self.now c.self.view_is c.args.table.now place found c.args.time c.requires.later (λ table. have_shape (values_of c.args.rows) table ≡ true) c.requires.shape) (or_none (replace_stop c.args.rows (table_now there)) c.in_ok-reference_stop-in-Some.reference_stop c.in-Ok.ensures.stop).0)
 
-pub returns-in-Ok-clause-ok : goal.returns-in-Ok-clause-ok
-returns-in-Ok-clause-ok c =
-    let a = c.self.inside in
-    let tables = a.tables.items in
-    let place = c.in-Some.place in
-    let found = c.in-Some.ensures.found in
-    after_is a.catalog tables a.time c.self.invariant c.args.self.now c.self.view_is c.args.table.now place found c.args.time c.requires.later (table_with_values c.args.time c.args.rows) (replace_is c.args.time c.args.rows) c.replace_in.new.tables.items c.in-Ok.ensures.ok
-
-pub returns-in-Ok-clause-now : goal.returns-in-Ok-clause-now
-returns-in-Ok-clause-now c =
-    let a = c.self.inside in
-    let tables = a.tables.items in
-    let place = c.in-Some.place in
-    let found = c.in-Some.ensures.found in
-    let there : TableHistory = get_or tables place no_table in
-    after_now a.catalog tables a.time c.self.invariant c.args.self.now c.self.view_is c.args.table.now place found c.args.time c.requires.later (table_with_values c.args.time c.args.rows) (replace_is c.args.time c.args.rows) c.replace_in.new.tables.items c.in-Ok.ensures.ok (with_replaced c.args.rows) c.in-Ok.ensures.now
-
-pub returns-in-Ok-clause-earlier : goal.returns-in-Ok-clause-earlier
-returns-in-Ok-clause-earlier c =
-    let a = c.self.inside in
-    let tables = a.tables.items in
-    let place = c.in-Some.place in
-    let found = c.in-Some.ensures.found in
-    after_kept a.catalog tables a.time c.self.invariant c.args.self.now c.self.view_is c.args.table.now place found c.args.time c.requires.later (table_with_values c.args.time c.args.rows) (replace_is c.args.time c.args.rows) c.replace_in.new.tables.items c.in-Ok.ensures.ok
-
-pub returns-in-Ok-clause-stop : goal.returns-in-Ok-clause-stop
-returns-in-Ok-clause-stop c =
+pub returns-in-Ok : goal.returns-in-Ok
+returns-in-Ok c =
     let a = c.self.inside in
     let tables = a.tables.items in
     let place = c.in-Some.place in
@@ -95,10 +70,17 @@ returns-in-Ok-clause-stop c =
     let same : rest (table_now there) ≡ c.in_ok-reference_stop-in-Some.reference_stop =
     ap (λ (rows : List TableRow). told rows (table_now there)) (sym c.items.ensures)
     ∙ later_is (told c.items.result.now) o (table_now there) c.in_ok-reference_stop-in-Some.reference_stop at c.in_ok-reference_stop-in-Some.ensures in
-    whole_none (replace_stop c.args.rows) rest o (table_now there) c.in_ok-reference_stop-in-Some.reference_stop at same c.in-Ok.ensures.stop
+    let made = c.replace_in.new.tables.items in
+    record {
+      stop = whole_none (replace_stop c.args.rows) rest o (table_now there) c.in_ok-reference_stop-in-Some.reference_stop at same c.in-Ok.ensures.stop;
+      ok = after_is a.catalog tables a.time c.self.invariant c.args.self.now c.self.view_is c.args.table.now place found c.args.time c.requires.later (table_with_values c.args.time c.args.rows) (replace_is c.args.time c.args.rows) made c.in-Ok.ensures.ok;
+      now = after_now a.catalog tables a.time c.self.invariant c.args.self.now c.self.view_is c.args.table.now place found c.args.time c.requires.later (table_with_values c.args.time c.args.rows) (replace_is c.args.time c.args.rows) made c.in-Ok.ensures.ok (with_replaced c.args.rows) c.in-Ok.ensures.now;
+      earlier = after_kept a.catalog tables a.time c.self.invariant c.args.self.now c.self.view_is c.args.table.now place found c.args.time c.requires.later (table_with_values c.args.time c.args.rows) (replace_is c.args.time c.args.rows) made c.in-Ok.ensures.ok;
+      err = tt;
+    }
 
-pub returns-in-Err-clause-stop : goal.returns-in-Err-clause-stop
-returns-in-Err-clause-stop c =
+pub returns-in-Err : goal.returns-in-Err
+returns-in-Err c =
     let a = c.self.inside in
     let tables = a.tables.items in
     let place = c.in-Some.place in
@@ -113,4 +95,10 @@ returns-in-Err-clause-stop c =
     let same : rest (table_now there) ≡ c.in_ok-reference_stop-in-Some.reference_stop =
     ap (λ (rows : List TableRow). told rows (table_now there)) (sym c.items.ensures)
     ∙ later_is (told c.items.result.now) o (table_now there) c.in_ok-reference_stop-in-Some.reference_stop at c.in_ok-reference_stop-in-Some.ensures in
-    whole_stops (Unit {0}) (replace_stop c.args.rows) rest o (table_now there) c.in_ok-reference_stop-in-Some.reference_stop c.in-Err.stop at same c.in-Err.ensures.stop
+    record {
+      stop = whole_stops (Unit {0}) (replace_stop c.args.rows) rest o (table_now there) c.in_ok-reference_stop-in-Some.reference_stop c.in-Err.stop at same c.in-Err.ensures.stop;
+      ok = tt;
+      now = tt;
+      earlier = tt;
+      err = (λ j. record { tables = c.in-Err.ensures.err j; time = a.time }) ∙ c.self.view_is;
+    }
