@@ -16,12 +16,12 @@ fn make(rt: &impl Abort, set: &mut ReadySet, is_in: bool) -> Result<(), AllocErr
 
 // The same. Where memory runs out, the set is as it was, and a second try goes on from there.
 fn make_next(rt: &impl Abort, set: &mut ReadySet, is_in: bool) -> Result<(), AllocError> {
-    let before = (set.made_count(), set.len());
-    if make(rt, set, is_in).is_err() {
-        assert_eq!(rt; (set.made_count(), set.len()), before);
-        make(rt, set, is_in)?;
+    let (made, count) = (set.made_count(), set.len());
+    if make(rt, set, is_in).is_ok() {
+        return Ok(());
     }
-    Ok(())
+    assert!(rt; set.made_count() == made && set.len() == count);
+    make(rt, set, is_in)
 }
 
 // The set of some of the numbers below one.
@@ -39,13 +39,16 @@ fn set_of(
 }
 
 fn expect_number(rt: &impl Abort, set: &ReadySet, k: u32, want: Option<u32>) {
-    assert_eq!(rt; set.nth(k), want, "at {k}");
+    assert!(rt; set.nth(k) == want, "at {k}");
+}
+
+fn has_count(set: &ReadySet, count: usize) -> bool {
+    set.len() as usize == count && set.is_empty() == (count == 0)
 }
 
 // Expects just these numbers, which are sorted.
 fn expect_numbers(rt: &impl Abort, set: &ReadySet, wants: &[u32]) {
-    assert_eq!(rt; set.len() as usize, wants.len());
-    assert_eq!(rt; set.is_empty(), wants.is_empty());
+    assert!(rt; has_count(set, wants.len()));
     for (want, k) in wants.iter().zip(0..set.len()) {
         expect_number(rt, set, k, Some(*want));
     }
@@ -53,11 +56,11 @@ fn expect_numbers(rt: &impl Abort, set: &ReadySet, wants: &[u32]) {
 }
 
 fn expect_contained(rt: &impl Abort, set: &ReadySet, number: u32, want: bool) {
-    assert_eq!(rt; set.contains(number), want, "has {number}");
+    assert!(rt; set.contains(number) == want, "has {number}");
 }
 
 fn expect_after(rt: &impl Abort, set: &ReadySet, last: u32, want: Option<u32>) {
-    assert_eq!(rt; set.next_after(last), want, "after {last}");
+    assert!(rt; set.next_after(last) == want, "after {last}");
 }
 
 // Puts a number that was made into the set, or takes it out.
@@ -133,9 +136,12 @@ fn empties(rt: HostRuntime) -> Result<(), Fail> {
 }
 
 // In turn, as under seed 0.
+fn is_turn(set: &ReadySet, last: u32, want: u32) -> bool {
+    0 < set.len() && set.pick_next(last) == want
+}
+
 fn expect_turn(rt: &impl Abort, set: &ReadySet, last: u32, want: u32) {
-    assert!(rt; 0 < set.len());
-    assert_eq!(rt; set.pick_next(last), want, "after {last}");
+    assert!(rt; is_turn(set, last, want), "after {last}");
 }
 
 #[test]
@@ -161,18 +167,24 @@ fn takes_turns(rt: HostRuntime) -> Result<(), Fail> {
     Ok(())
 }
 
-// At random: by the generator without its 33 lowest bits.
-fn expect_draw(rt: &impl Abort, set: &ReadySet, x: u64, want: u32) {
-    assert!(rt; 0 < set.len());
-    assert_eq!(rt; set.pick_at(x >> 33), want, "by {x}");
+fn is_at(set: &ReadySet, k: u64, want: u32) -> bool {
+    0 < set.len() && set.pick_at(k) == want
+}
+
+// At random: by the generator without its 33 lowest bits, whatever these are.
+fn is_drawn(set: &ReadySet, high: u64, want: u32) -> bool {
+    is_at(set, (high << 33) >> 33, want) && is_at(set, ((high << 33) | 0x1_ffff_ffff) >> 33, want)
+}
+
+fn expect_draw(rt: &impl Abort, set: &ReadySet, high: u64, want: u32) {
+    assert!(rt; is_drawn(set, high, want), "by {high}");
 }
 
 // What the generator has after the steps 2, 3 and 4 under seed 7, without its 33 lowest bits.
 fn expect_draws(rt: &impl Abort, set: &ReadySet, wants: &[u32]) {
     let highs: [u64; 3] = [2_052_263_231, 1_946_856_753, 585_718_673];
     for (high, want) in highs.iter().zip(wants) {
-        expect_draw(rt, set, *high << 33, *want);
-        expect_draw(rt, set, (*high << 33) | 0x1_ffff_ffff, *want);
+        expect_draw(rt, set, *high, *want);
     }
 }
 
@@ -192,8 +204,7 @@ fn draws(rt: HostRuntime) -> Result<(), Fail> {
 }
 
 fn expect_pick(rt: &impl Abort, set: &ReadySet, k: u64, want: u32) {
-    assert!(rt; 0 < set.len());
-    assert_eq!(rt; set.pick_at(k), want, "at {k}");
+    assert!(rt; is_at(set, k, want), "at {k}");
 }
 
 // The index is counted round; the largest one leaves 0 by three.
@@ -217,7 +228,7 @@ fn every_third(rt: &impl Abort, alloc: Global, made: u32) -> Result<ReadySet, Al
 #[test]
 fn holds_as_many_as_there_may_be(rt: HostRuntime) -> Result<(), Fail> {
     let set = every_third(&rt, rt.alloc(), 65_535)?;
-    assert_eq!(rt; set.len(), 21_845);
+    assert!(rt; set.len() == 21_845);
     expect_number(&rt, &set, 10_000, Some(30_000));
     expect_number(&rt, &set, 21_844, Some(65_532));
     expect_after(&rt, &set, 40_000, Some(40_002));

@@ -75,14 +75,25 @@ fn parse_text(alloc: Global, text: &str) -> Result<Script, ScriptStop> {
     parse_script(alloc, text.as_bytes())
 }
 
-fn expect(rt: &impl Abort, alloc: Global, text: &str, wants: &[(&'static str, u32)]) {
+fn is_instr(instr: &Instr, want: (&str, u32)) -> bool {
+    let (word, place) = word(instr);
+    word == want.0 && place == want.1
+}
+
+fn expect_instr(rt: &impl Abort, instr: &Instr, want: (&str, u32)) {
+    assert!(rt; is_instr(instr, want), "{}", want.0);
+}
+
+fn expect_instrs(rt: &impl Abort, instrs: &[Instr], wants: &[(&str, u32)]) {
+    assert!(rt; instrs.len() == wants.len());
+    for (instr, want) in instrs.iter().zip(wants) {
+        expect_instr(rt, instr, *want);
+    }
+}
+
+fn expect(rt: &impl Abort, alloc: Global, text: &str, wants: &[(&str, u32)]) {
     match parse_text(alloc, text) {
-        Ok(script) => {
-            assert_eq!(rt; script.instructions.len(), wants.len());
-            for (instr, want) in script.instructions.items().iter().zip(wants) {
-                assert_eq!(rt; word(instr), *want);
-            }
-        }
+        Ok(script) => expect_instrs(rt, script.instructions.items(), wants),
         Err(stop) => panic!(rt; "{stop:?}"),
     }
 }

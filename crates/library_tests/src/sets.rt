@@ -9,6 +9,7 @@ ghost use Rattle.lineage.specs.Lineage.{IsNamed};
 
 use ldv_value::{Names, Utf8};
 use lineage::LineageSet;
+use sql_model::Member;
 use std::alloc::{AllocError, Global};
 use std::process::Abort;
 use std::test::Fail;
@@ -64,6 +65,18 @@ fn unite(names: &Names, set: &mut LineageSet, other: &LineageSet) -> Result<(), 
     set.union(other)
 }
 
+fn is_member(member: &Member, want: &(&str, u32, u32)) -> bool {
+    member.table.is_text(want.0) && member.row == want.1 && member.version == want.2
+}
+
+fn are_members(members: &[Member], wants: &[(&str, u32, u32)]) -> bool {
+    members.len() == wants.len()
+        && members
+            .iter()
+            .zip(wants)
+            .all(|(member, want)| is_member(member, want))
+}
+
 /// Expects just these members.
 pub(crate) fn expect(
     rt: &impl Abort,
@@ -75,11 +88,7 @@ pub(crate) fn expect(
     requires sorted { IsStrictlySortedBy (slice_cmp nat_cmp) names.now }
 {
     let members = set.members(names)?;
-    assert_eq!(rt; members.len(), wants.len());
-    for (member, want) in members.items().iter().zip(wants) {
-        assert!(rt; member.table.is_text(want.0));
-        assert_eq!(rt; (member.row, member.version), (want.1, want.2));
-    }
+    assert!(rt; are_members(members.items(), wants));
     Ok(())
 }
 
@@ -153,6 +162,14 @@ pub(crate) fn rows_of(
     Ok(set)
 }
 
+fn are_rows(members: &[Member], after: u32) -> bool {
+    members.len() == after as usize
+        && members
+            .iter()
+            .zip(0..after)
+            .all(|(member, row)| member.row == row && member.version == row)
+}
+
 /// Expects the rows from 0 to before a number.
 pub(crate) fn expect_rows(
     rt: &impl Abort,
@@ -164,10 +181,7 @@ pub(crate) fn expect_rows(
     requires sorted { IsStrictlySortedBy (slice_cmp nat_cmp) names.now }
 {
     let members = set.members(names)?;
-    assert_eq!(rt; members.len(), after as usize);
-    for (member, row) in members.items().iter().zip(0..after) {
-        assert_eq!(rt; (member.row, member.version), (row, row));
-    }
+    assert!(rt; are_rows(members.items(), after));
     Ok(())
 }
 
@@ -195,18 +209,24 @@ fn wanted_word(wants: &[(usize, u64)], place: usize) -> u64 {
     }
 }
 
-// Expects the words of a block of the first table; no words where none is to be set.
-fn expect_block(rt: &impl Abort, set: &LineageSet, block: u32, wants: &[(usize, u64)]) {
+fn are_words(words: &[u64], wants: &[(usize, u64)]) -> bool {
+    words.len() == 1_024
+        && words
+            .iter()
+            .enumerate()
+            .all(|(place, word)| *word == wanted_word(wants, place))
+}
+
+// Whether a block of the first table has these words; no words where none is to be set.
+fn has_words(set: &LineageSet, block: u32, wants: &[(usize, u64)]) -> bool {
     match set.block(0, block) {
-        None => assert!(rt; wants.is_empty()),
-        Some(words) => {
-            assert!(rt; !wants.is_empty());
-            assert_eq!(rt; words.len(), 1_024);
-            for (place, word) in words.iter().enumerate() {
-                assert_eq!(rt; *word, wanted_word(wants, place));
-            }
-        }
+        None => wants.is_empty(),
+        Some(words) => !wants.is_empty() && are_words(words, wants),
     }
+}
+
+fn expect_block(rt: &impl Abort, set: &LineageSet, block: u32, wants: &[(usize, u64)]) {
+    assert!(rt; has_words(set, block, wants), "block {block}");
 }
 
 #[test]

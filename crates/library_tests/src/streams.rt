@@ -25,6 +25,11 @@ fn calls(alloc: Global, number: u64) -> Result<Calls, AllocError> {
     Ok(calls)
 }
 
+fn source_of(rt: &impl Abort, input: Bytes, piece: usize, failing: Calls) -> MemorySource {
+    assert!(rt; 0usize < piece);
+    MemorySource::new(input, piece, failing)
+}
+
 // A source in pieces, whose read with this number fails.
 fn source(
     rt: &impl Abort,
@@ -32,22 +37,29 @@ fn source(
     piece: usize,
     failing: u64,
 ) -> Result<MemorySource, AllocError> {
-    assert!(rt; 0usize < piece);
-    Ok(MemorySource::new(
-        Bytes::of_slice(alloc, INPUT)?,
-        piece,
-        calls(alloc, failing)?,
-    ))
+    let input = Bytes::of_slice(alloc, INPUT)?;
+    let failing = calls(alloc, failing)?;
+    Ok(source_of(rt, input, piece, failing))
 }
 
-fn expect_read(rt: &impl Abort, read: Result<Bytes, ReadStop>, want: Result<(), ReadStop>) {
+fn is_read(read: Result<Bytes, ReadStop>, want: Result<(), ReadStop>) -> bool {
     match read {
-        Ok(bytes) => {
-            assert!(rt; want.is_ok());
-            assert!(rt; bytes.as_slice() == INPUT);
-        }
-        Err(stop) => assert_eq!(rt; want, Err(stop)),
+        Ok(bytes) => want.is_ok() && bytes.as_slice() == INPUT,
+        Err(stop) => want == Err(stop),
     }
+}
+
+fn expect_read(
+    rt: &impl Abort,
+    alloc: Global,
+    source: &mut MemorySource,
+    limit: u64,
+    want: Result<(), ReadStop>,
+) {
+    assert!(rt;
+        is_read(read_all(alloc, source, limit), want),
+        "limit {limit}"
+    );
 }
 
 #[test]
@@ -65,19 +77,58 @@ fn reads_whole_inputs(rt: HostRuntime) -> Result<(), Fail> {
         (3, 5, 8, Ok(())),
     ] {
         let mut source = source(&rt, alloc, piece, failing)?;
-        expect_read(&rt, read_all(alloc, &mut source, limit), want);
+        expect_read(&rt, alloc, &mut source, limit, want);
     }
     Ok(())
+}
+
+fn is_read_steadily(alloc: Global, input: Bytes) -> bool {
+    let mut steady = SteadySource::new(input, 3);
+    is_read(read_all(alloc, &mut steady, 8), Ok(()))
+}
+
+fn is_read_as_standard(alloc: Global, input: Vec<u8>) -> bool {
+    let mut standard = StdSource::new(Cursor::new(input));
+    is_read(read_all(alloc, &mut standard, 8), Ok(()))
 }
 
 #[test]
 fn reads_from_any_source(rt: HostRuntime) -> Result<(), Fail> {
     let alloc = rt.alloc();
-    let mut steady = SteadySource::new(Bytes::of_slice(alloc, INPUT)?, 3);
-    expect_read(&rt, read_all(alloc, &mut steady, 8), Ok(()));
-    let mut standard = StdSource::new(Cursor::new(Vec::from_slice(alloc, INPUT)?));
-    expect_read(&rt, read_all(alloc, &mut standard, 8), Ok(()));
+    assert!(rt; is_read_steadily(alloc, Bytes::of_slice(alloc, INPUT)?));
+    assert!(rt; is_read_as_standard(alloc, Vec::from_slice(alloc, INPUT)?));
     Ok(())
+}
+
+fn sink_of(
+    rt: &impl Abort,
+    alloc: Global,
+    room: usize,
+    piece: usize,
+    failing: Calls,
+) -> Result<MemorySink, AllocError> {
+    assert!(rt; 0usize < piece);
+    MemorySink::new(alloc, room, piece, failing)
+}
+
+// A sink that takes so many bytes, in pieces, and whose write with this number fails.
+fn sink(
+    rt: &impl Abort,
+    alloc: Global,
+    room: usize,
+    piece: usize,
+    failing: u64,
+) -> Result<MemorySink, AllocError> {
+    let failing = calls(alloc, failing)?;
+    sink_of(rt, alloc, room, piece, failing)
+}
+
+fn is_written(sink: &mut MemorySink, want: Result<(), WriteStop>) -> bool {
+    write_all(sink, OUTPUT) == want
+}
+
+fn has_taken(sink: &MemorySink, taken: usize) -> bool {
+    taken <= OUTPUT.len() && sink.taken() == &OUTPUT[..taken]
 }
 
 // What a sink has taken after a write of all of the output.
@@ -87,9 +138,10 @@ fn expect_written(
     taken: usize,
     want: Result<(), WriteStop>,
 ) {
-    assert!(rt; taken <= OUTPUT.len());
-    assert_eq!(rt; write_all(sink, OUTPUT), want);
-    assert!(rt; sink.taken() == &OUTPUT[..taken]);
+    assert!(rt;
+        is_written(sink, want) && has_taken(sink, taken),
+        "taken {taken}"
+    );
 }
 
 #[test]
@@ -104,28 +156,34 @@ fn writes_whole_outputs(rt: HostRuntime) -> Result<(), Fail> {
         (28, 3, 0, 28, Err(WriteStop::Fault)),
         (0, 3, 0, 0, Err(WriteStop::Fault)),
     ] {
-        assert!(rt; 0usize < piece);
-        let mut sink = MemorySink::new(alloc, room, piece, calls(alloc, failing)?)?;
+        let mut sink = sink(&rt, alloc, room, piece, failing)?;
         expect_written(&rt, &mut sink, taken, want);
     }
     Ok(())
 }
 
+fn is_dropped() -> bool {
+    write_all(&mut DropSink::new(), OUTPUT) == Ok(())
+}
+
+fn is_held(held: &mut Vec<u8>) -> bool {
+    write_all(&mut StdSink::new(held), OUTPUT) == Ok(())
+}
+
 #[test]
-fn writes_to_any_sink(rt: HostRuntime) -> Result<(), Fail> {
-    let alloc = rt.alloc();
-    assert_eq!(rt; write_all(&mut DropSink::new(), OUTPUT), Ok(()));
-    let mut held = Vec::new(alloc);
-    assert_eq!(rt; write_all(&mut StdSink::new(&mut held), OUTPUT), Ok(()));
+fn writes_to_any_sink(rt: HostRuntime) {
+    let mut held = Vec::new(rt.alloc());
+    assert!(rt; is_dropped() && is_held(&mut held));
     assert!(rt; held.as_slice() == OUTPUT);
-    Ok(())
+}
+
+fn takes_nothing(sink: &mut MemorySink) -> bool {
+    write_all(sink, b"") == Ok(()) && sink.write(b"") == Ok(0)
 }
 
 #[test]
 fn writes_nothing_to_a_full_sink(rt: HostRuntime) -> Result<(), Fail> {
-    let alloc = rt.alloc();
-    let mut full = MemorySink::new(alloc, 0, 1, calls(alloc, 0)?)?;
-    assert_eq!(rt; write_all(&mut full, b""), Ok(()));
-    assert_eq!(rt; full.write(b""), Ok(0));
+    let mut full = sink(&rt, rt.alloc(), 0, 1, 0)?;
+    assert!(rt; takes_nothing(&mut full));
     Ok(())
 }

@@ -1,38 +1,79 @@
 //! Files by hand: lines, limits, modes, copies and marks.
 
-ghost use Rattle.std.specs.Prelude.{◌≡◌, ◌≤◌, length, IsTrue, OnOk};
+ghost use Rattle.std.specs.Prelude.{◌≡◌, ◌≤◌, length, IfOk, IsTrue, OnOk};
 ghost use Rattle.std.specs.List.{All};
 ghost use Rattle.ldv_value.specs.Names.{path_test};
 ghost use Rattle.ldv_value.specs.FileState.{IsFile};
 
 use file_tree::{AppendStop, LineRead, Tree, TreeStop};
-use ldv_value::{Bytes, File, Files, OpenMode, Utf8, is_path};
+use ldv_value::{Bytes, File, Files, OpenMode, Paths, Utf8, is_path};
 use std::alloc::{AllocError, Global};
 use std::process::Abort;
 use std::test::Fail;
 
-// Adds a file to a list.
-fn add(alloc: Global, files: &mut Files, path: &str, content: &[u8]) -> Result<(), AllocError>
-    requires held { All (λ f. IsFile f.path f.content) files.old }
+fn file(alloc: Global, path: &str, content: &[u8]) -> Result<File, AllocError>
     requires valid { IsTrue (path_test path.now) }
     requires within { length content.now ≤ 16777216 }
-    ensures { OnOk result (All (λ f. IsFile f.path f.content) files.new) }
+    ensures { IfOk result (λ f. IsFile f.path f.content) }
 {
     let path = Utf8::of(alloc, path)?;
     let content = Bytes::of_slice(alloc, content)?;
-    files.push(File { path, content })?;
-    Ok(())
+    Ok(File { path, content })
+}
+
+// Adds a file to a list.
+fn add(
+    rt: &impl Abort,
+    alloc: Global,
+    files: &mut Files,
+    path: &str,
+    content: &[u8],
+) -> Result<(), AllocError>
+    requires { All (λ f. IsFile f.path f.content) files.old }
+    ensures { OnOk result (All (λ f. IsFile f.path f.content) files.new) }
+{
+    assert!(rt; is_path(path));
+    assert!(rt; content.len() <= 16_777_216);
+    match file(alloc, path, content) {
+        Ok(file) => files.push(file),
+        Err(stop) => Err(stop),
+    }
+}
+
+fn files_of(rt: &impl Abort, alloc: Global, entries: &[(&str, &[u8])]) -> Result<Files, AllocError>
+    ensures { IfOk result (All (λ f. IsFile f.path f.content)) }
+{
+    let mut files = Files::new(alloc);
+    for (path, content) in entries {
+        add(rt, alloc, &mut files, path, content)?;
+    }
+    Ok(files)
 }
 
 // The tree of these files.
 fn tree_of(rt: &impl Abort, alloc: Global, entries: &[(&str, &[u8])]) -> Result<Tree, AllocError> {
-    let mut files = Files::new(alloc);
-    for (path, content) in entries {
-        assert!(rt; is_path(path));
-        assert!(rt; content.len() <= 16_777_216);
-        add(alloc, &mut files, path, content)?;
+    match files_of(rt, alloc, entries) {
+        Ok(files) => Tree::of_files(alloc, files),
+        Err(stop) => Err(stop),
     }
-    Tree::of_files(alloc, files)
+}
+
+fn is_opened(tree: &mut Tree, mode: OpenMode, path: &str, want: Result<(), TreeStop>) -> bool {
+    is_path(path) && tree.open_path(mode, path) == want
+}
+
+fn is_appended(tree: &mut Tree, path: &str, bytes: &[u8], want: Result<(), AppendStop>) -> bool {
+    is_path(path) && tree.append(path, bytes) == want
+}
+
+fn is_copied(
+    tree: &mut Tree,
+    from: &str,
+    at: u32,
+    to: &str,
+    want: Result<u32, AppendStop>,
+) -> bool {
+    is_path(to) && tree.copy_rest(from, at, to) == want
 }
 
 fn expect_open(
@@ -42,8 +83,7 @@ fn expect_open(
     path: &str,
     want: Result<(), TreeStop>,
 ) {
-    assert!(rt; is_path(path));
-    assert_eq!(rt; tree.open_path(mode, path), want, "open at {path}");
+    assert!(rt; is_opened(tree, mode, path, want), "open at {path}");
 }
 
 fn expect_append(
@@ -53,8 +93,7 @@ fn expect_append(
     bytes: &[u8],
     want: Result<(), AppendStop>,
 ) {
-    assert!(rt; is_path(path));
-    assert_eq!(rt; tree.append(path, bytes), want, "append at {path}");
+    assert!(rt; is_appended(tree, path, bytes, want), "append at {path}");
 }
 
 fn expect_copy(
@@ -65,12 +104,11 @@ fn expect_copy(
     to: &str,
     want: Result<u32, AppendStop>,
 ) {
-    assert!(rt; is_path(to));
-    assert_eq!(rt; tree.copy_rest(from, at, to), want, "copy to {to}");
+    assert!(rt; is_copied(tree, from, at, to, want), "copy to {to}");
 }
 
 fn expect_remove(rt: &impl Abort, tree: &mut Tree, path: &str, want: Result<(), TreeStop>) {
-    assert_eq!(rt; tree.remove(path), want, "remove at {path}");
+    assert!(rt; tree.remove(path) == want, "remove at {path}");
 }
 
 fn expect_content(rt: &impl Abort, tree: &Tree, path: &str, bytes: &[u8]) {
@@ -90,16 +128,20 @@ enum Want {
     NotText,
 }
 
+fn is_wanted_line(text: &str, next: u32, want: Want) -> bool {
+    match want {
+        Want::Line(line, place) => text == line && next == place,
+        Want::Length(length, place) => text.len() == length && next == place,
+        _ => false,
+    }
+}
+
 fn is_wanted(read: &LineRead, want: Want) -> bool {
-    match (read, want) {
-        (LineRead::End, Want::End) => true,
-        (LineRead::Line { text, next }, Want::Line(line, place)) => text.as_str() == line
-            && *next == place,
-        (LineRead::Line { text, next }, Want::Length(length, place)) => text.len() == length
-            && *next == place,
-        (LineRead::TooLong, Want::TooLong) => true,
-        (LineRead::NotText, Want::NotText) => true,
-        (_, _) => false,
+    match read {
+        LineRead::End => matches!(want, Want::End),
+        LineRead::Line { text, next } => is_wanted_line(text.as_str(), *next, want),
+        LineRead::TooLong => matches!(want, Want::TooLong),
+        LineRead::NotText => matches!(want, Want::NotText),
     }
 }
 
@@ -119,20 +161,17 @@ fn bytes_of_length(alloc: Global, length: usize) -> Result<Vec<u8>, AllocError> 
     vec![in alloc; b'x'; length]
 }
 
-#[test]
-fn reads_lines(rt: HostRuntime) -> Result<(), Fail> {
-    let alloc = rt.alloc();
-    let long = bytes_of_length(alloc, 65_537)?;
-    let tree = tree_of(
-        &rt,
+// A file of lines, one that is no text, and one whose line is too long by a byte.
+fn tree_of_lines(rt: &impl Abort, alloc: Global, long: &[u8]) -> Result<Tree, AllocError> {
+    tree_of(
+        rt,
         alloc,
-        &[
-            ("f", b"one\n\na\r\nlast"),
-            ("ff", b"\xff"),
-            ("long", long.as_slice()),
-        ],
-    )?;
-    for (path, at, want) in [
+        &[("f", b"one\n\na\r\nlast"), ("ff", b"\xff"), ("long", long)],
+    )
+}
+
+fn lines() -> [(&'static str, u32, Want); 14] {
+    [
         ("f", 0, Want::Line("one", 4)),
         ("f", 1, Want::Line("ne", 4)),
         ("f", 3, Want::Line("", 4)),
@@ -147,9 +186,25 @@ fn reads_lines(rt: HostRuntime) -> Result<(), Fail> {
         ("ff", 0, Want::NotText),
         ("long", 0, Want::TooLong),
         ("long", 1, Want::Length(65_536, 65_537)),
-    ] {
-        expect_line(&rt, &tree, path, at, want)?;
+    ]
+}
+
+fn expect_lines(
+    rt: &impl Abort,
+    tree: &Tree,
+    lines: &[(&str, u32, Want)],
+) -> Result<(), AllocError> {
+    for (path, at, want) in lines {
+        expect_line(rt, tree, path, *at, *want)?;
     }
+    Ok(())
+}
+
+#[test]
+fn reads_lines(rt: HostRuntime) -> Result<(), Fail> {
+    let long = bytes_of_length(rt.alloc(), 65_537)?;
+    let tree = tree_of_lines(&rt, rt.alloc(), &long)?;
+    expect_lines(&rt, &tree, &lines())?;
     Ok(())
 }
 
@@ -238,13 +293,18 @@ fn expect_contents(rt: &impl Abort, tree: &Tree) {
     assert!(rt; !tree.exists("c.txt"));
 }
 
+fn are_paths(paths: &Paths, wants: &[&str]) -> bool {
+    paths.len() == wants.len()
+        && paths
+            .items()
+            .iter()
+            .zip(wants)
+            .all(|(path, want)| path.is_text(want))
+}
+
 fn expect_touched(rt: &impl Abort, tree: &Tree) -> Result<(), AllocError> {
     let touched = tree.touched()?;
-    let paths = ["a.txt", "b.txt", "c.txt", "m", "n", "z"];
-    assert!(rt; touched.len() == paths.len());
-    for (path, want) in touched.items().iter().zip(paths.iter()) {
-        assert!(rt; path.is_text(want), "touched {want}");
-    }
+    assert!(rt; are_paths(&touched, &["a.txt", "b.txt", "c.txt", "m", "n", "z"]));
     Ok(())
 }
 

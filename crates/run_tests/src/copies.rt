@@ -1,13 +1,12 @@
 //! Copies: no clause says that one is made where memory is left.
 
-use ldv_value::{Bytes, CopyItem, Names, Utf8, Value};
+use crate::worlds::world_of_text;
+use ldv_value::{Bytes, CopyItem, Names, Utf8, Value, Values};
 use run_model::{Act, Event, PackedFile};
 use script_parse::Operand;
-use sql_model::{Member, Members, Need, Needs, Rule, Table};
+use sql_model::{Member, Members, Need, Needs, Rule, Table, Tables};
 use std::alloc::{AllocError, Global};
-use std::process::Abort;
 use std::test::Fail;
-use world_json::world_of;
 
 fn need(alloc: Global) -> Result<Need, AllocError> {
     Ok(Need {
@@ -20,17 +19,34 @@ fn need(alloc: Global) -> Result<Need, AllocError> {
     })
 }
 
+fn is_the_need(need: &Need) -> bool {
+    need.member.table.is_text("t")
+        && need.member.row == 4
+        && need.member.version == 2
+        && need.rule == Rule::K
+}
+
+fn copied_need(alloc: Global) -> Result<Need, AllocError> {
+    let need = need(alloc)?;
+    need.copy_item(alloc)
+}
+
 #[test]
 fn copies_needs(rt: HostRuntime) -> Result<(), Fail> {
-    let copy = need(rt.alloc())?.copy_item(rt.alloc())?;
-    assert!(rt; copy.member.table.is_text("t") && copy.rule == Rule::K);
-    assert_eq!(rt; (copy.member.row, copy.member.version), (4, 2));
+    let copy = copied_need(rt.alloc())?;
+    assert!(rt; is_the_need(&copy));
     Ok(())
 }
 
+fn one_need(alloc: Global) -> Result<Needs, AllocError> {
+    let need = need(alloc)?;
+    let mut needs = Needs::new(alloc);
+    needs.push(need)?;
+    Ok(needs)
+}
+
 fn question(alloc: Global) -> Result<Event, AllocError> {
-    let mut reads = Needs::new(alloc);
-    reads.push(need(alloc)?)?;
+    let reads = one_need(alloc)?;
     Ok(Event {
         step: 3,
         process: 1,
@@ -55,11 +71,19 @@ fn has_one_need(act: &Act) -> bool {
     }
 }
 
+fn copied_question(alloc: Global) -> Result<Event, AllocError> {
+    let question = question(alloc)?;
+    question.copy_item(alloc)
+}
+
+fn is_the_question(event: &Event) -> bool {
+    event.step == 3 && event.process == 1 && has_one_need(&event.act)
+}
+
 #[test]
 fn copies_events(rt: HostRuntime) -> Result<(), Fail> {
-    let copy = question(rt.alloc())?.copy_item(rt.alloc())?;
-    assert_eq!(rt; (copy.step, copy.process), (3, 1));
-    assert!(rt; has_one_need(&copy.act));
+    let copy = copied_question(rt.alloc())?;
+    assert!(rt; is_the_question(&copy));
     Ok(())
 }
 
@@ -71,9 +95,14 @@ fn empty_file(alloc: Global) -> Result<PackedFile, AllocError> {
     })
 }
 
+fn copied_file(alloc: Global) -> Result<PackedFile, AllocError> {
+    let file = empty_file(alloc)?;
+    file.copy_item(alloc)
+}
+
 #[test]
 fn copies_files(rt: HostRuntime) -> Result<(), Fail> {
-    let copy = empty_file(rt.alloc())?.copy_item(rt.alloc())?;
+    let copy = copied_file(rt.alloc())?;
     assert!(rt; copy.path.is_text("f") && copy.content.is_some());
     Ok(())
 }
@@ -85,10 +114,15 @@ fn is_name(operand: &Operand, name: &str) -> bool {
     }
 }
 
+fn copied_name(alloc: Global, name: &str) -> Result<Operand, AllocError> {
+    let operand = Operand::Variable(Utf8::of(alloc, name)?);
+    operand.copy_item(alloc)
+}
+
 #[test]
 fn copies_operands(rt: HostRuntime) -> Result<(), Fail> {
-    let operand = Operand::Variable(Utf8::of(rt.alloc(), "x")?);
-    assert!(rt; is_name(&operand.copy_item(rt.alloc())?, "x"));
+    let copy = copied_name(rt.alloc(), "x")?;
+    assert!(rt; is_name(&copy, "x"));
     Ok(())
 }
 
@@ -96,24 +130,35 @@ fn copies_operands(rt: HostRuntime) -> Result<(), Fail> {
 const WORLD: &str =
     r#"{"start":["m"],"files":{"m":""},"tables":{"t":{"columns":[["k","INT"]],"next":9,"rows":[[5]]}}}"#;
 
-fn is_copied(table: &Table) -> bool {
-    match table.rows.items() {
-        [row] => match row.values.items() {
-            [Value::Int(number)] => *number == 5 && table.next == 9,
-            _ => false,
-        },
+fn is_five(values: &Values) -> bool {
+    match values.items() {
+        [Value::Int(number)] => *number == 5,
         _ => false,
     }
 }
 
+fn is_the_table(table: &Table) -> bool {
+    match table.rows.items() {
+        [row] => is_five(&row.values) && table.next == 9,
+        _ => false,
+    }
+}
+
+fn are_the_tables(tables: &Tables) -> bool {
+    match tables.items() {
+        [table] => is_the_table(table),
+        _ => false,
+    }
+}
+
+fn are_copied(tables: &Tables) -> Result<bool, AllocError> {
+    let copy = tables.copy()?;
+    Ok(are_the_tables(&copy))
+}
+
 #[test]
 fn copies_tables(rt: HostRuntime) -> Result<(), Fail> {
-    match world_of(rt.alloc(), WORLD.as_bytes()) {
-        Ok(world) => match world.tables.copy()?.items() {
-            [table] => assert!(rt; is_copied(table)),
-            _ => panic!(rt; "one table"),
-        },
-        Err(stop) => panic!(rt; "{stop:?}"),
-    }
+    let world = world_of_text(&rt, rt.alloc(), WORLD);
+    assert!(rt; are_copied(&world.tables)?);
     Ok(())
 }

@@ -9,6 +9,10 @@ use std::alloc::{AllocError, Global};
 use std::process::Abort;
 use std::test::Fail;
 
+fn is_told(exit: &Exit, sink: &mut MemorySink, line: &str) -> bool {
+    exit_line(exit, sink).is_ok() && sink.taken() == line.as_bytes()
+}
+
 fn expect(
     rt: &impl Abort,
     alloc: Global,
@@ -17,9 +21,7 @@ fn expect(
     line: &str,
 ) -> Result<(), AllocError> {
     let mut sink = MemorySink::new(alloc, 100, 7, Calls::new(alloc))?;
-    assert_eq!(rt; status(exit), number);
-    assert_eq!(rt; exit_line(exit, &mut sink), Ok(()));
-    assert!(rt; sink.taken() == line.as_bytes());
+    assert!(rt; status(exit) == number && is_told(exit, &mut sink, line));
     Ok(())
 }
 

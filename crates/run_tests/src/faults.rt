@@ -18,10 +18,14 @@ const ASKING: &[u8] = br#"{"start":["main"],"files":{"main":"sql q \"SELECT a FR
 // More calls than any of the runs below makes.
 const CALLS: u64 = 1_000;
 
+fn is_ended(ended: &Ended, status: u8, written: &str, line: &str) -> bool {
+    ended.status == status
+        && ended.written.as_slice() == written.as_bytes()
+        && ended.line.as_slice() == line.as_bytes()
+}
+
 fn expect(rt: &impl Abort, ended: &Ended, status: u8, written: &str, line: &str) {
-    assert_eq!(rt; ended.status, status);
-    assert!(rt; ended.written.as_slice() == written.as_bytes());
-    assert!(rt; ended.line.as_slice() == line.as_bytes());
+    assert!(rt; is_ended(ended, status, written, line));
 }
 
 // Whether a call of the program is done. Where it isn't, the fault is that of a read, and nothing was
@@ -34,6 +38,18 @@ fn done_or_unread(rt: &impl Abort, ended: &Ended) -> bool {
     false
 }
 
+// The same of the call of a command whose read with this number fails.
+fn is_done_without_read(
+    rt: &impl Abort,
+    alloc: Global,
+    command: &str,
+    input: &[u8],
+    read: u64,
+) -> Result<bool, AllocError> {
+    let ended = call(alloc, command, input, (read, 0, 0))?;
+    Ok(done_or_unread(rt, &ended))
+}
+
 // Each read fails once. Gives the number of the first read that isn't made.
 fn every_read(
     rt: &impl Abort,
@@ -42,15 +58,20 @@ fn every_read(
     input: &[u8],
 ) -> Result<u64, AllocError> {
     for read in 1..CALLS {
-        let ended = call(alloc, command, input, (read, 0, 0))?;
-        if done_or_unread(rt, &ended) {
+        if is_done_without_read(rt, alloc, command, input, read)? {
             return Ok(read);
         }
     }
     panic!(rt; "reads without an end")
 }
 
-// What a run that is done writes.
+// What a run that is done has written.
+fn written_by(rt: &impl Abort, ended: Ended) -> Vec<u8> {
+    assert!(rt; ended.status == 0);
+    ended.written
+}
+
+// What a command that is done writes.
 fn written_bytes(
     rt: &impl Abort,
     alloc: Global,
@@ -58,22 +79,60 @@ fn written_bytes(
     input: &[u8],
 ) -> Result<Vec<u8>, AllocError> {
     let ended = call(alloc, command, input, (0, 0, 0))?;
-    assert_eq!(rt; ended.status, 0);
-    Ok(ended.written)
+    Ok(written_by(rt, ended))
 }
 
-// Whether a call of the program is done. Where it isn't, the fault is that of a write, and of all that it
-// writes ten bytes stay by each write before.
-fn done_or_unwritten(rt: &impl Abort, ended: &Ended, whole: &[u8], before: usize) -> bool {
-    assert!(rt; whole.starts_with(ended.written.as_slice()));
+// Whether the fault of a call is that of a write, and of all that it writes ten bytes stay by each write
+// before.
+fn is_unwritten(ended: &Ended, whole: &[u8], before: usize) -> bool {
+    ended.status == 4
+        && ended.line.as_slice() == "ldv: write fault\n".as_bytes()
+        && ended.written.len() == before.saturating_mul(10)
+        && whole.starts_with(ended.written.as_slice())
+}
+
+// Whether a call has written all, or was stopped by the fault of a write.
+fn is_whole_or_unwritten(ended: &Ended, whole: &[u8], before: usize) -> bool {
     if ended.status == 0 {
-        assert_eq!(rt; ended.written.len(), whole.len());
-        return true;
+        ended.written.as_slice() == whole
+    } else {
+        is_unwritten(ended, whole, before)
     }
-    assert_eq!(rt; ended.status, 4);
-    assert!(rt; ended.line.as_slice() == "ldv: write fault\n".as_bytes());
-    assert!(rt; ended.written.len() == before.saturating_mul(10));
-    false
+}
+
+// Whether a call of the program is done. Where it isn't, a write failed.
+fn done_or_unwritten(rt: &impl Abort, ended: &Ended, whole: &[u8], before: usize) -> bool {
+    assert!(rt; is_whole_or_unwritten(ended, whole, before));
+    ended.status == 0
+}
+
+// The same of the call of a command whose write after so many fails.
+fn is_done_without_write(
+    rt: &impl Abort,
+    alloc: Global,
+    command: &str,
+    input: &[u8],
+    whole: &[u8],
+    before: u64,
+) -> Result<bool, AllocError> {
+    let ended = call(alloc, command, input, (0, before.saturating_add(1), 0))?;
+    Ok(done_or_unwritten(rt, &ended, whole, before as usize))
+}
+
+// Each write fails once, until all is written.
+fn every_write_of(
+    rt: &impl Abort,
+    alloc: Global,
+    command: &str,
+    input: &[u8],
+    whole: &[u8],
+) -> Result<u64, AllocError> {
+    for before in 0..CALLS {
+        if is_done_without_write(rt, alloc, command, input, whole, before)? {
+            return Ok(before.saturating_add(1));
+        }
+    }
+    panic!(rt; "writes without an end")
 }
 
 // Each write fails once. Gives the number of the first write that isn't made.
@@ -84,14 +143,7 @@ fn every_write(
     input: &[u8],
 ) -> Result<u64, AllocError> {
     let whole = written_bytes(rt, alloc, command, input)?;
-    for before in 0..CALLS {
-        let write = before.saturating_add(1);
-        let ended = call(alloc, command, input, (0, write, 0))?;
-        if done_or_unwritten(rt, &ended, whole.as_slice(), before as usize) {
-            return Ok(write);
-        }
-    }
-    panic!(rt; "writes without an end")
+    every_write_of(rt, alloc, command, input, whole.as_slice())
 }
 
 fn every_call(
@@ -105,12 +157,24 @@ fn every_call(
     Ok(())
 }
 
+fn every_command(
+    rt: &impl Abort,
+    alloc: Global,
+    commands: &[&str],
+    input: &[u8],
+) -> Result<(), AllocError> {
+    for command in commands {
+        every_call(rt, alloc, *command, input)?;
+    }
+    Ok(())
+}
+
 // ---- the replay of the least world
 
 // Its package has 107 bytes and their digest.
 fn least_package(rt: &impl Abort, alloc: Global) -> Result<Vec<u8>, AllocError> {
     let package = written_bytes(rt, alloc, "record", WORLD)?;
-    assert_eq!(rt; package.len(), 139);
+    assert!(rt; package.len() == 139);
     Ok(package)
 }
 
@@ -119,7 +183,7 @@ fn least_package(rt: &impl Abort, alloc: Global) -> Result<Vec<u8>, AllocError> 
 fn one_read_of_a_replay_fails(rt: HostRuntime) -> Result<(), Fail> {
     let package = least_package(&rt, rt.alloc())?;
     let first = every_read(&rt, rt.alloc(), "replay", package.as_slice())?;
-    assert_eq!(rt; first, 16);
+    assert!(rt; first == 16);
     Ok(())
 }
 
@@ -143,13 +207,18 @@ fn cuts() -> [Cut; 4] {
     ]
 }
 
+fn expect_cuts(rt: &impl Abort, alloc: Global, package: &[u8]) -> Result<(), AllocError> {
+    for cut in cuts() {
+        expect_cut(rt, alloc, package, cut)?;
+    }
+    Ok(())
+}
+
 // The outcome has 29 bytes, which three writes take.
 #[test]
 fn one_write_of_a_replay_fails(rt: HostRuntime) -> Result<(), Fail> {
     let package = least_package(&rt, rt.alloc())?;
-    for cut in cuts() {
-        expect_cut(&rt, rt.alloc(), package.as_slice(), cut)?;
-    }
+    expect_cuts(&rt, rt.alloc(), package.as_slice())?;
     Ok(())
 }
 
@@ -158,9 +227,8 @@ fn one_write_of_a_replay_fails(rt: HostRuntime) -> Result<(), Fail> {
 // Those that read a world.
 #[test]
 fn one_call_on_a_world_fails(rt: HostRuntime) -> Result<(), Fail> {
-    for command in ["run", "record", "record --excluded"] {
-        every_call(&rt, rt.alloc(), command, ASKING)?;
-    }
+    let commands = ["run", "record", "record --excluded"];
+    every_command(&rt, rt.alloc(), &commands, ASKING)?;
     Ok(())
 }
 
@@ -189,28 +257,37 @@ fn commands_on_packages() -> [&'static str; 9] {
 #[test]
 fn one_call_on_a_package_fails(rt: HostRuntime) -> Result<(), Fail> {
     let package = written_bytes(&rt, rt.alloc(), "record", ASKING)?;
-    for command in commands_on_packages() {
-        every_call(&rt, rt.alloc(), command, package.as_slice())?;
-    }
+    every_command(&rt, rt.alloc(), &commands_on_packages(), package.as_slice())?;
     Ok(())
 }
 
 #[test]
 fn one_call_on_recorded_replies_fails(rt: HostRuntime) -> Result<(), Fail> {
     let package = written_bytes(&rt, rt.alloc(), "record --excluded", ASKING)?;
-    for command in ["replay", "migrate"] {
-        every_call(&rt, rt.alloc(), command, package.as_slice())?;
-    }
+    every_command(&rt, rt.alloc(), &["replay", "migrate"], package.as_slice())?;
     Ok(())
+}
+
+// The input of `join`.
+fn pair_of_packages(rt: &impl Abort, alloc: Global) -> Result<Vec<u8>, AllocError> {
+    let package = written_bytes(rt, alloc, "record", ASKING)?;
+    twice(alloc, package.as_slice())
+}
+
+fn every_call_on_joined(rt: &impl Abort, alloc: Global, pair: &[u8]) -> Result<(), AllocError> {
+    let joined = written_bytes(rt, alloc, "join", pair)?;
+    every_call(rt, alloc, "replay --run 2", joined.as_slice())
+}
+
+fn every_call_on_pair(rt: &impl Abort, alloc: Global, pair: &[u8]) -> Result<(), AllocError> {
+    every_call(rt, alloc, "join", pair)?;
+    every_call_on_joined(rt, alloc, pair)
 }
 
 #[test]
 fn one_call_on_two_packages_fails(rt: HostRuntime) -> Result<(), Fail> {
-    let package = written_bytes(&rt, rt.alloc(), "record", ASKING)?;
-    let pair = twice(rt.alloc(), package.as_slice())?;
-    every_call(&rt, rt.alloc(), "join", pair.as_slice())?;
-    let joined = written_bytes(&rt, rt.alloc(), "join", pair.as_slice())?;
-    every_call(&rt, rt.alloc(), "replay --run 2", joined.as_slice())?;
+    let pair = pair_of_packages(&rt, rt.alloc())?;
+    every_call_on_pair(&rt, rt.alloc(), pair.as_slice())?;
     Ok(())
 }
 

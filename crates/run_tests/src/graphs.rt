@@ -69,16 +69,26 @@ fn graph_of(alloc: Global, package: &Package) -> Result<Graph, AllocError>
 // A file beside a script.
 const FILE: &str = r#""f":"x\n","#;
 
-// The graph of the run of a script, over the table t and with files beside the script.
-fn graph(rt: &impl Abort, alloc: Global, script: &str, files: &str) -> Result<Graph, AllocError> {
+// The package of the run of a script, over the table t and with files beside the script.
+fn package_of(
+    rt: &impl Abort,
+    alloc: Global,
+    script: &str,
+    files: &str,
+) -> Result<Package, AllocError>
+    ensures { IfOk result (λ p. IsValidPackage p) }
+{
     let world = world_of(alloc, script, files)?;
-    let package = recorded_package(rt, alloc, world.as_str())?;
+    recorded_package(rt, alloc, world.as_str())
+}
+
+fn graph(rt: &impl Abort, alloc: Global, script: &str, files: &str) -> Result<Graph, AllocError> {
+    let package = package_of(rt, alloc, script, files)?;
     graph_of(alloc, &package)
 }
 
-fn expect(rt: &impl Abort, graph: &Graph, nodes: &[Want<'_>], edges: &[Ends]) {
-    assert!(rt; are_nodes(graph.nodes().items(), nodes));
-    assert!(rt; are_edges(graph.edges().items(), edges));
+fn is_graph(graph: &Graph, nodes: &[Want<'_>], edges: &[Ends]) -> bool {
+    are_nodes(graph.nodes().items(), nodes) && are_edges(graph.edges().items(), edges)
 }
 
 // ---- edges
@@ -118,7 +128,7 @@ fn edges_of_update() -> [Ends; 11] {
 #[test]
 fn an_update_makes_a_version_of_a_row_read(rt: HostRuntime) -> Result<(), Fail> {
     let graph = graph(&rt, rt.alloc(), UPDATE, "")?;
-    expect(&rt, &graph, &nodes_of_update(), &edges_of_update());
+    assert!(rt; is_graph(&graph, &nodes_of_update(), &edges_of_update()));
     Ok(())
 }
 
@@ -134,11 +144,14 @@ fn nodes_of_files() -> [Want<'static>; 4] {
     ]
 }
 
+fn edges_of_files() -> [Ends; 3] {
+    [(0, 1, 0, 0), (1, 2, 1, 2), (3, 1, 3, 4)]
+}
+
 #[test]
 fn one_edge_has_the_first_and_the_last_step(rt: HostRuntime) -> Result<(), Fail> {
     let graph = graph(&rt, rt.alloc(), WRITES_AND_READS, FILE)?;
-    let edges: [Ends; 3] = [(0, 1, 0, 0), (1, 2, 1, 2), (3, 1, 3, 4)];
-    expect(&rt, &graph, &nodes_of_files(), &edges);
+    assert!(rt; is_graph(&graph, &nodes_of_files(), &edges_of_files()));
     Ok(())
 }
 
@@ -151,12 +164,26 @@ fn place_of(alloc: Global, graph: &Graph, path: &str) -> Result<Option<usize>, A
     Ok(graph.place(&node))
 }
 
+fn is_at(
+    alloc: Global,
+    graph: &Graph,
+    path: &str,
+    place: Option<usize>,
+) -> Result<bool, AllocError> {
+    Ok(place_of(alloc, graph, path)? == place)
+}
+
+fn expect_places(rt: &impl Abort, alloc: Global, graph: &Graph) -> Result<(), AllocError> {
+    assert!(rt; is_at(alloc, graph, "f", Some(2))?);
+    assert!(rt; is_at(alloc, graph, "g", None)?);
+    assert!(rt; graph.place(&Node::Process(1)).is_none());
+    Ok(())
+}
+
 #[test]
 fn a_node_has_a_place_where_it_is_in_the_graph(rt: HostRuntime) -> Result<(), Fail> {
     let graph = graph(&rt, rt.alloc(), r#"remove \"f\" else x\nx:\n"#, FILE)?;
-    assert_eq!(rt; place_of(rt.alloc(), &graph, "f")?, Some(2));
-    assert_eq!(rt; place_of(rt.alloc(), &graph, "g")?, None);
-    assert_eq!(rt; graph.place(&Node::Process(1)), None);
+    expect_places(&rt, rt.alloc(), &graph)?;
     Ok(())
 }
 
@@ -171,18 +198,46 @@ fn count_sources(alloc: Global, graph: &Graph, place: usize, time: u32) -> Resul
     Ok(sources.len())
 }
 
-// How many nodes the path depends on by a time.
-fn sources(
-    rt: &impl Abort,
+// Whether the path depends on so many nodes by a time.
+fn has_sources(
     alloc: Global,
     graph: &Graph,
     path: &str,
     time: u32,
-) -> Result<usize, AllocError> {
+    count: usize,
+) -> Result<bool, AllocError> {
     match place_of(alloc, graph, path)? {
-        Some(place) => count_sources(alloc, graph, place, time),
-        None => panic!(rt; "no {path}"),
+        Some(place) => Ok(count_sources(alloc, graph, place, time)? == count),
+        None => Ok(false),
     }
+}
+
+fn expect_source(
+    rt: &impl Abort,
+    alloc: Global,
+    graph: &Graph,
+    path: &str,
+    want: (u32, usize),
+) -> Result<(), AllocError> {
+    let (time, count) = want;
+    assert!(rt;
+        has_sources(alloc, graph, path, time, count)?,
+        "{path} at {time}"
+    );
+    Ok(())
+}
+
+fn expect_sources(
+    rt: &impl Abort,
+    alloc: Global,
+    graph: &Graph,
+    path: &str,
+    wants: &[(u32, usize)],
+) -> Result<(), AllocError> {
+    for want in wants {
+        expect_source(rt, alloc, graph, path, *want)?;
+    }
+    Ok(())
 }
 
 const COPIES: &str = r#"open f r \"f\" else x\nopen g w \"g\" else x\nx:\n"#;
@@ -191,9 +246,13 @@ const COPIES: &str = r#"open f r \"f\" else x\nopen g w \"g\" else x\nx:\n"#;
 #[test]
 fn a_path_depends_on_what_came_by_a_time(rt: HostRuntime) -> Result<(), Fail> {
     let graph = graph(&rt, rt.alloc(), COPIES, FILE)?;
-    for (time, count) in [(0, 0), (1, 0), (2, 3), (3, 3)] {
-        assert_eq!(rt; sources(&rt, rt.alloc(), &graph, "g", time)?, count);
-    }
-    assert_eq!(rt; sources(&rt, rt.alloc(), &graph, "f", 3)?, 0);
+    expect_sources(
+        &rt,
+        rt.alloc(),
+        &graph,
+        "g",
+        &[(0, 0), (1, 0), (2, 3), (3, 3)],
+    )?;
+    expect_sources(&rt, rt.alloc(), &graph, "f", &[(3, 0)])?;
     Ok(())
 }

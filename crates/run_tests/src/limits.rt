@@ -15,6 +15,39 @@ use std::test::Fail;
 // A status, and the line that is written with it.
 type Want = (u8, &'static str);
 
+fn is_told(
+    alloc: Global,
+    words: &[String],
+    source: &mut SteadySource,
+    errors: &mut MemorySink,
+    want: Want,
+) -> bool {
+    let status = ldv_main(alloc, words, source, &mut DropSink::new(), errors);
+    status == want.0 && errors.taken() == want.1.as_bytes()
+}
+
+fn is_answered(
+    alloc: Global,
+    words: &[String],
+    source: &mut SteadySource,
+    want: Want,
+) -> Result<bool, AllocError> {
+    let mut errors = MemorySink::new(alloc, 100, 100, Calls::new(alloc))?;
+    Ok(is_told(alloc, words, source, &mut errors, want))
+}
+
+fn expect_from(
+    rt: &impl Abort,
+    alloc: Global,
+    command: &str,
+    source: &mut SteadySource,
+    want: Want,
+) -> Result<(), AllocError> {
+    let words = words_of(alloc, command)?;
+    assert!(rt; is_answered(alloc, words.as_slice(), source, want)?);
+    Ok(())
+}
+
 fn expect(
     rt: &impl Abort,
     alloc: Global,
@@ -22,14 +55,8 @@ fn expect(
     input: Bytes,
     want: Want,
 ) -> Result<(), AllocError> {
-    let words = words_of(alloc, command)?;
     let mut source = SteadySource::new(input, 1_000_000);
-    let mut errors = MemorySink::new(alloc, 100, 100, Calls::new(alloc))?;
-    let mut sink = DropSink::new();
-    let status = ldv_main(alloc, words.as_slice(), &mut source, &mut sink, &mut errors);
-    assert_eq!(rt; status, want.0);
-    assert!(rt; errors.taken() == want.1.as_bytes());
-    Ok(())
+    expect_from(rt, alloc, command, &mut source, want)
 }
 
 // `length` blanks.
@@ -56,9 +83,9 @@ const NO_MAGIC: Want = (8, "ldv: damaged: magic\n");
 
 const NO_DOCUMENT: Want = (16, "ldv: not a provenance document\n");
 
-#[test]
-fn reads_no_longer_input(rt: HostRuntime) -> Result<(), Fail> {
-    for command in [
+// The commands that read.
+fn commands() -> [&'static str; 12] {
+    [
         "run",
         "record",
         "replay",
@@ -71,7 +98,12 @@ fn reads_no_longer_input(rt: HostRuntime) -> Result<(), Fail> {
         "prov depends f",
         "join",
         "replay --run 1",
-    ] {
+    ]
+}
+
+#[test]
+fn reads_no_longer_input(rt: HostRuntime) -> Result<(), Fail> {
+    for command in commands() {
         expect_blank(&rt, rt.alloc(), command, 67_108_865, TOO_LONG)?;
     }
     Ok(())
@@ -102,10 +134,15 @@ fn audits_no_longer_package(rt: HostRuntime) -> Result<(), Fail> {
     Ok(())
 }
 
-fn expect_joined(rt: &impl Abort, alloc: Global, count: u32, want: Want) -> Result<(), AllocError> {
+// The input of `join`.
+fn pair_of_packages(rt: &impl Abort, alloc: Global, count: u32) -> Result<Bytes, AllocError> {
     let package = package_of_a_long_name(rt, alloc, count)?;
-    let pair = twice(alloc, package.as_slice())?;
-    expect(rt, alloc, "join", Bytes::of_vec(pair), want)
+    Ok(Bytes::of_vec(twice(alloc, package.as_slice())?))
+}
+
+fn expect_joined(rt: &impl Abort, alloc: Global, count: u32, want: Want) -> Result<(), AllocError> {
+    let pair = pair_of_packages(rt, alloc, count)?;
+    expect(rt, alloc, "join", pair, want)
 }
 
 // Joined with itself a package has for each row 5 bytes, and for each of the two runs a reason of 76 and 9 in

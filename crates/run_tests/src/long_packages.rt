@@ -32,21 +32,31 @@ fn push_rows(text: &mut String, letters: &str, count: u32) -> Result<(), AllocEr
     Ok(())
 }
 
+// Appends what follows the front of a document.
+fn push_rest(text: &mut String, count: u32, first: &str, last: &str) -> Result<(), AllocError> {
+    push_rows(text, first, count)?;
+    push_row(text, last)?;
+    text.push_str("]}}}")
+}
+
 // A document of which all rows are needed: `count` rows of the first letters, and one of the last.
 fn document(alloc: Global, count: u32, first: &str, last: &str) -> Result<String, AllocError> {
     let mut text = String::from_str(alloc, FRONT)?;
-    push_rows(&mut text, first, count)?;
-    push_row(&mut text, last)?;
-    text.push_str("]}}}")?;
+    push_rest(&mut text, count, first, last)?;
     Ok(text)
+}
+
+// A document of 1,023 rows of the first letters, and one of so many.
+fn document_after(alloc: Global, first: &str, last: usize) -> Result<String, AllocError> {
+    let last = letters(alloc, last)?;
+    document(alloc, 1_023, first, last.as_str())
 }
 
 // A document within the limit: 1,023 rows of 65,536 letters, and one of fewer. A row takes more bytes in a
 // package than in JSON.
 fn long_document(alloc: Global, last: usize) -> Result<String, AllocError> {
     let first = letters(alloc, 65_536)?;
-    let last = letters(alloc, last)?;
-    document(alloc, 1_023, first.as_str(), last.as_str())
+    document_after(alloc, first.as_str(), last)
 }
 
 /// That document as bytes, with `last` letters in its last row.
@@ -67,9 +77,15 @@ fn start_event(alloc: Global) -> Result<Event, AllocError> {
     Ok(event(0, Act::Started { path }))
 }
 
+fn names_of(alloc: Global, name: &str) -> Result<Names, AllocError> {
+    let name = Utf8::of(alloc, name)?;
+    let mut names = Names::new(alloc);
+    names.push(name)?;
+    Ok(names)
+}
+
 fn asked_without_rows(alloc: Global) -> Result<Event, AllocError> {
-    let mut tables = Names::new(alloc);
-    tables.push(Utf8::of(alloc, "t")?)?;
+    let tables = names_of(alloc, "t")?;
     let act = Act::Asked {
         statement: 0,
         tables,
@@ -79,12 +95,16 @@ fn asked_without_rows(alloc: Global) -> Result<Event, AllocError> {
     Ok(event(1, act))
 }
 
+fn push_events(alloc: Global, events: &mut Events) -> Result<(), AllocError> {
+    events.push(start_event(alloc)?)?;
+    events.push(asked_without_rows(alloc)?)?;
+    events.push(event(2, Act::Ended { status: 0 }))
+}
+
 // The events of its run, but that no row is read: 9 bytes fewer for each row.
 fn events(alloc: Global) -> Result<Events, AllocError> {
     let mut events = Events::new(alloc);
-    events.push(start_event(alloc)?)?;
-    events.push(asked_without_rows(alloc)?)?;
-    events.push(event(2, Act::Ended { status: 0 }))?;
+    push_events(alloc, &mut events)?;
     Ok(events)
 }
 
@@ -104,29 +124,54 @@ fn spelling_of(rt: &impl Abort, alloc: Global, package: &Package) -> Bytes {
     }
 }
 
+fn package_of_long_rows(rt: &impl Abort, alloc: Global) -> Result<Package, AllocError> {
+    let text = long_document(alloc, 46_000)?;
+    Ok(recorded_package(rt, alloc, text.as_str()))
+}
+
 /// A package of about 5,000 bytes less than the limit. That of its own world has about 9,000 bytes more.
 pub(crate) fn longer_than_it_reads(rt: &impl Abort, alloc: Global) -> Result<Bytes, AllocError> {
-    let text = long_document(alloc, 46_000)?;
-    let mut package = recorded_package(rt, alloc, text.as_str());
+    let mut package = package_of_long_rows(rt, alloc)?;
     package.events = events(alloc)?;
     Ok(spelling_of(rt, alloc, &package))
 }
 
 // ---- a table of a long name
 
-// A document whose table has this name and `count` rows of one NULL and one more, all of which are needed.
-fn document_of_nulls(alloc: Global, name: &str, count: u32) -> Result<String, AllocError> {
-    let front = r#"{"start":["main"],"files":{"main":"sql q \"SELECT * FROM "#;
-    let mut text = String::from_str(alloc, front)?;
+// Appends `count` rows of one NULL, each with a comma after it.
+fn push_nulls(text: &mut String, count: u32) -> Result<(), AllocError> {
+    for _ in 0..count {
+        text.push_str("[null],")?;
+    }
+    Ok(())
+}
+
+// Appends what follows the front of a document: the table's name, and the table.
+fn push_table(text: &mut String, name: &str, count: u32) -> Result<(), AllocError> {
     text.push_str(name)?;
     text.push_str(r#"\""},"tables":{""#)?;
     text.push_str(name)?;
     text.push_str(r#"":{"columns":[["g","TEXT"]],"rows":["#)?;
-    for _ in 0..count {
-        text.push_str("[null],")?;
-    }
-    text.push_str("[null]]}}}")?;
+    push_nulls(text, count)?;
+    text.push_str("[null]]}}}")
+}
+
+// A document whose table has this name and `count` rows of one NULL and one more, all of which are needed.
+fn document_of_nulls(alloc: Global, name: &str, count: u32) -> Result<String, AllocError> {
+    let front = r#"{"start":["main"],"files":{"main":"sql q \"SELECT * FROM "#;
+    let mut text = String::from_str(alloc, front)?;
+    push_table(&mut text, name, count)?;
     Ok(text)
+}
+
+fn document_of_a_long_name(alloc: Global, count: u32) -> Result<String, AllocError> {
+    let name = letters(alloc, 63)?;
+    document_of_nulls(alloc, name.as_str(), count)
+}
+
+fn recorded_bytes(rt: &impl Abort, alloc: Global, text: &str) -> Bytes {
+    let package = recorded_package(rt, alloc, text);
+    spelling_of(rt, alloc, &package)
 }
 
 /// A package of `count` needed rows and one more, each of 19 bytes: 10 with its reason, and 9 in the trace.
@@ -136,8 +181,6 @@ pub(crate) fn package_of_a_long_name(
     alloc: Global,
     count: u32,
 ) -> Result<Bytes, AllocError> {
-    let name = letters(alloc, 63)?;
-    let text = document_of_nulls(alloc, name.as_str(), count)?;
-    let package = recorded_package(rt, alloc, text.as_str());
-    Ok(spelling_of(rt, alloc, &package))
+    let text = document_of_a_long_name(alloc, count)?;
+    Ok(recorded_bytes(rt, alloc, text.as_str()))
 }

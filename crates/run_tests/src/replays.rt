@@ -5,6 +5,7 @@ ghost use Rattle.std.specs.Prelude.{◌≡◌, IfOk, true};
 ghost use Rattle.ldv_value.specs.FileState.{files_test, initial_files};
 ghost use Rattle.package_layout.specs.Valid.{IsValidPackage};
 ghost use Rattle.package_layout.specs.Whole.{IsTyped};
+ghost use Rattle.proc_core.specs.Running.{has_ended};
 ghost use Rattle.replay_db.specs.Runs.{CanRun};
 
 use crate::worlds::world_of_text;
@@ -42,59 +43,82 @@ fn one(alloc: Global, value: Value) -> Result<Values, AllocError> {
     Ok(values)
 }
 
-fn one_row(alloc: Global, value: Value) -> Result<Reply, AllocError> {
+fn rows_of(alloc: Global, values: Values) -> Result<RowList, AllocError> {
     let mut rows = RowList::new(alloc);
-    rows.push(one(alloc, value)?)?;
-    Ok(Reply::Rows(rows))
+    rows.push(values)?;
+    Ok(rows)
 }
 
-fn entry(alloc: Global, text: &str, params: Values, reply: Reply) -> Result<Entry, AllocError> {
+fn one_row(alloc: Global, value: Value) -> Result<Reply, AllocError> {
+    let values = one(alloc, value)?;
+    Ok(Reply::Rows(rows_of(alloc, values)?))
+}
+
+fn one_letter(alloc: Global) -> Result<Reply, AllocError> {
+    let letter = Utf8::of(alloc, "a")?;
+    one_row(alloc, Value::Text(letter))
+}
+
+// The entry of a question without parameters.
+fn entry(alloc: Global, text: &str, reply: Reply) -> Result<Entry, AllocError> {
     Ok(Entry {
         text: Utf8::of(alloc, text)?,
-        params,
+        params: Values::new(alloc),
         reply,
     })
 }
 
-fn log_of(alloc: Global, parts: &[u32], entries: Entries) -> Result<Log, AllocError> {
+fn first_entry(alloc: Global) -> Result<Entry, AllocError> {
+    let reply = one_letter(alloc)?;
+    let mut entry = entry(alloc, "SELECT g FROM t WHERE k = ?", reply)?;
+    entry.params.push(Value::Int(1))?;
+    Ok(entry)
+}
+
+fn entry_of_child(alloc: Global) -> Result<Entry, AllocError> {
+    let reply = one_row(alloc, Value::Int(2))?;
+    entry(alloc, "SELECT COUNT(*) FROM t", reply)
+}
+
+// The log of a process that has asked nothing yet.
+fn log_of(alloc: Global, parts: &[u32]) -> Result<Log, AllocError> {
     Ok(Log {
         process: ProcName {
             parts: Parts::of_vec(Vec::from_slice(alloc, parts)?),
         },
-        entries,
+        entries: Entries::new(alloc),
     })
 }
 
-fn first_entry(alloc: Global) -> Result<Entry, AllocError> {
-    let letter = Utf8::of(alloc, "a")?;
-    let params = one(alloc, Value::Int(1))?;
-    let reply = one_row(alloc, Value::Text(letter))?;
-    entry(alloc, "SELECT g FROM t WHERE k = ?", params, reply)
+fn push_first(alloc: Global, entries: &mut Entries) -> Result<(), AllocError> {
+    entries.push(first_entry(alloc)?)?;
+    entries.push(entry(alloc, "DELETE FROM t", Reply::Changed(2))?)
 }
 
 fn log_of_first(alloc: Global) -> Result<Log, AllocError> {
-    let mut entries = Entries::new(alloc);
-    entries.push(first_entry(alloc)?)?;
-    entries.push(entry(
-        alloc,
-        "DELETE FROM t",
-        Values::new(alloc),
-        Reply::Changed(2),
-    )?)?;
-    log_of(alloc, &[0], entries)
+    let mut log = log_of(alloc, &[0])?;
+    push_first(alloc, &mut log.entries)?;
+    Ok(log)
+}
+
+fn push_of_child(alloc: Global, entries: &mut Entries) -> Result<(), AllocError> {
+    entries.push(entry_of_child(alloc)?)
 }
 
 fn log_of_child(alloc: Global) -> Result<Log, AllocError> {
-    let reply = one_row(alloc, Value::Int(2))?;
-    let mut entries = Entries::new(alloc);
-    entries.push(entry(alloc, "SELECT COUNT(*) FROM t", Values::new(alloc), reply)?)?;
-    log_of(alloc, &[0, 0], entries)
+    let mut log = log_of(alloc, &[0, 0])?;
+    push_of_child(alloc, &mut log.entries)?;
+    Ok(log)
+}
+
+fn push_logs(alloc: Global, logs: &mut Logs) -> Result<(), AllocError> {
+    logs.push(log_of_first(alloc)?)?;
+    logs.push(log_of_child(alloc)?)
 }
 
 fn logs(alloc: Global) -> Result<Logs, AllocError> {
     let mut logs = Logs::new(alloc);
-    logs.push(log_of_first(alloc)?)?;
-    logs.push(log_of_child(alloc)?)?;
+    push_logs(alloc, &mut logs)?;
     Ok(logs)
 }
 
@@ -136,56 +160,87 @@ fn tree_of(alloc: Global, files: Files) -> Result<Tree, AllocError>
     Tree::of_files(alloc, files)
 }
 
-fn begin<D: Database>(alloc: Global, world: World, db: D) -> Result<Run<D, ListTracer>, AllocError>
-    requires can_run { CanRun world }
+fn tree_of_copy(alloc: Global, files: &Files) -> Result<Tree, AllocError>
+    requires { files_test files.now ≡ true }
+    ensures { IfOk result (λ tree. tree ≡ initial_files files.now) }
+{
+    let copy = files.copy()?;
+    tree_of(alloc, copy)
+}
+
+fn begin<D: Database>(alloc: Global, world: &World, db: D) -> Result<Run<D, ListTracer>, AllocError>
+    requires can_run { CanRun world.now }
     requires fresh { D.latest db ≡ 0 }
     ensures { IfOk result (λ run. run.steps ≡ 0) }
 {
-    let World {
-        start,
-        seed,
-        files,
-        tables: _,
-    } = world;
-    let tree = tree_of(alloc, files)?;
-    let begun = Run::start(&start, seed, tree, db, ListTracer::new(alloc))?;
-    Ok(begun)
+    let tree = tree_of_copy(alloc, &world.files)?;
+    Run::start(&world.start, world.seed, tree, db, ListTracer::new(alloc))
 }
 
-// What the world's run over a database leaves: the database, and the events.
-fn run_over<D: Database>(rt: &impl Abort, alloc: Global, db: D) -> Result<(D, Events), AllocError>
+fn begun_run<D: Database>(
+    rt: &impl Abort,
+    alloc: Global,
+    db: D,
+) -> Result<Run<D, ListTracer>, AllocError>
     requires fresh { D.latest db ≡ 0 }
+    ensures { IfOk result (λ run. run.steps ≡ 0) }
 {
     let world = world_of_text(rt, alloc, WORLD);
-    let begun = begin(alloc, world, db)?;
+    begin(alloc, &world, db)
+}
+
+// The world's run over a database, at its end.
+fn ended_run<D: Database>(
+    rt: &impl Abort,
+    alloc: Global,
+    db: D,
+) -> Result<Run<D, ListTracer>, AllocError>
+    requires fresh { D.latest db ≡ 0 }
+    ensures { IfOk result (λ run. has_ended run.machine ≡ true) }
+{
+    let begun = begun_run(rt, alloc, db)?;
     match begun.to_end(BUDGET) {
-        Ok(ended) => {
-            let (db, tracer) = ended.into_parts();
-            Ok((db, tracer.events()))
-        }
+        Ok(ended) => Ok(ended),
         Err(_) => panic!(rt; "no end"),
     }
 }
 
-// How many processes the outcome of the run has: of a copy first, and then of the run's own parts.
-fn processes_twice(rt: &impl Abort, alloc: Global) -> Result<(usize, usize), AllocError> {
-    let world = world_of_text(rt, alloc, WORLD);
+// The same over the replies.
+fn run_over_replies(rt: &impl Abort, alloc: Global) -> Result<Run<ReplyLog, ListTracer>, AllocError>
+    ensures { IfOk result (λ run. has_ended run.machine ≡ true) }
+{
     let log = reply_log(rt, alloc)?;
-    let begun = begin(alloc, world, log)?;
-    match begun.to_end(BUDGET) {
-        Ok(ended) => {
-            let copy = ended.outcome()?;
-            let own = ended.into_outcome()?;
-            Ok((copy.processes.len(), own.processes.len()))
-        }
-        Err(_) => panic!(rt; "no end"),
-    }
+    ended_run(rt, alloc, log)
+}
+
+// Whether a copy of the run's outcome has two processes.
+fn shows_two(run: &Run<ReplyLog, ListTracer>) -> Result<bool, AllocError>
+    requires { has_ended run.now.machine ≡ true }
+{
+    let outcome = run.outcome()?;
+    Ok(outcome.processes.len() == 2)
+}
+
+// Whether the outcome of the run's own parts has two.
+fn leaves_two(run: Run<ReplyLog, ListTracer>) -> Result<bool, AllocError>
+    requires { has_ended run.machine ≡ true }
+{
+    let outcome = run.into_outcome()?;
+    Ok(outcome.processes.len() == 2)
 }
 
 #[test]
 fn outcome_leaves_the_run(rt: HostRuntime) -> Result<(), Fail> {
-    assert_eq!(rt; processes_twice(&rt, rt.alloc())?, (2, 2));
+    let run = run_over_replies(&rt, rt.alloc())?;
+    assert!(rt; shows_two(&run)?);
+    assert!(rt; leaves_two(run)?);
     Ok(())
+}
+
+// What a run leaves: the database, and the events.
+fn parts_of<D: Database>(run: Run<D, ListTracer>) -> (D, Events) {
+    let (db, tracer) = run.into_parts();
+    (db, tracer.events())
 }
 
 // A line of a question: its step, its process, its number, and how many tables, rows and versions it has.
@@ -209,29 +264,58 @@ fn add_question(text: &mut String, event: &Event) -> Result<(), AllocError> {
     }
 }
 
-fn questions(alloc: Global, events: &[Event]) -> Result<String, AllocError> {
-    let mut text = String::new(alloc);
+fn push_questions(text: &mut String, events: &[Event]) -> Result<(), AllocError> {
     for event in events {
-        add_question(&mut text, event)?;
+        add_question(text, event)?;
     }
-    Ok(text)
+    Ok(())
 }
 
 const QUESTIONS: &str = "1 0 0: 0 0 0\n3 1 1: 0 0 0\n6 0 2: 0 0 0\n";
 
-#[test]
-fn tells_questions_without_rows(rt: HostRuntime) -> Result<(), Fail> {
-    let log = reply_log(&rt, rt.alloc())?;
-    let (_db, events) = run_over(&rt, rt.alloc(), log)?;
-    assert_eq!(rt; questions(rt.alloc(), events.items())?.as_str(), QUESTIONS);
+fn are_questions(alloc: Global, events: &[Event]) -> Result<bool, AllocError> {
+    let mut text = String::new(alloc);
+    push_questions(&mut text, events)?;
+    Ok(text.as_str() == QUESTIONS)
+}
+
+fn expect_questions(rt: &impl Abort, alloc: Global, events: Events) -> Result<(), AllocError> {
+    assert!(rt; are_questions(alloc, events.items())?);
     Ok(())
 }
 
-// What a recorder over the replies keeps of the run over it.
+fn events_over_replies(rt: &impl Abort, alloc: Global) -> Result<Events, AllocError> {
+    let run = run_over_replies(rt, alloc)?;
+    let (_log, events) = parts_of(run);
+    Ok(events)
+}
+
+#[test]
+fn tells_questions_without_rows(rt: HostRuntime) -> Result<(), Fail> {
+    let events = events_over_replies(&rt, rt.alloc())?;
+    expect_questions(&rt, rt.alloc(), events)?;
+    Ok(())
+}
+
+fn run_over_recorder(
+    rt: &impl Abort,
+    alloc: Global,
+) -> Result<Run<Recorder<ReplyLog>, ListTracer>, AllocError> {
+    let log = reply_log(rt, alloc)?;
+    ended_run(rt, alloc, Recorder::over(alloc, log))
+}
+
+// A recorder over the replies, after the run over it.
+fn recorder_after(rt: &impl Abort, alloc: Global) -> Result<Recorder<ReplyLog>, AllocError> {
+    let run = run_over_recorder(rt, alloc)?;
+    let (recorder, events) = parts_of(run);
+    expect_questions(rt, alloc, events)?;
+    Ok(recorder)
+}
+
+// What it keeps.
 fn kept_logs(rt: &impl Abort, alloc: Global) -> Result<Logs, AllocError> {
-    let recorder = Recorder::over(alloc, reply_log(rt, alloc)?);
-    let (recorder, events) = run_over(rt, alloc, recorder)?;
-    assert_eq!(rt; questions(alloc, events.items())?.as_str(), QUESTIONS);
+    let recorder = recorder_after(rt, alloc)?;
     recorder.logs()
 }
 
@@ -241,88 +325,114 @@ fn spelled_with(rt: &impl Abort, alloc: Global, logs: Logs) -> Bytes {
     spelling_of(rt, alloc, &package)
 }
 
+fn kept_bytes(rt: &impl Abort, alloc: Global) -> Result<Bytes, AllocError> {
+    let logs = kept_logs(rt, alloc)?;
+    Ok(spelled_with(rt, alloc, logs))
+}
+
+fn given_bytes(rt: &impl Abort, alloc: Global) -> Result<Bytes, AllocError> {
+    let logs = logs(alloc)?;
+    Ok(spelled_with(rt, alloc, logs))
+}
+
+fn are_given(rt: &impl Abort, alloc: Global, kept: &[u8]) -> Result<bool, AllocError> {
+    let given = given_bytes(rt, alloc)?;
+    Ok(kept == given.as_slice())
+}
+
 #[test]
 fn keeps_the_replies_that_it_has(rt: HostRuntime) -> Result<(), Fail> {
-    let kept = spelled_with(&rt, rt.alloc(), kept_logs(&rt, rt.alloc())?);
-    let given = spelled_with(&rt, rt.alloc(), logs(rt.alloc())?);
-    assert!(rt; kept.as_slice() == given.as_slice());
+    let kept = kept_bytes(&rt, rt.alloc())?;
+    assert!(rt; are_given(&rt, rt.alloc(), kept.as_slice())?);
     Ok(())
 }
 
 // ---- a package that stays
 
+fn recorded_bytes(rt: &impl Abort, alloc: Global, mode: Mode) -> Bytes {
+    let package = recorded_package(rt, alloc, mode);
+    spelling_of(rt, alloc, &package)
+}
+
 fn read_recorded(rt: &impl Abort, alloc: Global, mode: Mode) -> Package
     ensures typed { IsTyped result }
     ensures valid { IsValidPackage result }
 {
-    let bytes = spelling_of(rt, alloc, &recorded_package(rt, alloc, mode));
+    let bytes = recorded_bytes(rt, alloc, mode);
     match read_package(alloc, bytes.as_slice()) {
         Ok(package) => package,
         Err(_) => panic!(rt; "no package"),
     }
 }
 
-// How many processes the run of a package has over its replies.
-fn count_by_replies(alloc: Global, package: &Package) -> Option<usize>
+// Whether the run of a package over its replies has two processes.
+fn is_replayed(alloc: Global, package: &Package) -> bool
     requires { IsValidPackage «package».now }
 {
     can_replay_law();
     match replay_excluded(alloc, package, BUDGET) {
-        Ok(outcome) => Some(outcome.processes.len()),
-        Err(_) => None,
+        Ok(outcome) => outcome.processes.len() == 2,
+        Err(_) => false,
     }
 }
 
-// How many it has under another seed.
-fn count_by_seed(alloc: Global, package: &Package, seed: u64) -> Option<usize>
+// Whether it has two under another seed.
+fn is_replayed_by_seed(alloc: Global, package: &Package, seed: u64) -> bool
     requires { IsValidPackage «package».now }
 {
     can_replay_law();
     match replay_seeded(alloc, package, seed, BUDGET) {
-        Ok(outcome) => Some(outcome.processes.len()),
-        Err(_) => None,
+        Ok(outcome) => outcome.processes.len() == 2,
+        Err(_) => false,
     }
 }
 
-// How many processes the run of a package's own world has.
-fn count_by_rows(alloc: Global, package: &Package) -> Option<usize>
+// Whether the run of a package's own world has two.
+fn is_run(alloc: Global, package: &Package) -> bool
     requires typed { IsTyped «package».now }
     requires valid { IsValidPackage «package».now }
 {
     package_law();
     match replay_included(alloc, package, BUDGET) {
-        Ok(outcome) => Some(outcome.processes.len()),
-        Err(_) => None,
+        Ok(outcome) => outcome.processes.len() == 2,
+        Err(_) => false,
     }
 }
 
-// How many rows the table has after a step of it.
-fn rows_after(alloc: Global, package: &Package, step: u32) -> Option<usize>
+// Whether the table has so many rows after a step of it. None: there is no such step.
+fn has_rows_after(alloc: Global, package: &Package, step: u32, rows: Option<usize>) -> bool
     requires typed { IsTyped «package».now }
     requires valid { IsValidPackage «package».now }
 {
     package_law();
     match table_at(alloc, package, "t", step, BUDGET) {
-        Ok(table) => Some(table.rows.len()),
-        Err(_) => None,
+        Ok(table) => rows == Some(table.rows.len()),
+        Err(_) => rows.is_none(),
     }
+}
+
+// The DELETE of its two rows is the sixth of its seven steps.
+fn has_its_rows(alloc: Global, package: &Package) -> bool
+    requires typed { IsTyped «package».now }
+    requires valid { IsValidPackage «package».now }
+{
+    has_rows_after(alloc, package, 5, Some(2))
+        && has_rows_after(alloc, package, 6, Some(0))
+        && has_rows_after(alloc, package, 8, None)
 }
 
 #[test]
 fn replays_a_package_that_stays(rt: HostRuntime) -> Result<(), Fail> {
     let package = read_recorded(&rt, rt.alloc(), Mode::Excluded);
-    assert_eq!(rt; count_by_replies(rt.alloc(), &package), Some(2));
-    assert_eq!(rt; count_by_seed(rt.alloc(), &package, 7), Some(2));
+    assert!(rt; is_replayed(rt.alloc(), &package));
+    assert!(rt; is_replayed_by_seed(rt.alloc(), &package, 7));
     Ok(())
 }
 
-// The DELETE of its two rows is the sixth of its seven steps.
 #[test]
 fn runs_an_included_package_that_stays(rt: HostRuntime) -> Result<(), Fail> {
     let package = read_recorded(&rt, rt.alloc(), Mode::Included);
-    assert_eq!(rt; count_by_rows(rt.alloc(), &package), Some(2));
-    assert_eq!(rt; rows_after(rt.alloc(), &package, 5), Some(2));
-    assert_eq!(rt; rows_after(rt.alloc(), &package, 6), Some(0));
-    assert_eq!(rt; rows_after(rt.alloc(), &package, 8), None);
+    assert!(rt; is_run(rt.alloc(), &package));
+    assert!(rt; has_its_rows(rt.alloc(), &package));
     Ok(())
 }

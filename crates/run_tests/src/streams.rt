@@ -27,12 +27,22 @@ fn calls(alloc: Global, number: u64) -> Result<Calls, AllocError> {
     Ok(calls)
 }
 
+fn push_word(alloc: Global, words: &mut Vec<String>, word: &str) -> Result<(), AllocError> {
+    words.push(String::from_str(alloc, word)?)?;
+    Ok(())
+}
+
+fn push_words(alloc: Global, words: &mut Vec<String>, command: &str) -> Result<(), AllocError> {
+    for word in command.split_whitespace() {
+        push_word(alloc, words, word)?;
+    }
+    Ok(())
+}
+
 /// The words of a command, between spaces.
 pub(crate) fn words_of(alloc: Global, command: &str) -> Result<Vec<String>, AllocError> {
     let mut words = Vec::new(alloc);
-    for word in command.split_whitespace() {
-        words.push(String::from_str(alloc, word)?)?;
-    }
+    push_words(alloc, &mut words, command)?;
     Ok(words)
 }
 
@@ -65,6 +75,19 @@ fn left_by(
     })
 }
 
+// Calls the program over a source and a sink. The write of an error with this number fails.
+fn call_into(
+    alloc: Global,
+    words: &[String],
+    source: &mut MemorySource,
+    sink: &mut MemorySink,
+    write: u64,
+) -> Result<Ended, AllocError> {
+    let mut errors = errors_of(alloc, write)?;
+    let status = ldv_main(alloc, words, source, sink, &mut errors);
+    left_by(alloc, status, sink, &errors)
+}
+
 // Calls the program over a source.
 fn call_over(
     alloc: Global,
@@ -73,9 +96,18 @@ fn call_over(
     faults: Faults,
 ) -> Result<Ended, AllocError> {
     let mut sink = sink_of(alloc, faults.1)?;
-    let mut errors = errors_of(alloc, faults.2)?;
-    let status = ldv_main(alloc, words, source, &mut sink, &mut errors);
-    left_by(alloc, status, &sink, &errors)
+    call_into(alloc, words, source, &mut sink, faults.2)
+}
+
+// Calls the program with these words.
+fn call_words(
+    alloc: Global,
+    words: &[String],
+    input: &[u8],
+    faults: Faults,
+) -> Result<Ended, AllocError> {
+    let mut source = source_of(alloc, input, faults.0)?;
+    call_over(alloc, words, &mut source, faults)
 }
 
 /// Calls the program over streams of pieces of 10 bytes.
@@ -86,6 +118,5 @@ pub(crate) fn call(
     faults: Faults,
 ) -> Result<Ended, AllocError> {
     let words = words_of(alloc, command)?;
-    let mut source = source_of(alloc, input, faults.0)?;
-    call_over(alloc, words.as_slice(), &mut source, faults)
+    call_words(alloc, words.as_slice(), input, faults)
 }

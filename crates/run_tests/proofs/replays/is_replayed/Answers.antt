@@ -1,5 +1,5 @@
 use Rattle.ldv_value.proofs.Booleans.{and-second}
-use Rattle.run_tests.proofs.replays.count_by_replies.Goals as goal
+use Rattle.run_tests.proofs.replays.is_replayed.Goals as goal
 
 pub replay_excluded-requires-clause-can_replay : goal.replay_excluded-requires-clause-can_replay
 replay_excluded-requires-clause-can_replay c = c.can_replay_law.ensures c.args.package.now (and-second _ _ c.requires)

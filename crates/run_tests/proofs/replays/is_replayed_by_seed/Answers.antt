@@ -1,5 +1,5 @@
 use Rattle.ldv_value.proofs.Booleans.{and-second}
-use Rattle.run_tests.proofs.replays.count_by_seed.Goals as goal
+use Rattle.run_tests.proofs.replays.is_replayed_by_seed.Goals as goal
 
 pub replay_seeded-requires-clause-can_replay : goal.replay_seeded-requires-clause-can_replay
 replay_seeded-requires-clause-can_replay c = c.can_replay_law.ensures c.args.package.now (and-second _ _ c.requires)
