@@ -13,26 +13,26 @@ use sql_check::{CheckStop, check, groups};
 use sql_model::{Catalog, Checked, Statement};
 use sql_parse::{ParseStop, parse};
 use std::alloc::{AllocError, Global};
+use std::mem;
 use table_store::Store;
-
-/// The rows of an answer, and the rows of tables that stand behind none of these: in groups that HAVING
-/// rejects, and behind rows that LIMIT cuts.
-#[derive(Drop)]
-pub(crate) struct Answered {
-    pub answers: Answers,
-    pub rejected: LineageSet,
-    pub cut: LineageSet,
-}
 
 // ---- the statement of a text
 
-fn statement_of(alloc: Global, text: &str) -> Result<Option<Statement>, AllocError> {
-    let params = Values::new(alloc);
-    match parse(alloc, text, &params) {
+fn statement_with(
+    alloc: Global,
+    text: &str,
+    params: &Values,
+) -> Result<Option<Statement>, AllocError> {
+    match parse(alloc, text, params) {
         Ok(statement) => Ok(Some(statement)),
         Err(ParseStop::Syntax) => Ok(None),
         Err(ParseStop::NoMemory) => Err(AllocError),
     }
+}
+
+fn statement_of(alloc: Global, text: &str) -> Result<Option<Statement>, AllocError> {
+    let params = Values::new(alloc);
+    statement_with(alloc, text, &params)
 }
 
 fn check_statement(
@@ -59,36 +59,61 @@ fn checked_text(
     }
 }
 
-// ---- the rows of a core
+// ---- the rows of a core; those of the groups that HAVING rejects are added to a set
 
-fn project_plain(checked: &Checked, core: usize, picks: Picks) -> Result<Grouped, AllocError>
-    requires { HasCore checked.now core }
-{
-    let alloc = picks.allocator();
-    Ok(Grouped {
-        answers: project(checked, core, picks)?,
-        rejected: LineageSet::empty(alloc),
-    })
+fn with_rejected(rows: Grouped, rejected: &mut LineageSet) -> Result<Answers, AllocError> {
+    rejected.union(&rows.rejected)?;
+    Ok(rows.answers)
 }
 
-fn evaluate(checked: &Checked, core: usize, picks: Picks) -> Result<Grouped, AllocError>
+fn group_picks(
+    checked: &Checked,
+    core: usize,
+    picks: Picks,
+    rejected: &mut LineageSet,
+) -> Result<Answers, AllocError>
+    requires { HasCore checked.now core }
+{
+    let rows = group(checked, core, picks)?;
+    with_rejected(rows, rejected)
+}
+
+fn evaluate(
+    checked: &Checked,
+    core: usize,
+    picks: Picks,
+    rejected: &mut LineageSet,
+) -> Result<Answers, AllocError>
     requires { HasCore checked.now core }
 {
     if groups(core_of(checked, core)) {
-        group(checked, core, picks)
+        group_picks(checked, core, picks, rejected)
     } else {
-        project_plain(checked, core, picks)
+        project(checked, core, picks)
     }
 }
 
-fn merged_if(merges: bool, rows: Grouped) -> Result<Grouped, AllocError> {
-    if !merges {
-        return Ok(rows);
-    }
-    Ok(Grouped {
-        answers: merge(rows.answers)?,
-        rejected: rows.rejected,
-    })
+fn plain_rows(
+    checked: &Checked,
+    core: usize,
+    store: &Store,
+    keep: bool,
+    rejected: &mut LineageSet,
+) -> Result<Answers, AllocError>
+    requires { HasCore checked.now core }
+{
+    let picks = picked(checked, core, store, keep)?;
+    evaluate(checked, core, picks, rejected)
+}
+
+fn merge_all(answers: &mut Answers) -> Result<(), AllocError> {
+    let none = Answers::new(answers.allocator());
+    *answers = merge(mem::replace(answers, none))?;
+    Ok(())
+}
+
+fn merge_if(merges: bool, answers: &mut Answers) -> Result<(), AllocError> {
+    if merges { merge_all(answers) } else { Ok(()) }
 }
 
 fn core_rows(
@@ -96,12 +121,13 @@ fn core_rows(
     core: usize,
     store: &Store,
     keep: bool,
-) -> Result<Grouped, AllocError>
+    rejected: &mut LineageSet,
+) -> Result<Answers, AllocError>
     requires { HasCore checked.now core }
 {
-    let picks = picked(checked, core, store, keep)?;
-    let rows = evaluate(checked, core, picks)?;
-    merged_if(core_of(checked, core).distinct, rows)
+    let mut rows = plain_rows(checked, core, store, keep, rejected)?;
+    merge_if(core_of(checked, core).distinct, &mut rows)?;
+    Ok(rows)
 }
 
 // ---- the rows of all cores
@@ -120,22 +146,25 @@ fn has_core(checked: &Checked, core: usize) -> bool
     }
 }
 
-fn append_answers(answers: Answers, more: Answers) -> Result<Answers, AllocError> {
-    let mut made = answers;
+fn append_answers(answers: &mut Answers, more: Answers) -> Result<(), AllocError> {
     for answer in more.into_vec() {
-        made.push(answer)?;
+        answers.push(answer)?;
     }
-    Ok(made)
+    Ok(())
 }
 
-fn with_more(rows: Grouped, more: Grouped) -> Result<Grouped, AllocError> {
-    let Grouped { answers, rejected } = rows;
-    let mut set = rejected;
-    set.union(&more.rejected)?;
-    Ok(Grouped {
-        answers: append_answers(answers, more.answers)?,
-        rejected: set,
-    })
+fn append_core(
+    checked: &Checked,
+    core: usize,
+    store: &Store,
+    keep: bool,
+    answers: &mut Answers,
+    rejected: &mut LineageSet,
+) -> Result<(), AllocError>
+    requires { HasCore checked.now core }
+{
+    let more = core_rows(checked, core, store, keep, rejected)?;
+    append_answers(answers, more)
 }
 
 // Whether the rows of a core are merged with those before it.
@@ -145,52 +174,62 @@ fn unites(checked: &Checked, core: usize) -> bool
     core > 0 && !core_of(checked, core).joined_all
 }
 
-fn with_core(
+fn add_core(
     checked: &Checked,
     core: usize,
     store: &Store,
     keep: bool,
-    rows: Grouped,
-) -> Result<Grouped, AllocError>
+    answers: &mut Answers,
+    rejected: &mut LineageSet,
+) -> Result<(), AllocError>
     requires { HasCore checked.now core }
 {
-    let more = core_rows(checked, core, store, keep)?;
-    let both = with_more(rows, more)?;
-    merged_if(unites(checked, core), both)
+    append_core(checked, core, store, keep, answers, rejected)?;
+    merge_if(unites(checked, core), answers)
 }
 
-// With the rows of a core where the query has it.
-fn with_core_if(
+// Adds the rows of a core where the query has it.
+fn add_core_if(
     checked: &Checked,
     core: usize,
     store: &Store,
     keep: bool,
-    rows: Grouped,
-) -> Result<Grouped, AllocError> {
+    answers: &mut Answers,
+    rejected: &mut LineageSet,
+) -> Result<(), AllocError> {
     if has_core(checked, core) {
-        with_core(checked, core, store, keep, rows)
+        add_core(checked, core, store, keep, answers, rejected)
     } else {
-        Ok(rows)
+        Ok(())
     }
 }
 
 // The most cores of a query here.
 const CORES: usize = 4;
 
+fn add_cores(
+    checked: &Checked,
+    store: &Store,
+    keep: bool,
+    answers: &mut Answers,
+    rejected: &mut LineageSet,
+) -> Result<(), AllocError> {
+    for core in 0..CORES {
+        add_core_if(checked, core, store, keep, answers, rejected)?;
+    }
+    Ok(())
+}
+
 fn all_rows(
     alloc: Global,
     checked: &Checked,
     store: &Store,
     keep: bool,
-) -> Result<Grouped, AllocError> {
-    let mut rows = Grouped {
-        answers: Answers::new(alloc),
-        rejected: LineageSet::empty(alloc),
-    };
-    for core in 0..CORES {
-        rows = with_core_if(checked, core, store, keep, rows)?;
-    }
-    Ok(rows)
+    rejected: &mut LineageSet,
+) -> Result<Answers, AllocError> {
+    let mut answers = Answers::new(alloc);
+    add_cores(checked, store, keep, &mut answers, rejected)?;
+    Ok(answers)
 }
 
 // ---- the answer
@@ -211,16 +250,12 @@ fn query_answer(
     checked: &Checked,
     store: &Store,
     keep: bool,
-) -> Result<Answered, AllocError>
+    rejected: &mut LineageSet,
+) -> Result<Finished, AllocError>
     requires { IsQuery checked.now.statement }
 {
-    let Grouped { answers, rejected } = all_rows(alloc, checked, store, keep)?;
-    let Finished { answers, cut } = finish(checked, answers)?;
-    Ok(Answered {
-        answers,
-        rejected,
-        cut,
-    })
+    let answers = all_rows(alloc, checked, store, keep, rejected)?;
+    finish(checked, answers)
 }
 
 fn answer_of(
@@ -228,23 +263,26 @@ fn answer_of(
     checked: &Checked,
     store: &Store,
     keep: bool,
-) -> Result<Option<Answered>, AllocError> {
+    rejected: &mut LineageSet,
+) -> Result<Option<Finished>, AllocError> {
     if !is_query(checked) {
         return Ok(None);
     }
-    Ok(Some(query_answer(alloc, checked, store, keep)?))
+    Ok(Some(query_answer(alloc, checked, store, keep, rejected)?))
 }
 
-/// The answer of a text over the tables of a store, None where it is no query or a refused one. Where `keep`
-/// is false, no row of a table is told.
+/// The answer of a text over the tables of a store, and the rows of tables that LIMIT cuts; None where it is
+/// no query or a refused one. The rows in groups that HAVING rejects are added to a set. Where `keep` is
+/// false, no row of a table is told.
 pub(crate) fn answer_to(
     alloc: Global,
     text: &str,
     store: &Store,
     keep: bool,
-) -> Result<Option<Answered>, AllocError> {
+    rejected: &mut LineageSet,
+) -> Result<Option<Finished>, AllocError> {
     match checked_text(alloc, text, store.catalog())? {
         None => Ok(None),
-        Some(checked) => answer_of(alloc, &checked, store, keep),
+        Some(checked) => answer_of(alloc, &checked, store, keep, rejected),
     }
 }

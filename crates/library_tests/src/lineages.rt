@@ -1,12 +1,16 @@
 //! Which rows of t each row of an answer comes from, and which are behind none. Bytes show them together
 //! alone, as what the statement needed. All was worked out by hand.
 
-use crate::answered::{Answered, answer_to};
-use crate::asked::{Case, ask_all, session_of_t};
-use crate::shown::answered_text;
+ghost use Rattle.std.specs.Prelude.{◌≡◌};
+
+use crate::answered::answer_to;
+use crate::asked::{Case, ask_all, engine_of_t, expect_text};
+use crate::shown::answer_text;
 use crate::stored::store_of_t;
 use ldv_value::Utf8;
+use lineage::LineageSet;
 use run_model::NullTracer;
+use sql_engine::Engine;
 use std::alloc::{AllocError, Global};
 use std::process::Abort;
 use std::test::Fail;
@@ -15,15 +19,22 @@ use table_store::Store;
 // A query and its answer, as a text.
 type Want = (&'static str, &'static str);
 
-fn shown_if(alloc: Global, found: Option<Answered>) -> Result<Utf8, AllocError> {
-    match found {
+fn text_with(
+    alloc: Global,
+    query: &str,
+    store: &Store,
+    keep: bool,
+    rejected: &mut LineageSet,
+) -> Result<Utf8, AllocError> {
+    match answer_to(alloc, query, store, keep, rejected)? {
         None => Utf8::of(alloc, "no answer"),
-        Some(answered) => answered_text(alloc, &answered),
+        Some(finished) => answer_text(alloc, &finished, rejected),
     }
 }
 
-fn answer_text(alloc: Global, query: &str, store: &Store, keep: bool) -> Result<Utf8, AllocError> {
-    shown_if(alloc, answer_to(alloc, query, store, keep)?)
+fn text_of(alloc: Global, query: &str, store: &Store, keep: bool) -> Result<Utf8, AllocError> {
+    let mut rejected = LineageSet::empty(alloc);
+    text_with(alloc, query, store, keep, &mut rejected)
 }
 
 fn expect_answer(
@@ -31,11 +42,10 @@ fn expect_answer(
     alloc: Global,
     store: &Store,
     keep: bool,
-    want: Want,
+    want: &Want,
 ) -> Result<(), AllocError> {
-    let (query, want) = want;
-    let text = answer_text(alloc, query, store, keep)?;
-    assert_eq!(rt; text.as_str(), want, "answer to {query}");
+    let text = text_of(alloc, want.0, store, keep)?;
+    expect_text(rt, want.0, text.as_str(), want.1);
     Ok(())
 }
 
@@ -47,15 +57,20 @@ fn expect_answers(
     wants: &[Want],
 ) -> Result<(), AllocError> {
     for want in wants {
-        expect_answer(rt, alloc, store, keep, *want)?;
+        expect_answer(rt, alloc, store, keep, want)?;
     }
     Ok(())
 }
 
 // Expects answers over the table t with the rows 0 to 4.
-fn expect_over_t(rt: &impl Abort, alloc: Global, wants: &[Want]) -> Result<(), AllocError> {
+fn expect_over_t(
+    rt: &impl Abort,
+    alloc: Global,
+    keep: bool,
+    wants: &[Want],
+) -> Result<(), AllocError> {
     let store = store_of_t(rt, alloc)?;
-    expect_answers(rt, alloc, &store, true, wants)
+    expect_answers(rt, alloc, &store, keep, wants)
 }
 
 // ---- rows of one source and of several
@@ -77,7 +92,7 @@ fn scans() -> [Want; 4] {
 
 #[test]
 fn rows_come_from_themselves(rt: HostRuntime) -> Result<(), Fail> {
-    expect_over_t(&rt, rt.alloc(), &scans())?;
+    expect_over_t(&rt, rt.alloc(), true, &scans())?;
     Ok(())
 }
 
@@ -106,7 +121,7 @@ fn joins() -> [Want; 4] {
 
 #[test]
 fn joined_rows_come_from_one_of_each_source(rt: HostRuntime) -> Result<(), Fail> {
-    expect_over_t(&rt, rt.alloc(), &joins())?;
+    expect_over_t(&rt, rt.alloc(), true, &joins())?;
     Ok(())
 }
 
@@ -119,8 +134,7 @@ fn values_of_joins() -> [Want; 1] {
 
 #[test]
 fn rows_have_the_same_values_without_lineage(rt: HostRuntime) -> Result<(), Fail> {
-    let store = store_of_t(&rt, rt.alloc())?;
-    expect_answers(&rt, rt.alloc(), &store, false, &values_of_joins())?;
+    expect_over_t(&rt, rt.alloc(), false, &values_of_joins())?;
     Ok(())
 }
 
@@ -149,7 +163,7 @@ fn merged_wants() -> [Want; 4] {
 
 #[test]
 fn merged_rows_come_from_all(rt: HostRuntime) -> Result<(), Fail> {
-    expect_over_t(&rt, rt.alloc(), &merged_wants())?;
+    expect_over_t(&rt, rt.alloc(), true, &merged_wants())?;
     Ok(())
 }
 
@@ -173,7 +187,7 @@ fn united_wants() -> [Want; 3] {
 
 #[test]
 fn united_rows_come_from_those_before(rt: HostRuntime) -> Result<(), Fail> {
-    expect_over_t(&rt, rt.alloc(), &united_wants())?;
+    expect_over_t(&rt, rt.alloc(), true, &united_wants())?;
     Ok(())
 }
 
@@ -192,7 +206,7 @@ fn groups() -> [Want; 3] {
 
 #[test]
 fn groups_come_from_all_their_rows(rt: HostRuntime) -> Result<(), Fail> {
-    expect_over_t(&rt, rt.alloc(), &groups())?;
+    expect_over_t(&rt, rt.alloc(), true, &groups())?;
     Ok(())
 }
 
@@ -219,7 +233,7 @@ fn rejected_wants() -> [Want; 4] {
 
 #[test]
 fn rejected_groups_are_told_apart(rt: HostRuntime) -> Result<(), Fail> {
-    expect_over_t(&rt, rt.alloc(), &rejected_wants())?;
+    expect_over_t(&rt, rt.alloc(), true, &rejected_wants())?;
     Ok(())
 }
 
@@ -245,7 +259,7 @@ fn cut() -> [Want; 4] {
 
 #[test]
 fn cut_rows_are_told_apart(rt: HostRuntime) -> Result<(), Fail> {
-    expect_over_t(&rt, rt.alloc(), &cut())?;
+    expect_over_t(&rt, rt.alloc(), true, &cut())?;
     Ok(())
 }
 
@@ -276,33 +290,49 @@ fn after_changes() -> [Want; 3] {
     ]
 }
 
+fn expect_after_changes(
+    rt: &impl Abort,
+    alloc: Global,
+    engine: &mut Engine,
+) -> Result<(), AllocError>
+    requires { engine.old.time ≡ 0 }
+{
+    ask_all(rt, alloc, engine, &changes(), &mut NullTracer)?;
+    expect_answers(rt, alloc, engine.store(), true, &after_changes())
+}
+
 #[test]
 fn rows_keep_their_numbers_after_changes(rt: HostRuntime) -> Result<(), Fail> {
-    let mut tracer = NullTracer;
-    let session = session_of_t(&rt, rt.alloc())?;
-    let session = ask_all(&rt, rt.alloc(), session, &changes(), &mut tracer)?;
-    expect_answers(&rt, rt.alloc(), session.store(), true, &after_changes())?;
+    let mut engine = engine_of_t(&rt, rt.alloc())?;
+    expect_after_changes(&rt, rt.alloc(), &mut engine)?;
     Ok(())
 }
 
 // ---- answers that are nearly right
 
+fn expect_different(rt: &impl Abort, query: &str, text: &str, wrong: &str) {
+    assert!(rt; text != wrong, "answer to {query}");
+}
+
 fn expect_other(
     rt: &impl Abort,
     alloc: Global,
     store: &Store,
-    wrong: Want,
+    wrong: &Want,
 ) -> Result<(), AllocError> {
-    let (query, wrong) = wrong;
-    let text = answer_text(alloc, query, store, true)?;
-    assert!(rt; text.as_str() != wrong, "answer to {query}");
+    let text = text_of(alloc, wrong.0, store, true)?;
+    expect_different(rt, wrong.0, text.as_str(), wrong.1);
     Ok(())
 }
 
-fn expect_others(rt: &impl Abort, alloc: Global, wrongs: &[Want]) -> Result<(), AllocError> {
-    let store = store_of_t(rt, alloc)?;
+fn expect_others(
+    rt: &impl Abort,
+    alloc: Global,
+    store: &Store,
+    wrongs: &[Want],
+) -> Result<(), AllocError> {
     for wrong in wrongs {
-        expect_other(rt, alloc, &store, *wrong)?;
+        expect_other(rt, alloc, store, wrong)?;
     }
     Ok(())
 }
@@ -338,6 +368,7 @@ fn wrongs() -> [Want; 7] {
 
 #[test]
 fn nearly_right_answers_differ(rt: HostRuntime) -> Result<(), Fail> {
-    expect_others(&rt, rt.alloc(), &wrongs())?;
+    let store = store_of_t(&rt, rt.alloc())?;
+    expect_others(&rt, rt.alloc(), &store, &wrongs())?;
     Ok(())
 }

@@ -1,9 +1,12 @@
 //! What statements over the table t need and make, as a tracer is told: rows at the versions that they have
 //! after earlier changes. All was worked out by hand.
 
-use crate::asked::{Case, ask_all, session_of_t};
+ghost use Rattle.std.specs.Prelude.{◌≡◌};
+
+use crate::asked::{Case, ask_all, engine_of_t, expect_text};
 use ldv_value::Utf8;
-use run_model::{Act, Event, ListTracer};
+use run_model::{Act, Event, Events, ListTracer};
+use sql_engine::Engine;
 use sql_model::{Member, Need, Rule};
 use std::alloc::{AllocError, Global};
 use std::process::Abort;
@@ -78,7 +81,7 @@ fn expect_event(
 ) -> Result<(), AllocError> {
     let mut text = Utf8::new(alloc);
     show_event(alloc, &mut text, event)?;
-    assert_eq!(rt; text.as_str(), want);
+    expect_text(rt, "an event", text.as_str(), want);
     Ok(())
 }
 
@@ -88,7 +91,7 @@ fn expect_events(
     events: &[Event],
     wants: &[&str],
 ) -> Result<(), AllocError> {
-    assert_eq!(rt; events.len(), wants.len());
+    assert!(rt; events.len() == wants.len());
     for (event, want) in events.iter().zip(wants) {
         expect_event(rt, alloc, event, *want)?;
     }
@@ -124,12 +127,23 @@ fn told_lines() -> [&'static str; 8] {
     ]
 }
 
+fn events_in(rt: &impl Abort, alloc: Global, engine: &mut Engine) -> Result<Events, AllocError>
+    requires { engine.old.time ≡ 0 }
+{
+    let mut tracer = ListTracer::new(alloc);
+    ask_all(rt, alloc, engine, &statements(), &mut tracer)?;
+    Ok(tracer.events())
+}
+
+// The events of the statements over the table t.
+fn events_of_t(rt: &impl Abort, alloc: Global) -> Result<Events, AllocError> {
+    let mut engine = engine_of_t(rt, alloc)?;
+    events_in(rt, alloc, &mut engine)
+}
+
 #[test]
 fn statements_need_rows_at_their_versions(rt: HostRuntime) -> Result<(), Fail> {
-    let mut tracer = ListTracer::new(rt.alloc());
-    let session = session_of_t(&rt, rt.alloc())?;
-    let _session = ask_all(&rt, rt.alloc(), session, &statements(), &mut tracer)?;
-    let events = tracer.events();
+    let events = events_of_t(&rt, rt.alloc())?;
     expect_events(&rt, rt.alloc(), events.items(), &told_lines())?;
     Ok(())
 }

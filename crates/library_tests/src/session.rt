@@ -1,6 +1,6 @@
 //! An engine that is asked statement by statement.
 
-ghost use Rattle.std.specs.Prelude.{◌≡◌};
+ghost use Rattle.std.specs.Prelude.{◌≡◌, ◌<◌, ◌≤◌, IfOk, OnOk};
 
 use crate::stored::expect_database;
 use ldv_value::{Parts, Utf8, Values};
@@ -8,34 +8,18 @@ use run_model::{Asker, Database, ProcName, Tracer};
 use sql_engine::Engine;
 use sql_model::{Reply, Tables};
 use std::alloc::{AllocError, Global};
-use std::marker::Model;
 use std::process::Abort;
-use table_store::Store;
 
-/// An engine, and the last step at which it was asked.
-#[derive(Drop)]
-pub(crate) struct Session {
+/// The engine over tables, of which no row was changed yet.
+pub(crate) fn engine_of(
+    rt: &impl Abort,
     alloc: Global,
-    engine: Engine,
-    step: u32,
-}
-
-impl Model for Session {
-    ghost use Rattle.std.specs.Prelude.{◌≤◌};
-    ghost use Rattle.table_store.specs.Histories.{StoreHistory};
-
-    ghost Value = { StoreHistory };
-
-    ghost view = { λ a. a.engine };
-
-    ghost invariant = { λ a. a.engine.time ≤ a.step };
-}
-
-/// A session, and the reply to the statement that was asked last.
-#[derive(Drop)]
-pub(crate) struct Asked {
-    pub session: Session,
-    pub reply: Reply,
+    tables: Tables,
+) -> Result<Engine, AllocError>
+    ensures { IfOk result (λ engine. engine.time ≡ 0) }
+{
+    expect_database(rt, alloc, tables.items())?;
+    Engine::of_tables(alloc, tables)
 }
 
 fn asker(alloc: Global, step: u32) -> Asker
@@ -51,55 +35,63 @@ fn asker(alloc: Global, step: u32) -> Asker
     }
 }
 
-impl Session {
-    /// Over tables, of which no row was changed yet.
-    pub(crate) fn of_tables(
-        rt: &impl Abort,
-        alloc: Global,
-        tables: Tables,
-    ) -> Result<Session, AllocError> {
-        expect_database(rt, alloc, tables.items())?;
-        let engine = Engine::of_tables(alloc, tables)?;
-        Ok(Session {
-            alloc,
-            engine,
-            step: 0,
-        })
+fn ask_as<T: Tracer>(
+    who: &Asker,
+    engine: &mut Engine,
+    text: &Utf8,
+    params: &Values,
+    tracer: &mut T,
+) -> Result<Reply, AllocError>
+    requires { engine.old.time < who.now.step }
+    ensures { OnOk result (engine.new.time ≤ who.now.step) }
+{
+    match engine.ask(who, text, params, tracer) {
+        Err(_) => Err(AllocError),
+        Ok(reply) => Ok(reply),
     }
+}
 
-    /// The tables through time.
-    pub(crate) fn store(&self) -> &Store {
-        self.engine.store()
-    }
+fn ask_text<T: Tracer>(
+    alloc: Global,
+    who: &Asker,
+    engine: &mut Engine,
+    text: &str,
+    params: &Values,
+    tracer: &mut T,
+) -> Result<Reply, AllocError>
+    requires { engine.old.time < who.now.step }
+    ensures { OnOk result (engine.new.time ≤ who.now.step) }
+{
+    let text = Utf8::of(alloc, text)?;
+    ask_as(who, engine, &text, params, tracer)
+}
 
-    /// Asks a statement at the next step.
-    pub(crate) fn ask<T: Tracer>(
-        self,
-        text: &str,
-        params: &Values,
-        tracer: &mut T,
-    ) -> Result<Asked, AllocError> {
-        let Session {
-            alloc,
-            engine,
-            step,
-        } = self;
-        let mut engine = engine;
-        let Some(step) = step.checked_add(1) else {
-            return Err(AllocError);
-        };
-        let who = asker(alloc, step);
-        let text = Utf8::of(alloc, text)?;
-        match engine.ask(&who, &text, params, tracer) {
-            Err(_) => Err(AllocError),
-            Ok(reply) => Ok(Asked {
-                session: Session {
-                    alloc,
-                    engine,
-                    step,
-                },
-                reply,
-            }),
-        }
-    }
+fn ask_at<T: Tracer>(
+    alloc: Global,
+    engine: &mut Engine,
+    step: u32,
+    text: &str,
+    params: &Values,
+    tracer: &mut T,
+) -> Result<Reply, AllocError>
+    requires { engine.old.time < step }
+    ensures { OnOk result (engine.new.time ≤ step) }
+{
+    let who = asker(alloc, step);
+    ask_text(alloc, &who, engine, text, params, tracer)
+}
+
+/// Asks a statement without parameters at a step.
+pub(crate) fn ask<T: Tracer>(
+    alloc: Global,
+    engine: &mut Engine,
+    step: u32,
+    text: &str,
+    tracer: &mut T,
+) -> Result<Reply, AllocError>
+    requires { engine.old.time < step }
+    ensures { OnOk result (engine.new.time ≤ step) }
+{
+    let params = Values::new(alloc);
+    ask_at(alloc, engine, step, text, &params, tracer)
 }

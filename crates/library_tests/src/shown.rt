@@ -1,9 +1,9 @@
 //! Answers as texts, each of their rows with the rows of t that it comes from, and then those that are behind
 //! none of them: `'a' 30 from 0 1; NULL 5 from 2; rejected 3; cut 4`.
 
-use crate::answered::Answered;
 use ldv_value::{Utf8, Value, Values};
 use lineage::{Answer, LineageRows, LineageSet};
+use query_eval::Finished;
 use std::alloc::{AllocError, Global};
 
 fn show_number(alloc: Global, text: &mut Utf8, number: i64) -> Result<(), AllocError> {
@@ -115,11 +115,24 @@ fn show_hidden(
     show_set(alloc, text, set)
 }
 
-/// The text of an answer.
-pub(crate) fn answered_text(alloc: Global, answered: &Answered) -> Result<Utf8, AllocError> {
+fn show_all(
+    alloc: Global,
+    text: &mut Utf8,
+    finished: &Finished,
+    rejected: &LineageSet,
+) -> Result<(), AllocError> {
+    show_answers(alloc, text, finished.answers.items())?;
+    show_hidden(alloc, text, "rejected", rejected)?;
+    show_hidden(alloc, text, "cut", &finished.cut)
+}
+
+/// The text of an answer, and of the rows in groups that HAVING rejects.
+pub(crate) fn answer_text(
+    alloc: Global,
+    finished: &Finished,
+    rejected: &LineageSet,
+) -> Result<Utf8, AllocError> {
     let mut text = Utf8::new(alloc);
-    show_answers(alloc, &mut text, answered.answers.items())?;
-    show_hidden(alloc, &mut text, "rejected", &answered.rejected)?;
-    show_hidden(alloc, &mut text, "cut", &answered.cut)?;
+    show_all(alloc, &mut text, finished, rejected)?;
     Ok(text)
 }

@@ -7,9 +7,10 @@ ghost use Rattle.std.specs.Option.{option_map};
 ghost use Rattle.sql_model.specs.Scope.{table_at};
 ghost use Rattle.table_store.specs.Histories.{history_at, tables_now};
 
-use crate::asked::{Case, ask_all, session_of_t};
+use crate::asked::{Case, ask_all, engine_of_t};
 use ldv_value::{Cmp, Value, Values};
-use run_model::{ListTracer, NullTracer};
+use run_model::{Events, ListTracer, NullTracer, Tracer};
+use sql_engine::Engine;
 use std::alloc::{AllocError, Global};
 use std::process::Abort;
 use std::test::Fail;
@@ -61,36 +62,53 @@ fn has_numbers(store: &Store, name: &str, column: usize) -> bool
     }
 }
 
-fn expect_version(rt: &impl Abort, store: &Store, name: &str, row: u32, want: Option<u32>) {
-    assert!(rt; is_there(store, name));
-    assert!(rt; store.version(name, row) == want, "version of row {row}");
+fn is_version(store: &Store, name: &str, row: u32, want: Option<u32>) -> bool {
+    is_there(store, name) && store.version(name, row) == want
 }
 
-fn expect_slot(rt: &impl Abort, store: &Store, name: &str, slot: u64, want: Option<u32>) {
-    assert!(rt; is_there(store, name));
-    assert!(rt; store.slot_row(name, slot) == want, "slot {slot}");
+fn expect_version(rt: &impl Abort, store: &Store, row: u32, want: Option<u32>) {
+    assert!(rt; is_version(store, "t", row, want), "version of row {row}");
+}
+
+fn expect_versions(rt: &impl Abort, store: &Store, wants: &[(u32, Option<u32>)]) {
+    for want in wants {
+        expect_version(rt, store, want.0, want.1);
+    }
+}
+
+fn is_slot(store: &Store, name: &str, slot: u64, want: Option<u32>) -> bool {
+    is_there(store, name) && store.slot_row(name, slot) == want
+}
+
+fn key_of(alloc: Global, number: i64) -> Result<Values, AllocError> {
+    let mut key = Values::new(alloc);
+    key.push(Value::Int(number))?;
+    Ok(key)
+}
+
+fn is_by_key(store: &Store, name: &str, key: &Values, want: Option<u32>) -> bool {
+    is_there(store, name) && is_keyed(store, name) && store.by_key(name, key) == want
+}
+
+fn is_key(
+    alloc: Global,
+    store: &Store,
+    number: i64,
+    want: Option<u32>,
+) -> Result<bool, AllocError> {
+    let key = key_of(alloc, number)?;
+    Ok(is_by_key(store, "t", &key, want))
 }
 
 fn expect_key(
     rt: &impl Abort,
     alloc: Global,
     store: &Store,
-    name: &str,
     number: i64,
     want: Option<u32>,
 ) -> Result<(), AllocError> {
-    let mut key = Values::new(alloc);
-    key.push(Value::Int(number))?;
-    assert!(rt; is_there(store, name));
-    assert!(rt; is_keyed(store, name));
-    assert!(rt; store.by_key(name, &key) == want, "key {number}");
+    assert!(rt; is_key(alloc, store, number, want)?, "key {number}");
     Ok(())
-}
-
-fn expect_versions(rt: &impl Abort, store: &Store, wants: &[(u32, Option<u32>)]) {
-    for want in wants {
-        expect_version(rt, store, "t", want.0, want.1);
-    }
 }
 
 fn expect_keys(
@@ -100,7 +118,7 @@ fn expect_keys(
     wants: &[(i64, Option<u32>)],
 ) -> Result<(), AllocError> {
     for want in wants {
-        expect_key(rt, alloc, store, "t", want.0, want.1)?;
+        expect_key(rt, alloc, store, want.0, want.1)?;
     }
     Ok(())
 }
@@ -143,23 +161,45 @@ fn expect_last(rt: &impl Abort, alloc: Global, store: &Store) -> Result<(), Allo
     expect_keys(rt, alloc, store, &last_keys())
 }
 
+fn expect_changes_in<T: Tracer>(
+    rt: &impl Abort,
+    alloc: Global,
+    engine: &mut Engine,
+    tracer: &mut T,
+) -> Result<(), AllocError>
+    requires { engine.old.time ≡ 0 }
+{
+    ask_all(rt, alloc, engine, &changes(), tracer)?;
+    expect_last(rt, alloc, engine.store())
+}
+
+// The changes of the table t, and what they leave.
+fn expect_changes<T: Tracer>(
+    rt: &impl Abort,
+    alloc: Global,
+    tracer: &mut T,
+) -> Result<(), AllocError> {
+    let mut engine = engine_of_t(rt, alloc)?;
+    expect_changes_in(rt, alloc, &mut engine, tracer)
+}
+
 #[test]
 fn keeps_versions_and_keys(rt: HostRuntime) -> Result<(), Fail> {
-    let mut tracer = NullTracer;
-    let session = session_of_t(&rt, rt.alloc())?;
-    let session = ask_all(&rt, rt.alloc(), session, &changes(), &mut tracer)?;
-    expect_last(&rt, rt.alloc(), session.store())?;
+    expect_changes(&rt, rt.alloc(), &mut NullTracer)?;
     Ok(())
+}
+
+fn events_of_changes(rt: &impl Abort, alloc: Global) -> Result<Events, AllocError> {
+    let mut tracer = ListTracer::new(alloc);
+    expect_changes(rt, alloc, &mut tracer)?;
+    Ok(tracer.events())
 }
 
 // The replies and the tables are the same, and each statement is noted, refused or not.
 #[test]
 fn keeps_the_same_while_traced(rt: HostRuntime) -> Result<(), Fail> {
-    let mut tracer = ListTracer::new(rt.alloc());
-    let session = session_of_t(&rt, rt.alloc())?;
-    let session = ask_all(&rt, rt.alloc(), session, &changes(), &mut tracer)?;
-    expect_last(&rt, rt.alloc(), session.store())?;
-    assert_eq!(rt; tracer.events().len(), 6);
+    let events = events_of_changes(&rt, rt.alloc())?;
+    assert!(rt; events.len() == 6);
     Ok(())
 }
 
@@ -181,40 +221,60 @@ fn mask_for(alloc: Global, store: &Store, name: &str) -> Result<Vec<u64>, AllocE
     Ok(mask)
 }
 
-fn expect_scan(
-    rt: &impl Abort,
+fn scanned(alloc: Global, store: &Store, name: &str, column: usize) -> Result<Vec<u64>, AllocError>
+    requires there { IsSome (table_at name.now (tables_now store.now)) }
+    requires numbers { IfSome (history_at name.now store.now)
+        (λ history. option_map (λ column. column.text) (slice_get history.schema.columns column)
+        ≡ Some false) }
+{
+    let mut mask = mask_for(alloc, store, name)?;
+    store.scan(name, column as u64, Cmp::Ge, 10, mask.as_mut_slice());
+    Ok(mask)
+}
+
+// Whether these are the rows with a number from 10 on in a column of INT.
+fn is_scan(
     alloc: Global,
     store: &Store,
     name: &str,
     column: usize,
     want: &[u64],
+) -> Result<bool, AllocError> {
+    if !is_there(store, name) || !has_numbers(store, name, column) {
+        return Ok(false);
+    }
+    let mask = scanned(alloc, store, name, column)?;
+    Ok(mask.as_slice() == want)
+}
+
+fn expect_scan(
+    rt: &impl Abort,
+    alloc: Global,
+    store: &Store,
+    first: Option<u32>,
+    want: &[u64],
 ) -> Result<(), AllocError> {
-    assert!(rt; is_there(store, name));
-    assert!(rt; has_numbers(store, name, column));
-    let mut mask = mask_for(alloc, store, name)?;
-    store.scan(name, column as u64, Cmp::Ge, 10, mask.as_mut_slice());
-    assert!(rt; mask.as_slice() == want);
+    assert!(rt; is_slot(store, "t", 0, first));
+    assert!(rt; is_scan(alloc, store, "t", 2, want)?);
     Ok(())
 }
 
-fn expect_all(rt: &impl Abort, alloc: Global, store: &Store) -> Result<(), AllocError> {
-    expect_slot(rt, store, "t", 0, Some(0));
-    expect_scan(rt, alloc, store, "t", 2, &[19])
+fn deletion() -> [Case; 1] {
+    [("DELETE FROM t WHERE k = 1", "changed 1")]
 }
 
-fn expect_others(rt: &impl Abort, alloc: Global, store: &Store) -> Result<(), AllocError> {
-    expect_slot(rt, store, "t", 0, None);
-    expect_keys(rt, alloc, store, &[(1, None), (2, Some(1))])?;
-    expect_scan(rt, alloc, store, "t", 2, &[18])
+fn expect_others(rt: &impl Abort, alloc: Global, engine: &mut Engine) -> Result<(), AllocError>
+    requires { engine.old.time ≡ 0 }
+{
+    ask_all(rt, alloc, engine, &deletion(), &mut NullTracer)?;
+    expect_keys(rt, alloc, engine.store(), &[(1, None), (2, Some(1))])?;
+    expect_scan(rt, alloc, engine.store(), None, &[18])
 }
 
 #[test]
 fn scans_rows_that_stand(rt: HostRuntime) -> Result<(), Fail> {
-    let mut tracer = NullTracer;
-    let session = session_of_t(&rt, rt.alloc())?;
-    expect_all(&rt, rt.alloc(), session.store())?;
-    let cases = [("DELETE FROM t WHERE k = 1", "changed 1")];
-    let session = ask_all(&rt, rt.alloc(), session, &cases, &mut tracer)?;
-    expect_others(&rt, rt.alloc(), session.store())?;
+    let mut engine = engine_of_t(&rt, rt.alloc())?;
+    expect_scan(&rt, rt.alloc(), engine.store(), Some(0), &[19])?;
+    expect_others(&rt, rt.alloc(), &mut engine)?;
     Ok(())
 }
