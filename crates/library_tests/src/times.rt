@@ -221,7 +221,12 @@ fn mask_for(alloc: Global, store: &Store, name: &str) -> Result<Vec<u64>, AllocE
     Ok(mask)
 }
 
-fn scanned(alloc: Global, store: &Store, name: &str, column: usize) -> Result<Vec<u64>, AllocError>
+fn scan_mask(
+    alloc: Global,
+    store: &Store,
+    name: &str,
+    column: usize,
+) -> Result<Vec<u64>, AllocError>
     requires there { IsSome (table_at name.now (tables_now store.now)) }
     requires numbers { IfSome (history_at name.now store.now)
         (λ history. option_map (λ column. column.text) (slice_get history.schema.columns column)
@@ -243,7 +248,7 @@ fn is_scan(
     if !is_there(store, name) || !has_numbers(store, name, column) {
         return Ok(false);
     }
-    let mask = scanned(alloc, store, name, column)?;
+    let mask = scan_mask(alloc, store, name, column)?;
     Ok(mask.as_slice() == want)
 }
 
