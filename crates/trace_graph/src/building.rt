@@ -1,20 +1,22 @@
 //! A graph that grows link by link.
 
-ghost use Rattle.std.specs.Prelude.{◌≡◌, ◌≤◌, IsTrue, IfOk, OnOk};
+ghost use Rattle.std.specs.Prelude.{◌≡◌, ◌≤◌, map, IsTrue, IfOk, OnOk};
 ghost use Rattle.ldv_value.specs.Limits.{max_processes};
 ghost use Rattle.run_model.specs.ValidTrace.{made_after};
 ghost use Rattle.trace_graph.specs.Building.{parts_of, no_parts, node_of, with_link, with_place, with_noted};
-ghost use Rattle.trace_graph.specs.Building.{with_events, made_fits};
+ghost use Rattle.trace_graph.specs.Building.{edge_at, with_notes, with_links, with_events, made_fits};
 ghost use Rattle.trace_graph.specs.Graph.{place_in};
-ghost use Rattle.trace_graph.specs.Links.{link};
-ghost use Rattle.trace_graph.specs.NodeTexts.{acts_held};
+ghost use Rattle.trace_graph.specs.Links.{link, event_links};
+ghost use Rattle.trace_graph.specs.NodeTexts.{act_texts, are_held, acts_held};
 
-use crate::key::{NodeKey, NodeKeys, number, place_number};
+use crate::edge::Edges;
+use crate::key::{NodeKey, NodeKeys, copy_keys, number, place_number};
 use crate::note::{Note, Notes, add_notes};
-use crate::span::Spans;
+use crate::span::{Spans, edges_of};
 use crate::texts::NodeTexts;
 use run_model::{Act, Event, Events};
 use std::alloc::{AllocError, Global};
+use std::mem;
 
 /// The nodes and edges so far, and the links that aren't among the edges yet.
 #[derive(Drop)]
@@ -25,16 +27,24 @@ pub(crate) struct Building<'a> {
 }
 
 impl<'a> Building<'a> {
-    // No node and no edge, with room for those that are expected.
-    fn with_room(alloc: Global, room: Room) -> Result<Building<'a>, AllocError>
-        ensures { IfOk result (λ building. parts_of building ≡ no_parts) }
+    /// No node and no edge. It takes no memory.
+    pub(crate) fn new(alloc: Global) -> Building<'a>
+        ensures { parts_of result ≡ no_parts }
     {
-        let Room { nodes, edges } = room;
-        Ok(Building {
-            keys: NodeKeys::with_capacity(alloc, nodes)?,
-            spans: Spans::with_capacity(alloc, edges)?,
+        Building {
+            keys: NodeKeys::new(alloc),
+            spans: Spans::new(alloc),
             notes: Notes::new(alloc),
-        })
+        }
+    }
+
+    // Makes room for the nodes and edges that are expected.
+    fn reserve(&mut self, room: Room) -> Result<(), AllocError>
+        ensures { OnOk result (parts_of self.new ≡ parts_of self.old) }
+    {
+        self.keys.reserve_exact(room.nodes)?;
+        self.spans.reserve_exact(room.edges)?;
+        Ok(())
     }
 
     /// The place of a node, which comes last if it isn't there yet.
@@ -83,20 +93,110 @@ impl<'a> Building<'a> {
         let to_number = place_number(to)?;
         self.note_link(from_number, to_number, time)
     }
-}
 
-// The same, where all links that were noted are among the edges.
-fn settle_notes<'a>(building: Building<'a>) -> Result<Building<'a>, AllocError>
-    ensures { IfOk result (λ settled. parts_of settled ≡ parts_of building.entry) }
-{
-    let Building {
-        keys,
-        mut spans,
-        mut notes,
-    } = building;
-    add_notes(&mut spans, &notes)?;
-    notes.clear();
-    Ok(Building { keys, spans, notes })
+    // Puts all links that were noted among the edges.
+    fn settle(&mut self) -> Result<(), AllocError>
+        ensures { OnOk result (parts_of self.new ≡ parts_of self.old) }
+    {
+        add_notes(&mut self.spans, &self.notes)?;
+        self.notes.clear();
+        Ok(())
+    }
+
+    // Links what events do, and settles it.
+    fn link_events(&mut self, texts: &'a NodeTexts, events: &[Event]) -> Result<(), AllocError>
+        requires fits { IsTrue (made_fits 1 events.now) }
+        requires held { IsTrue (acts_held texts.now.held.keys events.now) }
+        ensures { OnOk result (parts_of self.new ≡ with_events (parts_of self.old) 1 events.now) }
+    {
+        let mut made = 1;
+        for event in events {
+            self.link_event(texts, made, event)?;
+            self.settle()?;
+            made = made_with(made, &event.act);
+        }
+        Ok(())
+    }
+
+    /// Links what the events of a trace do.
+    pub(crate) fn fill(&mut self, texts: &'a NodeTexts, events: &[Event]) -> Result<(), AllocError>
+        requires fits { IsTrue (made_fits 1 events.now) }
+        requires held { IsTrue (acts_held texts.now.held.keys events.now) }
+        ensures { OnOk result (parts_of self.new ≡ with_events (parts_of self.old) 1 events.now) }
+    {
+        self.reserve(room_of(events))?;
+        self.link_events(texts, events)
+    }
+
+    // Notes what an event links, which is gone once it returns, and counts the process that it makes.
+    fn note_event(
+        &mut self,
+        texts: &'a NodeTexts,
+        made: &mut u32,
+        event: Event,
+    ) -> Result<(), AllocError>
+        requires fits { made_after made.old event.act ≤ max_processes }
+        requires held { IsTrue (are_held texts.now.held.keys (act_texts event.act)) }
+        ensures parts { OnOk result (parts_of self.new
+            ≡ with_links (parts_of self.old) (event_links made.old event)) }
+        ensures made { made.new ≡ made_after made.old event.act }
+    {
+        let before = *made;
+        *made = made_with(before, &event.act);
+        self.link_event(texts, before, &event)
+    }
+
+    // Notes what events link, which are dropped one by one.
+    fn note_events(&mut self, texts: &'a NodeTexts, events: Events) -> Result<(), AllocError>
+        requires fits { IsTrue (made_fits 1 events) }
+        requires held { IsTrue (acts_held texts.now.held.keys events) }
+        ensures { OnOk result (parts_of self.new ≡ with_events (parts_of self.old) 1 events) }
+    {
+        let mut made = 1;
+        for event in events.into_vec() {
+            self.note_event(texts, &mut made, event)?;
+        }
+        Ok(())
+    }
+
+    /// The same as `fill`, of events that are dropped one by one. Links are only noted, in the memory that
+    /// the events leave: the table of edges, which is larger, is to be made once they are gone.
+    pub(crate) fn fill_from(
+        &mut self,
+        texts: &'a NodeTexts,
+        events: Events,
+        nodes: usize,
+    ) -> Result<(), AllocError>
+        requires fits { IsTrue (made_fits 1 events) }
+        requires held { IsTrue (acts_held texts.now.held.keys events) }
+        ensures { OnOk result (parts_of self.new ≡ with_events (parts_of self.old) 1 events) }
+    {
+        self.reserve(Room { nodes, edges: 0 })?;
+        self.note_events(texts, events)
+    }
+
+    /// Takes the nodes out as keys, without what they were found by.
+    pub(crate) fn take_keys(&mut self, alloc: Global) -> Result<Vec<NodeKey<'a>>, AllocError>
+        ensures keys { IfOk result (λ keys. keys.items ≡ self.old.keys.keys) }
+        ensures spans { self.new.spans.entries ≡ self.old.spans.entries }
+        ensures notes { self.new.notes ≡ self.old.notes }
+    {
+        let keys = mem::replace(&mut self.keys, NodeKeys::new(alloc));
+        copy_keys(alloc, keys.as_slice())
+    }
+
+    /// Takes the edges out, those that were noted too, with room for so many more.
+    pub(crate) fn take_edges(&mut self, alloc: Global, room: usize) -> Result<Edges, AllocError>
+        ensures edges { IfOk result (λ edges. edges
+            ≡ with_notes (map edge_at self.old.spans.entries) self.old.notes) }
+        ensures keys { self.new.keys.keys ≡ self.old.keys.keys }
+    {
+        self.spans.reserve(room)?;
+        add_notes(&mut self.spans, &self.notes)?;
+        self.notes.clear();
+        let spans = mem::replace(&mut self.spans, Spans::new(alloc));
+        edges_of(alloc, spans)
+    }
 }
 
 /// How many nodes and edges there may be: tables that grow take a sixth of the time.
@@ -151,45 +251,4 @@ fn made_with(made: u32, act: &Act) -> u32
     ensures { result ≡ made_after made act.now }
 {
     if act.is_spawn() { made + 1 } else { made }
-}
-
-/// The nodes and edges of the events of a trace.
-pub(crate) fn build<'a>(
-    alloc: Global,
-    texts: &'a NodeTexts,
-    events: &[Event],
-) -> Result<Building<'a>, AllocError>
-    requires fits { IsTrue (made_fits 1 events.now) }
-    requires held { IsTrue (acts_held texts.now.held.keys events.now) }
-    ensures { IfOk result (λ building. parts_of building ≡ with_events no_parts 1 events.now) }
-{
-    let mut building = Building::with_room(alloc, room_of(events))?;
-    let mut made = 1;
-    for event in events {
-        building.link_event(texts, made, event)?;
-        building = settle_notes(building)?;
-        made = made_with(made, &event.act);
-    }
-    Ok(building)
-}
-
-/// The same of events that are dropped one by one. Links are only noted, in the memory that the events leave:
-/// the table of edges, which is larger, is to be made once they are gone.
-pub(crate) fn build_from<'a>(
-    alloc: Global,
-    texts: &'a NodeTexts,
-    events: Events,
-    nodes: usize,
-) -> Result<Building<'a>, AllocError>
-    requires fits { IsTrue (made_fits 1 events) }
-    requires held { IsTrue (acts_held texts.now.held.keys events) }
-    ensures { IfOk result (λ building. parts_of building ≡ with_events no_parts 1 events) }
-{
-    let mut building = Building::with_room(alloc, Room { nodes, edges: 0 })?;
-    let mut made = 1;
-    for event in events.into_vec() {
-        building.link_event(texts, made, &event)?;
-        made = made_with(made, &event.act);
-    }
-    Ok(building)
 }

@@ -2,17 +2,17 @@
 
 ghost use Rattle.std.specs.Prelude.{◌≡◌, ◌<◌, length, map, position, IsTrue, IfOk, IfSome};
 ghost use Rattle.run_model.specs.ValidTrace.{IsTrace};
-ghost use Rattle.trace_graph.specs.Building.{node_of, parts_of};
+ghost use Rattle.trace_graph.specs.Building.{node_of, parts_of, no_parts, with_events, made_fits};
 ghost use Rattle.trace_graph.specs.Graph.{same_node, graph_of, are_between};
+ghost use Rattle.trace_graph.specs.NodeTexts.{acts_held};
 ghost use Rattle.trace_graph.specs.WellFormed.{IsWellFormed};
 
-use crate::building::{Building, build};
+use crate::building::Building;
 use crate::edge::Edges;
 use crate::key::{NodeKey, is_same, keys_of, nodes_of};
 use crate::node::{Node, Nodes};
-use crate::note::edges_with;
 use crate::texts::NodeTexts;
-use run_model::Events;
+use run_model::{Event, Events};
 use std::alloc::{AllocError, Global};
 use std::marker::Model;
 
@@ -41,8 +41,7 @@ impl Graph {
         ensures { IfOk result (λ graph. graph ≡ graph_of events.now) }
     {
         let texts = NodeTexts::of_events(alloc, events)?;
-        let building = build(alloc, &texts, events.items())?;
-        finish(alloc, building)
+        over_texts(alloc, &texts, events.items())
     }
 
     /// The graph of well-formed lists of nodes and edges.
@@ -89,14 +88,43 @@ impl Graph {
     }
 }
 
-// The graph of what was built, with texts of its own.
-fn finish(alloc: Global, building: Building<'_>) -> Result<Graph, AllocError>
-    requires { IsTrue (are_between (length (parts_of building).nodes) (parts_of building).edges) }
-    ensures { IfOk result (λ graph. graph ≡ parts_of building.entry) }
+// The graph of events whose texts are held, with texts of its own.
+fn over_texts(alloc: Global, texts: &NodeTexts, events: &[Event]) -> Result<Graph, AllocError>
+    requires fits { IsTrue (made_fits 1 events.now) }
+    requires held { IsTrue (acts_held texts.now.held.keys events.now) }
+    requires between { IsTrue (are_between (length (with_events no_parts 1 events.now).nodes)
+        (with_events no_parts 1 events.now).edges) }
+    ensures { IfOk result (λ graph. graph ≡ with_events no_parts 1 events.now) }
 {
-    let Building { keys, spans, notes } = building;
+    let mut building = Building::new(alloc);
+    graph_in(alloc, &mut building, texts, events)
+}
+
+// The same, which is built where nothing is yet.
+fn graph_in<'a>(
+    alloc: Global,
+    building: &mut Building<'a>,
+    texts: &'a NodeTexts,
+    events: &[Event],
+) -> Result<Graph, AllocError>
+    requires empty { parts_of building.old ≡ no_parts }
+    requires fits { IsTrue (made_fits 1 events.now) }
+    requires held { IsTrue (acts_held texts.now.held.keys events.now) }
+    requires between { IsTrue (are_between (length (with_events no_parts 1 events.now).nodes)
+        (with_events no_parts 1 events.now).edges) }
+    ensures { IfOk result (λ graph. graph ≡ with_events no_parts 1 events.now) }
+{
+    building.fill(texts, events)?;
+    finish(alloc, building)
+}
+
+// The graph of what was built.
+fn finish(alloc: Global, building: &mut Building<'_>) -> Result<Graph, AllocError>
+    requires { IsTrue (are_between (length (parts_of building.old).nodes) (parts_of building.old).edges) }
+    ensures { IfOk result (λ graph. graph ≡ parts_of building.old) }
+{
     // The table of edges is the larger: it is gone before the nodes are made.
-    let edges = edges_with(alloc, spans, notes, 0)?;
-    let nodes = nodes_of(alloc, keys.as_slice())?;
+    let edges = building.take_edges(alloc, 0)?;
+    let nodes = nodes_of(alloc, building.keys.as_slice())?;
     Ok(Graph { nodes, edges })
 }

@@ -88,25 +88,15 @@ pub(crate) fn keys_of<'a>(alloc: Global, nodes: &'a [Node]) -> Result<Vec<NodeKe
     Ok(keys)
 }
 
-/// The keys of a table, without what it finds them by. Their texts stay where they are.
-pub(crate) fn keys_alone<'a>(
+/// A copy of keys, whose texts stay where they are.
+pub(crate) fn copy_keys<'a>(
     alloc: Global,
-    keys: NodeKeys<'a>,
+    keys: &[NodeKey<'a>],
 ) -> Result<Vec<NodeKey<'a>>, AllocError>
-    ensures { IfOk result (λ alone. alone.items ≡ keys.entry.keys) }
-{
-    let alone = copy_keys(alloc, keys.as_slice())?;
-    Ok(alone)
-}
-
-// A copy of keys, whose texts stay where they are.
-fn copy_keys<'a>(alloc: Global, keys: &[NodeKey<'a>]) -> Result<Vec<NodeKey<'a>>, AllocError>
     ensures { IfOk result (λ copied. copied.items ≡ keys.now) }
 {
     let mut copied = Vec::with_capacity(alloc, keys.len())?;
-    for key in keys {
-        copied.push(*key)?;
-    }
+    copied.extend_from_slice(keys)?;
     Ok(copied)
 }
 

@@ -2,15 +2,14 @@
 
 ghost use Rattle.std.specs.Prelude.{◌≡◌, ◌<◌, length, IfOk, IfSome, IsTrue};
 ghost use Rattle.run_model.specs.ValidTrace.{IsTrace};
-ghost use Rattle.trace_graph.specs.Building.{parts_of};
+ghost use Rattle.trace_graph.specs.Building.{parts_of, no_parts, with_events, made_fits};
 ghost use Rattle.trace_graph.specs.Graph.{graph_of, place_of, are_between};
 ghost use Rattle.trace_graph.specs.Lent.{lent_parts};
-ghost use Rattle.trace_graph.specs.NodeTexts.{lends_texts};
+ghost use Rattle.trace_graph.specs.NodeTexts.{acts_held, lends_texts};
 
-use crate::building::{Building, build_from, room_of};
+use crate::building::{Building, room_of};
 use crate::edge::Edge;
-use crate::key::{NodeKey, keys_alone, path_place};
-use crate::note::edges_with;
+use crate::key::{NodeKey, path_place};
 use crate::texts::NodeTexts;
 use run_model::Events;
 use std::alloc::{AllocError, Global};
@@ -38,9 +37,8 @@ impl<'a> LentGraph<'a> {
         ensures between { IfOk result (λ graph. IsTrue (are_between (length graph.nodes.items)
             graph.edges.items)) }
     {
-        let room = room_of(events.items());
-        let building = build_from(alloc, texts, events, room.nodes)?;
-        lend(alloc, building, room.edges)
+        let mut building = Building::new(alloc);
+        lent_in(alloc, &mut building, texts, events)
     }
 
     /// The place of the node of a path, from 0. It looks at each node.
@@ -52,15 +50,35 @@ impl<'a> LentGraph<'a> {
     }
 }
 
+// The graph of events, which is built where nothing is yet.
+fn lent_in<'a>(
+    alloc: Global,
+    building: &mut Building<'a>,
+    texts: &'a NodeTexts,
+    events: Events,
+) -> Result<LentGraph<'a>, AllocError>
+    requires empty { parts_of building.old ≡ no_parts }
+    requires fits { IsTrue (made_fits 1 events) }
+    requires held { IsTrue (acts_held texts.now.held.keys events) }
+    ensures { IfOk result (λ graph. lent_parts graph ≡ with_events no_parts 1 events) }
+{
+    let room = room_of(events.items());
+    building.fill_from(texts, events, room.nodes)?;
+    lend(alloc, building, room.edges)
+}
+
 // What was built, without the tables by which nodes and edges are found. There is to be room for so many
 // edges.
-fn lend<'a>(alloc: Global, building: Building<'a>, room: usize) -> Result<LentGraph<'a>, AllocError>
-    ensures { IfOk result (λ graph. lent_parts graph ≡ parts_of building.entry) }
+fn lend<'a>(
+    alloc: Global,
+    building: &mut Building<'a>,
+    room: usize,
+) -> Result<LentGraph<'a>, AllocError>
+    ensures { IfOk result (λ graph. lent_parts graph ≡ parts_of building.old) }
 {
-    let Building { keys, spans, notes } = building;
     // The table of nodes is gone before that of edges is made, which is the larger.
-    let nodes = keys_alone(alloc, keys)?;
-    let edges = edges_with(alloc, spans, notes, room)?;
+    let nodes = building.take_keys(alloc)?;
+    let edges = building.take_edges(alloc, room)?;
     Ok(LentGraph {
         nodes,
         edges: edges.into_vec(),

@@ -1,11 +1,10 @@
 //! Links that are noted, and become edges later.
 
-ghost use Rattle.std.specs.Prelude.{◌≡◌, ◌++◌, ◌∷◌, [], map, IfOk, OnOk};
+ghost use Rattle.std.specs.Prelude.{◌≡◌, ◌++◌, ◌∷◌, [], map, OnOk};
 ghost use Rattle.trace_graph.specs.Building.{edge_at, with_notes};
 ghost use Rattle.trace_graph.specs.Pieces.{in_pieces};
 
-use crate::edge::Edges;
-use crate::span::{Spans, add_time, edges_of};
+use crate::span::{Spans, add_time};
 use ldv_value::List;
 use std::alloc::{AllocError, Global};
 use std::marker::Model;
@@ -117,29 +116,4 @@ pub(crate) fn add_notes(spans: &mut Spans, notes: &Notes) -> Result<(), AllocErr
 {
     add_pieces(spans, notes.earlier.as_slice())?;
     add_piece(spans, notes.latest.items())
-}
-
-// The notes are gone once it returns.
-fn spans_with(spans: Spans, notes: Notes, room: usize) -> Result<Spans, AllocError>
-    ensures { IfOk result (λ all. map edge_at all.entries
-        ≡ with_notes (map edge_at spans.entries) notes) }
-{
-    let mut all = spans;
-    all.reserve(room)?;
-    add_notes(&mut all, &notes)?;
-    Ok(all)
-}
-
-/// The edges of a table and of what was noted since, with room for so many more.
-pub(crate) fn edges_with(
-    alloc: Global,
-    spans: Spans,
-    notes: Notes,
-    room: usize,
-) -> Result<Edges, AllocError>
-    ensures { IfOk result (λ edges. edges ≡ with_notes (map edge_at spans.entries) notes) }
-{
-    let all = spans_with(spans, notes, room)?;
-    let edges = edges_of(alloc, all)?;
-    Ok(edges)
 }

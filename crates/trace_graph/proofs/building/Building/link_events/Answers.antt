@@ -3,7 +3,7 @@ use Rattle.std.proofs.Common.{◌∙◌, ℕ, List}
 use Rattle.trace_graph.specs.Types.{Event}
 use Rattle.trace_graph.specs.Building.{parts_of}
 use Rattle.trace_graph.proofs.EventSteps.{parts_step, fits_step, held_step}
-use Rattle.trace_graph.proofs.building.build.Goals as goal
+use Rattle.trace_graph.proofs.building.Building.link_events.Goals as goal
 
 pub loop-event-preserved : goal.loop-event-preserved
 loop-event-preserved c =
@@ -13,8 +13,8 @@ loop-event-preserved c =
     let made : ℕ = c.loop-event.made in
     let next : ℕ = c.made_with-made.result in
     record {
-      parts = parts_step (parts_of c.loop-event.building) (parts_of c.link_event.new.self) (parts_of c.in_ok-building-2.building)
-          made next es i e c.loop-event-test.true c.event-item.is c.in_ok-link_event.ensures c.in_ok-building-2.ensures c.made_with-made.ensures
+      parts = parts_step (parts_of c.loop-event.self) (parts_of c.link_event.new.self) (parts_of c.settle.new.self)
+          made next es i e c.loop-event-test.true c.event-item.is c.in_ok-link_event.ensures c.in_ok-settle.ensures c.made_with-made.ensures
           ∙ c.loop-event.invariant.parts;
       fits = fits_step made next es i e c.loop-event-test.true c.event-item.is c.made_with-made.ensures c.loop-event.invariant.fits;
       held = held_step c.args.texts.now.held.keys es i e c.loop-event-test.true c.event-item.is c.loop-event.invariant.held;
