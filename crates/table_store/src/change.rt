@@ -1,6 +1,6 @@
 //! Changes that are given for rows: other values, or that a row is dropped.
 
-ghost use Rattle.std.specs.Prelude.{◌≡◌, List, [], ◌∷◌, ◌++◌, map, IfOk};
+ghost use Rattle.std.specs.Prelude.{◌≡◌, List, [], ◌∷◌, ◌++◌, map, IfOk, OnOk};
 ghost use Rattle.table_store.specs.inner.RowChanges.{removal, rewrite};
 
 use ldv_value::Values;
@@ -41,9 +41,17 @@ pub(crate) fn rewrites(alloc: Global, rows: TableRows) -> Result<Vec<RowChange>,
 {
     let mut made = Vec::with_capacity(alloc, rows.len())?;
     for row in rows.into_vec() {
-        made.push(rewrite(row)?)?;
+        add_rewrite(&mut made, row)?;
     }
     Ok(made)
+}
+
+fn add_rewrite(made: &mut Vec<RowChange>, row: TableRow) -> Result<(), AllocError>
+    ensures { OnOk result (made.new.items ≡ made.old.items ++ rewrite row ∷ []) }
+{
+    let change = rewrite(row)?;
+    made.push(change)?;
+    Ok(())
 }
 
 fn rewrite(row: TableRow) -> Result<RowChange, AllocError>

@@ -12,12 +12,9 @@ ghost use Rattle.sql_model.specs.Keys.{values_at};
 ghost use Rattle.table_store.specs.inner.Grid.{IsRising, Slot, no_slot, fits_kinds, are_of_kinds, AreNumberedFrom};
 ghost use Rattle.table_store.specs.inner.Grid.{next_after, new_slot, slot_null, slot_passes};
 
-use crate::push::push_rows;
+use crate::push::{push_rows, reserve_rows};
 use crate::scan::{keep_nulls_at, select};
-use column_store::{
-    Bits, Column, compare_cells, copy_cells, empty_columns, reserve_cells, reserve_eighth,
-    set_cells,
-};
+use column_store::{Bits, Column, compare_cells, copy_cells, empty_columns, set_cells};
 use lanes::and_into;
 use ldv_value::{Cmp, Places, Values};
 use sql_model::TableRows;
@@ -177,10 +174,13 @@ impl Grid {
         ensures err { OnErr result (self.new ≡ self.old) }
     {
         let more = rows.len();
-        reserve_eighth(&mut self.numbers, more)?;
-        reserve_eighth(&mut self.since, more)?;
-        self.standing.reserve(more)?;
-        reserve_cells(&mut self.columns, more)?;
+        reserve_rows(
+            &mut self.numbers,
+            &mut self.since,
+            &mut self.standing,
+            &mut self.columns,
+            more,
+        )?;
         self.next = push_rows(
             &mut self.numbers,
             &mut self.since,

@@ -8,6 +8,7 @@ ghost use Rattle.std.specs.BTreeMap.{get, is_at};
 ghost use Rattle.std.specs.Option.{option_map, option_to_list, option_or};
 ghost use Rattle.std.specs.Ordering.{int_cmp};
 ghost use Rattle.sql_model.specs.KeyOrder.{key_order};
+ghost use Rattle.ldv_value.specs.Cells.{value_at};
 ghost use Rattle.sql_model.specs.Keys.{values_at, key_at};
 ghost use Rattle.sql_model.specs.Tables.{are_keys_unique};
 ghost use Rattle.sql_model.specs.References.{has_key};
@@ -189,11 +190,25 @@ pub(crate) fn key_of(alloc: Global, places: &Places, values: &Values) -> Result<
 {
     let mut key = Vec::with_capacity(alloc, places.len())?;
     for place in places.items() {
-        key.push(value_at(alloc, values, *place)?)?;
+        add_value(alloc, &mut key, values, *place)?;
     }
     Ok(RowKey {
         values: List::of_vec(key),
     })
+}
+
+// Adds the value at a place to those of a key.
+fn add_value(
+    alloc: Global,
+    key: &mut Vec<Value>,
+    values: &Values,
+    place: usize,
+) -> Result<(), AllocError>
+    ensures { OnOk result (key.new.items ≡ key.old.items ++ value_at values.now place ∷ []) }
+{
+    let value = value_at(alloc, values, place)?;
+    key.push(value)?;
+    Ok(())
 }
 
 /// Whether the row of a number stands and has a key.

@@ -30,6 +30,7 @@ mod rekey;
 mod room;
 mod rows;
 mod scan;
+mod start;
 mod store;
 mod table;
 mod table_rows;

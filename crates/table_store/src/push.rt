@@ -1,14 +1,68 @@
 //! How rows are added to the parts of a grid: their numbers, their times, bits and columns.
 
 ghost use Rattle.std.specs.Prelude.{◌≡◌, ℕ, ◌+◌, ◌^◌, ◌<◌, ◌≤◌, Bool, true, List, [], ◌∷◌, ◌++◌, length, map};
-ghost use Rattle.std.specs.Prelude.{slice_index_or, vec_len, vec_capacity, IsOk, IfOk};
+ghost use Rattle.std.specs.Prelude.{slice_index_or, vec_len, vec_capacity, IsOk, IfOk, OnOk};
 ghost use Rattle.column_store.specs.Columns.{no_cells, kinds_of};
 ghost use Rattle.table_store.specs.inner.Grid.{IsGrid, slots_of, new_slot, fits_kinds};
 ghost use Rattle.table_store.specs.inner.Grid.{are_of_kinds, AreNumberedFrom, next_after};
 
-use column_store::{Bits, Column, push_cells};
+use column_store::{Bits, Column, push_cells, reserve_cells, reserve_eighth};
 use sql_model::{TableRow, TableRows};
 use std::alloc::AllocError;
+
+/// Makes room for more rows. Those that are there stay as they are, also on `AllocError`.
+pub(crate) fn reserve_rows(
+    numbers: &mut Vec<u32>,
+    since: &mut Vec<u32>,
+    standing: &mut Bits,
+    columns: &mut Vec<Column>,
+    more: usize,
+) -> Result<(), AllocError>
+    requires { more < 2 ^ 32 }
+    ensures grid { (next : ℕ)
+        → IsGrid numbers.old.items since.old.items standing.old.items columns.old.items next
+        → IsGrid numbers.new.items since.new.items standing.new.items columns.new.items next }
+    ensures slots { slots_of numbers.new.items since.new.items standing.new.items columns.new.items
+        ≡ slots_of numbers.old.items since.old.items standing.old.items columns.old.items }
+    ensures kinds { kinds_of columns.new.items ≡ kinds_of columns.old.items }
+    ensures numbers_room { OnOk result (vec_len numbers.new + more ≤ vec_capacity numbers.new) }
+    ensures since_room { OnOk result (vec_len since.new + more ≤ vec_capacity since.new) }
+    ensures standing_room { OnOk result (more ≤ standing.new.spare) }
+    ensures cells_room { OnOk result ((k : ℕ) → k < length columns.new.items
+        → more ≤ (slice_index_or columns.new.items k no_cells).spare) }
+{
+    reserve_parts(numbers, since, standing, columns, more)
+}
+
+fn reserve_parts(
+    numbers: &mut Vec<u32>,
+    since: &mut Vec<u32>,
+    standing: &mut Bits,
+    columns: &mut Vec<Column>,
+    more: usize,
+) -> Result<(), AllocError>
+    requires { more < 2 ^ 32 }
+    ensures numbers { numbers.new.items ≡ numbers.old.items }
+    ensures since { since.new.items ≡ since.old.items }
+    ensures standing { standing.new.items ≡ standing.old.items }
+    ensures count { length columns.new.items ≡ length columns.old.items }
+    ensures cells { (k : ℕ) → k < length columns.old.items
+        → (slice_index_or columns.new.items k no_cells).items
+        ≡ (slice_index_or columns.old.items k no_cells).items }
+    ensures kinds { (k : ℕ) → k < length columns.old.items
+        → (slice_index_or columns.new.items k no_cells).text
+        ≡ (slice_index_or columns.old.items k no_cells).text }
+    ensures numbers_room { OnOk result (vec_len numbers.new + more ≤ vec_capacity numbers.new) }
+    ensures since_room { OnOk result (vec_len since.new + more ≤ vec_capacity since.new) }
+    ensures standing_room { OnOk result (more ≤ standing.new.spare) }
+    ensures cells_room { OnOk result ((k : ℕ) → k < length columns.old.items
+        → more ≤ (slice_index_or columns.new.items k no_cells).spare) }
+{
+    reserve_eighth(numbers, more)?;
+    reserve_eighth(since, more)?;
+    standing.reserve(more)?;
+    reserve_cells(columns, more)
+}
 
 /// Adds a row, for which there is room.
 pub(crate) fn push_row(

@@ -11,7 +11,8 @@ ghost use Rattle.sql_model.specs.Keys.{values_at};
 ghost use Rattle.table_store.specs.Scans.{null_passes, passes_test};
 ghost use Rattle.table_store.specs.Types.{Null};
 ghost use Rattle.row_version.specs.History.{write_at, current_values, as_of, version};
-ghost use Rattle.table_store.specs.inner.Grid.{are_of_kinds, AreNumberedFrom, next_after};
+ghost use Rattle.table_store.specs.inner.Grid.{are_of_kinds, no_slot, AreNumberedFrom, next_after};
+ghost use Rattle.table_store.specs.inner.RowChains.{changes_or};
 ghost use Rattle.table_store.specs.Histories.{history_of_new_row, changed_by, no_history};
 ghost use Rattle.table_store.specs.inner.RowChanges.{changes_given, RiseFrom, AllFitKinds, AllStand, AreBefore};
 ghost use Rattle.table_store.specs.RowOrder.{AreInOrder};
@@ -22,6 +23,7 @@ use crate::change::RowChange;
 use crate::grid::Grid;
 use crate::room::make_room;
 use ldv_value::{Cmp, Places, Values};
+use row_version::Chain;
 use sql_model::TableRows;
 use std::alloc::{AllocError, Global};
 use std::cmp::Ordering;
@@ -108,17 +110,8 @@ impl Rows {
             ≡ as_of (slice_index_or self.now.slots slot no_history).changes time) }
     {
         match self.chains.chain(self.grid.number(slot)) {
-            Some(chain) => match chain.as_of(time) {
-                Some(values) => Ok(Some(values.copy()?)),
-                None => Ok(None),
-            },
-            None => {
-                if self.grid.since(slot) <= time {
-                    Ok(Some(self.grid.copy_values(alloc, slot)?))
-                } else {
-                    Ok(None)
-                }
-            }
+            Some(chain) => chain_values(chain, time),
+            None => first_values(alloc, &self.grid, slot, time),
         }
     }
 
@@ -248,5 +241,37 @@ impl Rows {
         make_room(alloc, &self.grid, &mut self.chains, given.as_slice())?;
         apply_all(&mut self.grid, &mut self.chains, given, time)?;
         Ok(())
+    }
+}
+
+// A copy of the values that a chain has after a time.
+fn chain_values(chain: &Chain, time: u32) -> Result<Option<Values>, AllocError>
+    ensures { IfOk result (λ values. values ≡ as_of chain.now.changes time) }
+{
+    match chain.as_of(time) {
+        None => Ok(None),
+        Some(values) => {
+            let copy = values.copy()?;
+            Ok(Some(copy))
+        }
+    }
+}
+
+// A copy of the values that the row in a slot, which never changed, had after a time.
+fn first_values(
+    alloc: Global,
+    grid: &Grid,
+    slot: usize,
+    time: u32,
+) -> Result<Option<Values>, AllocError>
+    requires { slot < length grid.now.slots }
+    ensures { IfOk result (λ values. values
+        ≡ as_of (changes_or None (slice_index_or grid.now.slots slot no_slot)) time) }
+{
+    if grid.since(slot) <= time {
+        let copy = grid.copy_values(alloc, slot)?;
+        Ok(Some(copy))
+    } else {
+        Ok(None)
     }
 }

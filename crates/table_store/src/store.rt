@@ -32,7 +32,7 @@ use crate::parent_rows::parents_of;
 use crate::refusals::{delete_refusal, insert_refusal, replace_refusal};
 use crate::table::TableStore;
 use ldv_value::{Cmp, Numbers, RowList, Values};
-use sql_model::{Catalog, Members, TableRow, TableRows, Tables};
+use sql_model::{Catalog, Members, Table, TableRow, TableRows, Tables};
 use std::alloc::{AllocError, Global};
 use std::marker::Model;
 
@@ -520,7 +520,17 @@ fn stores_of(alloc: Global, tables: Tables) -> Result<Vec<TableStore>, AllocErro
 {
     let mut stores = Vec::with_capacity(alloc, tables.len())?;
     for table in tables.into_vec() {
-        stores.push(TableStore::of_table(table)?)?;
+        add_store(&mut stores, table)?;
     }
     Ok(stores)
+}
+
+// Adds the table, as a store has it at time 0.
+fn add_store(stores: &mut Vec<TableStore>, table: Table) -> Result<(), AllocError>
+    requires { is_valid_table table ≡ true }
+    ensures { OnOk result (stores.new.items ≡ stores.old.items ++ history_at_start table ∷ []) }
+{
+    let store = TableStore::of_table(table)?;
+    stores.push(store)?;
+    Ok(())
 }

@@ -1,44 +1,51 @@
 //! A table through time.
 
-ghost use Rattle.std.specs.Prelude.{◌≡◌, ◌==◌, ℕ, ◌+◌, ◌*◌, ◌/◌, ◌^◌, ◌<◌, ◌≤◌, Bool, true, false, List, []};
-ghost use Rattle.std.specs.Prelude.{◌∷◌, ◌++◌, Option, Some, None, find, OnOk, OnErr, IfOk, IsOk, IsSome};
-ghost use Rattle.std.specs.Prelude.{IfSome, length, map, slice_get, slice_index_or, is_some, if◌then◌else◌};
-ghost use Rattle.std.specs.Option.{option_map, option_map_or, option_or, option_to_list};
-ghost use Rattle.std.specs.List.{filter_map};
+ghost use Rattle.std.specs.Prelude.{◌≡◌, ◌==◌, ℕ, ◌+◌, ◌*◌, ◌/◌, ◌^◌, ◌<◌, ◌≤◌, true, false, List, []};
+ghost use Rattle.std.specs.Prelude.{◌∷◌, ◌++◌, Option, Some, None, find, OnOk, OnErr, IfOk, IsSome};
+ghost use Rattle.std.specs.Prelude.{length, map, slice_get, slice_index_or, is_some, if◌then◌else◌};
+ghost use Rattle.std.specs.Option.{option_map, option_map_or, option_or};
 ghost use Rattle.lanes.specs.Sets.{member};
 ghost use Rattle.row_version.specs.History.{current_values, version};
 ghost use Rattle.sql_model.specs.Tables.{is_valid_table};
 ghost use Rattle.sql_model.specs.References.{has_key};
 ghost use Rattle.table_store.specs.Scans.{null_passes, passes_test};
-ghost use Rattle.table_store.specs.inner.ChildPairs.{no_foreign, refers, IsNextOf};
-ghost use Rattle.table_store.specs.Types.{Null};
+ghost use Rattle.ldv_value.specs.Limits.{max_next};
+ghost use Rattle.sql_model.specs.Changes.{numbered_rows};
+ghost use Rattle.table_store.specs.KeyIndex.{AreIndexed};
+ghost use Rattle.table_store.specs.inner.ChildPairs.{no_foreign, pair_in, refers, AreReferred, IsNextOf};
+ghost use Rattle.table_store.specs.inner.ChildPairs.{KeepPairs};
+ghost use Rattle.table_store.specs.inner.GivenKeys.{with_claims};
+ghost use Rattle.table_store.specs.inner.IndexView.{held_in};
+ghost use Rattle.table_store.specs.Types.{Null, RowKey};
 ghost use Rattle.table_store.specs.Histories.{history_of_new_row, table_with_rows, table_with_values, table_without, nexts_with, changed_by};
 ghost use Rattle.table_store.specs.Histories.{last_next_number, last_since, table_now, no_history, row_now};
 ghost use Rattle.table_store.specs.Histories.{rows_now, rows_as_of, next_as_of, version_now};
-ghost use Rattle.table_store.specs.Histories.{history_of_row, slot_of_row};
-ghost use Rattle.std.specs.List.{list_all};
+ghost use Rattle.table_store.specs.Histories.{history_of_row, rows_with_values, slot_of_row};
+ghost use Rattle.std.specs.List.{list_all, list_any};
 ghost use Rattle.table_store.specs.inner.Grid.{are_of_kinds, AreNumberedFrom, next_after};
 ghost use Rattle.table_store.specs.inner.Nexts.{nexts_of};
-ghost use Rattle.table_store.specs.inner.RowChanges.{changes_given, RiseFrom, AllFitKinds, AllStand, AreBefore};
+ghost use Rattle.table_store.specs.inner.RowChanges.{changes_given, rewrite, RiseFrom, AllFitKinds};
+ghost use Rattle.table_store.specs.inner.RowChanges.{AllStand, AreBefore};
 ghost use Rattle.table_store.specs.Stops.{has_shape, have_shape, values_of, are_sorted_rows};
 ghost use Rattle.table_store.specs.Stops.{are_sorted_numbers, had_rows, all_stand, insert_stop};
-ghost use Rattle.table_store.specs.Stops.{replace_stop, with_replaced, StopsAs};
+ghost use Rattle.table_store.specs.Stops.{replace_stop, replaced_by, with_replaced, StopsAs};
 ghost use Rattle.table_store.specs.RowOrder.{AreInOrder};
-ghost use Rattle.table_store.specs.TableView.{history_at_start, kinds_in, AreTimed};
+ghost use Rattle.table_store.specs.TableView.{history_at_start, AreTimed, IsStored};
 
 use crate::change::{RowChange, removals, rewrites};
-use crate::child_index::{ChildIndex, add_all, index_of_rows, settle_all};
+use crate::child_index::{ChildIndex, add_all, settle_all};
 use crate::claim::claim;
 use crate::error::StoreStop;
 use crate::given::numbers_of;
-use crate::index::{Index, held_number, index_of, number_by_slots};
+use crate::index::{Index, held_number, number_by_slots};
 use crate::insert::{any_lacks_value, any_row_lacks_value, is_full, numbered_rows};
-use crate::nexts::{NextSince, last_since, next_as_of, nexts_at_start};
+use crate::nexts::{NextSince, last_since, next_as_of};
 use crate::rekey::claims_of;
 use crate::rows::Rows;
+use crate::start::{Parts, parts_at_start};
 use crate::table_rows::{rows_as_of, standing_rows};
 use ldv_value::{Cmp, Numbers, RowList, Utf8, Values};
-use sql_model::{Columns, RowKey, Schema, Table, TableRows};
+use sql_model::{Foreigns, RowKey, Schema, Table, TableRow, TableRows};
 use std::alloc::{AllocError, Global};
 use std::marker::Model;
 
@@ -78,14 +85,13 @@ impl TableStore {
             rows,
             next,
         } = table;
-        let alloc = name.allocator();
-        let index = index_of(alloc, &schema.key, rows.items())?;
-        let children = index_of_rows(alloc, &schema.foreign, rows.items())?;
-        let texts = texts_of(alloc, &schema.columns)?;
-        let mut held = Rows::new(alloc, texts.as_slice())?;
-        held.push_all(rows, 0)?;
-        held.set_next(next);
-        let nexts = nexts_at_start(alloc, next)?;
+        let parts = parts_at_start(name.allocator(), &schema, rows, next)?;
+        let Parts {
+            held,
+            index,
+            children,
+            nexts,
+        } = parts;
         Ok(TableStore {
             name,
             schema,
@@ -330,38 +336,29 @@ impl TableStore {
         ensures ok { OnOk result (self.new ≡ table_with_rows time rows self.old) }
         ensures err { OnErr result (self.new ≡ self.old) }
     {
-        if any_lacks_value(self.schema.columns.items(), rows.items()) {
-            return Err(StoreStop::NotNull);
-        }
         let alloc = self.name.allocator();
         let next = self.rows.next();
-        self.rows.tell_order();
-        match claim(
+        match claim_new(
             alloc,
             &mut self.index,
             &self.rows,
-            &self.schema.key,
+            &self.schema,
             rows.items(),
             next,
+            reference_stop,
         ) {
             Ok(()) => {}
             Err(stop) => return Err(stop),
         }
-        if is_full(next, rows.len()) {
-            return Err(StoreStop::Full);
-        }
-        match reference_stop {
-            None => {}
-            Some(stop) => return Err(stop),
-        }
-        let made = numbered_rows(alloc, rows, next)?;
-        add_all(
+        add_new(
             alloc,
+            &mut self.rows,
+            &mut self.nexts,
             &mut self.children,
             &self.schema.foreign,
-            made.items(),
+            rows,
+            time,
         )?;
-        add_rows(&mut self.rows, &mut self.nexts, made, time)?;
         Ok(next)
     }
 
@@ -385,45 +382,30 @@ impl TableStore {
             ≡ with_replaced rows (table_now self.old)) }
         ensures err { OnErr result (self.new ≡ self.old) }
     {
-        if any_row_lacks_value(self.schema.columns.items(), rows.items()) {
-            return Err(StoreStop::NotNull);
-        }
         let alloc = self.name.allocator();
-        let claims = match claims_of(
+        let claims = match claim_given(
             alloc,
             &self.index,
             &self.rows,
-            &self.schema.key,
+            &self.schema,
             rows.items(),
+            reference_stop,
         ) {
             Ok(claims) => claims,
             Err(stop) => return Err(stop),
         };
-        match reference_stop {
-            None => {}
-            Some(stop) => return Err(stop),
-        }
-        let before = last_since(self.nexts.as_slice());
-        let numbers = numbers_of(alloc, rows.items())?;
-        add_all(
-            alloc,
-            &mut self.children,
-            &self.schema.foreign,
-            rows.items(),
-        )?;
-        self.index.open_all(&claims)?;
         self.rows.tell_order();
-        let given = rewrites(alloc, rows)?;
-        change_rows(alloc, &mut self.rows, &mut self.nexts, given, time)?;
-        self.index.set_all(claims);
-        settle_all(
+        put_given(
             alloc,
+            &mut self.index,
             &mut self.children,
-            &self.schema.foreign,
-            &self.rows,
-            numbers.as_slice(),
-            before,
-        );
+            &mut self.rows,
+            &mut self.nexts,
+            &self.schema,
+            rows,
+            claims,
+            time,
+        )?;
         Ok(())
     }
 
@@ -461,6 +443,214 @@ impl TableStore {
         );
         Ok(())
     }
+}
+
+// What refuses new rows, and else their keys in the index.
+fn claim_new(
+    alloc: Global,
+    index: &mut Index,
+    stored: &Rows,
+    schema: &Schema,
+    values: &[Values],
+    next: u32,
+    reference_stop: Option<StoreStop>,
+) -> Result<(), StoreStop>
+    requires indexed { AreIndexed schema.now.key (λ key. held_in index.old key)
+        (rows_now stored.now.slots) }
+    requires next { stored.now.next ≡ next }
+    ensures kept { AreIndexed schema.now.key (λ key. held_in index.new key) (rows_now stored.now.slots) }
+    ensures ok { OnOk result (AreIndexed schema.now.key (λ key. held_in index.new key)
+        (rows_now stored.now.slots ++ numbered_rows next values.now)) }
+    ensures few { OnOk result (next + length values.now ≤ max_next) }
+    ensures stop { (name : List ℕ) → StopsAs (option_or (insert_stop values.now (record {
+      name = name;
+      schema = schema.now;
+      rows = rows_now stored.now.slots;
+      next = next;
+    })) reference_stop) result }
+{
+    if any_lacks_value(schema.columns.items(), values) {
+        return Err(StoreStop::NotNull);
+    }
+    stored.tell_order();
+    match claim(alloc, index, stored, &schema.key, values, next) {
+        Ok(()) => {}
+        Err(stop) => return Err(stop),
+    }
+    if is_full(next, values.len()) {
+        return Err(StoreStop::Full);
+    }
+    match reference_stop {
+        None => Ok(()),
+        Some(stop) => Err(stop),
+    }
+}
+
+// Adds rows that nothing refuses.
+fn add_new(
+    alloc: Global,
+    rows: &mut Rows,
+    nexts: &mut Vec<NextSince>,
+    children: &mut ChildIndex,
+    foreigns: &Foreigns,
+    values: RowList,
+    time: u32,
+) -> Result<(), AllocError>
+    requires few { rows.old.next + length values ≤ max_next }
+    requires kinds { are_of_kinds rows.old.kinds (numbered_rows rows.old.next values) ≡ true }
+    ensures kept { KeepPairs (pair_in children.old) (pair_in children.new) }
+    ensures referred { OnOk result (AreReferred (pair_in children.new) foreigns.now
+        (numbered_rows rows.old.next values)) }
+    ensures ok { OnOk result (rows.new ≡ record rows.old {
+      slots = rows.old.slots ++ map (history_of_new_row time) (numbered_rows rows.old.next values);
+      next = next_after rows.old.next (numbered_rows rows.old.next values);
+    }) }
+    ensures nexts { OnOk result (nexts_of nexts.new.items ≡ nexts_with time
+        (next_after rows.old.next (numbered_rows rows.old.next values)) (nexts_of nexts.old.items)) }
+    ensures err { OnErr result (rows.new ≡ rows.old) }
+    ensures nexts_err { OnErr result (nexts.new.items ≡ nexts.old.items) }
+{
+    let made = numbered_rows(alloc, values, rows.next())?;
+    add_all(alloc, children, foreigns, made.items())?;
+    add_rows(rows, nexts, made, time)?;
+    Ok(())
+}
+
+// What refuses other values of rows, and else the numbers that their keys get.
+fn claim_given(
+    alloc: Global,
+    index: &Index,
+    stored: &Rows,
+    schema: &Schema,
+    given: &[TableRow],
+    reference_stop: Option<StoreStop>,
+) -> Result<Index, StoreStop>
+    requires sorted { are_sorted_rows given.now ≡ true }
+    requires stand { list_all (λ row. list_any (λ old. old.number == row.number)
+        (rows_now stored.now.slots)) given.now ≡ true }
+    requires indexed { AreIndexed schema.now.key (λ key. held_in index.now key)
+        (rows_now stored.now.slots) }
+    ensures ok { IfOk result (λ claims. AreIndexed schema.now.key
+        (with_claims (λ key. held_in claims key) (λ key. held_in index.now key))
+        (map (replaced_by given.now) (rows_now stored.now.slots))) }
+    ensures stop { (name : List ℕ) (next : ℕ) → StopsAs (option_or (replace_stop given.now (record {
+      name = name;
+      schema = schema.now;
+      rows = rows_now stored.now.slots;
+      next = next;
+    })) reference_stop) result }
+{
+    if any_row_lacks_value(schema.columns.items(), given) {
+        return Err(StoreStop::NotNull);
+    }
+    let claims = match claims_of(alloc, index, stored, &schema.key, given) {
+        Ok(claims) => claims,
+        Err(stop) => return Err(stop),
+    };
+    match reference_stop {
+        None => Ok(claims),
+        Some(stop) => Err(stop),
+    }
+}
+
+// Gives rows other values, which nothing refuses, where the index takes over the numbers of their keys.
+fn put_given(
+    alloc: Global,
+    index: &mut Index,
+    children: &mut ChildIndex,
+    rows: &mut Rows,
+    nexts: &mut Vec<NextSince>,
+    schema: &Schema,
+    given: TableRows,
+    claims: Index,
+    time: u32,
+) -> Result<(), AllocError>
+    requires stored { IsStored schema.now rows.old (λ key. held_in index.old key) (pair_in children.old)
+        (nexts_of nexts.old.items) }
+    requires later { last_since (nexts_of nexts.old.items) < time }
+    requires shape { list_all (has_shape schema.now.columns) (values_of given) ≡ true }
+    requires sorted { are_sorted_rows given ≡ true }
+    requires stand { list_all (λ row. list_any (λ old. old.number == row.number)
+        (rows_now rows.old.slots)) given ≡ true }
+    requires claimed { AreIndexed schema.now.key
+        (with_claims (λ key. held_in claims key) (λ key. held_in index.old key))
+        (map (replaced_by given) (rows_now rows.old.slots)) }
+    ensures stored { IsStored schema.now rows.new (λ key. held_in index.new key) (pair_in children.new)
+        (nexts_of nexts.new.items) }
+    ensures ok { OnOk result (rows.new.slots ≡ rows_with_values time given rows.old.slots) }
+    ensures nexts { OnOk result (nexts_of nexts.new.items
+        ≡ nexts_with time (last_next_number (nexts_of nexts.old.items)) (nexts_of nexts.old.items)) }
+    ensures err { OnErr result (rows.new ≡ rows.old) }
+    ensures nexts_err { OnErr result (nexts.new.items ≡ nexts.old.items) }
+{
+    let before = last_since(nexts.as_slice());
+    rows.tell_order();
+    let numbers = make_way(
+        alloc,
+        index,
+        children,
+        &schema.foreign,
+        given.items(),
+        &claims,
+    )?;
+    write_given(alloc, rows, nexts, given, time)?;
+    index.set_all(claims);
+    settle_all(
+        alloc,
+        children,
+        &schema.foreign,
+        rows,
+        numbers.as_slice(),
+        before,
+    );
+    Ok(())
+}
+
+// The numbers of given rows, once these are there under the keys to which they refer, and each claimed key
+// has a number in the index.
+fn make_way(
+    alloc: Global,
+    index: &mut Index,
+    children: &mut ChildIndex,
+    foreigns: &Foreigns,
+    given: &[TableRow],
+    claims: &Index,
+) -> Result<Vec<u32>, AllocError>
+    ensures pairs { KeepPairs (pair_in children.old) (pair_in children.new) }
+    ensures keys { (q : RowKey) (n : ℕ) → held_in index.old q ≡ Some n → held_in index.new q ≡ Some n }
+    ensures referred { OnOk result (AreReferred (pair_in children.new) foreigns.now given.now) }
+    ensures open { OnOk result ((q : RowKey) → IsSome (held_in claims.now q)
+        → IsSome (held_in index.new q)) }
+{
+    let numbers = numbers_of(alloc, given)?;
+    add_all(alloc, children, foreigns, given)?;
+    index.open_all(claims)?;
+    Ok(numbers)
+}
+
+// Changes rows to given ones.
+fn write_given(
+    alloc: Global,
+    rows: &mut Rows,
+    nexts: &mut Vec<NextSince>,
+    given: TableRows,
+    time: u32,
+) -> Result<(), AllocError>
+    requires before { AreBefore time rows.old.slots }
+    requires apart { RiseFrom 0 (map rewrite given) }
+    requires stand { AllStand rows.old.slots (map rewrite given) }
+    requires fits { AllFitKinds rows.old.kinds (map rewrite given) }
+    ensures ok { OnOk result (rows.new ≡ record rows.old {
+      slots = map (changed_by (changes_given time (map rewrite given))) rows.old.slots;
+    }) }
+    ensures nexts { OnOk result (nexts_of nexts.new.items
+        ≡ nexts_with time rows.old.next (nexts_of nexts.old.items)) }
+    ensures err { OnErr result (rows.new ≡ rows.old) }
+    ensures nexts_err { OnErr result (nexts.new.items ≡ nexts.old.items) }
+{
+    let changes = rewrites(alloc, given)?;
+    change_rows(alloc, rows, nexts, changes, time)?;
+    Ok(())
 }
 
 // Adds rows, and notes the number of the next one.
@@ -530,15 +720,4 @@ fn version_in(rows: &Rows, slot: usize) -> Option<u32>
     } else {
         None
     }
-}
-
-// Which columns are of TEXT.
-fn texts_of(alloc: Global, columns: &Columns) -> Result<Vec<bool>, AllocError>
-    ensures { IfOk result (λ texts. texts.items ≡ kinds_in columns.now) }
-{
-    let mut texts = Vec::with_capacity(alloc, columns.len())?;
-    for column in columns.items() {
-        texts.push(column.text)?;
-    }
-    Ok(texts)
 }
