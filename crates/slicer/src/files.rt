@@ -104,21 +104,41 @@ struct Paths {
     present: NameSet,
 }
 
+// Adds the paths of events, but for those that are changed before.
+fn note_events(
+    alloc: Global,
+    paths: &mut Paths,
+    changed: &mut NameSet,
+    events: &[Event],
+) -> Result<(), AllocError>
+    ensures whole { OnOk result ((q : List ℕ) → has_name paths.new.whole q
+        ≡ (has_name paths.old.whole q
+        || (not (has_name changed.old q) && names_initial whole_path q events.now))) }
+    ensures present { OnOk result ((q : List ℕ) → has_name paths.new.present q
+        ≡ (has_name paths.old.present q
+        || (not (has_name changed.old q) && names_initial present_path q events.now))) }
+{
+    for event in events {
+        note_needed(alloc, &mut paths.whole, changed, whole_in(&event.act))?;
+        note_needed(alloc, &mut paths.present, changed, present_in(&event.act))?;
+        note_changed(alloc, changed, changed_in(&event.act))?;
+    }
+    Ok(())
+}
+
 fn named_initially(alloc: Global, events: &[Event]) -> Result<Paths, AllocError>
     ensures whole { IfOk result (λ paths. (q : List ℕ) → has_name paths.whole q
         ≡ names_initial whole_path q events.now) }
     ensures present { IfOk result (λ paths. (q : List ℕ) → has_name paths.present q
         ≡ names_initial present_path q events.now) }
 {
-    let mut whole = NameSet::new(alloc);
-    let mut present = NameSet::new(alloc);
+    let mut paths = Paths {
+        whole: NameSet::new(alloc),
+        present: NameSet::new(alloc),
+    };
     let mut changed = NameSet::new(alloc);
-    for event in events {
-        note_needed(alloc, &mut whole, &changed, whole_in(&event.act))?;
-        note_needed(alloc, &mut present, &changed, present_in(&event.act))?;
-        note_changed(alloc, &mut changed, changed_in(&event.act))?;
-    }
-    Ok(Paths { whole, present })
+    note_events(alloc, &mut paths, &mut changed, events)?;
+    Ok(paths)
 }
 
 fn pack_file(

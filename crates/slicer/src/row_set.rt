@@ -1,7 +1,7 @@
 //! Sets of rows, as bits.
 
 ghost use Rattle.std.specs.Prelude.{◌≡◌, ◌==◌, ◌||◌, ◌&&◌, ◌<◌, ◌≤◌, ◌/◌, List as Items, ℕ, not, length};
-ghost use Rattle.std.specs.Prelude.{None, OnOk};
+ghost use Rattle.std.specs.Prelude.{Some, None, OnOk, bytes_eq, cond};
 ghost use Rattle.std.specs.BTreeMap.{get, get_by_text};
 ghost use Rattle.std.specs.Ordering.{nat_cmp};
 ghost use Rattle.lanes.specs.Sets.{member};
@@ -129,17 +129,30 @@ pub(crate) fn has_row(rows: &RowSet, table: &Utf8, row: u32) -> bool
     }
 }
 
+/// Puts the numbers of a table, whose name is copied.
+pub(crate) fn put_table(
+    alloc: Global,
+    rows: &mut RowSet,
+    table: &Utf8,
+    numbers: Numbers,
+) -> Result<(), AllocError>
+    ensures { OnOk result ((t : Items ℕ) → get_by_text rows.new t
+        ≡ cond (bytes_eq table.now t) (Some numbers) (get_by_text rows.old t)) }
+{
+    let key = String::from_str(alloc, table.as_str())?;
+    rows.insert(key, numbers)?;
+    Ok(())
+}
+
 // Adds a row of a table of which none is there.
 fn add_table(alloc: Global, rows: &mut RowSet, table: &Utf8, row: u32) -> Result<(), AllocError>
     requires { get_by_text rows.old table.now ≡ None }
     ensures { OnOk result ((t : Items ℕ) (n : ℕ)
         → has_row rows.new t n ≡ (is_row table.now row t n || has_row rows.old t n)) }
 {
-    let key = String::from_str(alloc, table.as_str())?;
     let mut numbers = Numbers::new(alloc);
     add_number(alloc, &mut numbers, row)?;
-    rows.insert(key, numbers)?;
-    Ok(())
+    put_table(alloc, rows, table, numbers)
 }
 
 /// Adds a row.

@@ -7,7 +7,7 @@ ghost use Rattle.lanes.specs.Sets.{member, IsUnion, IsDifference};
 ghost use Rattle.sql_model.specs.Scope.{same_text};
 ghost use Rattle.slicer.specs.inner.Rows.{words_at, words_in, is_in, has_number, has_row};
 
-use crate::row_set::{Numbers, RowSet, grow};
+use crate::row_set::{Numbers, RowSet, grow, put_table};
 use lanes::{minus_into, or_into};
 use ldv_value::{List, Utf8};
 use std::alloc::{AllocError, Global};
@@ -108,11 +108,9 @@ fn unite_new_table(
     ensures rows { OnOk result ((t : Items ℕ) (n : ℕ) → has_row rows.new t n
         ≡ ((same_text table.now t && is_in block fresh.old n) || has_row rows.old t n)) }
 {
-    let key = String::from_str(alloc, table.as_str())?;
     let mut numbers = Numbers::new(alloc);
     unite_block(alloc, &mut numbers, block, fresh)?;
-    rows.insert(key, numbers)?;
-    Ok(())
+    put_table(alloc, rows, table, numbers)
 }
 
 /// Takes the rows of a set out of a block's words, and adds to the set what is left.
