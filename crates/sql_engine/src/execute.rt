@@ -1,13 +1,17 @@
 //! A text that is asked over a store: parsed, checked, executed, with the lists that are recorded of it.
 
-ghost use Rattle.std.specs.Prelude.{◌≡◌, ◌<◌, ◌≤◌, length, Some, Ok, IfOk, OnOk, OnErr, IsTrue};
+ghost use Rattle.std.specs.Prelude.{◌≡◌, ◌<◌, ◌≤◌, length, Some, Ok, IfOk, OnOk, OnErr, IsTrue, Bool};
 ghost use Rattle.core_parts.specs.Checking.{IsQuery};
 ghost use Rattle.dml_versions.specs.Changing.{IsCheckedOver};
 ghost use Rattle.sql_engine.specs.Asking.{IsRecorded, IsOutcome, recorded_of};
 ghost use Rattle.sql_engine.specs.inner.Listing.{tables_asked};
+ghost use Rattle.sql_check.specs.Gives.{Stops};
 ghost use Rattle.sql_engine.specs.inner.Taking.{AreDistinct, IsFresh};
+ghost use Rattle.sql_engine.specs.Types.{Statement};
+ghost use Rattle.sql_model.specs.Places.{checked_of};
+ghost use Rattle.sql_model.specs.Scope.{catalog_of};
 ghost use Rattle.sql_model.specs.Texts.{statement_of};
-ghost use Rattle.table_store.specs.Histories.{tables_now};
+ghost use Rattle.table_store.specs.Histories.{StoreHistory, tables_now};
 
 use crate::answer::{QueryAnswer, query_answer};
 use crate::asked_tables::tables_asked;
@@ -118,6 +122,39 @@ fn execute_checked(
     }
 }
 
+// What a statement gives that a check doesn't accept.
+fn change_of_stop(alloc: Global, stop: CheckStop) -> Result<Change, AllocError>
+    ensures { (s : Statement) (store : StoreHistory) (keep : Bool)
+        → Stops stop (checked_of s (catalog_of (tables_now store)))
+        → IfOk result (IsOutcome s keep store store) }
+{
+    match stop {
+        CheckStop::NoTable => Ok(refusal_change(alloc, SqlRefusal::NoTable)),
+        CheckStop::NoColumn => Ok(refusal_change(alloc, SqlRefusal::NoColumn)),
+        CheckStop::TypeClash => Ok(refusal_change(alloc, SqlRefusal::TypeClash)),
+        CheckStop::NoMemory => Err(AllocError),
+    }
+}
+
+// Executes a statement that was checked, and gives it back.
+fn execute_and_return(
+    alloc: Global,
+    checked: Checked,
+    store: &mut Store,
+    time: u32,
+    keep: bool,
+) -> Result<(Change, Statement), AllocError>
+    requires checked { IsCheckedOver (tables_now store.old) checked }
+    requires later { store.old.time < time }
+    ensures outcome { IfOk result (λ r. IsOutcome checked.statement keep store.old store.new r.0) }
+    ensures statement { IfOk result (λ r. r.1 ≡ checked.statement) }
+    ensures latest { OnOk result (store.new.time ≤ time) }
+    ensures err { OnErr result (store.new ≡ store.old) }
+{
+    let change = execute_checked(alloc, &checked, store, time, keep)?;
+    Ok((change, checked.statement))
+}
+
 // Checks a statement, and executes it where it isn't refused. The statement is given back.
 fn asked_or_refused(
     alloc: Global,
@@ -133,16 +170,27 @@ fn asked_or_refused(
     ensures err { OnErr result (store.new ≡ store.old) }
 {
     match check_places(alloc, &statement, store.catalog()) {
-        Ok(places) => {
-            let checked = Checked { statement, places };
-            let change = execute_checked(alloc, &checked, store, time, keep)?;
-            Ok((change, checked.statement))
-        }
-        Err(CheckStop::NoTable) => Ok((refusal_change(alloc, SqlRefusal::NoTable), statement)),
-        Err(CheckStop::NoColumn) => Ok((refusal_change(alloc, SqlRefusal::NoColumn), statement)),
-        Err(CheckStop::TypeClash) => Ok((refusal_change(alloc, SqlRefusal::TypeClash), statement)),
-        Err(CheckStop::NoMemory) => Err(AllocError),
+        Ok(places) => execute_and_return(alloc, Checked { statement, places }, store, time, keep),
+        Err(stop) => Ok((change_of_stop(alloc, stop)?, statement)),
     }
+}
+
+// What a statement gave, with the tables that it asks.
+fn list_asked(
+    room: TableMarks,
+    statement: Statement,
+    change: Change,
+    store: &Store,
+    keep: bool,
+) -> Recorded
+    requires { IsTrue keep → IsFresh statement (catalog_of (tables_now store.now)).names room }
+    ensures given { result ≡ recorded_of change result.tables }
+    ensures tables { IsTrue keep
+        → result.tables ≡ tables_asked statement change.needs (catalog_of (tables_now store.now)) }
+{
+    store.tell_formed();
+    let tables = tables_of(room, &statement, &change.needs, store.catalog(), keep);
+    recorded_of(change, tables)
 }
 
 // Executes a statement, and lists the tables that it asks. Once it has run, nothing can fail.
@@ -161,8 +209,7 @@ fn execute_statement(
     store.tell_formed();
     let room = room_for(alloc, &store.catalog().names, &statement, keep)?;
     let (change, asked) = asked_or_refused(alloc, statement, store, time, keep)?;
-    let tables = tables_of(room, &asked, &change.needs, store.catalog(), keep);
-    Ok(recorded_of(change, tables))
+    Ok(list_asked(room, asked, change, store, keep))
 }
 
 /// Answers a text with its parameters over the tables of a store at a time, which is later than that of the
