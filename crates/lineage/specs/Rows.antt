@@ -4,7 +4,7 @@
 -- for that of no row.
 use Rattle.std.specs.Prelude.{◌≡◌, ℕ, List, [], ◌∷◌, Bool, true, false}
 use Rattle.ldv_value.specs.declared.value.Value.{Value}
-use Rattle.lineage.specs.Lineage.{Lineage}
+use Rattle.lineage.specs.Lineage.{Lineage, union_of}
 use Rattle.lineage.specs.StandsFor.{StandsFor}
 use Rattle.lineage.specs.declared.answer.Answer.{Answer}
 use Rattle.lineage.specs.declared.answer.Pick.{Pick}
@@ -43,3 +43,8 @@ PicksStandFor names versions keep (pick ∷ picks) (row ∷ rows) =
 -- a combination as a row: the values of the joined row, from the rows that it joins
 abbrev pub joined_row : List FromItem → Combination → AnswerRow
 joined_row from rows = record { values = joined_values rows; lineage = combination_rows from rows }
+
+-- an answer with the lineage of another too
+abbrev pub with_more : Answer → Answer → Answer
+with_more answer other =
+    record { values = answer.values; lineage = union_of answer.lineage other.lineage }

@@ -16,7 +16,8 @@ use Rattle.ldv_value.specs.Order.{values_order}
 use Rattle.sql_model.specs.Keys.{same_values}
 use Rattle.sql_model.specs.QueryAnswer.{distinct_values}
 use Rattle.sql_model.proofs.SameValues.{same_turned, is_same, same_exact}
-use Rattle.query_eval.specs.Merging.{lineage_of_answers, own_values, with_values, merged_answer, place_of, with_more, with_answer, merged_onto, IsIndex}
+use Rattle.lineage.specs.Rows.{with_more}
+use Rattle.query_eval.specs.Merging.{lineage_of_answers, own_values, with_values, merged_answer, place_of, with_answer, merged_onto, IsIndex}
 use Rattle.query_eval.specs.Types.{Value}
 
 -- ---- the place of an answer

@@ -5,6 +5,7 @@ use Rattle.std.specs.BTreeMap.{BTreeMap}
 use Rattle.std.specs.Option.{option_map}
 use Rattle.std.specs.FinMap.{empty}
 use Rattle.lineage.specs.Lineage.{Lineage, union_of}
+use Rattle.lineage.specs.Rows.{with_more}
 use Rattle.lineage.specs.declared.answer.Answer.{Answer}
 use Rattle.ldv_value.specs.Order.{values_order}
 use Rattle.query_eval.specs.Types.{Value}
@@ -35,11 +36,6 @@ abbrev pub place_of : List Value → List Answer → Option ℕ
 place_of values [] = None
 place_of values (answer ∷ answers) =
     if same_values answer.values values then Some 0 else option_map suc (place_of values answers)
-
--- an answer with the lineage of another too
-abbrev pub with_more : Answer → Answer → Answer
-with_more answer other =
-    record { values = answer.values; lineage = union_of answer.lineage other.lineage }
 
 -- answers of different values, and one more
 abbrev pub with_answer : List Answer → Answer → List Answer

@@ -3,16 +3,15 @@
 ghost use Rattle.std.specs.Prelude.{◌≡◌, ◌++◌, ◌∷◌, [], ℕ, Bool, List as Items, map, IfOk, OnOk};
 ghost use Rattle.std.specs.Prelude.{Some, None};
 ghost use Rattle.std.specs.BTreeMap as tree;
-ghost use Rattle.lineage.specs.Lineage.{union_of};
 ghost use Rattle.lineage.specs.Rows.{AnswersStandFor};
-ghost use Rattle.query_eval.specs.Merging.{own_values, merged_answer, place_of, with_more, with_answer, IsIndex};
+ghost use Rattle.query_eval.specs.Merging.{own_values, merged_answer, place_of, with_answer, IsIndex};
 ghost use Rattle.query_eval.specs.Types.{Value as Seen};
 ghost use Rattle.ldv_value.specs.Order.{values_order};
 ghost use Rattle.sql_model.specs.Needs.{Versions};
 ghost use Rattle.sql_model.specs.QueryAnswer.{AnswerRow, distinct_values, merge};
 
 use ldv_value::{Key, List, Values};
-use lineage::{Answer, Answers, LineageRows};
+use lineage::{Answer, Answers};
 use std::alloc::{AllocError, Global};
 use std::collections::BTreeMap;
 
@@ -38,14 +37,13 @@ fn merged_answers(alloc: Global, answers: &[Answer]) -> Result<Answers, AllocErr
     let mut places = BTreeMap::new(alloc);
     let mut made = Vec::new(alloc);
     for answer in answers {
-        add_answer(alloc, &mut places, &mut made, answer)?;
+        add_answer(&mut places, &mut made, answer)?;
     }
     Ok(List::of_vec(made))
 }
 
 // Adds an answer, or its lineage to that of the answer of the same values.
 fn add_answer<'a>(
-    alloc: Global,
     places: &mut Places<'a>,
     made: &mut Vec<Answer>,
     answer: &'a Answer,
@@ -56,7 +54,7 @@ fn add_answer<'a>(
 {
     match place_in(places, &answer.values) {
         Some(place) => add_again(made, place, answer),
-        None => add_first(alloc, places, made, answer),
+        None => add_first(places, made, answer),
     }
 }
 
@@ -64,21 +62,6 @@ fn place_in<'a>(places: &Places<'a>, values: &'a Values) -> Option<usize>
     ensures { result ≡ tree.get values_order places.now values.now }
 {
     places.get(&Key::of(values)).copied()
-}
-
-// Adds the rows of one lineage to another.
-fn unite(rows: &mut LineageRows, other: &LineageRows) -> Result<(), AllocError>
-    ensures { OnOk result (rows.new ≡ union_of rows.old other.now) }
-{
-    rows.union(other)?;
-    Ok(())
-}
-
-// Adds the lineage of another answer of the same values.
-fn take_lineage(answer: &mut Answer, other: &Answer) -> Result<(), AllocError>
-    ensures { OnOk result (answer.new ≡ with_more answer.old other.now) }
-{
-    unite(&mut answer.lineage, &other.lineage)
 }
 
 // Adds the lineage of an answer to that of the answer at a place.
@@ -89,39 +72,19 @@ fn add_again(made: &mut Vec<Answer>, place: usize, answer: &Answer) -> Result<()
     ensures places { OnOk result ((v : Items Seen)
         → place_of v made.new.items ≡ place_of v made.old.items) }
 {
-    take_lineage(&mut made[place], answer)
+    made[place].unite(answer)
 }
 
-// A copy of a lineage.
-fn copy_of(alloc: Global, rows: &LineageRows) -> Result<LineageRows, AllocError>
-    ensures { IfOk result (λ copy. copy ≡ rows.now) }
-{
-    let mut copy = LineageRows::empty(alloc);
-    unite(&mut copy, rows)?;
-    Ok(copy)
-}
-
-// A copy of an answer.
-fn copy_answer(alloc: Global, answer: &Answer) -> Result<Answer, AllocError>
-    ensures { IfOk result (λ copy. copy ≡ answer.now) }
-{
-    Ok(Answer {
-        values: answer.values.copy()?,
-        lineage: copy_of(alloc, &answer.lineage)?,
-    })
-}
-
-fn push_copy(alloc: Global, made: &mut Vec<Answer>, answer: &Answer) -> Result<(), AllocError>
+fn push_copy(made: &mut Vec<Answer>, answer: &Answer) -> Result<(), AllocError>
     ensures { OnOk result (made.new.items ≡ made.old.items ++ answer.now ∷ []) }
 {
-    let copy = copy_answer(alloc, answer)?;
+    let copy = answer.copy()?;
     made.push(copy)?;
     Ok(())
 }
 
 // Adds the first answer of its values.
 fn add_first<'a>(
-    alloc: Global,
     places: &mut Places<'a>,
     made: &mut Vec<Answer>,
     answer: &'a Answer,
@@ -132,7 +95,7 @@ fn add_first<'a>(
     ensures made { OnOk result (made.new.items ≡ with_answer made.old.items answer.now) }
 {
     let place = made.len();
-    push_copy(alloc, made, answer)?;
+    push_copy(made, answer)?;
     places.insert(Key::of(&answer.values), place)?;
     Ok(())
 }

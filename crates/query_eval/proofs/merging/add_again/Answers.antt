@@ -11,7 +11,7 @@ returns-clause-made c =
     let found = c.index_mut.result.now in
     let here : found ≡ get_or ms c.args.place found =
     get_or_read ms c.args.place _ (place_within ms a.values c.args.place c.requires) c.index_mut.ensures.value found in
-    on_ok_weaker c.take_lineage.result (λ is. set_again ms a found _ c.args.place c.requires here is) c.take_lineage.ensures
+    on_ok_weaker c.unite.result (λ is. set_again ms a found _ c.args.place c.requires here is) c.unite.ensures.ok
 
 pub returns-clause-places : goal.returns-clause-places
 returns-clause-places c =
@@ -20,4 +20,4 @@ returns-clause-places c =
     let found = c.index_mut.result.now in
     let here : found ≡ get_or ms c.args.place found =
     get_or_read ms c.args.place _ (place_within ms a.values c.args.place c.requires) c.index_mut.ensures.value found in
-    on_ok_weaker c.take_lineage.result (λ is. places_set ms a found _ c.args.place c.requires here is) c.take_lineage.ensures
+    on_ok_weaker c.unite.result (λ is. places_set ms a found _ c.args.place c.requires here is) c.unite.ensures.ok
