@@ -36,8 +36,6 @@ mod rows;
 #[cfg(test)]
 mod schemas;
 #[cfg(test)]
-mod scripts;
-#[cfg(test)]
 mod session;
 #[cfg(test)]
 mod sets;
