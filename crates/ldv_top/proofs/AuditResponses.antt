@@ -11,8 +11,8 @@ use Rattle.replay_db.specs.declared.soundness.AuditStop.{AuditStop}
 use Rattle.replay_db.specs.declared.soundness.AuditStop.TheVariants as stops
 use Rattle.replay_db.specs.declared.soundness.Verdict.{Verdict}
 use Rattle.package_layout.specs.Valid.{IsSpelled}
-use Rattle.package_layout.specs.Version.{version_of}
-use Rattle.package_layout.specs.declared.version.Version.{Version}
+use Rattle.package_codec.specs.Version.{version_of}
+use Rattle.package_codec.specs.declared.version.Version.{Version}
 use Rattle.ldv_top.specs.declared.exit.Exit.TheVariants.{NotEnded, PackageTooLong}
 use Rattle.ldv_top.specs.DueOfAudits.{verdict_text, verdict_due, audit_as, audit_by_version, audited_world}
 use Rattle.ldv_top.specs.DueParts.{DueOutput, due_refusal, due_bytes, due_outcome}

@@ -9,10 +9,10 @@ use Rattle.run_model.specs.Types.{Instr}
 use Rattle.run_model.specs.declared.package.Mode.{Mode}
 use Rattle.run_model.specs.declared.package.Mode.TheVariants.{Included, Excluded}
 use Rattle.run_model.specs.declared.package.Package.{Package}
-use Rattle.package_layout.specs.CompactPackages.{expanded_package}
+use Rattle.package_codec.specs.CompactPackages.{expanded_package}
 use Rattle.package_layout.specs.Valid.{reading}
 use Rattle.package_layout.specs.Whole.{spelling}
-use Rattle.package_layout.specs.declared.compact_package.CompactPackage.{CompactPackage}
+use Rattle.package_codec.specs.declared.compact_package.CompactPackage.{CompactPackage}
 use Rattle.replay_db.specs.TableAt.{table_by_mode}
 use Rattle.replay_log.specs.Replays.{CanReplay}
 use Rattle.ldv_top.specs.Due.{due_outcome, outcome_due, due_divergence, due_log, replayed_as, replayed_package, due_replay}

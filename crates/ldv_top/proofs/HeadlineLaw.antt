@@ -12,8 +12,8 @@ use Rattle.run_model.specs.Package.{package_of, own_world}
 use Rattle.run_model.specs.WorldRun.{ends_within, outcome_within, steps_by}
 use Rattle.sql_model.specs.Tables.{tables_test}
 use Rattle.package_layout.specs.Valid.{reading}
-use Rattle.package_layout.specs.Version.{version_of}
-use Rattle.package_layout.specs.declared.version.Version.TheVariants.{Two}
+use Rattle.package_codec.specs.Version.{version_of}
+use Rattle.package_codec.specs.declared.version.Version.TheVariants.{Two}
 use Rattle.package_layout.specs.Whole.{spelling}
 use Rattle.run_laws.proofs.BudgetLaw.{outcome_ends, ended_outcome, enough_outcome}
 use Rattle.run_laws.proofs.EndedLaw.{ended_starts}

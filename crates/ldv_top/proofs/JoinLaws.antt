@@ -12,14 +12,14 @@ use Rattle.run_model.specs.declared.world.World.{World}
 use Rattle.run_laws.proofs.BudgetLaw.{ended_outcome, enough_outcome}
 use Rattle.run_laws.proofs.EndedLaw.{ended_starts}
 use Rattle.run_laws.specs.Laws.{BetweenLaw, SameRun}
-use Rattle.package_layout.proofs.Numbers.{sized_law}
-use Rattle.package_layout.specs.Fields.{sized_at, text_spelling}
+use Rattle.package_codec.proofs.Numbers.{sized_law}
+use Rattle.package_codec.specs.Fields.{sized_at, text_spelling}
 use Rattle.package_layout.specs.Valid.{IsValidPackage, reading}
 use Rattle.package_layout.specs.Whole.{IsTyped, spelling}
 use Rattle.package_join.proofs.TypedJoins.{together_typed}
-use Rattle.package_join.specs.declared.joined.Joined.{Joined}
-use Rattle.package_join.specs.declared.joined.Which.{Which}
-use Rattle.package_join.specs.declared.joined.Which.TheVariants.{First, Second}
+use Rattle.joined_data.specs.declared.joined.Joined.{Joined}
+use Rattle.joined_data.specs.declared.joined.Which.{Which}
+use Rattle.joined_data.specs.declared.joined.Which.TheVariants.{First, Second}
 use Rattle.package_join.specs.Laws.{IsJoined, JoinLaw, RoundTripLaw, ValidLaw}
 use Rattle.package_join.specs.Layout.{joined_spelling}
 use Rattle.package_join.specs.Valid.{IsValidJoined, joined_reading}

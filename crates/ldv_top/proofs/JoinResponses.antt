@@ -5,10 +5,10 @@ use Rattle.std.specs.Int.{w32}
 use Rattle.ldv_value.specs.Limits.{input_limit}
 use Rattle.run_model.specs.declared.package.Package.{Package}
 use Rattle.package_layout.specs.declared.damage.DamageKind.{DamageKind}
-use Rattle.package_layout.specs.Fields.{DecodeResult, ◌>>=◌, bytes_at, number_at, sized_at}
+use Rattle.package_codec.specs.Fields.{DecodeResult, ◌>>=◌, bytes_at, number_at, sized_at}
 use Rattle.package_layout.specs.Valid.{reading}
-use Rattle.package_join.specs.declared.joined.Joined.{Joined}
-use Rattle.package_join.specs.declared.joined.Which.{Which}
+use Rattle.joined_data.specs.declared.joined.Joined.{Joined}
+use Rattle.joined_data.specs.declared.joined.Which.{Which}
 use Rattle.package_join.specs.Valid.{joined_reading}
 use Rattle.package_join.specs.Worlds.{joined_world}
 use Rattle.ldv_top.specs.declared.exit.Exit.TheVariants.{Damaged}

@@ -6,11 +6,11 @@ use Rattle.run_model.specs.declared.package.Mode.{Mode}
 use Rattle.run_model.specs.declared.package.Mode.TheVariants.{Included, Excluded}
 use Rattle.run_model.specs.declared.package.Package.{Package}
 use Rattle.package_layout.specs.Counted.{IsCounted}
-use Rattle.package_layout.specs.Plain.{fits_version}
+use Rattle.package_codec.specs.Plain.{fits_version}
 use Rattle.package_layout.specs.Valid.{IsValidPackage, IsSpelled, reading}
-use Rattle.package_layout.specs.Version.{version_of}
-use Rattle.package_layout.specs.declared.version.Version.{Version}
-use Rattle.package_layout.specs.declared.version.Version.TheVariants.{Two}
+use Rattle.package_codec.specs.Version.{version_of}
+use Rattle.package_codec.specs.declared.version.Version.{Version}
+use Rattle.package_codec.specs.declared.version.Version.TheVariants.{Two}
 use Rattle.package_layout.specs.Whole.{spelling_as, spelling, IsTyped}
 use Rattle.replay_db.specs.Auditing.{SoundLaw, OwnSoundLaw, IsOwn}
 use Rattle.ldv_top.specs.declared.exit.Exit.TheVariants.{Done, NoSuch}

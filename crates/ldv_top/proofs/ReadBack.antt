@@ -8,11 +8,11 @@ use Rattle.run_model.specs.declared.package.Package.{Package}
 use Rattle.run_model.specs.declared.world.World.{World}
 use Rattle.run_model.specs.Package.{package_of}
 use Rattle.run_model.specs.WorldRun.{ends_within}
-use Rattle.package_layout.specs.Plain.{fits_version}
+use Rattle.package_codec.specs.Plain.{fits_version}
 use Rattle.package_layout.specs.Valid.{IsValidPackage, reading}
 use Rattle.package_layout.specs.Counted.{IsCounted}
-use Rattle.package_layout.specs.declared.version.Version.{Version}
-use Rattle.package_layout.specs.declared.version.Version.TheVariants.{Two}
+use Rattle.package_codec.specs.declared.version.Version.{Version}
+use Rattle.package_codec.specs.declared.version.Version.TheVariants.{Two}
 use Rattle.package_layout.specs.Whole.{spelling_as, spelling, IsTyped}
 use Rattle.replay_db.specs.Worlds.{TypedFor, TypedWorld, ValidWorld, WorldTablesLaw, ValidPackageLaw, TypedPackageLaw}
 

@@ -12,9 +12,9 @@ use Rattle.run_model.specs.declared.world.World.{World}
 use Rattle.run_model.specs.Package.{own_world}
 use Rattle.run_model.specs.WorldRun.{ends_within, outcome_within}
 use Rattle.package_layout.specs.Valid.{reading}
-use Rattle.package_layout.specs.Version.{version_of}
-use Rattle.package_layout.specs.declared.version.Version.{Version}
-use Rattle.package_layout.specs.declared.version.Version.TheVariants.{One, Two}
+use Rattle.package_codec.specs.Version.{version_of}
+use Rattle.package_codec.specs.declared.version.Version.{Version}
+use Rattle.package_codec.specs.declared.version.Version.TheVariants.{One, Two}
 use Rattle.package_layout.specs.Whole.{spelling_as}
 use Rattle.run_laws.proofs.BudgetLaw.{outcome_ends, ended_outcome}
 use Rattle.replay_db.specs.Auditing.{SoundLaw, verdict_on, own_spelling}

@@ -11,10 +11,10 @@ use Rattle.run_model.specs.declared.event.Event.{Event}
 use Rattle.run_model.specs.declared.package.Package.{Package}
 use Rattle.run_model.specs.ValidTrace.{trace_test, named_rule, are_named, ValidTrace, IsTrace, asked_count}
 use Rattle.run_model.specs.ValidPackage.{is_short_text, start_rule, files_rule, tables_rule, logs_rule, mode_rule, steps_rule, script_rule, trace_rule, reasons_rule, parts_rule, whole_rule, rules}
-use Rattle.package_layout.specs.Events.{need_groups, needs_room, member_groups, members_room, act_room, event_room}
-use Rattle.package_layout.specs.Parts.{need_table, member_table}
-use Rattle.package_layout.specs.Room.{fits_u16_count, log_room}
-use Rattle.package_layout.specs.Runs.{max_events, trace_room}
+use Rattle.package_codec.specs.Events.{need_groups, needs_room, member_groups, members_room, act_room, event_room}
+use Rattle.package_codec.specs.Parts.{need_table, member_table}
+use Rattle.package_codec.specs.Room.{fits_u16_count, log_room}
+use Rattle.package_codec.specs.Runs.{max_events, trace_room}
 use Rattle.package_layout.specs.Whole.{tables_room, has_room}
 use Rattle.package_layout.specs.Valid.{IsValidPackage}
 

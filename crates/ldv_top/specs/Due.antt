@@ -10,8 +10,8 @@ use Rattle.run_model.specs.Package.{package_of, own_world}
 use Rattle.run_model.specs.Core.{Divergence as DivergedAt}
 use Rattle.run_model.specs.LogRun.{log_outcome, log_divergence}
 use Rattle.free_order.specs.OtherSeed.{is_free}
-use Rattle.package_join.specs.declared.joined.Joined.{Joined}
-use Rattle.package_join.specs.declared.joined.Which.{Which}
+use Rattle.joined_data.specs.declared.joined.Joined.{Joined}
+use Rattle.joined_data.specs.declared.joined.Which.{Which}
 use Rattle.package_join.specs.Valid.{joined_reading}
 use Rattle.package_join.specs.Worlds.{joined_world}
 use Rattle.package_layout.specs.declared.damage.DamageKind.{DamageKind}

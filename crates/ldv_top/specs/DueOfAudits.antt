@@ -9,8 +9,8 @@ use Rattle.run_model.specs.declared.package.Package.{Package}
 use Rattle.run_model.specs.declared.world.World.{World}
 use Rattle.run_model.specs.OutcomeText.{line}
 use Rattle.run_model.specs.Package.{own_world}
-use Rattle.package_layout.specs.Version.{version_of}
-use Rattle.package_layout.specs.declared.version.Version.{Version}
+use Rattle.package_codec.specs.Version.{version_of}
+use Rattle.package_codec.specs.declared.version.Version.{Version}
 use Rattle.package_layout.specs.declared.damage.DamageKind.TheVariants.{Magic}
 use Rattle.replay_db.specs.Auditing.{verdict_on, recorded_spelling}
 use Rattle.replay_db.specs.declared.soundness.Verdict.{Verdict}

@@ -3,17 +3,17 @@ use Rattle.std.specs.Prelude.{◌≡◌, ℕ, List, length, ◌==◌, if◌then�
 use Rattle.run_model.specs.declared.package.Mode.{Mode}
 use Rattle.run_model.specs.declared.package.Mode.TheVariants.{Included, Excluded}
 use Rattle.run_model.specs.declared.package.Package.{Package}
-use Rattle.package_join.specs.declared.joined.Clash.{Clash as TheClash}
-use Rattle.package_join.specs.declared.joined.Joined.{Joined}
-use Rattle.package_join.specs.Joined.{joined_of}
+use Rattle.joined_data.specs.declared.joined.Clash.{Clash as TheClash}
+use Rattle.joined_data.specs.declared.joined.Joined.{Joined}
+use Rattle.joined_data.specs.Joined.{joined_of}
 use Rattle.package_join.specs.Layout.{joined_spelling}
 use Rattle.package_layout.specs.declared.damage.DamageKind.{DamageKind}
 use Rattle.package_layout.specs.declared.damage.DamageKind.TheVariants.{Form}
 use Rattle.package_layout.specs.declared.layout.PackageStop.{PackageStop}
 use Rattle.package_layout.specs.declared.layout.PackageStop.TheVariants as package_stops
-use Rattle.package_layout.specs.declared.compact_package.CompactPackage.{CompactPackage}
-use Rattle.package_layout.specs.Fields.{◌>>=◌, both_at, sized_at}
-use Rattle.package_layout.specs.CompactPackages.{expanded_package}
+use Rattle.package_codec.specs.declared.compact_package.CompactPackage.{CompactPackage}
+use Rattle.package_codec.specs.Fields.{◌>>=◌, both_at, sized_at}
+use Rattle.package_codec.specs.CompactPackages.{expanded_package}
 use Rattle.package_layout.specs.Valid.{reading}
 use Rattle.ldv_top.specs.declared.exit.Exit.TheVariants.{TooLong, Damaged, NoSuch, Clash}
 use Rattle.ldv_top.specs.DueParts.{DueOutput, due_refusal, due_spelling, is_too_long}

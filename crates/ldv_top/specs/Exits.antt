@@ -2,9 +2,9 @@
 use Rattle.std.specs.Prelude.{ℕ, List, [], ◌++◌, codes, Option, Some, None}
 use Rattle.std.specs.Fmt.{decimal}
 use Rattle.run_model.specs.OutcomeText.{name_text}
-use Rattle.package_join.specs.declared.joined.Clash.{Clash as TheClash}
-use Rattle.package_join.specs.declared.joined.ClashKind.{ClashKind}
-use Rattle.package_join.specs.declared.joined.ClashKind.TheVariants as kinds
+use Rattle.joined_data.specs.declared.joined.Clash.{Clash as TheClash}
+use Rattle.joined_data.specs.declared.joined.ClashKind.{ClashKind}
+use Rattle.joined_data.specs.declared.joined.ClashKind.TheVariants as kinds
 use Rattle.package_layout.specs.declared.damage.DamageKind.{DamageKind}
 use Rattle.package_layout.specs.declared.damage.DamageKind.TheVariants.{Magic, Digest, Form}
 use Rattle.world_json.specs.declared.fault.WorldFault.{WorldFault}

@@ -3,8 +3,8 @@ use Rattle.std.specs.Prelude.{◌≡◌, ◌↔◌, ◌≤◌, ℕ, List, Some, 
 use Rattle.ldv_value.specs.Limits.{max_steps}
 use Rattle.run_model.specs.declared.package.Package.{Package}
 use Rattle.package_layout.specs.Valid.{reading}
-use Rattle.package_layout.specs.Version.{version_of}
-use Rattle.package_layout.specs.declared.version.Version.TheVariants.{Two}
+use Rattle.package_codec.specs.Version.{version_of}
+use Rattle.package_codec.specs.declared.version.Version.TheVariants.{Two}
 use Rattle.ldv_top.specs.declared.command.Report.{Report}
 use Rattle.ldv_top.specs.Due.{due_replay}
 use Rattle.ldv_top.specs.DueOfAudits.{due_audit}

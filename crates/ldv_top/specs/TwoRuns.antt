@@ -7,15 +7,15 @@ use Rattle.run_model.specs.declared.world.World.{World}
 use Rattle.run_model.specs.Package.{package_of}
 use Rattle.run_model.specs.ValidWorld.{ValidWorld}
 use Rattle.run_model.specs.WorldRun.{ends_within, steps_by}
-use Rattle.package_join.specs.declared.joined.Joined.{Joined}
-use Rattle.package_join.specs.declared.joined.Which.{Which}
-use Rattle.package_join.specs.declared.joined.Which.TheVariants.{First, Second}
-use Rattle.package_join.specs.Joined.{put_together}
+use Rattle.joined_data.specs.declared.joined.Joined.{Joined}
+use Rattle.joined_data.specs.declared.joined.Which.{Which}
+use Rattle.joined_data.specs.declared.joined.Which.TheVariants.{First, Second}
+use Rattle.joined_data.specs.Joined.{put_together}
 use Rattle.package_join.specs.Layout.{joined_spelling}
-use Rattle.package_join.specs.Rooms.{IsTypedJoined}
+use Rattle.joined_data.specs.Rooms.{IsTypedJoined}
 use Rattle.package_join.specs.Valid.{IsValidJoined}
 use Rattle.package_join.specs.Worlds.{joined_world}
-use Rattle.package_layout.specs.Fields.{text_spelling}
+use Rattle.package_codec.specs.Fields.{text_spelling}
 use Rattle.package_layout.specs.Whole.{spelling}
 use Rattle.ldv_top.specs.Due.{due_replay_run, due_world}
 use Rattle.ldv_top.specs.DueOfJoins.{due_join}

@@ -3,7 +3,7 @@
 ghost use Rattle.std.specs.Prelude.{◌≡◌, ◌≤◌, Some, length, IfOk, IsSome};
 ghost use Rattle.ldv_value.specs.Limits.{input_limit, max_steps};
 ghost use Rattle.package_layout.specs.StartScript.{StartsWith};
-ghost use Rattle.package_layout.specs.Version.{version_of};
+ghost use Rattle.package_codec.specs.Version.{version_of};
 ghost use Rattle.run_model.specs.Package.{own_world};
 ghost use Rattle.run_model.specs.Start.{IsParsed, start_script};
 ghost use Rattle.replay_db.specs.Runs.{CanRun};
@@ -13,7 +13,8 @@ ghost use Rattle.ldv_top.specs.DueOfAudits.{audited_package, audited_world, due_
 
 use crate::response::Response;
 use ldv_value::{Bytes, append_number};
-use package_layout::{CompactPackage, PackageStop, ParsedPackage, read_parsed};
+use package_codec::{CompactPackage, ParsedPackage};
+use package_layout::{PackageStop, read_parsed};
 use replay_db::{AuditStop, Verdict, audit_parsed, own_parsed_world, package_law};
 use run_model::{Mode, Package, ParsedWorld};
 use script_parse::Script;

@@ -17,8 +17,8 @@ use crate::prov::prov_of;
 use crate::replay_run::replay_of_run;
 use crate::table::table_of;
 use crate::word_stop::WordStop;
+use joined_data::Which;
 use ldv_value::{DEFAULT_STEPS, MAX_STEPS, Utf8};
-use package_join::Which;
 use run_model::Mode;
 use std::alloc::Global;
 

@@ -3,7 +3,7 @@
 ghost use Rattle.std.specs.Prelude.{◌≡◌};
 ghost use Rattle.ldv_top.specs.Exits.{status_of};
 
-use package_join::Clash;
+use joined_data::Clash;
 use package_layout::DamageKind;
 use run_model::ProcName;
 use world_json::WorldFault;

@@ -4,12 +4,12 @@ ghost use Rattle.std.specs.Prelude.{◌≡◌, ◌≤◌, length, map, string_by
 ghost use Rattle.std.specs.Int.{w32};
 ghost use Rattle.std.specs.Option.{option_map};
 ghost use Rattle.ldv_value.specs.Limits.{input_limit};
-ghost use Rattle.package_join.specs.Joined.{joined_of};
+ghost use Rattle.joined_data.specs.Joined.{joined_of};
 ghost use Rattle.package_join.specs.Layout.{joined_spelling};
-ghost use Rattle.package_join.specs.CompactJoins.{whole_join};
-ghost use Rattle.package_layout.specs.Fields.{number_at, sized_at};
-ghost use Rattle.package_layout.specs.CompactPackages.{expanded_package};
-ghost use Rattle.package_layout.specs.Runs.{IsCut};
+ghost use Rattle.joined_data.specs.CompactJoins.{whole_join};
+ghost use Rattle.package_codec.specs.Fields.{number_at, sized_at};
+ghost use Rattle.package_codec.specs.CompactPackages.{expanded_package};
+ghost use Rattle.package_codec.specs.Runs.{IsCut};
 ghost use Rattle.package_layout.specs.Valid.{reading};
 ghost use Rattle.run_model.specs.declared.package.Mode.TheVariants.{Included};
 ghost use Rattle.ldv_top.specs.Due.{response_due, due_spelling};
@@ -20,9 +20,11 @@ ghost use Rattle.ldv_top.specs.WordsOfJoins.{join_of};
 
 use crate::command::Command;
 use crate::response::Response;
+use joined_data::{CompactJoined, JoinStop};
 use ldv_value::Bytes;
-use package_join::{CompactJoined, JoinStop, join_compact, spell_compact_joined};
-use package_layout::{CompactPackage, Cursor, DamageKind, PackageStop, SpellStop, read_compact};
+use package_codec::{CompactPackage, Cursor};
+use package_join::{join_compact, spell_compact_joined};
+use package_layout::{DamageKind, PackageStop, SpellStop, read_compact};
 use run_model::Mode;
 use std::alloc::{AllocError, Global};
 

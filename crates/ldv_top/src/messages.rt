@@ -10,8 +10,8 @@ ghost use Rattle.ldv_top.specs.Written.{Writes};
 
 use crate::exit::Exit;
 use itoa::Buffer;
+use joined_data::{Clash, ClashKind};
 use ldv_io::{Sink, WriteStop, write_all};
-use package_join::{Clash, ClashKind};
 use package_layout::DamageKind;
 use world_json::WorldFault;
 

@@ -2,8 +2,8 @@
 
 ghost use Rattle.std.specs.Prelude.{◌≡◌, ◌≤◌, length, map, string_bytes, IfOk, IfSome, OnOk};
 ghost use Rattle.ldv_value.specs.Limits.{input_limit};
-ghost use Rattle.package_layout.specs.CompactPackages.{expanded_package};
-ghost use Rattle.package_layout.specs.Runs.{IsCut};
+ghost use Rattle.package_codec.specs.CompactPackages.{expanded_package};
+ghost use Rattle.package_codec.specs.Runs.{IsCut};
 ghost use Rattle.package_layout.specs.Whole.{spelling};
 ghost use Rattle.ldv_top.specs.Due.{response_due, due_spelling};
 ghost use Rattle.ldv_top.specs.DueOfMigrations.{due_migrate};
@@ -17,7 +17,8 @@ use crate::migration_law::migration_law;
 use crate::reading::read_compact_of;
 use crate::response::Response;
 use ldv_value::Bytes;
-use package_layout::{CompactPackage, PackageStop, SpellStop, spell_compact};
+use package_codec::CompactPackage;
+use package_layout::{PackageStop, SpellStop, spell_compact};
 use std::alloc::{AllocError, Global};
 
 /// The command that the words after `migrate` are.

@@ -3,8 +3,8 @@
 ghost use Rattle.std.specs.Prelude.{◌≡◌, Ok, IfOk, IfErr, true};
 ghost use Rattle.ldv_value.specs.Gives.{Gives};
 ghost use Rattle.package_layout.specs.ReadResult.{ReadsAs, CompactReadsAs};
-ghost use Rattle.package_layout.specs.CompactPackages.{expanded_package};
-ghost use Rattle.package_layout.specs.Runs.{IsCut, are_runs};
+ghost use Rattle.package_codec.specs.CompactPackages.{expanded_package};
+ghost use Rattle.package_codec.specs.Runs.{IsCut, are_runs};
 ghost use Rattle.package_layout.specs.StartScript.{StartsWith, cut_of};
 ghost use Rattle.package_layout.specs.Valid.{IsSpelled, IsValidPackage, reading};
 ghost use Rattle.package_layout.specs.Whole.{IsTyped};
@@ -15,9 +15,8 @@ ghost use Rattle.run_model.specs.ValidWorld.{CanRun, ValidWorld};
 ghost use Rattle.world_json.specs.Reading.{world_reading, IsFaultOf};
 
 use ldv_value::Bytes;
-use package_layout::{
-    CompactPackage, PackageStop, ParsedPackage, read_compact, read_package, read_parsed,
-};
+use package_codec::{CompactPackage, ParsedPackage};
+use package_layout::{PackageStop, read_compact, read_package, read_parsed};
 use prov_export::{ProvStop, read_prov};
 use run_model::{Package, ParsedWorld};
 use std::alloc::Global;

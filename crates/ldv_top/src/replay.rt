@@ -13,7 +13,8 @@ ghost use Rattle.ldv_top.specs.Due.{response_due, due_world, due_log, replayed_p
 use crate::reading::read_parsed_of;
 use crate::response::{Response, parsed_response};
 use ldv_value::Bytes;
-use package_layout::{CompactPackage, PackageStop, ParsedPackage};
+use package_codec::{CompactPackage, ParsedPackage};
+use package_layout::PackageStop;
 use proc_core::RunStop;
 use replay_db::own_parsed_world;
 use replay_log::{can_replay_law, replay_parsed};

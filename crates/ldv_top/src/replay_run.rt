@@ -3,8 +3,9 @@
 ghost use Rattle.std.specs.Prelude.{◌≡◌, ◌≤◌, length, IfOk, IfSome};
 ghost use Rattle.std.specs.List.{AllByRecursion};
 ghost use Rattle.ldv_value.specs.Limits.{input_limit, max_steps};
-ghost use Rattle.package_join.specs.Rooms.{TypedCommonTable};
-ghost use Rattle.package_join.specs.CompactJoins.{CompactJoinedReadsAs, whole_join};
+ghost use Rattle.joined_data.specs.Rooms.{TypedCommonTable};
+ghost use Rattle.package_join.specs.CompactValid.{CompactJoinedReadsAs};
+ghost use Rattle.joined_data.specs.CompactJoins.{whole_join};
 ghost use Rattle.package_join.specs.ParsedJoins.{StartRuns, cut_of};
 ghost use Rattle.package_join.specs.Valid.{IsJoinedRead, joined_reading};
 ghost use Rattle.package_join.specs.Worlds.{joined_world};
@@ -15,8 +16,9 @@ ghost use Rattle.ldv_top.specs.WordsOfJoins.{replay_of_run, which_of};
 
 use crate::command::Command;
 use crate::response::{Response, parsed_response};
+use joined_data::{ParsedJoined, Which};
 use ldv_value::Bytes;
-use package_join::{ParsedJoined, Which, joined_parsed_world, joined_runs_law, read_parsed_joined};
+use package_join::{joined_parsed_world, joined_runs_law, read_parsed_joined};
 use package_layout::PackageStop;
 use std::alloc::{AllocError, Global};
 

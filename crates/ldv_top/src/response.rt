@@ -9,8 +9,8 @@ ghost use Rattle.replay_db.specs.Runs.{CanRun, Stops};
 ghost use Rattle.replay_db.specs.Types.{World};
 ghost use Rattle.ldv_top.specs.Due.{response_due, due_world};
 
+use joined_data::Clash;
 use ldv_value::Bytes;
-use package_join::Clash;
 use package_layout::DamageKind;
 use replay_db::{EndStop, run_parsed};
 use run_model::{Outcome, ParsedWorld, ProcName, outcome_text};

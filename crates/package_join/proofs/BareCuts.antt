@@ -4,23 +4,24 @@ use Rattle.std.specs.Prelude.{◌==◌, bytes_eq}
 use Rattle.std.specs.Int.{w32, w64}
 use Rattle.ldv_value.proofs.Options.{bind-some, same-some}
 use Rattle.run_model.specs.declared.event.Event.{Event}
-use Rattle.package_layout.specs.declared.compact_package.CompactPackage.{CompactPackage}
-use Rattle.package_layout.specs.declared.event_run.EventRun.{EventRun}
-use Rattle.package_layout.specs.declared.version.Version.TheVariants.{Two}
-use Rattle.package_layout.specs.Events.{names_at}
-use Rattle.package_layout.specs.Fields.{DecodeResult, ◌>>=◌, both_at, list_at, made_at, number_at}
-use Rattle.package_layout.specs.CompactPackages.{compact_rules}
-use Rattle.package_layout.specs.Runs.{event_run_at as trace_run_at}
-use Rattle.package_join.specs.declared.joined.Clash.{Clash}
-use Rattle.package_join.specs.declared.joined.JoinedRun.{JoinedRun}
-use Rattle.package_join.specs.declared.joined.Reason.{Reason}
-use Rattle.package_join.specs.declared.joined.Which.TheVariants.{First, Second}
-use Rattle.package_join.specs.declared.compact_joined.CompactRun.{CompactRun}
-use Rattle.package_join.specs.declared.compact_joined.CompactJoined.{CompactJoined}
-use Rattle.package_join.specs.Joined.{clash_of, put_together, unless_clash}
-use Rattle.package_join.specs.Layout.{bare_run_at, common_files_at, common_tables_at, named_reason_at, paths_at}
-use Rattle.package_join.specs.CompactJoins.{compact_run_at, compact_joined_at, compact_joined_of, compact_sections, picked_runs}
-use Rattle.package_join.specs.CompactJoins.{with_runs, if_rejoined, join_of_packages, compact_anew, compact_spelled_so, compact_joined_in}
+use Rattle.package_codec.specs.declared.compact_package.CompactPackage.{CompactPackage}
+use Rattle.package_codec.specs.declared.event_run.EventRun.{EventRun}
+use Rattle.package_codec.specs.declared.version.Version.TheVariants.{Two}
+use Rattle.package_codec.specs.Events.{names_at}
+use Rattle.package_codec.specs.Fields.{DecodeResult, ◌>>=◌, both_at, list_at, made_at, number_at}
+use Rattle.package_layout.specs.CompactReading.{compact_rules}
+use Rattle.package_codec.specs.Runs.{event_run_at as trace_run_at}
+use Rattle.joined_data.specs.declared.joined.Clash.{Clash}
+use Rattle.joined_data.specs.declared.joined.JoinedRun.{JoinedRun}
+use Rattle.joined_data.specs.declared.joined.Reason.{Reason}
+use Rattle.joined_data.specs.declared.joined.Which.TheVariants.{First, Second}
+use Rattle.joined_data.specs.declared.compact_joined.CompactRun.{CompactRun}
+use Rattle.joined_data.specs.declared.compact_joined.CompactJoined.{CompactJoined}
+use Rattle.joined_data.specs.Joined.{clash_of, put_together, unless_clash}
+use Rattle.joined_data.specs.Layout.{bare_run_at, common_files_at, common_tables_at, named_reason_at, paths_at}
+use Rattle.joined_data.specs.CompactJoins.{compact_run_at, compact_joined_at, compact_joined_of, compact_sections, picked_runs}
+use Rattle.joined_data.specs.CompactJoins.{with_runs, if_rejoined, join_of_packages}
+use Rattle.package_join.specs.CompactValid.{compact_anew, compact_spelled_so, compact_joined_in}
 use Rattle.package_join.proofs.CutLaws.{if_tested, so_spelled}
 
 -- ---- what holds of all that is found

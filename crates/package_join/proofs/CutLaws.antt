@@ -1,5 +1,5 @@
 -- A joined package that is read with its traces as runs is the one that is read.
-use Rattle.std.proofs.Common.{◌≡◌, ℕ, Bool, true, false, cond, List, ◌++◌, length, Option, Some, None, Result, Ok, Err, refl, sym, ap, subst, ◌∙◌, ◌&&◌}
+use Rattle.std.proofs.Common.{◌≡◌, ℕ, Bool, true, false, cond, List, length, Option, Some, None, Result, Ok, Err, refl, sym, ap, subst, ◌∙◌, ◌&&◌}
 use Rattle.std.specs.Prelude.{◌==◌, bytes_eq, IfOk}
 use Rattle.std.specs.Option.{option_map}
 use Rattle.std.specs.Int.{w32}
@@ -7,33 +7,36 @@ use Rattle.ldv_value.proofs.Booleans.{and-parts}
 use Rattle.ldv_value.proofs.Options.{bind-some, same-some}
 use Rattle.run_model.specs.declared.event.Event.{Event}
 use Rattle.run_model.specs.ValidPackage.{rules}
-use Rattle.package_layout.specs.declared.compact_package.CompactPackage.{CompactPackage}
-use Rattle.package_layout.specs.Fields.{DecodeResult, ◌>>=◌, both_at, list_at, list_spelling}
-use Rattle.package_layout.specs.CompactPackages.{expanded_package, compact_rules}
-use Rattle.package_layout.specs.declared.version.Version.TheVariants.{Two}
-use Rattle.package_layout.specs.declared.event_run.EventRun.{EventRun}
-use Rattle.package_layout.specs.Runs.{IsCut, are_runs, events_in, events_of_runs, event_run_spelling, runs_at, runs_of}
-use Rattle.package_layout.specs.Runs.{event_run_at as trace_run_at}
+use Rattle.package_codec.specs.declared.compact_package.CompactPackage.{CompactPackage}
+use Rattle.package_codec.specs.Fields.{DecodeResult, ◌>>=◌, both_at, list_at}
+use Rattle.package_codec.specs.CompactPackages.{expanded_package}
+use Rattle.package_layout.specs.CompactReading.{compact_rules}
+use Rattle.package_codec.specs.declared.version.Version.TheVariants.{Two}
+use Rattle.package_codec.specs.declared.event_run.EventRun.{EventRun}
+use Rattle.package_codec.specs.Runs.{IsCut, are_runs, events_in, events_of_runs, runs_at}
+use Rattle.package_codec.specs.Runs.{event_run_at as trace_run_at}
 use Rattle.package_layout.specs.Valid.{valid_test}
 use Rattle.package_layout.specs.Whole.{has_room}
-use Rattle.package_layout.proofs.Laws.{IsBytes}
-use Rattle.package_layout.proofs.Runs.{is_cut}
+use Rattle.package_codec.proofs.Laws.{IsBytes}
+use Rattle.package_codec.proofs.Runs.{is_cut}
 use Rattle.package_layout.proofs.RunReading.{behind}
 use Rattle.package_join.specs.Types.{Package, PackedFile, Table}
-use Rattle.package_join.specs.declared.joined.Clash.{Clash}
-use Rattle.package_join.specs.declared.joined.Joined.{Joined}
-use Rattle.package_join.specs.declared.joined.JoinedRun.{JoinedRun}
-use Rattle.package_join.specs.declared.joined.Which.TheVariants.{First, Second}
-use Rattle.package_join.specs.declared.compact_joined.CompactRun.{CompactRun}
-use Rattle.package_join.specs.declared.joins.JoinStop.{JoinStop}
-use Rattle.package_join.specs.declared.joins.JoinStop.TheVariants as join_stops
-use Rattle.package_join.specs.declared.compact_joined.CompactJoined.{CompactJoined}
-use Rattle.package_join.specs.Joined.{clash_of, joined_of, put_together, unless_clash}
-use Rattle.package_join.specs.Layout.{bare_run_at, bare_run_spelling, run_at, common_files_at, common_tables_at, common_files_spelling, common_tables_spelling, all_of_joined, joined_sections, with_trace}
-use Rattle.package_join.specs.CompactJoins.{whole_run, whole_join, compact_run_at, compact_joined_of, compact_sections, picked_runs, with_runs, if_rejoined, join_of_packages, compact_anew, compact_spelled_so, compact_joined_in, CompactJoinsAs, JoinsWithRuns}
-use Rattle.package_join.specs.Rooms.{joined_room}
+use Rattle.joined_data.specs.declared.joined.Clash.{Clash}
+use Rattle.joined_data.specs.declared.joined.Joined.{Joined}
+use Rattle.joined_data.specs.declared.joined.JoinedRun.{JoinedRun}
+use Rattle.joined_data.specs.declared.joined.Which.TheVariants.{First, Second}
+use Rattle.joined_data.specs.declared.compact_joined.CompactRun.{CompactRun}
+use Rattle.joined_data.specs.declared.joining.JoinStop.{JoinStop}
+use Rattle.joined_data.specs.declared.joining.JoinStop.TheVariants as join_stops
+use Rattle.joined_data.specs.declared.compact_joined.CompactJoined.{CompactJoined}
+use Rattle.joined_data.specs.Joined.{clash_of, joined_of, put_together, unless_clash}
+use Rattle.joined_data.specs.Layout.{bare_run_at, run_at, common_files_at, common_tables_at, all_of_joined, joined_sections, with_trace}
+use Rattle.joined_data.specs.CompactJoins.{whole_run, whole_join, compact_run_at, compact_joined_of, compact_sections, picked_runs, with_runs, if_rejoined, join_of_packages, CompactJoinsAs, JoinsWithRuns}
+use Rattle.package_join.specs.CompactValid.{compact_anew, compact_spelled_so, compact_joined_in}
+use Rattle.joined_data.specs.Rooms.{joined_room}
 use Rattle.package_join.specs.Valid.{if_joined, joined_anew, if_spelling_is, joined_in}
-use Rattle.package_join.proofs.LayoutLaws.{all_took, ended}
+use Rattle.joined_data.proofs.CutSpellings.{cuts_spelled}
+use Rattle.package_join.proofs.SectionLaws.{all_took, ended}
 use Rattle.package_join.proofs.RoomLaws.{picked_room}
 
 -- ---- a run
@@ -202,16 +205,6 @@ found_as bytes o = o >>= if_spelling_is bytes
 
 abbrev cut_found_as : List ℕ → Option CompactJoined → Option CompactJoined
 cut_found_as bytes o = o >>= compact_spelled_so bytes
-
--- both traces are spelled as their runs
-pub cuts_spelled : (r : CompactJoined) → IsCut r.first.runs → IsCut r.second.runs → compact_sections r ≡ joined_sections (whole_join r)
-cuts_spelled r first second =
-    let one : r.first.runs ≡ runs_of (events_in r.first.runs) = first in
-    let two : r.second.runs ≡ runs_of (events_in r.second.runs) = second in
-    λ i. common_files_spelling r.files
-    ++ (common_tables_spelling r.tables
-    ++ ((bare_run_spelling r.first.bare ++ list_spelling w32 event_run_spelling (one i))
-    ++ (bare_run_spelling r.second.bare ++ list_spelling w32 event_run_spelling (two i))))
 
 cut_is : (r : CompactJoined) → are_runs r.first.runs ≡ true → are_runs r.second.runs ≡ true → joined_sections (whole_join r) ≡ compact_sections r
 cut_is r h k = sym (cuts_spelled r (is_cut r.first.runs h) (is_cut r.second.runs k))

@@ -6,21 +6,22 @@ use Rattle.ldv_value.proofs.Options.{bind-some, same-some}
 use Rattle.script_parse.specs.declared.script.Instr.{Instr}
 use Rattle.script_parse.specs.declared.script.Script.{Script}
 use Rattle.run_model.specs.Start.{start_script}
-use Rattle.package_layout.specs.declared.compact_package.CompactPackage.{CompactPackage}
-use Rattle.package_layout.specs.declared.decode_error.DecodeError.{DecodeError}
-use Rattle.package_layout.specs.declared.decode_error.DecodeError.TheVariants.{Malformed, NoMemory}
-use Rattle.package_layout.specs.declared.version.Version.TheVariants.{Two}
-use Rattle.package_layout.specs.CompactPackages.{expanded_package}
-use Rattle.package_layout.specs.Fields.{◌>>=◌, Makes}
+use Rattle.package_codec.specs.declared.compact_package.CompactPackage.{CompactPackage}
+use Rattle.package_codec.specs.declared.decode_error.DecodeError.{DecodeError}
+use Rattle.package_codec.specs.declared.decode_error.DecodeError.TheVariants.{Malformed, NoMemory}
+use Rattle.package_codec.specs.declared.version.Version.TheVariants.{Two}
+use Rattle.package_codec.specs.CompactPackages.{expanded_package}
+use Rattle.package_codec.specs.Fields.{◌>>=◌, Makes}
 use Rattle.package_layout.specs.StartScript.{valid_script}
 use Rattle.package_layout.proofs.StartScripts.{packed_starts, script_ruled, valid_rules}
 use Rattle.package_join.specs.Types.{Included, Package}
-use Rattle.package_join.specs.declared.compact_joined.CompactJoined.{CompactJoined}
-use Rattle.package_join.specs.declared.compact_joined.ParsedJoined.{ParsedJoined}
-use Rattle.package_join.specs.declared.joined.Which.{Which}
-use Rattle.package_join.specs.declared.joined.Which.TheVariants.{First, Second}
-use Rattle.package_join.specs.CompactJoins.{compact_anew, compact_joined_in, compact_joined_of, compact_sections, compact_spelled_so, join_of_packages, join_of_valid_packages, picked_runs, whole_join}
-use Rattle.package_join.specs.Joined.{joined_of}
+use Rattle.joined_data.specs.declared.compact_joined.CompactJoined.{CompactJoined}
+use Rattle.joined_data.specs.declared.compact_joined.ParsedJoined.{ParsedJoined}
+use Rattle.joined_data.specs.declared.joined.Which.{Which}
+use Rattle.joined_data.specs.declared.joined.Which.TheVariants.{First, Second}
+use Rattle.package_join.specs.CompactValid.{compact_anew, compact_joined_in, compact_spelled_so, join_of_valid_packages}
+use Rattle.joined_data.specs.CompactJoins.{compact_joined_of, compact_sections, join_of_packages, picked_runs, whole_join}
+use Rattle.joined_data.specs.Joined.{joined_of}
 use Rattle.package_join.specs.Laws.{IsIncluded}
 use Rattle.package_join.specs.ParsedJoins.{StartRuns, as_script, cut_of, parsed_anew, parsed_join, parsed_joined_in, if_sections_are, parsed_with, script_by}
 use Rattle.package_join.specs.Worlds.{joined_world}

@@ -8,9 +8,9 @@ use Rattle.sql_model.specs.Scope.{same_text}
 use Rattle.run_model.specs.Slice.{Reason as SliceReason, packed_because}
 use Rattle.slicer.specs.Marks.{row_because, table_because, tables_because}
 use Rattle.package_join.specs.Types.{PackedRow, Table, TableRow}
-use Rattle.package_join.specs.declared.joined.JoinedRun.{JoinedRun}
-use Rattle.package_join.specs.declared.joined.Reason.{Reason}
-use Rattle.package_join.specs.Joined.{is_among, is_reason, packed_by, picked_row, picked_table}
+use Rattle.joined_data.specs.declared.joined.JoinedRun.{JoinedRun}
+use Rattle.joined_data.specs.declared.joined.Reason.{Reason}
+use Rattle.joined_data.specs.Joined.{is_among, is_reason, packed_by, picked_row, picked_table}
 use Rattle.package_join.specs.inner.Picked.{reason_for}
 
 -- ---- names

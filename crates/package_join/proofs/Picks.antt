@@ -21,18 +21,18 @@ use Rattle.run_model.specs.Between.{IsIn}
 use Rattle.run_model.specs.Package.{own_row, own_table}
 use Rattle.run_model.specs.ValidPackage.{file_rule, packed_catalog, packed_file_precedes, rows_rule, table_rule, packed_table_precedes}
 use Rattle.package_join.specs.Types.{Package, PackedFile, PackedRow, PackedTable, Table, TableRow}
-use Rattle.package_join.specs.declared.joined.ClashKind.TheVariants as kinds
-use Rattle.package_join.specs.Merging.{first_clash}
-use Rattle.package_join.specs.Same.{contents_differ}
-use Rattle.package_join.specs.Joined.{joined_of, unless_clash, put_together, run_in, file_cmp, table_cmp, both_files, both_tables, both_rows, merged_rows, merged_files, merged_tables, own_tables, clash_at, file_clash, table_clash, tables_differ, row_clash, rows_clash, keys_clash, clash_in, clash_of, picked_file, picked_row, picked_package}
-use Rattle.package_join.specs.declared.joined.Clash.{Clash}
-use Rattle.package_join.specs.declared.joined.Joined.{Joined}
+use Rattle.joined_data.specs.declared.joined.ClashKind.TheVariants as kinds
+use Rattle.joined_data.specs.Merging.{first_clash}
+use Rattle.joined_data.specs.Same.{contents_differ}
+use Rattle.joined_data.specs.Joined.{joined_of, unless_clash, put_together, run_in, file_cmp, table_cmp, both_files, both_tables, both_rows, merged_rows, merged_files, merged_tables, own_tables, clash_at, file_clash, table_clash, tables_differ, row_clash, rows_clash, keys_clash, clash_in, clash_of, picked_file, picked_row, picked_package}
+use Rattle.joined_data.specs.declared.joined.Clash.{Clash}
+use Rattle.joined_data.specs.declared.joined.Joined.{Joined}
 use Rattle.package_join.specs.Laws.{IsIncluded, PickLaw, AnewLaw}
-use Rattle.package_join.proofs.Agreeing.{agree, no_clash_if, whole_of, same_tables, same_rows}
-use Rattle.package_join.proofs.Cuts.{Rising, rising}
-use Rattle.package_join.proofs.Picking.{merged_flip}
-use Rattle.package_join.proofs.PickedFiles.{path_of, files_picked, picked_either}
-use Rattle.package_join.proofs.PickedTables.{number_in, name_in, number_of, name_of, RowsRise, pick_table, tables_as, tables_picked, table_picked, rows_picked}
+use Rattle.joined_data.proofs.Agreeing.{agree, no_clash_if, whole_of, same_tables, same_rows}
+use Rattle.joined_data.proofs.Cuts.{Rising, rising}
+use Rattle.joined_data.proofs.Picking.{merged_flip}
+use Rattle.joined_data.proofs.PickedFiles.{path_of, files_picked, picked_either}
+use Rattle.joined_data.proofs.PickedTables.{number_in, name_in, number_of, name_of, RowsRise, pick_table, tables_as, tables_picked, table_picked, rows_picked}
 
 -- ---- lists that rise
 

@@ -10,31 +10,33 @@ use Rattle.ldv_value.proofs.SameBytes.{bytes_eq-itself}
 use Rattle.sha2.specs.Sha256.{sha256}
 use Rattle.package_layout.specs.declared.damage.DamageKind.{DamageKind}
 use Rattle.package_layout.specs.declared.damage.DamageKind.TheVariants.{Magic, Digest, Form}
-use Rattle.package_layout.specs.declared.decode_error.DecodeError.{DecodeError}
-use Rattle.package_layout.specs.declared.decode_error.DecodeError.TheVariants.{Malformed}
+use Rattle.package_codec.specs.declared.decode_error.DecodeError.{DecodeError}
+use Rattle.package_codec.specs.declared.decode_error.DecodeError.TheVariants.{Malformed}
 use Rattle.package_layout.specs.declared.layout.PackageStop.{PackageStop}
 use Rattle.package_layout.specs.declared.layout.PackageStop.TheVariants.{Damaged, NoMemory}
-use Rattle.package_layout.specs.Fields.{◌>>=◌, Makes}
-use Rattle.package_layout.specs.Runs.{are_runs}
+use Rattle.package_codec.specs.Fields.{◌>>=◌, Makes}
+use Rattle.package_codec.specs.Runs.{are_runs}
 use Rattle.package_layout.specs.Valid.{HasDigest, has_digest, middle, valid_test}
-use Rattle.package_layout.proofs.Laws.{IsBytes, just}
+use Rattle.package_codec.proofs.Laws.{IsBytes, just}
 use Rattle.package_layout.proofs.Package.{digest_fact, digest_test, true_not_false, not_true, stopped, damaged}
 use Rattle.package_layout.proofs.RunReading.{clean}
 use Rattle.package_join.specs.Types.{Package}
-use Rattle.package_join.specs.declared.joined.Clash.{Clash}
-use Rattle.package_join.specs.declared.joined.Joined.{Joined}
-use Rattle.package_join.specs.declared.joined.Which.TheVariants.{First, Second}
-use Rattle.package_join.specs.declared.compact_joined.CompactJoined.{CompactJoined}
-use Rattle.package_join.specs.declared.compact_joined.ParsedJoined.{ParsedJoined}
-use Rattle.package_join.specs.Joined.{joined_of, run_package}
+use Rattle.joined_data.specs.declared.joined.Clash.{Clash}
+use Rattle.joined_data.specs.declared.joined.Joined.{Joined}
+use Rattle.joined_data.specs.declared.joined.Which.TheVariants.{First, Second}
+use Rattle.joined_data.specs.declared.compact_joined.CompactJoined.{CompactJoined}
+use Rattle.joined_data.specs.declared.compact_joined.ParsedJoined.{ParsedJoined}
+use Rattle.joined_data.specs.Joined.{joined_of, run_package}
 use Rattle.package_join.specs.Laws.{OneSpellingLaw, RoundTripLaw}
-use Rattle.package_join.specs.Layout.{all_of_joined, joined_magic, joined_sections, joined_spelling}
-use Rattle.package_join.specs.Rooms.{IsCountedJoined, IsTypedJoined}
-use Rattle.package_join.specs.CompactJoins.{CompactJoinedReadsAs, JoinedReadsAs, whole_join, compact_joined_in}
+use Rattle.joined_data.specs.Layout.{all_of_joined, joined_sections}
+use Rattle.package_join.specs.Layout.{joined_magic, joined_spelling}
+use Rattle.joined_data.specs.Rooms.{IsCountedJoined, IsTypedJoined}
+use Rattle.package_join.specs.CompactValid.{CompactJoinedReadsAs, JoinedReadsAs, compact_joined_in}
+use Rattle.joined_data.specs.CompactJoins.{whole_join}
 use Rattle.package_join.specs.ParsedJoins.{cut_of}
 use Rattle.package_join.specs.Valid.{IsJoinedRead, IsNoJoined, IsValidJoined, digested_reading, form_of, has_joined_magic, if_joined, joined_anew, joined_damage_before, joined_in, joined_reading, if_spelling_is}
 use Rattle.package_join.proofs.CutLaws.{same_joined, cuts_are_runs}
-use Rattle.package_join.proofs.LayoutLaws.{all_again, sections_law}
+use Rattle.package_join.proofs.SectionLaws.{all_again, sections_law}
 use Rattle.package_join.proofs.SpelledJoins.{spelled_digest, spelled_length, spelled_magic, spelled_middle, parts_of}
 use Rattle.package_join.proofs.ValidJoins.{valid_law}
 use Rattle.package_join.proofs.ValidRooms.{valid_room}

@@ -4,17 +4,17 @@ use Rattle.std.specs.Prelude.{filter, find, option_map}
 use Rattle.std.specs.List.{list_all, filter_map, cons_option}
 use Rattle.std.proofs.lemmas.Bool.{ltb-true, lt-ltb}
 use Rattle.ldv_value.proofs.Booleans.{and-parts, and-from}
-use Rattle.package_layout.specs.Room.{row_room, schema_room, fits_u16_count, table_room, log_room}
-use Rattle.package_layout.specs.Runs.{trace_room}
+use Rattle.package_codec.specs.Room.{row_room, schema_room, fits_u16_count, table_room, log_room}
+use Rattle.package_codec.specs.Runs.{trace_room}
 use Rattle.package_layout.specs.Whole.{has_room, tables_room}
 use Rattle.package_join.specs.Types.{Package, PackedRow, PackedTable, Table, TableRow}
-use Rattle.package_join.specs.declared.joined.Joined.{Joined}
-use Rattle.package_join.specs.declared.joined.JoinedRun.{JoinedRun}
-use Rattle.package_join.specs.declared.joined.Reason.{Reason}
-use Rattle.package_join.specs.declared.joined.Which.{Which}
-use Rattle.package_join.specs.declared.joined.Which.TheVariants.{First, Second}
-use Rattle.package_join.specs.Joined.{is_among, is_reason, packed_by, picked_package, picked_row, picked_table, run_package}
-use Rattle.package_join.specs.Rooms.{common_row_room, common_table_room, common_tables_room, bare_run_room, joined_run_room, joined_room}
+use Rattle.joined_data.specs.declared.joined.Joined.{Joined}
+use Rattle.joined_data.specs.declared.joined.JoinedRun.{JoinedRun}
+use Rattle.joined_data.specs.declared.joined.Reason.{Reason}
+use Rattle.joined_data.specs.declared.joined.Which.{Which}
+use Rattle.joined_data.specs.declared.joined.Which.TheVariants.{First, Second}
+use Rattle.joined_data.specs.Joined.{is_among, is_reason, packed_by, picked_package, picked_row, picked_table, run_package}
+use Rattle.joined_data.specs.Rooms.{common_row_room, common_table_room, common_tables_room, bare_run_room, joined_run_room, joined_room}
 
 -- ---- rows
 

@@ -45,22 +45,22 @@ use Rattle.package_layout.specs.Whole.{has_room}
 use Rattle.package_layout.proofs.StartScripts.{script_there, unwrapped}
 use Rattle.run_laws.proofs.ListMembers.{filter_map_in}
 use Rattle.package_join.specs.Types.{File, Package, PackedFile, PackedRow, PackedTable, Table, TableRow}
-use Rattle.package_join.specs.declared.joined.Joined.{Joined}
-use Rattle.package_join.specs.declared.joined.JoinedRun.{JoinedRun}
-use Rattle.package_join.specs.declared.joined.Which.{Which}
-use Rattle.package_join.specs.declared.joined.Which.TheVariants.{First, Second}
-use Rattle.package_join.specs.Joined.{as_present, both_files, both_rows, both_tables, clash_in, clash_of, clash_of_keys, file_clash, file_cmp, is_among, joined_of, keys_clash, merged_files, merged_rows, merged_tables, own_tables, picked_file, put_together, rows_clash, run_of, run_package, table_clash, table_cmp}
+use Rattle.joined_data.specs.declared.joined.Joined.{Joined}
+use Rattle.joined_data.specs.declared.joined.JoinedRun.{JoinedRun}
+use Rattle.joined_data.specs.declared.joined.Which.{Which}
+use Rattle.joined_data.specs.declared.joined.Which.TheVariants.{First, Second}
+use Rattle.joined_data.specs.Joined.{as_present, both_files, both_rows, both_tables, clash_in, clash_of, clash_of_keys, file_clash, file_cmp, is_among, joined_of, keys_clash, merged_files, merged_rows, merged_tables, own_tables, picked_file, put_together, rows_clash, run_of, run_package, table_clash, table_cmp}
 use Rattle.package_join.specs.Laws.{IsIncluded, RunsLaw}
-use Rattle.package_join.specs.Merging.{first_clash}
-use Rattle.package_join.specs.Rooms.{TypedCommonTable}
+use Rattle.joined_data.specs.Merging.{first_clash}
+use Rattle.joined_data.specs.Rooms.{TypedCommonTable}
 use Rattle.package_join.specs.Worlds.{empty_if, joined_world, seen_file, world_file, world_of}
-use Rattle.package_join.proofs.Cuts.{Rising}
+use Rattle.joined_data.proofs.Cuts.{Rising}
 use Rattle.package_join.proofs.ListedTables.{listed, own_parents}
-use Rattle.package_join.proofs.Lists.{all_in, each_of}
-use Rattle.package_join.proofs.MergedLists.{in_merged, merged_rises, IsOf}
-use Rattle.package_join.proofs.MergedParents.{merged_parents}
-use Rattle.package_join.proofs.PickedFiles.{path_of}
-use Rattle.package_join.proofs.PickedTables.{name_of, number_of}
+use Rattle.joined_data.proofs.Lists.{all_in, each_of}
+use Rattle.joined_data.proofs.MergedLists.{in_merged, merged_rises, IsOf}
+use Rattle.joined_data.proofs.MergedParents.{merged_parents}
+use Rattle.joined_data.proofs.PickedFiles.{path_of}
+use Rattle.joined_data.proofs.PickedTables.{name_of, number_of}
 use Rattle.package_join.proofs.Picks.{files_rise, its_rows_rise, of_map, own_rise, pick_law, tables_agree}
 use Rattle.package_join.proofs.ValidJoins.{included}
 use Rattle.package_join.proofs.ValidRooms.{unclashed}

@@ -9,13 +9,13 @@ use Rattle.ldv_value.proofs.ItemLists.{all_append}
 use Rattle.run_model.specs.Between.{IsIn}
 use Rattle.run_model.specs.Package.{own_row, own_table}
 use Rattle.run_model.specs.TypedPackage.{IsTyped, TypedFile, TypedRow, TypedTable}
-use Rattle.package_layout.proofs.RunFields.{all_mapped}
+use Rattle.package_codec.proofs.RunFields.{all_mapped}
 use Rattle.package_join.specs.Types.{Package, PackedFile, PackedTable, Table, TableRow}
-use Rattle.package_join.specs.Joined.{both_files, both_rows, both_tables, merged_files, merged_rows, merged_tables, own_tables, path_unless, presents_of, put_together, row_reason, run_in, table_reasons, whole_path, wholes_of}
-use Rattle.package_join.specs.Rooms.{TypedCommonRow, TypedCommonTable, IsTypedJoined, TypedJoinedRun, TypedReason, TypedTexts}
-use Rattle.package_join.proofs.MergedLists.{in_merged, IsOf}
-use Rattle.package_join.proofs.PickedFiles.{path_of}
-use Rattle.package_join.proofs.PickedTables.{name_of, number_of}
+use Rattle.joined_data.specs.Joined.{both_files, both_rows, both_tables, merged_files, merged_rows, merged_tables, own_tables, path_unless, presents_of, put_together, row_reason, run_in, table_reasons, whole_path, wholes_of}
+use Rattle.joined_data.specs.Rooms.{TypedCommonRow, TypedCommonTable, IsTypedJoined, TypedJoinedRun, TypedReason, TypedTexts}
+use Rattle.joined_data.proofs.MergedLists.{in_merged, IsOf}
+use Rattle.joined_data.proofs.PickedFiles.{path_of}
+use Rattle.joined_data.proofs.PickedTables.{name_of, number_of}
 use Rattle.package_join.proofs.RunsOfJoins.{typed_in}
 
 -- ---- lists

@@ -9,14 +9,14 @@ use Rattle.package_layout.specs.Whole.{has_room}
 use Rattle.run_model.specs.ValidPackage.{start_rule, are_files, files_rule, are_tables, tables_rule, logs_rule, mode_rule, steps_rule, trace_rule, reasons_rule, script_rule, parts_rule, whole_rule, rules}
 use Rattle.run_model.specs.ValidTrace.{asked_count}
 use Rattle.package_join.specs.Types.{Included, Mode, Package}
-use Rattle.package_join.specs.declared.joined.Clash.{Clash}
-use Rattle.package_join.specs.declared.joined.Joined.{Joined}
-use Rattle.package_join.specs.declared.joined.Which.TheVariants.{First, Second}
-use Rattle.package_join.specs.declared.joins.JoinStop.{JoinStop}
-use Rattle.package_join.specs.Joined.{clash_of, joined_of, put_together, run_package, unless_clash}
+use Rattle.joined_data.specs.declared.joined.Clash.{Clash}
+use Rattle.joined_data.specs.declared.joined.Joined.{Joined}
+use Rattle.joined_data.specs.declared.joined.Which.TheVariants.{First, Second}
+use Rattle.joined_data.specs.declared.joining.JoinStop.{JoinStop}
+use Rattle.joined_data.specs.Joined.{clash_of, joined_of, put_together, run_package, unless_clash}
 use Rattle.package_join.specs.Laws.{IsIncluded, ValidLaw}
-use Rattle.package_join.specs.Parts.{JoinsAs}
-use Rattle.package_join.specs.inner.Picked.{without_logs}
+use Rattle.joined_data.specs.Parts.{JoinsAs}
+use Rattle.joined_data.specs.Parts.{without_logs}
 use Rattle.package_join.specs.Valid.{IsValidJoined}
 use Rattle.package_join.proofs.Picks.{pick_law, anew_law}
 

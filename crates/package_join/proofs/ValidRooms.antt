@@ -16,22 +16,22 @@ use Rattle.sql_model.specs.declared.table.Schema.{Schema}
 use Rattle.run_model.specs.Between.{IsIn}
 use Rattle.run_model.specs.Package.{own_row, own_table}
 use Rattle.run_model.specs.ValidPackage.{start_rule, files_rule, tables_rule, are_tables, logs_rule, parts_rule, whole_rule, script_rule, rules}
-use Rattle.package_layout.specs.Room.{row_room, schema_room, fits_u16_count, table_room, log_room}
-use Rattle.package_layout.specs.Runs.{trace_room}
+use Rattle.package_codec.specs.Room.{row_room, schema_room, fits_u16_count, table_room, log_room}
+use Rattle.package_codec.specs.Runs.{trace_room}
 use Rattle.package_layout.specs.Valid.{IsValidPackage}
 use Rattle.package_layout.specs.Whole.{has_room, tables_room}
 use Rattle.package_join.specs.Types.{Package, PackedRow, PackedTable, Table, TableRow}
-use Rattle.package_join.specs.declared.joined.Clash.{Clash}
-use Rattle.package_join.specs.declared.joined.Joined.{Joined}
-use Rattle.package_join.specs.declared.joined.Which.TheVariants.{First, Second}
-use Rattle.package_join.specs.Joined.{both_rows, both_tables, clash_of, merged_rows, merged_tables, own_tables, put_together, run_in, run_package, table_cmp, unless_clash}
+use Rattle.joined_data.specs.declared.joined.Clash.{Clash}
+use Rattle.joined_data.specs.declared.joined.Joined.{Joined}
+use Rattle.joined_data.specs.declared.joined.Which.TheVariants.{First, Second}
+use Rattle.joined_data.specs.Joined.{both_rows, both_tables, clash_of, merged_rows, merged_tables, own_tables, put_together, run_in, run_package, table_cmp, unless_clash}
 use Rattle.package_join.specs.Laws.{IsIncluded}
-use Rattle.package_join.specs.Merging.{merged}
-use Rattle.package_join.specs.Rooms.{common_row_room, common_table_room, common_tables_room, bare_run_room, joined_run_room, joined_room}
+use Rattle.joined_data.specs.Merging.{merged}
+use Rattle.joined_data.specs.Rooms.{common_row_room, common_table_room, common_tables_room, bare_run_room, joined_run_room, joined_room}
 use Rattle.package_join.specs.Valid.{IsValidJoined}
-use Rattle.package_join.proofs.Lists.{all_in, each_of}
-use Rattle.package_join.proofs.MergedLists.{in_merged, IsOf}
-use Rattle.package_join.proofs.PickedTables.{name_of, number_of}
+use Rattle.joined_data.proofs.Lists.{all_in, each_of}
+use Rattle.joined_data.proofs.MergedLists.{in_merged, IsOf}
+use Rattle.joined_data.proofs.PickedTables.{name_of, number_of}
 use Rattle.package_join.proofs.Picks.{of_map, tables_agree}
 use Rattle.package_join.proofs.ValidJoins.{included}
 

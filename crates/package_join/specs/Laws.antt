@@ -9,14 +9,14 @@ use Rattle.run_model.specs.Between.{Between}
 use Rattle.run_model.specs.Package.{package_of}
 use Rattle.run_model.specs.ValidPackage.{are_files, are_tables}
 use Rattle.package_join.specs.Types.{Included, Package, World}
-use Rattle.package_join.specs.declared.joined.Joined.{Joined}
-use Rattle.package_join.specs.Joined.{clash_of, joined_of, picked_package, put_together}
+use Rattle.joined_data.specs.declared.joined.Joined.{Joined}
+use Rattle.joined_data.specs.Joined.{clash_of, joined_of, picked_package, put_together}
 use Rattle.package_join.specs.Layout.{joined_spelling}
-use Rattle.package_join.specs.Rooms.{TypedCommonTable, IsTypedJoined}
+use Rattle.joined_data.specs.Rooms.{TypedCommonTable, IsTypedJoined}
 use Rattle.package_join.specs.Valid.{IsValidJoined, joined_reading}
 use Rattle.package_join.specs.Worlds.{joined_world, world_of}
 use Rattle.run_model.specs.ValidWorld.{CanRun}
-use Rattle.package_join.specs.declared.joined.Which.{Which}
+use Rattle.joined_data.specs.declared.joined.Which.{Which}
 
 -- the packages of two runs are joined, and the worlds of both runs lie between
 pub record IsJoined (n m : ℕ) (v w : World) : Type 0 where

@@ -1,13 +1,8 @@
 pub mod Types
-pub mod Merging
-pub mod Same
-pub mod Joined
-pub mod Parts
 pub mod Worlds
 pub mod Layout
-pub mod Rooms
-pub mod CompactJoins
 pub mod ParsedJoins
 pub mod Valid
+pub mod CompactValid
 pub mod Laws
 pub mod inner

@@ -4,16 +4,16 @@ use Rattle.std.specs.Prelude.{Result, Ok, Err}
 use Rattle.script_parse.specs.declared.script.Instr.{Instr}
 use Rattle.script_parse.specs.declared.script.Script.{Script}
 use Rattle.run_model.specs.Start.{start_script}
-use Rattle.package_layout.specs.declared.compact_package.CompactPackage.{CompactPackage}
-use Rattle.package_layout.specs.declared.version.Version.TheVariants.{Two}
-use Rattle.package_layout.specs.Fields.{◌>>=◌}
+use Rattle.package_codec.specs.declared.compact_package.CompactPackage.{CompactPackage}
+use Rattle.package_codec.specs.declared.version.Version.TheVariants.{Two}
+use Rattle.package_codec.specs.Fields.{◌>>=◌}
 use Rattle.package_layout.specs.StartScript.{valid_script}
-use Rattle.package_join.specs.declared.compact_joined.CompactJoined.{CompactJoined}
-use Rattle.package_join.specs.declared.compact_joined.ParsedJoined.{ParsedJoined}
-use Rattle.package_join.specs.declared.joined.Which.{Which}
-use Rattle.package_join.specs.declared.joined.Which.TheVariants.{First, Second}
-use Rattle.package_join.specs.CompactJoins.{compact_joined_of, compact_sections, join_of_packages, picked_runs}
-use Rattle.package_join.specs.CompactJoins.{whole_join}
+use Rattle.joined_data.specs.declared.compact_joined.CompactJoined.{CompactJoined}
+use Rattle.joined_data.specs.declared.compact_joined.ParsedJoined.{ParsedJoined}
+use Rattle.joined_data.specs.declared.joined.Which.{Which}
+use Rattle.joined_data.specs.declared.joined.Which.TheVariants.{First, Second}
+use Rattle.joined_data.specs.CompactJoins.{compact_joined_of, compact_sections, join_of_packages, picked_runs}
+use Rattle.joined_data.specs.CompactJoins.{whole_join}
 use Rattle.package_join.specs.Worlds.{joined_world}
 
 -- ---- the script of a run

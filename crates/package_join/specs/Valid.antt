@@ -4,14 +4,15 @@ use Rattle.std.specs.Prelude.{◌≡◌, ℕ, List, take, Bool, ◌&&◌, bytes_
 use Rattle.std.specs.Prelude.{Result, Ok, Err}
 use Rattle.package_layout.specs.declared.damage.DamageKind.{DamageKind}
 use Rattle.package_layout.specs.declared.damage.DamageKind.TheVariants.{Magic, Digest, Form}
-use Rattle.package_layout.specs.Fields.{◌>>=◌}
+use Rattle.package_codec.specs.Fields.{◌>>=◌}
 use Rattle.package_layout.specs.Valid.{IsValidPackage, valid_test, has_digest, middle}
-use Rattle.package_join.specs.declared.joined.Clash.{Clash}
-use Rattle.package_join.specs.declared.joined.Joined.{Joined}
-use Rattle.package_join.specs.declared.joined.Which.TheVariants.{First, Second}
-use Rattle.package_join.specs.Joined.{joined_of, run_package}
-use Rattle.package_join.specs.Layout.{all_of_joined, joined_magic, joined_sections, joined_spelling}
-use Rattle.package_join.specs.Rooms.{IsCountedJoined, IsTypedJoined}
+use Rattle.joined_data.specs.declared.joined.Clash.{Clash}
+use Rattle.joined_data.specs.declared.joined.Joined.{Joined}
+use Rattle.joined_data.specs.declared.joined.Which.TheVariants.{First, Second}
+use Rattle.joined_data.specs.Joined.{joined_of, run_package}
+use Rattle.joined_data.specs.Layout.{all_of_joined, joined_sections}
+use Rattle.package_join.specs.Layout.{joined_magic, joined_spelling}
+use Rattle.joined_data.specs.Rooms.{IsCountedJoined, IsTypedJoined}
 
 -- the packages of both runs are valid, and it is what they are joined to
 pub record IsValidJoined (j : Joined) : Type 0 where

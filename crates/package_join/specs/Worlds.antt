@@ -3,10 +3,10 @@
 use Rattle.std.specs.Prelude.{ℕ, List, [], Bool, if◌then◌else◌, Option, Some, None}
 use Rattle.std.specs.List.{filter_map}
 use Rattle.package_join.specs.Types.{File, PackedFile, Table, World}
-use Rattle.package_join.specs.declared.joined.Joined.{Joined}
-use Rattle.package_join.specs.declared.joined.JoinedRun.{JoinedRun}
-use Rattle.package_join.specs.declared.joined.Which.{Which}
-use Rattle.package_join.specs.Joined.{is_among, run_of}
+use Rattle.joined_data.specs.declared.joined.Joined.{Joined}
+use Rattle.joined_data.specs.declared.joined.JoinedRun.{JoinedRun}
+use Rattle.joined_data.specs.declared.joined.Which.{Which}
+use Rattle.joined_data.specs.Joined.{is_among, run_of}
 
 abbrev pub empty_if : Bool → List ℕ → Option File
 empty_if present path = if present then Some (record { path = path; content = [] }) else None

@@ -4,11 +4,11 @@ ghost use Rattle.std.specs.Prelude.{◌≡◌, ◌++◌, ℕ, List as Items, [],
 ghost use Rattle.std.specs.List.{filter_map};
 ghost use Rattle.std.specs.Option.{option_or};
 ghost use Rattle.slicer.specs.Marks.{has_name, reason_at};
-ghost use Rattle.package_join.specs.Joined.{as_present, is_among, picked_file, picked_package, picked_table};
-ghost use Rattle.package_join.specs.Joined.{run_package};
+ghost use Rattle.joined_data.specs.Joined.{as_present, is_among, picked_file, picked_package, picked_table};
+ghost use Rattle.joined_data.specs.Joined.{run_package};
 ghost use Rattle.package_join.specs.inner.Picked.{file_by, need_for, reason_for, reason_if};
 
-use crate::joined::{Joined, JoinedRun, Reason, Reasons, Which};
+use joined_data::{Joined, JoinedRun, Reason, Reasons, Which};
 use ldv_value::{CopyItem, List, Names};
 use run_model::{Mode, Package, PackedFile, PackedFiles, PackedTables};
 use slicer::{NameSet, Reasons as FirstReasons, add_all, has, note_need, pack_tables};

@@ -2,20 +2,22 @@
 
 ghost use Rattle.std.specs.Prelude.{◌≡◌, IfOk};
 ghost use Rattle.std.specs.List.{AllByRecursion};
-ghost use Rattle.package_layout.specs.Fields.{Makes};
-ghost use Rattle.package_join.specs.Rooms.{TypedCommonTable};
-ghost use Rattle.package_join.specs.declared.joined.Which.TheVariants.{First, Second};
-ghost use Rattle.package_join.specs.CompactJoins.{compact_joined_in, join_of_packages, picked_run, picked_runs};
+ghost use Rattle.package_codec.specs.Fields.{Makes};
+ghost use Rattle.joined_data.specs.Rooms.{TypedCommonTable};
+ghost use Rattle.joined_data.specs.declared.joined.Which.TheVariants.{First, Second};
+ghost use Rattle.package_join.specs.CompactValid.{compact_joined_in};
+ghost use Rattle.joined_data.specs.CompactJoins.{join_of_packages, picked_run, picked_runs};
 ghost use Rattle.package_join.specs.ParsedJoins.{StartRuns, cut_of, parsed_anew, parsed_join, parsed_joined_in};
 ghost use Rattle.package_join.specs.ParsedJoins.{if_sections_are, valid_start};
 
 use crate::choosing::picked_package;
-use crate::compact_joined::{CompactJoined, CompactRun, ParsedJoined};
-use crate::decoding::decode_all;
-use crate::encoding::encode_cut_joined;
-use crate::joins::{JoinStop, join_with_runs};
+use joined_data::{
+    CompactJoined, CompactRun, JoinStop, ParsedJoined, decode_all, encode_cut_joined,
+    join_with_runs,
+};
 use ldv_value::Bytes;
-use package_layout::{CompactPackage, DecodeError, Version, valid_script};
+use package_codec::{CompactPackage, DecodeError, Version};
+use package_layout::valid_script;
 use run_model::PackedFiles;
 use script_parse::Script;
 use sql_model::Tables;

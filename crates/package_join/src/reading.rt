@@ -2,21 +2,20 @@
 
 ghost use Rattle.std.specs.Prelude.{◌≡◌, ◌↔◌, [], true, false, Err, IfOk, IfSome};
 ghost use Rattle.std.specs.List.{AllByRecursion};
-ghost use Rattle.package_layout.specs.Runs.{are_runs};
+ghost use Rattle.package_codec.specs.Runs.{are_runs};
 ghost use Rattle.package_layout.specs.Valid.{HasDigest, has_digest};
-ghost use Rattle.package_join.specs.Rooms.{TypedCommonTable};
-ghost use Rattle.package_join.specs.CompactJoins.{CompactJoinedReadsAs, JoinedReadsAs, whole_join, whole_run};
+ghost use Rattle.joined_data.specs.Rooms.{TypedCommonTable};
+ghost use Rattle.package_join.specs.CompactValid.{CompactJoinedReadsAs, JoinedReadsAs};
+ghost use Rattle.joined_data.specs.CompactJoins.{whole_join, whole_run};
 ghost use Rattle.package_join.specs.ParsedJoins.{StartRuns, cut_of};
 ghost use Rattle.package_join.specs.Valid.{IsJoinedRead, IsNoJoined, digested_reading};
 ghost use Rattle.package_join.specs.Valid.{has_joined_magic, joined_damage_before, joined_reading};
 
-use crate::compact_joined::{CompactJoined, CompactRun, ParsedJoined};
-use crate::joined::{Joined, JoinedRun};
 use crate::judging::parsed_joined_in;
 use crate::spelling::joined_magic;
-use package_layout::{
-    DamageKind, DecodeError, PackageStop, events_in, first_eight, has_digest, middle,
-};
+use joined_data::{CompactJoined, CompactRun, Joined, JoinedRun, ParsedJoined};
+use package_codec::{DecodeError, events_in, first_eight};
+use package_layout::{DamageKind, PackageStop, has_digest, middle};
 use std::alloc::{AllocError, Global};
 
 /// The valid joined package that bytes spell. They are `Damaged` where there is none: by `Magic` where they
@@ -104,7 +103,7 @@ fn whole_join(alloc: Global, joined: CompactJoined) -> Result<Joined, AllocError
     })
 }
 
-#[tactic(auto, using(package_layout::proofs::Runs::are_all_runs))]
+#[tactic(auto, using(package_codec::proofs::Runs::are_all_runs))]
 fn whole_run(alloc: Global, run: CompactRun) -> Result<JoinedRun, AllocError>
     requires { are_runs run.runs ≡ true }
     ensures { IfOk result (λ made. made ≡ whole_run run) }

@@ -3,13 +3,11 @@
 ghost use Rattle.std.specs.Prelude.{◌≡◌, ◌≤◌, ◌<◌, IfOk, OnOk, IsErrOf, length};
 ghost use Rattle.ldv_value.specs.Limits.{input_limit};
 ghost use Rattle.package_join.specs.Layout.{joined_body, joined_magic, joined_spelling};
-ghost use Rattle.package_join.specs.Rooms.{IsTypedJoined};
-ghost use Rattle.package_join.specs.CompactJoins.{whole_join};
-ghost use Rattle.package_layout.specs.Runs.{IsCut};
+ghost use Rattle.joined_data.specs.Rooms.{IsTypedJoined};
+ghost use Rattle.joined_data.specs.CompactJoins.{whole_join};
+ghost use Rattle.package_codec.specs.Runs.{IsCut};
 
-use crate::compact_joined::CompactJoined;
-use crate::encoding::{encode_compact_joined, encode_joined};
-use crate::joined::Joined;
+use joined_data::{CompactJoined, Joined, encode_compact_joined, encode_joined};
 use ldv_value::Bytes;
 use package_layout::{SpellStop, append_digest};
 use std::alloc::{AllocError, Global};

@@ -4,13 +4,12 @@ ghost use Rattle.std.specs.Prelude.{◌≡◌, IfOk};
 ghost use Rattle.std.specs.List.{filter_map};
 ghost use Rattle.run_model.specs.Start.{IsParsed};
 ghost use Rattle.slicer.specs.Marks.{has_name};
-ghost use Rattle.package_join.specs.CompactJoins.{whole_join};
+ghost use Rattle.joined_data.specs.CompactJoins.{whole_join};
 ghost use Rattle.package_join.specs.ParsedJoins.{StartRuns, script_by};
 ghost use Rattle.package_join.specs.Worlds.{empty_if, joined_world, seen_by, world_by, world_file, world_of};
 
 use crate::choosing::name_set;
-use crate::compact_joined::{CompactJoined, ParsedJoined};
-use crate::joined::{Joined, JoinedRun, Which};
+use joined_data::{CompactJoined, Joined, JoinedRun, ParsedJoined, Which};
 use ldv_value::{Bytes, File, Files, Utf8};
 use run_model::{PackedFile, PackedFiles, ParsedWorld, World};
 use script_parse::Script;

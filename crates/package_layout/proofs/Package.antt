@@ -15,20 +15,22 @@ use Rattle.package_layout.specs.declared.damage.DamageKind.{DamageKind}
 use Rattle.package_layout.specs.declared.damage.DamageKind.TheVariants.{Magic, Digest, Form}
 use Rattle.package_layout.specs.declared.layout.PackageStop.{PackageStop}
 use Rattle.package_layout.specs.declared.layout.PackageStop.TheVariants.{Damaged, NoMemory}
-use Rattle.package_layout.specs.declared.compact_package.ParsedPackage.{ParsedPackage}
-use Rattle.package_layout.specs.declared.compact_package.CompactPackage.{CompactPackage}
+use Rattle.package_codec.specs.declared.compact_package.ParsedPackage.{ParsedPackage}
+use Rattle.package_codec.specs.declared.compact_package.CompactPackage.{CompactPackage}
 use Rattle.package_layout.specs.Counted.{IsCounted}
-use Rattle.package_layout.specs.Plain.{has_no_foreign, is_plain_row, is_plain_table, is_plain_log, is_plain_event, has_tables, fits_version}
+use Rattle.package_codec.specs.Plain.{has_no_foreign, is_plain_row, is_plain_table, is_plain_log, is_plain_event, has_tables, fits_version}
 use Rattle.package_layout.specs.ReadResult.{ReadsAs, CompactReadsAs, damage_by, damage_before}
-use Rattle.package_layout.specs.CompactPackages.{expanded_package}
-use Rattle.package_layout.specs.Runs.{IsCut, are_runs}
+use Rattle.package_codec.specs.CompactPackages.{expanded_package}
+use Rattle.package_codec.specs.Runs.{IsCut, are_runs}
 use Rattle.package_layout.specs.StartScript.{cut_of}
 use Rattle.package_layout.specs.Valid.{rules, IsValidPackage, HasDigest, IsSpelling, IsSpelled, IsNoSpelling, IsUnspelled, before_digest, middle, kept_if, package_in, has_digest, form_of, reading_as, reading_by, reading}
-use Rattle.package_layout.specs.Version.{Version, One, Two, magic, HasMagic, version_of}
+use Rattle.package_codec.specs.declared.version.Version.{Version}
+use Rattle.package_codec.specs.declared.version.Version.TheVariants.{One, Two}
+use Rattle.package_codec.specs.Version.{magic, HasMagic, version_of}
 use Rattle.package_layout.specs.Whole.{sections, body, spelling_as, IsTyped, has_room, all_of}
-use Rattle.package_layout.proofs.Laws.{IsBytes, IsBytes-take, IsBytes-drop, just}
-use Rattle.package_layout.proofs.Runs.{is_cut}
-use Rattle.package_layout.proofs.Versions.{magic_length, version_is, version_fact}
+use Rattle.package_codec.proofs.Laws.{IsBytes, IsBytes-take, IsBytes-drop, just}
+use Rattle.package_codec.proofs.Runs.{is_cut}
+use Rattle.package_codec.proofs.Versions.{magic_length, version_is, version_fact}
 use Rattle.package_layout.proofs.Whole.{sections_law, all_again, all_took}
 
 -- ---- tests

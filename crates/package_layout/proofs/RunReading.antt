@@ -9,21 +9,24 @@ use Rattle.ldv_value.proofs.Booleans.{and-parts}
 use Rattle.run_model.specs.declared.event.Event.{Event}
 use Rattle.run_model.specs.declared.package.Package.{Package}
 use Rattle.package_layout.specs.declared.damage.DamageKind.TheVariants.{Digest, Form}
-use Rattle.package_layout.specs.declared.compact_package.CompactPackage.{CompactPackage}
-use Rattle.package_layout.specs.Events.{event_at}
-use Rattle.package_layout.specs.declared.decode_error.DecodeError.{DecodeError}
-use Rattle.package_layout.specs.declared.decode_error.DecodeError.TheVariants.{Malformed}
-use Rattle.package_layout.specs.Fields.{DecodeResult, ◌>>=◌, Makes, list_at}
-use Rattle.package_layout.specs.Plain.{fits_version}
-use Rattle.package_layout.specs.CompactPackages.{expanded_package, cut_at, compact_sections_at, compact_sections_of, compact_rules, compact_in}
-use Rattle.package_layout.specs.Runs.{EventRun, runs_of, events_in, is_run, are_longest, are_runs, event_run_at, total, max_events, events_of_runs, few_events}
-use Rattle.package_layout.specs.Typed.{TypedEvent}
+use Rattle.package_codec.specs.declared.compact_package.CompactPackage.{CompactPackage}
+use Rattle.package_codec.specs.Events.{event_at}
+use Rattle.package_codec.specs.declared.decode_error.DecodeError.{DecodeError}
+use Rattle.package_codec.specs.declared.decode_error.DecodeError.TheVariants.{Malformed}
+use Rattle.package_codec.specs.Fields.{DecodeResult, ◌>>=◌, Makes, list_at}
+use Rattle.package_codec.specs.Plain.{fits_version}
+use Rattle.package_codec.specs.CompactPackages.{expanded_package, cut_at, with_events}
+use Rattle.package_layout.specs.CompactReading.{compact_sections_at, compact_sections_of, compact_rules, compact_in}
+use Rattle.package_codec.specs.declared.event_run.EventRun.{EventRun}
+use Rattle.package_codec.specs.Runs.{runs_of, events_in, is_run, are_longest, are_runs, event_run_at, total, max_events, events_of_runs, few_events}
+use Rattle.package_codec.specs.Typed.{TypedEvent}
 use Rattle.package_layout.specs.Valid.{rules, before_digest, middle, kept_if, package_in, has_digest, form_of, reading_as}
-use Rattle.package_layout.specs.Version.{Version, One, Two}
-use Rattle.package_layout.specs.Whole.{bare_at, trace_at, with_events}
-use Rattle.package_layout.proofs.Laws.{IsBytes, IsBytes-take, IsBytes-drop}
-use Rattle.package_layout.proofs.Runs.{events_again, runs_good, events-length}
-use Rattle.package_layout.proofs.RunFields.{small_events}
+use Rattle.package_codec.specs.declared.version.Version.{Version}
+use Rattle.package_codec.specs.declared.version.Version.TheVariants.{One, Two}
+use Rattle.package_layout.specs.Whole.{bare_at, trace_at}
+use Rattle.package_codec.proofs.Laws.{IsBytes, IsBytes-take, IsBytes-drop}
+use Rattle.package_codec.proofs.Runs.{events_again, runs_good, events-length}
+use Rattle.package_codec.proofs.RunFields.{small_events}
 use Rattle.package_layout.proofs.Whole.{bare_took, events_took, ended}
 
 -- ---- the trace

@@ -10,16 +10,17 @@ use Rattle.run_model.specs.Package.{or_empty, own_file, own_world}
 use Rattle.run_model.specs.Start.{start_script}
 use Rattle.run_model.specs.declared.package.Package.{Package}
 use Rattle.run_model.specs.declared.package.PackedFile.{PackedFile}
-use Rattle.package_layout.specs.declared.decode_error.DecodeError.{DecodeError}
-use Rattle.package_layout.specs.declared.compact_package.ParsedPackage.{ParsedPackage}
-use Rattle.package_layout.specs.declared.compact_package.CompactPackage.{CompactPackage}
-use Rattle.package_layout.specs.Fields.{◌>>=◌}
-use Rattle.package_layout.specs.Plain.{fits_version}
-use Rattle.package_layout.specs.CompactPackages.{expanded_package, compact_rules, compact_sections_of, compact_in}
-use Rattle.package_layout.specs.Runs.{are_runs}
+use Rattle.package_codec.specs.declared.decode_error.DecodeError.{DecodeError}
+use Rattle.package_codec.specs.declared.compact_package.ParsedPackage.{ParsedPackage}
+use Rattle.package_codec.specs.declared.compact_package.CompactPackage.{CompactPackage}
+use Rattle.package_codec.specs.Fields.{◌>>=◌}
+use Rattle.package_codec.specs.Plain.{fits_version}
+use Rattle.package_codec.specs.CompactPackages.{expanded_package}
+use Rattle.package_layout.specs.CompactReading.{compact_rules, compact_sections_of, compact_in}
+use Rattle.package_codec.specs.Runs.{are_runs}
 use Rattle.package_layout.specs.StartScript.{StartsWith, file_script, package_if, packed_script, ruled_script, script_in, valid_script}
 use Rattle.package_layout.specs.Valid.{is_script, is_script_file, parts_rule, rules, script_rule, whole_rule}
-use Rattle.package_layout.specs.Version.{Version}
+use Rattle.package_codec.specs.declared.version.Version.{Version}
 
 -- ---- there is one exactly where the rules are met
 

@@ -14,29 +14,31 @@ use Rattle.run_model.specs.declared.package.PackedTable.{PackedTable}
 use Rattle.run_model.specs.declared.package.Log.{Log}
 use Rattle.run_model.specs.declared.event.Event.{Event}
 use Rattle.run_model.specs.declared.package.Package.{Package}
-use Rattle.package_layout.specs.Fields.{DecodeResult, both_at, number_at, list_at, list_spelling}
-use Rattle.package_layout.specs.Spelling.{file_spelling, table_spelling, log_spelling}
+use Rattle.package_codec.specs.Fields.{DecodeResult, both_at, number_at, list_at, list_spelling}
+use Rattle.package_codec.specs.Spelling.{file_spelling, table_spelling, log_spelling}
 use Rattle.package_layout.specs.inner.Bare.{IsTypedBare}
-use Rattle.package_layout.specs.Plain.{has_tables}
-use Rattle.package_layout.specs.Typed.{IsU32, TypedFile, TypedTable, TypedLog}
-use Rattle.package_layout.specs.Room.{fits_u16_count, table_room, log_room}
-use Rattle.package_layout.specs.Counts.{IsCountable, CountedList, CountedFile, CountedTable, CountedLog}
+use Rattle.package_codec.specs.Plain.{has_tables}
+use Rattle.package_codec.specs.Typed.{IsU32, TypedFile, TypedTable, TypedLog}
+use Rattle.package_codec.specs.Room.{fits_u16_count, table_room, log_room}
+use Rattle.package_codec.specs.Counts.{IsCountable, CountedList, CountedFile, CountedTable, CountedLog}
 use Rattle.package_layout.specs.Counted.{CountedTrace, IsCounted}
-use Rattle.package_layout.specs.Runs.{max_events, few_events, trace_room}
-use Rattle.package_layout.proofs.RunFields.{runs_law}
+use Rattle.package_codec.specs.Runs.{max_events, few_events, trace_room}
+use Rattle.package_codec.proofs.RunFields.{runs_law}
 use Rattle.std.specs.Prelude.{nat_le}
 use Rattle.ldv_value.proofs.Booleans.{and-parts, and-from}
 use Rattle.ldv_value.proofs.Lists.{list_all-both}
-use Rattle.package_layout.specs.Reading.{file_at, table_at, log_at}
-use Rattle.package_layout.specs.Events.{names_spelling, names_at, event_spelling, TypedEvent, event_room, event_at}
-use Rattle.package_layout.specs.Version.{Version, One, Two}
-use Rattle.package_layout.specs.Whole.{mode_number, mode_spelling, mode_of, mode_at, trace_spelling, trace_at, bytes_before_trace, bare_at, sections, with_events, IsTyped, tables_room, has_room, sections_at, all_of}
-use Rattle.package_layout.proofs.Laws.{number_is, IsBytes, IsBytes-rest, IsField, just, always, list_all-always, Uncounted, restate, recount, made_law, then_law}
-use Rattle.package_layout.proofs.Numbers.{wide8, wide64, number_law, short_list_law, long_law}
-use Rattle.package_layout.proofs.Tables.{Anything, u32_law, has_of, table_fits, table_law}
-use Rattle.package_layout.proofs.Values.{file_law, file_filled}
-use Rattle.package_layout.proofs.Logs.{log_law, log_filled}
-use Rattle.package_layout.proofs.Events.{names_law, event_law, event_filled}
+use Rattle.package_codec.specs.Reading.{file_at, table_at, log_at}
+use Rattle.package_codec.specs.Events.{names_spelling, names_at, event_spelling, TypedEvent, event_room, event_at}
+use Rattle.package_codec.specs.declared.version.Version.{Version}
+use Rattle.package_codec.specs.declared.version.Version.TheVariants.{One, Two}
+use Rattle.package_layout.specs.Whole.{mode_number, mode_spelling, mode_of, mode_at, trace_spelling, trace_at, bytes_before_trace, bare_at, sections, IsTyped, tables_room, has_room, sections_at, all_of}
+use Rattle.package_codec.specs.CompactPackages.{with_events}
+use Rattle.package_codec.proofs.Laws.{number_is, IsBytes, IsBytes-rest, IsField, just, always, list_all-always, Uncounted, restate, recount, made_law, then_law}
+use Rattle.package_codec.proofs.Numbers.{wide8, wide64, number_law, short_list_law, long_law}
+use Rattle.package_codec.proofs.Tables.{Anything, u32_law, has_of, table_fits, table_law}
+use Rattle.package_codec.proofs.Values.{file_law, file_filled}
+use Rattle.package_codec.proofs.Logs.{log_law, log_filled}
+use Rattle.package_codec.proofs.Events.{names_law, event_law, event_filled}
 
 mode_again : (m : Mode) → (mode_number m < 256) × (true ≡ true) × (mode_of (mode_number m) ≡ Some m)
 mode_again Included = (omega arith, refl, refl)

@@ -4,10 +4,11 @@ use Rattle.std.specs.Prelude.{List}
 use Rattle.std.specs.List.{AllByRecursion}
 use Rattle.run_model.specs.declared.event.Event.{Event}
 use Rattle.run_model.specs.declared.package.Package.{Package}
-use Rattle.package_layout.specs.Counts.{IsCountable, CountedList, CountedFile, CountedTable, CountedLog}
-use Rattle.package_layout.specs.Counts.{CountedEvent}
-use Rattle.package_layout.specs.Runs.{runs_of, CountedEventRun}
-use Rattle.package_layout.specs.Version.{Version, One, Two}
+use Rattle.package_codec.specs.Counts.{IsCountable, CountedList, CountedFile, CountedTable, CountedLog}
+use Rattle.package_codec.specs.Counts.{CountedEvent}
+use Rattle.package_codec.specs.Runs.{runs_of, CountedEventRun}
+use Rattle.package_codec.specs.declared.version.Version.{Version}
+use Rattle.package_codec.specs.declared.version.Version.TheVariants.{One, Two}
 
 abbrev pub CountedTrace : Version → List Event → Type 0
 CountedTrace One events = CountedList CountedEvent events

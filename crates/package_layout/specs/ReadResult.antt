@@ -5,10 +5,11 @@ use Rattle.package_layout.specs.declared.damage.DamageKind.{DamageKind}
 use Rattle.package_layout.specs.declared.damage.DamageKind.TheVariants.{Magic, Digest}
 use Rattle.package_layout.specs.declared.layout.PackageStop.{PackageStop}
 use Rattle.package_layout.specs.declared.layout.PackageStop.TheVariants.{Damaged, NoMemory}
-use Rattle.package_layout.specs.declared.compact_package.CompactPackage.{CompactPackage}
-use Rattle.package_layout.specs.CompactPackages.{expanded_package}
+use Rattle.package_codec.specs.declared.compact_package.CompactPackage.{CompactPackage}
+use Rattle.package_codec.specs.CompactPackages.{expanded_package}
 use Rattle.package_layout.specs.Valid.{has_digest}
-use Rattle.package_layout.specs.Version.{Version, version_of}
+use Rattle.package_codec.specs.declared.version.Version.{Version}
+use Rattle.package_codec.specs.Version.{version_of}
 
 -- the result is the one that is due, or memory ran out
 abbrev pub ReadsAs : Result Package PackageStop → Result Package DamageKind → Type 0

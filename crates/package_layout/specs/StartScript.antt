@@ -8,13 +8,13 @@ use Rattle.run_model.specs.Package.{own_world}
 use Rattle.run_model.specs.Start.{start_script}
 use Rattle.run_model.specs.declared.package.Package.{Package}
 use Rattle.run_model.specs.declared.package.PackedFile.{PackedFile}
-use Rattle.package_layout.specs.declared.compact_package.ParsedPackage.{ParsedPackage}
-use Rattle.package_layout.specs.declared.compact_package.CompactPackage.{CompactPackage}
-use Rattle.package_layout.specs.Plain.{fits_version}
-use Rattle.package_layout.specs.CompactPackages.{expanded_package}
-use Rattle.package_layout.specs.Runs.{are_runs}
+use Rattle.package_codec.specs.declared.compact_package.ParsedPackage.{ParsedPackage}
+use Rattle.package_codec.specs.declared.compact_package.CompactPackage.{CompactPackage}
+use Rattle.package_codec.specs.Plain.{fits_version}
+use Rattle.package_codec.specs.CompactPackages.{expanded_package}
+use Rattle.package_codec.specs.Runs.{are_runs}
 use Rattle.package_layout.specs.Valid.{parts_rule, whole_rule}
-use Rattle.package_layout.specs.Version.{Version}
+use Rattle.package_codec.specs.declared.version.Version.{Version}
 
 -- ---- the script of a package
 

@@ -7,10 +7,11 @@ use Rattle.run_model.specs.ValidPackage.{rules}
 use Rattle.package_layout.specs.declared.damage.DamageKind.{DamageKind}
 use Rattle.package_layout.specs.declared.damage.DamageKind.TheVariants.{Magic, Digest, Form}
 use Rattle.package_layout.specs.Counted.{IsCounted}
-use Rattle.package_layout.specs.Fields.{◌>>=◌}
-use Rattle.package_layout.specs.Plain.{fits_version}
-use Rattle.package_layout.specs.Typed.{IsTyped}
-use Rattle.package_layout.specs.Version.{Version, version_of}
+use Rattle.package_codec.specs.Fields.{◌>>=◌}
+use Rattle.package_codec.specs.Plain.{fits_version}
+use Rattle.package_codec.specs.Typed.{IsTyped}
+use Rattle.package_codec.specs.declared.version.Version.{Version}
+use Rattle.package_codec.specs.Version.{version_of}
 use Rattle.package_layout.specs.Whole.{spelling_as, has_room, all_of}
 pub use Rattle.run_model.specs.ValidPackage.{is_short_text, start_rule, content_rule, file_rule, files_rule}
 pub use Rattle.run_model.specs.ValidPackage.{are_files, rows_rule, table_rule, are_tables}

@@ -8,14 +8,17 @@ use Rattle.run_model.specs.declared.event.Event.{Event}
 use Rattle.run_model.specs.declared.package.Mode.{Mode}
 use Rattle.run_model.specs.declared.package.Mode.TheVariants.{Included, Excluded}
 use Rattle.run_model.specs.declared.package.Package.{Package}
-use Rattle.package_layout.specs.Fields.{DecodeResult, ◌>>=◌, both_at, made_at, number_at, list_at, list_spelling}
-use Rattle.package_layout.specs.Spelling.{file_spelling, table_spelling, log_spelling}
-pub use Rattle.package_layout.specs.Typed.{TypedParts, TypedNumbers, IsTyped}
-use Rattle.package_layout.specs.Room.{fits_u16_count, table_room, log_room}
-use Rattle.package_layout.specs.Reading.{file_at, table_at, log_at}
-use Rattle.package_layout.specs.Events.{names_spelling, names_at, event_spelling, event_at}
-use Rattle.package_layout.specs.Version.{Version, One, Two, magic}
-use Rattle.package_layout.specs.Runs.{runs_spelling, runs_at, trace_room, few_events}
+use Rattle.package_codec.specs.Fields.{DecodeResult, ◌>>=◌, both_at, made_at, number_at, list_at, list_spelling}
+use Rattle.package_codec.specs.Spelling.{file_spelling, table_spelling, log_spelling}
+pub use Rattle.package_codec.specs.Typed.{TypedParts, TypedNumbers, IsTyped}
+use Rattle.package_codec.specs.Room.{fits_u16_count, table_room, log_room}
+use Rattle.package_codec.specs.Reading.{file_at, table_at, log_at}
+use Rattle.package_codec.specs.Events.{names_spelling, names_at, event_spelling, event_at}
+use Rattle.package_codec.specs.CompactPackages.{with_events}
+use Rattle.package_codec.specs.declared.version.Version.{Version}
+use Rattle.package_codec.specs.declared.version.Version.TheVariants.{One, Two}
+use Rattle.package_codec.specs.Version.{magic}
+use Rattle.package_codec.specs.Runs.{runs_spelling, runs_at, trace_room, few_events}
 
 -- ---- spelling
 
@@ -58,19 +61,6 @@ spelling_as version p = body version p ++ sha256 (body version p)
 -- of the version that is written
 abbrev pub spelling : Package → List ℕ
 spelling p = spelling_as Two p
-
--- a package with another trace
-abbrev pub with_events : Package → List Event → Package
-with_events p events = record {
-  mode = p.mode;
-  start = p.start;
-  seed = p.seed;
-  steps = p.steps;
-  files = p.files;
-  tables = p.tables;
-  logs = p.logs;
-  events = events;
-}
 
 -- ---- what the format has room for
 

@@ -4,8 +4,8 @@ ghost use Rattle.std.specs.Prelude.{◌≡◌, ◌≤◌, ◌-◌, ◌++◌, IfO
 ghost use Rattle.sha2.specs.Sha256.{sha256};
 ghost use Rattle.package_layout.specs.Valid.{before_digest, has_digest, middle};
 
-use crate::version::MAGIC_LENGTH;
 use ldv_value::Bytes;
+use package_codec::MAGIC_LENGTH;
 use sha2::{Digest, Sha256};
 use std::alloc::AllocError;
 

@@ -1,14 +1,13 @@
-//! The laws of the layout. The functions have no bodies: their contracts are the theorems.
+//! The law of the layout. The function has no body: its contract is the theorem.
 
-ghost use Rattle.std.specs.Prelude.{◌≡◌, ◌≤◌, List as Items, Ok, IsTrue, length};
+ghost use Rattle.std.specs.Prelude.{◌≡◌, ◌≤◌, Ok, IsTrue, length};
 ghost use Rattle.ldv_value.specs.Limits.{input_limit};
-ghost use Rattle.run_model.specs.declared.event.Event.{Event};
 ghost use Rattle.run_model.specs.declared.package.Package.{Package};
 ghost use Rattle.package_layout.specs.Counted.{IsCounted};
-ghost use Rattle.package_layout.specs.Plain.{fits_version, has_tables};
-ghost use Rattle.package_layout.specs.Runs.{EventRun, IsCutOf, events_in, runs_of};
+ghost use Rattle.package_codec.specs.Plain.{fits_version, has_tables};
 ghost use Rattle.package_layout.specs.Valid.{IsValidPackage, reading};
-ghost use Rattle.package_layout.specs.Version.{Version, One, Two};
+ghost use Rattle.package_codec.specs.declared.version.Version.{Version};
+ghost use Rattle.package_codec.specs.declared.version.Version.TheVariants.{One, Two};
 ghost use Rattle.package_layout.specs.Whole.{IsTyped, spelling_as};
 
 /// The law of the layout, over all packages that memory can hold. Of each version: two valid packages with
@@ -25,13 +24,4 @@ pub fn round_trip_law()
     ensures counted { (version : Version) (p : Package) → length (spelling_as version p) ≤ input_limit →
         IsCounted version p }
     ensures apart { (p q : Package) → ¬ (spelling_as One p ≡ spelling_as Two q) }
-{}
-
-/// The law of runs of events: every list of events has exactly one cut into the longest runs, and these stand
-/// for the list.
-pub fn runs_law()
-    ensures cut { (events : Items Event) → IsCutOf events (runs_of events) }
-    ensures only { (events : Items Event) (runs : Items EventRun)
-        → IsCutOf events runs → runs ≡ runs_of events }
-    ensures again { (events : Items Event) → events_in (runs_of events) ≡ events }
 {}

@@ -3,23 +3,23 @@
 ghost use Rattle.std.specs.Prelude.{◌≡◌, ◌↔◌, [], true, false, Some, None, Ok, Err, IfOk, IfSome, IsSome};
 ghost use Rattle.std.specs.Option.{option_map};
 ghost use Rattle.package_layout.specs.ReadResult.{ReadsAs, CompactReadsAs, damage_before};
-ghost use Rattle.package_layout.specs.CompactPackages.{expanded_package, compact_in};
-ghost use Rattle.package_layout.specs.Runs.{IsCut, are_runs};
-ghost use Rattle.package_layout.specs.Fields.{Makes};
+ghost use Rattle.package_codec.specs.CompactPackages.{expanded_package};
+ghost use Rattle.package_layout.specs.CompactReading.{compact_in};
+ghost use Rattle.package_codec.specs.Runs.{IsCut, are_runs};
+ghost use Rattle.package_codec.specs.Fields.{Makes};
 ghost use Rattle.package_layout.specs.StartScript.{StartsWith, cut_of, package_if, valid_script};
 ghost use Rattle.package_layout.specs.Valid.{IsValidPackage, HasDigest, IsSpelled, IsUnspelled, has_digest};
 ghost use Rattle.package_layout.specs.Valid.{reading, reading_as};
-ghost use Rattle.package_layout.specs.Version.{version_of};
+ghost use Rattle.package_codec.specs.Version.{version_of};
 ghost use Rattle.package_layout.specs.Whole.{IsTyped};
 
-use crate::compact_package::{CompactPackage, ParsedPackage};
 use crate::damage::DamageKind;
-use crate::decode_error::DecodeError;
 use crate::digest::{has_digest, middle};
-use crate::expanding::expanded_package;
 use crate::sections::decode_all;
 use crate::validity::valid_script;
-use crate::version::{Version, version_of};
+use package_codec::{
+    CompactPackage, DecodeError, ParsedPackage, Version, expanded_package, version_of,
+};
 use run_model::Package;
 use script_parse::Script;
 use std::alloc::{AllocError, Global};

@@ -3,28 +3,22 @@
 ghost use Rattle.std.specs.Prelude.{◌≡◌, ◌++◌, OnOk};
 ghost use Rattle.std.specs.List.{AllByRecursion};
 ghost use Rattle.package_layout.specs.inner.Bare.{BareParts, BareNumbers, IsTypedBare};
-ghost use Rattle.package_layout.specs.Fields.{Decodes, Makes};
-ghost use Rattle.package_layout.specs.CompactPackages.{cut_at, compact_sections_at, compact_sections_of};
-ghost use Rattle.package_layout.specs.CompactPackages.{expanded_package};
-ghost use Rattle.package_layout.specs.Runs.{IsCut};
-ghost use Rattle.package_layout.specs.Typed.{TypedEvent};
-ghost use Rattle.package_layout.specs.Version.{Two};
+ghost use Rattle.package_codec.specs.Fields.{Decodes, Makes};
+ghost use Rattle.package_layout.specs.CompactReading.{compact_sections_at, compact_sections_of};
+ghost use Rattle.package_codec.specs.CompactPackages.{cut_at, expanded_package};
+ghost use Rattle.package_codec.specs.Runs.{IsCut};
+ghost use Rattle.package_codec.specs.Typed.{TypedEvent};
+ghost use Rattle.package_codec.specs.declared.version.Version.TheVariants.{Two};
 ghost use Rattle.package_layout.specs.Whole.{mode_number, mode_of, mode_at, parts, numbers};
 ghost use Rattle.package_layout.specs.Whole.{bytes_before_trace, bare_at};
 ghost use Rattle.package_layout.specs.Whole.{sections, trace_spelling, IsTyped};
 
-use crate::codec::{decode_list, encode_list};
-use crate::compact_package::CompactPackage;
-use crate::cursor::Cursor;
-use crate::cutting::decode_cut;
-use crate::decode_error::DecodeError;
-use crate::event_run::EventRuns;
-use crate::number::{decode_u8, decode_u32, decode_u64, encode_u8, encode_u32, encode_u64};
-use crate::table::{decode_tables, encode_tables};
-use crate::version::Version;
-use crate::width::Width;
-use crate::writing::encode_trace;
 use ldv_value::{Bytes, List};
+use package_codec::{
+    CompactPackage, Cursor, DecodeError, EventRuns, Version, Width, decode_cut, decode_list,
+    decode_tables, decode_u8, decode_u32, decode_u64, encode_list, encode_tables, encode_trace,
+    encode_u8, encode_u32, encode_u64,
+};
 use run_model::{Events, Mode, Package};
 use std::alloc::{AllocError, Global};
 

@@ -3,17 +3,16 @@
 ghost use Rattle.std.specs.Prelude.{◌≡◌, ◌<◌, ◌≤◌, ◌-◌, ◌++◌, IfOk, OnOk, IsErrOf, length};
 ghost use Rattle.sha2.specs.Sha256.{sha256};
 ghost use Rattle.ldv_value.specs.Limits.{input_limit};
-ghost use Rattle.package_layout.specs.CompactPackages.{expanded_package};
-ghost use Rattle.package_layout.specs.Runs.{IsCut};
-ghost use Rattle.package_layout.specs.Version.{Two};
+ghost use Rattle.package_codec.specs.CompactPackages.{expanded_package};
+ghost use Rattle.package_codec.specs.Runs.{IsCut};
+ghost use Rattle.package_codec.specs.declared.version.Version.TheVariants.{Two};
 ghost use Rattle.package_layout.specs.Whole.{body, spelling, spelling_as, IsTyped};
 
-use crate::compact_package::CompactPackage;
 use crate::digest::{DIGEST_LENGTH, with_digest};
 use crate::layout::SpellStop;
 use crate::sections::{encode_compact_sections, encode_sections};
-use crate::version::{Version, magic};
 use ldv_value::{Bytes, INPUT_LIMIT};
+use package_codec::{CompactPackage, Version, magic};
 use run_model::Package;
 use std::alloc::{AllocError, Global};
 
@@ -31,7 +30,7 @@ pub fn spell(alloc: Global, package: &Package) -> Result<Bytes, SpellStop>
 
 /// The one spelling of a package in a version. `TooLong` exactly where it has more than 67,108,864 bytes, its
 /// digest counted. What the version hasn't is left out, and rules and refusals by foreign keys keep their
-/// numbers: such bytes aren't read as a package of it (`specs/Plain.antt`).
+/// numbers: such bytes aren't read as a package of it (`package_codec/specs/Plain.antt`).
 pub fn spell_as(alloc: Global, package: &Package, version: Version) -> Result<Bytes, SpellStop>
     ensures bytes { IfOk result (λ bytes. bytes ≡ spelling_as version «package».now) }
     ensures within { IfOk result (λ bytes. length bytes ≤ input_limit) }

@@ -4,22 +4,19 @@ ghost use Rattle.std.specs.Prelude.{◌≡◌, true, IfOk, bytes_eq, find, nat_l
 ghost use Rattle.std.specs.List.{list_all};
 ghost use Rattle.std.specs.Option.{option_map, is_some};
 ghost use Rattle.script_parse.specs.Script.{script_of};
-ghost use Rattle.package_layout.specs.CompactPackages.{compact_rules, expanded_package};
-ghost use Rattle.package_layout.specs.Runs.{are_runs, events_in, is_run};
+ghost use Rattle.package_layout.specs.CompactReading.{compact_rules};
+ghost use Rattle.package_codec.specs.CompactPackages.{expanded_package, with_events};
+ghost use Rattle.package_codec.specs.Runs.{are_runs, events_in, is_run};
 ghost use Rattle.package_layout.specs.StartScript.{file_script, packed_script, ruled_script, script_in};
 ghost use Rattle.package_layout.specs.StartScript.{valid_script};
 ghost use Rattle.package_layout.specs.Valid.{mode_rule, steps_rule};
 ghost use Rattle.package_layout.specs.Valid.{trace_rule, reasons_rule, parts_rule, whole_rule};
-ghost use Rattle.package_layout.specs.Whole.{with_events};
 
-use crate::compact_package::CompactPackage;
-use crate::event_run::EventRun;
-use crate::plain::fits_version;
 use crate::rules::{is_valid_files, is_valid_logs, is_valid_start, is_valid_tables};
-use crate::run_rules::are_runs;
-use crate::trace::{asked_count, is_trace};
-use crate::version::Version;
 use ldv_value::{Bytes, FILE_LIMIT, MAX_STEPS, Utf8, Words};
+use package_codec::{
+    CompactPackage, EventRun, Version, are_runs, asked_count, fits_version, is_trace,
+};
 use run_model::{Logs, Mode, Package, PackedFile, PackedFiles, PackedTable, PackedTables};
 use script_parse::{Script, ScriptStop, parse_script};
 use std::alloc::{AllocError, Global};
@@ -58,7 +55,7 @@ fn script_by_rules(
     ruled_script(alloc, package)
 }
 
-#[tactic(auto, using(crate::proofs::Runs::are_all_runs))]
+#[tactic(auto, using(package_codec::proofs::Runs::are_all_runs))]
 fn ruled_script(alloc: Global, package: &CompactPackage) -> Result<Option<Script>, AllocError>
     requires { are_runs «package».now.runs ≡ true }
     ensures { IfOk result (λ found. option_map (λ s. s.instructions) found

@@ -10,10 +10,10 @@ use Rattle.run_model.specs.Package.{package_of, own_table, own_world}
 use Rattle.run_model.specs.WorldRun.{ends_within, steps_by, events_within}
 use Rattle.ldv_value.specs.Limits.{input_limit}
 use Rattle.package_layout.specs.Counted.{IsCounted}
-use Rattle.package_layout.specs.Plain.{has_no_foreign, has_tables}
+use Rattle.package_codec.specs.Plain.{has_no_foreign, has_tables}
 use Rattle.package_layout.specs.Valid.{IsValidPackage}
-use Rattle.package_layout.specs.declared.version.Version.{Version}
-use Rattle.package_layout.specs.declared.version.Version.TheVariants.{One, Two}
+use Rattle.package_codec.specs.declared.version.Version.{Version}
+use Rattle.package_codec.specs.declared.version.Version.TheVariants.{One, Two}
 use Rattle.package_layout.proofs.Package.{fit_tables}
 use Rattle.package_layout.specs.Whole.{spelling_as, IsTyped}
 use Rattle.replay_db.specs.Auditing.{SoundLaw, RecordedSoundLaw, OwnSoundLaw, verdict_on}

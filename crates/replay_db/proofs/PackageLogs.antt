@@ -7,7 +7,7 @@ use Rattle.ldv_value.proofs.Booleans.{and-from}
 use Rattle.ldv_value.proofs.Lists.{all-weaker, tested-all}
 use Rattle.run_model.specs.TypedPackage.{TypedLog}
 use Rattle.run_model.specs.ValidPackage.{log_rule, log_precedes, logs_rule}
-use Rattle.package_layout.specs.Room.{log_room}
+use Rattle.package_codec.specs.Room.{log_room}
 use Rattle.value_laws.specs.Steps.{GoodLog, GoodLogs}
 use Rattle.replay_db.specs.Types.{Log}
 

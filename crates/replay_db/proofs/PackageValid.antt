@@ -14,12 +14,12 @@ use Rattle.run_model.specs.SqlDatabase.{sql_base}
 use Rattle.run_model.specs.Start.{start_script, start_state}
 use Rattle.run_model.specs.WorldRun.{ends_within, steps_by, events_in, events_within, logs_by}
 use Rattle.sql_model.specs.Tables.{tables_test}
-use Rattle.package_layout.specs.Events.{TypedEvent, event_room}
-use Rattle.package_layout.specs.Room.{fits_u16_count, table_room, log_room}
-use Rattle.package_layout.specs.Runs.{max_events, trace_room}
+use Rattle.package_codec.specs.Events.{TypedEvent, event_room}
+use Rattle.package_codec.specs.Room.{fits_u16_count, table_room, log_room}
+use Rattle.package_codec.specs.Runs.{max_events, trace_room}
 use Rattle.run_model.specs.RunLaw.{WorldEventsLaw}
-use Rattle.package_layout.specs.inner.Trace.{asked_count}
-use Rattle.package_layout.specs.Typed.{IsU32, TypedTable, TypedLog}
+use Rattle.package_codec.specs.inner.Trace.{asked_count}
+use Rattle.package_codec.specs.Typed.{IsU32, TypedTable, TypedLog}
 use Rattle.package_layout.specs.Valid.{is_short_text, start_rule, files_rule, tables_rule, logs_rule, mode_rule, script_rule, is_script_file, steps_rule, trace_rule, reasons_rule, parts_rule, whole_rule, rules, IsValidPackage}
 use Rattle.package_layout.specs.Whole.{IsTyped, tables_room, has_room}
 use Rattle.value_laws.specs.Steps.{GoodLogs, StepsLaw}

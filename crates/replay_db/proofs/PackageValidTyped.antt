@@ -5,8 +5,8 @@ use Rattle.std.specs.Option.{option_or}
 use Rattle.std.proofs.lemmas.Bool.{cases_Bool}
 use Rattle.replay_db.specs.Types.{File, Need, Table, TableRow, Act, Asked, Event, PackedFile, PackedRow}
 use Rattle.run_model.specs.Slice.{FileNeed, Whole, Present, file_need, packed_as, packed_file, files_needed, Reason, is_read, reason_in, act_reason, first_reason, packed_row, packed_table, tables_needed}
-use Rattle.package_layout.specs.Events.{TypedAct, TypedEvent}
-use Rattle.package_layout.specs.Typed.{IsU32, TypedValues, TypedFile, TypedRow, TypedTable}
+use Rattle.package_codec.specs.Events.{TypedAct, TypedEvent}
+use Rattle.package_codec.specs.Typed.{IsU32, TypedValues, TypedFile, TypedRow, TypedTable}
 use Rattle.replay_db.specs.Worlds.{all_of_file, all_of_row, all_of_table}
 use Rattle.replay_db.proofs.PackageValidLists.{types_stay}
 use Rattle.replay_db.proofs.PackageValidParts.{KeptRow, row_kept, table_kept, tables_as, table_is}

@@ -12,9 +12,9 @@ use Rattle.std.proofs.lemmas.Map.Text.{is_eq-slice_cmp}
 use Rattle.ldv_value.proofs.SameBytes.{bytes_eq-true}
 use Rattle.ldv_value.proofs.Booleans.{and-parts}
 use Rattle.sql_model.specs.Scope.{same_text}
-use Rattle.package_layout.specs.Groups.{groups, group_of_one, after, add_all}
+use Rattle.package_codec.specs.Groups.{groups, group_of_one, after, add_all}
 use Rattle.package_layout.specs.inner.Order.{rises, is_below, row_after_table}
-use Rattle.package_layout.proofs.Groups.{add_last}
+use Rattle.package_codec.proofs.Groups.{add_last}
 use Rattle.replay_db.proofs.TraceLists.{below_itself, filter_most, filter_fewer}
 use Rattle.ldv_value.proofs.TextOrders.{text_trans}
 

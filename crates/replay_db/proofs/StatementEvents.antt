@@ -31,13 +31,13 @@ use Rattle.sql_laws.proofs.ChangedTables.{else-parts, if-none}
 use Rattle.replay_db.specs.Types.{Statement, Table, TableRow, Member, Need, Act}
 use Rattle.run_model.specs.SqlDatabase.{SqlDatabase, db_after, lists_of}
 use Rattle.run_model.specs.Step.{asked_act}
-use Rattle.package_layout.specs.Events.{need_groups, member_groups, needs_room, members_room, act_room, TypedNeed, TypedMember, TypedAct}
+use Rattle.package_codec.specs.Events.{need_groups, member_groups, needs_room, members_room, act_room, TypedNeed, TypedMember, TypedAct}
 use Rattle.package_layout.specs.inner.Order.{rises, is_below, need_below, member_below}
-use Rattle.package_layout.specs.Parts.{need_table, need_part, member_table, member_part}
-use Rattle.package_layout.specs.Room.{fits_u16_count}
+use Rattle.package_codec.specs.Parts.{need_table, need_part, member_table, member_part}
+use Rattle.package_codec.specs.Room.{fits_u16_count}
 use Rattle.run_model.specs.ValidTrace.{named_rule}
-use Rattle.package_layout.specs.inner.Trace.{act_rule}
-use Rattle.package_layout.specs.Typed.{IsU32}
+use Rattle.package_codec.specs.inner.Trace.{act_rule}
+use Rattle.package_codec.specs.Typed.{IsU32}
 use Rattle.replay_db.proofs.NeedsSorted.{row_under, row_under_trans, needs_rise, reads_rise}
 use Rattle.sql_laws.proofs.NeedsSound.{needs_good}
 use Rattle.replay_db.proofs.RowGroups.{is_name_of, groups_few}

@@ -14,7 +14,7 @@ use Rattle.sql_model.specs.declared.table.Foreign.{Foreign}
 use Rattle.run_model.proofs.KeyPlaces.{key_within}
 use Rattle.run_model.proofs.ValidWorlds.{RuledList, ruled_list}
 use Rattle.run_model.specs.ValidPackage.{table_rule, tables_rule}
-use Rattle.package_layout.specs.Room.{key_room, foreign_room, foreigns_room, schema_room, row_room, table_room}
+use Rattle.package_codec.specs.Room.{key_room, foreign_room, foreigns_room, schema_room, row_room, table_room}
 use Rattle.replay_db.specs.Types.{PackedRow, PackedTable}
 
 key_room_met : (columns : List Column) (key : List ℕ) → length columns ≤ max_columns → key_places_test columns key ≡ true → key_room key ≡ true

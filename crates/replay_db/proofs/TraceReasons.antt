@@ -10,7 +10,7 @@ use Rattle.sql_model.specs.SqlNames.{sql_name_test}
 use Rattle.replay_db.specs.Types.{Need, Table, TableRow, Act, Started, Asked, Event}
 use Rattle.run_model.specs.Slice.{Reason, is_read, reason_in, act_reason, first_reason, rows_needed, is_table_needed, packed_table, tables_needed}
 use Rattle.package_layout.specs.inner.Order.{rises, is_below, need_below, member_below}
-use Rattle.package_layout.specs.inner.Trace.{act_rule, made_after, is_asked, asked_after, follows, at_start, starts_on, starts, trace_test, asked_among, asked_count}
+use Rattle.package_codec.specs.inner.Trace.{act_rule, made_after, is_asked, asked_after, follows, at_start, starts_on, starts, trace_test, asked_among, asked_count}
 use Rattle.package_layout.specs.Valid.{trace_rule, reasons_rule}
 
 -- ---- statements are counted

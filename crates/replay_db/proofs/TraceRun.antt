@@ -20,8 +20,8 @@ use Rattle.run_model.specs.Step.{Ask, Effect, local_step, took, next_ask, ends_a
 use Rattle.run_model.proofs.Equations.{events-zero, events-over, events-suc, steps-suc}
 use Rattle.run_model.proofs.NeverStuck.{Ordered, found_below, move_ordered, chosen_runs}
 use Rattle.proc_core.proofs.Advances.{first_false}
-use Rattle.package_layout.specs.Events.{act_room, TypedAct}
-use Rattle.package_layout.specs.inner.Trace.{act_rule, made_after, is_asked, asked_after, follows}
+use Rattle.package_codec.specs.Events.{act_room, TypedAct}
+use Rattle.package_codec.specs.inner.Trace.{act_rule, made_after, is_asked, asked_after, follows}
 use Rattle.replay_db.proofs.StatementEvents.{RuledNames, GoodDatabase, good_after, asked_ruled}
 use Rattle.replay_db.proofs.TraceLists.{all_append}
 use Rattle.run_laws.proofs.TraceState.{GoodList, PlainAct, PlainActs, made_by, plain_append, made_append, QuietStep, quiet_step, TookStep, took_step, ends_plain}

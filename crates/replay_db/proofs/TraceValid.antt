@@ -19,9 +19,9 @@ use Rattle.run_model.specs.State.{State}
 use Rattle.run_model.specs.WorldRun.{ends_in, ends_by, steps_in, steps_by, events_in, events_by}
 use Rattle.run_model.specs.ValidTrace.{named_rule, are_named, ValidTrace}
 use Rattle.run_model.proofs.Equations.{run-zero, steps-suc}
-use Rattle.package_layout.specs.Events.{TypedEvent, event_room}
-use Rattle.package_layout.specs.inner.Trace.{follows, at_start, starts, trace_test, asked_count}
-use Rattle.package_layout.specs.Typed.{IsU32}
+use Rattle.package_codec.specs.Events.{TypedEvent, event_room}
+use Rattle.package_codec.specs.inner.Trace.{follows, at_start, starts, trace_test, asked_count}
+use Rattle.package_codec.specs.Typed.{IsU32}
 use Rattle.package_layout.specs.Valid.{start_rule, trace_rule, reasons_rule}
 use Rattle.replay_db.specs.Worlds.{all_of_world, TypedWorld, world_rules}
 use Rattle.replay_db.proofs.StatementEvents.{RuledNames, tables_names, GoodDatabase, asked_named, asked_room, asked_typed}

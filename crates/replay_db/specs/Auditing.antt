@@ -9,9 +9,9 @@ use Rattle.sql_model.specs.Tables.{tables_test}
 use Rattle.run_model.specs.Package.{package_of, own_world}
 use Rattle.run_model.specs.Start.{start_script}
 use Rattle.run_model.specs.WorldRun.{ends_within, steps_by}
-use Rattle.package_layout.specs.Plain.{fits_version}
+use Rattle.package_codec.specs.Plain.{fits_version}
 use Rattle.package_layout.specs.Valid.{IsValidPackage}
-use Rattle.package_layout.specs.declared.version.Version.{Version}
+use Rattle.package_codec.specs.declared.version.Version.{Version}
 use Rattle.package_layout.specs.Whole.{spelling_as, IsTyped}
 use Rattle.replay_db.specs.Types.{Included, Package, World}
 use Rattle.replay_db.specs.declared.soundness.Verdict.{Verdict}

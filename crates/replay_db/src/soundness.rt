@@ -3,8 +3,8 @@
 ghost use Rattle.std.specs.Prelude.{◌≡◌, ◌≤◌, ◌+◌, Some, length, drop, nat_eq, IfOk, IsSome};
 ghost use Rattle.std.specs.List.{common_prefix_len};
 ghost use Rattle.ldv_value.specs.Limits.{max_steps};
-ghost use Rattle.package_layout.specs.Version.{version_of};
-ghost use Rattle.package_layout.specs.declared.version.Version.{Version};
+ghost use Rattle.package_codec.specs.Version.{version_of};
+ghost use Rattle.package_codec.specs.declared.version.Version.{Version};
 ghost use Rattle.run_model.specs.Package.{own_world};
 ghost use Rattle.run_model.specs.Start.{IsParsed};
 ghost use Rattle.replay_db.specs.Auditing.{Audits, AuditsWorld, verdict_on};
@@ -13,7 +13,8 @@ ghost use Rattle.replay_db.specs.Runs.{CanRun};
 use crate::error::EndStop;
 use crate::own::parsed_copy;
 use crate::record::record_parsed;
-use package_layout::{SpellStop, Version, spell_as, version_of};
+use package_codec::{Version, version_of};
+use package_layout::{SpellStop, spell_as};
 use run_model::{Mode, Package, ParsedWorld};
 use std::alloc::{AllocError, Global};
 

@@ -2,7 +2,7 @@
 use Rattle.std.specs.Prelude.{◌≡◌, refl, ℕ, List, [], ◌∷◌, codes}
 use Rattle.std.specs.Fmt.{digits}
 use Rattle.run_model.specs.declared.name.ProcName.{ProcName}
-use Rattle.package_join.specs.declared.joined.ClashKind.TheVariants as kinds
+use Rattle.joined_data.specs.declared.joined.ClashKind.TheVariants as kinds
 use Rattle.package_layout.specs.declared.damage.DamageKind.TheVariants.{Magic, Digest, Form}
 use Rattle.world_json.specs.declared.fault.WorldFault.TheVariants.{NotJson, Shape, Name, Limit, RowType, NotNull, Key, NoStart, BadScript}
 use Rattle.ldv_top.specs.declared.exit.Exit.{Exit}

@@ -4,8 +4,9 @@ ghost use Rattle.std.specs.Prelude.{IfOk};
 ghost use Rattle.package_layout.specs.Valid.{IsValidPackage};
 
 use crate::recorded::recorded_package;
+use joined_data::{Joined, Which};
 use ldv_value::Bytes;
-use package_join::{Joined, Which, join, joined_world, read_joined, run_of, spell_joined};
+use package_join::{join, joined_world, read_joined, run_of, spell_joined};
 use package_layout::spell;
 use run_model::{Mode, Package};
 use sql_model::Table;

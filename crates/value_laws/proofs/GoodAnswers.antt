@@ -17,7 +17,7 @@ use Rattle.sql_model.specs.Statements.{target, own_refusal, reference_refusal, r
 use Rattle.sql_model.specs.Tables.{is_short, is_valid_table, table_precedes}
 use Rattle.ldv_value.specs.Sorted.{is_strictly_sorted}
 use Rattle.run_model.specs.TypedPackage.{TypedValues}
-use Rattle.package_layout.specs.Room.{fits_u16_count}
+use Rattle.package_codec.specs.Room.{fits_u16_count}
 use Rattle.value_laws.specs.Answers.{AnswersLaw, NoStatementLaw}
 use Rattle.value_laws.specs.Values.{GoodStatement, GoodTable, GoodTables, GoodReply}
 use Rattle.value_laws.proofs.GoodChanges.{changed_in_good}

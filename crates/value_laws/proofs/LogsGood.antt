@@ -21,7 +21,7 @@ use Rattle.run_model.specs.Run.{run}
 use Rattle.run_model.specs.TypedPackage.{TypedEntry}
 use Rattle.run_model.specs.ValidPackage.{is_short_text, start_rule, is_root_process, entry_rule, log_precedes}
 use Rattle.run_model.specs.WorldRun.{has_asked, log_of, logs_of, logs_in}
-use Rattle.package_layout.specs.Room.{fits_u16_count, entry_room}
+use Rattle.package_codec.specs.Room.{fits_u16_count, entry_room}
 use Rattle.value_laws.specs.Answers.{AnswersLaw, NoStatementLaw}
 use Rattle.value_laws.specs.Literals.{GoodScript, ScriptLiteralsLaw, StatementLiteralsLaw}
 use Rattle.value_laws.specs.Steps.{GoodWorld, GoodLog, GoodLogs, StepsLaw}

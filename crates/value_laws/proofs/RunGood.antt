@@ -33,7 +33,7 @@ use Rattle.run_model.specs.StepReplies.{row_count, status_value}
 use Rattle.run_model.specs.StepVariables.{calculation, concatenation, to_number, printed_line, exit_status}
 use Rattle.run_model.specs.TypedPackage.{IsU32}
 use Rattle.run_model.specs.ValidPackage.{is_root_process, is_short_text, reply_rule}
-use Rattle.package_layout.specs.Room.{reply_room}
+use Rattle.package_codec.specs.Room.{reply_room}
 use Rattle.run_model.proofs.Equations.{run-zero, run-over, run-suc}
 use Rattle.run_model.proofs.StepKeeps.{IsStatus, exit_byte}
 use Rattle.value_laws.specs.Answers.{GoodAnswer, AnswersLaw, NoStatementLaw}

@@ -9,7 +9,7 @@ use Rattle.run_model.specs.declared.world.World.{World}
 use Rattle.run_model.specs.TypedPackage.{TypedLog}
 use Rattle.run_model.specs.ValidPackage.{start_rule, log_rule, log_precedes}
 use Rattle.run_model.specs.WorldRun.{logs_by}
-use Rattle.package_layout.specs.Room.{log_room}
+use Rattle.package_codec.specs.Room.{log_room}
 use Rattle.value_laws.specs.Values.{GoodTables}
 
 -- what every valid world meets

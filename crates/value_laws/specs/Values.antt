@@ -12,7 +12,7 @@ use Rattle.sql_laws.specs.Types.{TheInsert, TheUpdate, TheDelete, Foreign, Reply
 use Rattle.run_model.specs.declared.package.Entry.{Entry}
 use Rattle.run_model.specs.TypedPackage.{TypedValue, TypedReply, TypedEntry}
 use Rattle.run_model.specs.ValidPackage.{reply_rule, entry_rule}
-use Rattle.package_layout.specs.Room.{reply_room, entry_room}
+use Rattle.package_codec.specs.Room.{reply_room, entry_room}
 
 -- ---- values
 

@@ -2,9 +2,9 @@
 use Rattle.std.specs.Prelude.{ℕ, List, [], ◌∷◌, Bool, if◌then◌else◌, Option, Some, None}
 use Rattle.sql_model.specs.declared.need.Need.{Need}
 use Rattle.run_model.specs.Slice.{Reason as SliceReason}
-use Rattle.package_join.specs.Types.{Package, PackedFile}
-use Rattle.package_join.specs.declared.joined.Reason.{Reason}
-use Rattle.package_join.specs.Joined.{as_present, is_reason}
+use Rattle.package_join.specs.Types.{PackedFile}
+use Rattle.joined_data.specs.declared.joined.Reason.{Reason}
+use Rattle.joined_data.specs.Joined.{as_present, is_reason}
 
 -- ---- files, by two tests of their paths
 
@@ -31,17 +31,3 @@ abbrev pub reason_for : List Reason → List ℕ → ℕ → Option SliceReason
 reason_for [] table row = None
 reason_for (reason ∷ reasons) table row =
     if is_reason table row reason then Some (slice_reason reason) else reason_for reasons table row
-
--- ---- a package without its logs, which an included one hasn't got
-
-abbrev pub without_logs : Package → Package
-without_logs p = record {
-  mode = p.mode;
-  start = p.start;
-  seed = p.seed;
-  steps = p.steps;
-  files = p.files;
-  tables = p.tables;
-  logs = [];
-  events = p.events;
-}

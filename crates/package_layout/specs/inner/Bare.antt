@@ -3,7 +3,7 @@ use Rattle.std.specs.Prelude.{◌<◌, ◌^◌}
 use Rattle.std.specs.List.{AllByRecursion}
 use Rattle.std.specs.Str.{IsUtf8}
 use Rattle.run_model.specs.declared.package.Package.{Package}
-use Rattle.package_layout.specs.Typed.{IsU32, TypedFile, TypedTable, TypedLog}
+use Rattle.package_codec.specs.Typed.{IsU32, TypedFile, TypedTable, TypedLog}
 
 abbrev pub BareParts : Package → Type 0
 BareParts p =

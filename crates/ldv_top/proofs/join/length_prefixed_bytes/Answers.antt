@@ -1,6 +1,6 @@
 use Rattle.std.proofs.Common.{◌≡◌, List, ℕ, sym, subst}
 use Rattle.std.specs.Prelude.{MatchOption, None, Some}
-use Rattle.package_layout.specs.Fields.{DecodeResult}
+use Rattle.package_codec.specs.Fields.{DecodeResult}
 use Rattle.ldv_top.proofs.JoinResponses.{sized_is}
 use Rattle.ldv_top.proofs.join.length_prefixed_bytes.Goals as goal
 

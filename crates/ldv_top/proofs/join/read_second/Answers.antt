@@ -1,5 +1,5 @@
 use Rattle.std.proofs.Common.{Ok, ap}
-use Rattle.package_layout.specs.CompactPackages.{expanded_package}
+use Rattle.package_codec.specs.CompactPackages.{expanded_package}
 use Rattle.ldv_top.specs.DueOfJoins.{both_read}
 use Rattle.ldv_top.proofs.join.read_second.Goals as goal
 

@@ -1,5 +1,5 @@
 use Rattle.std.proofs.Common.{sym, ap}
-use Rattle.package_join.specs.declared.joined.ClashKind.{ClashKind}
+use Rattle.joined_data.specs.declared.joined.ClashKind.{ClashKind}
 use Rattle.ldv_top.specs.Exits.{clash_line_of}
 use Rattle.ldv_top.proofs.WriteLemmas.{writes_same}
 use Rattle.ldv_top.proofs.messages.write_clash_of.Goals as goal

@@ -1,7 +1,7 @@
 use Rattle.std.proofs.Common.{◌≡◌, subst}
 use Rattle.std.specs.Prelude.{IfOk}
 use Rattle.ldv_value.proofs.Booleans.{and-second}
-use Rattle.package_layout.specs.CompactPackages.{expanded_package}
+use Rattle.package_codec.specs.CompactPackages.{expanded_package}
 use Rattle.replay_db.proofs.OwnWorlds.{own_runs}
 use Rattle.ldv_top.specs.declared.response.Response.{Response}
 use Rattle.ldv_top.specs.Due.{DueOutput, response_due}

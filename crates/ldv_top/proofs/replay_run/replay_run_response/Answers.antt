@@ -1,6 +1,6 @@
 use Rattle.std.proofs.Common.{◌≡◌, subst}
 use Rattle.std.specs.Prelude.{IfOk}
-use Rattle.package_join.specs.CompactJoins.{whole_join}
+use Rattle.joined_data.specs.CompactJoins.{whole_join}
 use Rattle.ldv_top.specs.declared.response.Response.{Response}
 use Rattle.ldv_top.specs.Due.{DueOutput, response_due}
 use Rattle.ldv_top.proofs.JoinResponses.{run_due}

@@ -1,4 +1,4 @@
-use Rattle.package_join.specs.Joined.{joined_of}
+use Rattle.joined_data.specs.Joined.{joined_of}
 use Rattle.package_join.proofs.CutLaws.{cuts_joined, first_stays, second_stays}
 use Rattle.package_join.proofs.joins.join_compact.Goals as goal
 

@@ -1,10 +1,10 @@
 use Rattle.std.proofs.Common.{◌≡◌, ◌∙◌, ap, subst}
 use Rattle.std.specs.Prelude.{Option}
-use Rattle.package_layout.specs.Fields.{Makes}
-use Rattle.package_layout.specs.declared.compact_package.CompactPackage.{CompactPackage}
-use Rattle.package_join.specs.declared.compact_joined.ParsedJoined.{ParsedJoined}
-use Rattle.package_join.specs.declared.joined.Which.TheVariants.{First, Second}
-use Rattle.package_join.specs.CompactJoins.{picked_runs}
+use Rattle.package_codec.specs.Fields.{Makes}
+use Rattle.package_codec.specs.declared.compact_package.CompactPackage.{CompactPackage}
+use Rattle.joined_data.specs.declared.compact_joined.ParsedJoined.{ParsedJoined}
+use Rattle.joined_data.specs.declared.joined.Which.TheVariants.{First, Second}
+use Rattle.joined_data.specs.CompactJoins.{picked_runs}
 use Rattle.package_join.specs.ParsedJoins.{parsed_join}
 use Rattle.package_join.proofs.judging.parsed_anew.Goals as goal
 

@@ -1,6 +1,6 @@
 use Rattle.std.proofs.Common.{List, Option, subst}
 use Rattle.script_parse.specs.declared.script.Script.{Script}
-use Rattle.package_layout.specs.Fields.{Makes}
+use Rattle.package_codec.specs.Fields.{Makes}
 use Rattle.package_join.proofs.ParsedJoins.{found_again}
 use Rattle.package_join.proofs.judging.valid_start.Goals as goal
 

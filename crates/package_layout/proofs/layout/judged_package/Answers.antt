@@ -1,6 +1,6 @@
 use Rattle.std.proofs.Common.{List, Option, subst}
 use Rattle.script_parse.specs.declared.script.Instr.{Instr}
-use Rattle.package_layout.specs.Fields.{Makes}
+use Rattle.package_codec.specs.Fields.{Makes}
 use Rattle.package_layout.specs.StartScript.{cut_of, package_if}
 use Rattle.package_layout.proofs.StartScripts.{with_start}
 use Rattle.package_layout.proofs.layout.judged_package.Goals as goal

@@ -1,9 +1,9 @@
 use Rattle.std.proofs.Common.{Option, subst}
 use Rattle.std.specs.Prelude.{Err}
-use Rattle.package_layout.specs.declared.decode_error.DecodeError.{DecodeError}
-use Rattle.package_layout.specs.declared.compact_package.CompactPackage.{CompactPackage}
-use Rattle.package_layout.specs.Fields.{Makes}
-use Rattle.package_layout.specs.CompactPackages.{compact_sections_of}
+use Rattle.package_codec.specs.declared.decode_error.DecodeError.{DecodeError}
+use Rattle.package_codec.specs.declared.compact_package.CompactPackage.{CompactPackage}
+use Rattle.package_codec.specs.Fields.{Makes}
+use Rattle.package_layout.specs.CompactReading.{compact_sections_of}
 use Rattle.package_layout.specs.StartScript.{cut_of}
 use Rattle.package_layout.proofs.StartScripts.{made_in, none_in}
 use Rattle.package_layout.proofs.layout.parsed_in.Goals as goal

@@ -1,0 +1,13 @@
+pub mod Agreeing
+pub mod CutSpellings
+pub mod Cuts
+pub mod LayoutLaws
+pub mod Lists
+pub mod MergeLaws
+pub mod MergedLists
+pub mod MergedParents
+pub mod PartLaws
+pub mod PickedFiles
+pub mod PickedTables
+pub mod Picking
+pub mod TakenKeys

@@ -1,0 +1,9 @@
+pub mod Types
+pub mod Merging
+pub mod Same
+pub mod Joined
+pub mod Parts
+pub mod Layout
+pub mod Rooms
+pub mod CompactJoins
+pub mod inner

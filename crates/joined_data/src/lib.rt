@@ -1,0 +1,26 @@
+//! Joined packages as data: their types, the parts of a package, how the lists of two are merged and where
+//! they differ, and the bytes of a joined package between its magic and its digest.
+//!
+//! What it promises stands in `docs/GUARANTEES.md`, how it works in `docs/ARCHITECTURE.md`.
+#![tactic(auto)]
+
+mod clash;
+mod compact_joined;
+mod copying;
+mod decoding;
+mod differences;
+mod encoding;
+mod joined;
+mod joining;
+mod key_clash;
+mod mergeable;
+mod merging;
+mod parts;
+mod queue;
+
+pub use compact_joined::{CompactJoined, CompactRun, ParsedJoined};
+pub use copying::copy_package;
+pub use decoding::decode_all;
+pub use encoding::{encode_compact_joined, encode_cut_joined, encode_joined};
+pub use joined::{Clash, ClashKind, Joined, JoinedRun, Reason, Reasons, Which};
+pub use joining::{JoinStop, join_owned, join_with_runs};

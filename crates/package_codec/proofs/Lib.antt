@@ -1,0 +1,16 @@
+pub mod Cuts
+pub mod Events
+pub mod Grouped
+pub mod Groups
+pub mod Laws
+pub mod Lists
+pub mod Logs
+pub mod Numbers
+pub mod PlainRuns
+pub mod RunFields
+pub mod RunTraces
+pub mod Runs
+pub mod Tables
+pub mod Tags
+pub mod Values
+pub mod Versions

@@ -1,0 +1,16 @@
+pub mod CommonTables
+pub mod CompactPackages
+pub mod Counts
+pub mod Events
+pub mod Fields
+pub mod Groups
+pub mod Parts
+pub mod Plain
+pub mod Reading
+pub mod Room
+pub mod Runs
+pub mod Spelling
+pub mod Typed
+pub mod Version
+pub mod Widths
+pub mod inner

@@ -1,0 +1,61 @@
+//! Texts, and the bytes of files.
+
+ghost use Rattle.std.specs.Prelude.{◌≡◌, ◌++◌, OnOk};
+ghost use Rattle.std.specs.Str.{IsUtf8};
+ghost use Rattle.ldv_value.specs.Texts.{text_of};
+ghost use Rattle.package_codec.specs.Fields.{Decodes, Makes, sized_at, text_at, text_spelling};
+
+use crate::cursor::Cursor;
+use crate::decode_error::DecodeError;
+use crate::number::{decode_u32, encode_count};
+use crate::width::Width;
+use ldv_value::{Bytes, Utf8};
+use std::alloc::{AllocError, Global};
+
+/// Bytes with their length before them.
+pub(crate) fn decode_sized(alloc: Global, cursor: &mut Cursor) -> Result<Bytes, DecodeError>
+    ensures { Decodes result cursor.new (sized_at cursor.old) }
+{
+    let count = decode_u32(cursor)?;
+    match cursor.next(count as usize) {
+        None => Err(DecodeError::Malformed),
+        Some(front) => Ok(Bytes::of_slice(alloc, front)?),
+    }
+}
+
+/// A text: the number of its bytes and the bytes, which have to be UTF-8.
+pub fn decode_text(alloc: Global, cursor: &mut Cursor) -> Result<Utf8, DecodeError>
+    ensures { Decodes result cursor.new (text_at cursor.old) }
+{
+    let count = decode_u32(cursor)?;
+    match cursor.next(count as usize) {
+        None => Err(DecodeError::Malformed),
+        Some(front) => utf8_of(alloc, front),
+    }
+}
+
+#[tactic(auto, using(ldv_value::proofs::TextTests::is_text, ldv_value::proofs::TextTests::no_text))]
+fn utf8_of(alloc: Global, front: &[u8]) -> Result<Utf8, DecodeError>
+    ensures { Makes result (text_of front.now) }
+{
+    match str::from_utf8(front) {
+        Ok(text) => Ok(Utf8::of(alloc, text)?),
+        Err(_) => Err(DecodeError::Malformed),
+    }
+}
+
+/// Appends bytes with their length before them.
+pub(crate) fn encode_sized(bytes: &[u8], to: &mut Bytes) -> Result<(), AllocError>
+    ensures { OnOk result (to.new ≡ to.old ++ text_spelling bytes.now) }
+{
+    encode_count(Width::Four, bytes.len(), to)?;
+    to.extend(bytes)
+}
+
+/// Appends a text: the number of its bytes and the bytes.
+pub fn encode_text(text: &Utf8, to: &mut Bytes) -> Result<(), AllocError>
+    ensures bytes { OnOk result (to.new ≡ to.old ++ text_spelling text.now) }
+    ensures typed { OnOk result (IsUtf8 text.now) }
+{
+    encode_sized(text.as_str().as_bytes(), to)
+}

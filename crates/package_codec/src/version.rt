@@ -1,0 +1,66 @@
+//! The versions of the format.
+
+ghost use Rattle.std.specs.Prelude.{◌≡◌, ◌↔◌, Some, None, take};
+ghost use Rattle.package_codec.specs.Version.{HasMagic, has_magic, magic, version_of};
+
+/// The bytes of a magic.
+pub const MAGIC_LENGTH: usize = 8;
+
+/// A version of the format. Both are read; `spell` writes the second.
+#[derive(Clone, Copy, Debug, PartialEq, Eq)]
+pub enum Version {
+    /// The trace is written event by event.
+    One,
+    /// The trace is written in runs, and tables have their foreign keys.
+    Two,
+}
+
+/// The version of a package, by its first eight bytes. `None` exactly where they are no version's magic,
+/// also where there are fewer. It takes no memory.
+pub fn version_of(bytes: &[u8]) -> Option<Version>
+    ensures exact { (version : Version) → ((result ≡ Some version) ↔ HasMagic version bytes.now) }
+    ensures none { (result ≡ None) ↔ ((version : Version) → ¬ HasMagic version bytes.now) }
+    // The same as one function of the bytes.
+    ensures version { result ≡ version_of bytes.now }
+{
+    version_in(bytes)
+}
+
+fn version_in(bytes: &[u8]) -> Option<Version>
+    ensures { result ≡ version_of bytes.now }
+{
+    if has_magic(Version::One, bytes) {
+        Some(Version::One)
+    } else if has_magic(Version::Two, bytes) {
+        Some(Version::Two)
+    } else {
+        None
+    }
+}
+
+/// What a package of a version begins with.
+pub fn magic(version: Version) -> &'static [u8]
+    ensures { result.now ≡ magic version }
+{
+    match version {
+        Version::One => b"LDVPACK1",
+        Version::Two => b"LDVPACK2",
+    }
+}
+
+fn has_magic(version: Version, bytes: &[u8]) -> bool
+    ensures { result ≡ has_magic version bytes.now }
+{
+    first_eight(bytes) == magic(version)
+}
+
+/// The first eight bytes, the magic of a format, or all where there are fewer.
+pub fn first_eight(bytes: &[u8]) -> &[u8]
+    ensures { result.now ≡ take 8 bytes.now }
+{
+    if bytes.len() < MAGIC_LENGTH {
+        bytes
+    } else {
+        &bytes[..MAGIC_LENGTH]
+    }
+}

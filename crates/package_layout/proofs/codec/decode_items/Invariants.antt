@@ -1,7 +1,0 @@
-use Rattle.std.proofs.Common.{◌≡◌, ◌-◌}
-use Rattle.package_layout.specs.Fields.{items_at}
-use Rattle.package_layout.proofs.Lists.{with_front}
-use Rattle.package_layout.proofs.codec.decode_items.Given as goal
-
-abbrev pub invariant-loop-turn : goal.invariant-loop-turn
-invariant-loop-turn g l = with_front l.items (items_at g.X.Decode.reading (l.count - l._turn) l.cursor) ≡ items_at g.X.Decode.reading l.count l.fn.cursor
