@@ -211,24 +211,31 @@ def run(words, source, target):
     return child.returncode, seconds, usage.ru_maxrss / 1024
 
 
-def best(words, source, target, runs):
+def least(took):
     """Status, the least seconds and the greatest MiB of some runs."""
-    took = quiet.counted(lambda: run(words, source, target), runs)
     return took[0][0], min(one[1] for one in took), max(one[2] for one in took)
 
 
+def best(words, source, target, runs):
+    """Status, the least seconds and the greatest MiB of some runs that count."""
+    return least(quiet.counted(lambda: run(words, source, target), runs))
+
+
 def measure_ldv(ldv, folder, case, size, runs):
-    """Seconds of all and of the load, MiB of all and of the load, and what was found."""
+    """Seconds of all and of the load, MiB of all and of the load, and what was found.
+
+    A run with the load alone is made before each run of all: what is asked is the difference, which may be a
+    tenth of either, and a host that gets slower in between would make it larger or less than nothing.
+    """
     tables, statements = CASES[case]
-    world, outcome = os.path.join(folder, 'world'), os.path.join(folder, 'outcome')
-    write_world(world, 'exit 0', tables, size)
-    status, load, load_memory = best([ldv, 'run', '--steps', STEPS], world, outcome, runs)
-    if status:
-        sys.exit(f'engine: {ldv} ended with {status}')
+    bare, world, outcome = (os.path.join(folder, name) for name in ('bare', 'world', 'outcome'))
+    write_world(bare, 'exit 0', tables, size)
     write_world(world, script_of(statements, size), tables, size)
-    status, total, memory = best([ldv, 'run', '--steps', STEPS], world, outcome, runs)
-    if status:
-        sys.exit(f'engine: {case}: {ldv} ended with {status}')
+    words = [ldv, 'run', '--steps', STEPS]
+    took = quiet.counted(lambda: (run(words, bare, outcome), run(words, world, outcome)), runs)
+    (bare_status, load, load_memory), (status, total, memory) = (least(part) for part in zip(*took))
+    if bare_status or status:
+        sys.exit(f'engine: {case}: {ldv} ended with {bare_status or status}')
     return total, load, memory, load_memory, found_in(outcome)
 
 
