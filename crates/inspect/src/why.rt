@@ -75,7 +75,7 @@ fn find_asked(events: &[Event], statement: u32) -> Option<&Event>
     events.iter().find(|event| asks(&event.act, statement))
 }
 
-// Whether a statement was asked.
+// Whether an act asks the statement of this number.
 fn asks(act: &Act, statement: u32) -> bool
     ensures { result ≡ asks statement act.now }
 {

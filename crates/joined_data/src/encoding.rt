@@ -86,36 +86,36 @@ pub fn encode_joined(joined: &Joined, to: &mut Bytes) -> Result<(), AllocError>
     encode_both_runs(joined, to)
 }
 
-fn encode_cut_run(run: &CompactRun, to: &mut Bytes) -> Result<(), AllocError>
+fn encode_compact_run(run: &CompactRun, to: &mut Bytes) -> Result<(), AllocError>
     ensures { OnOk result (to.new ≡ to.old ++ compact_run_spelling run.now) }
 {
     encode_bare_run(&run.bare, to)?;
     encode_list(Width::Four, &run.runs, to)
 }
 
-fn encode_both_cuts(joined: &CompactJoined, to: &mut Bytes) -> Result<(), AllocError>
+fn encode_both_compact(joined: &CompactJoined, to: &mut Bytes) -> Result<(), AllocError>
     ensures { OnOk result (to.new ≡ to.old ++ both_compact_spelling joined.now) }
 {
-    encode_cut_run(&joined.first, to)?;
-    encode_cut_run(&joined.second, to)
+    encode_compact_run(&joined.first, to)?;
+    encode_compact_run(&joined.second, to)
 }
 
-/// The same of one whose traces are kept as runs.
-pub fn encode_cut_joined(joined: &CompactJoined, to: &mut Bytes) -> Result<(), AllocError>
+fn encode_compact_sections(joined: &CompactJoined, to: &mut Bytes) -> Result<(), AllocError>
     ensures bytes { OnOk result (to.new ≡ to.old ++ compact_sections joined.now) }
     ensures typed { OnOk result (AllByRecursion TypedCommonTable joined.now.tables) }
 {
     encode_list(Width::Four, &joined.files, to)?;
     encode_list(Width::Two, &joined.tables, to)?;
-    encode_both_cuts(joined, to)
+    encode_both_compact(joined, to)
 }
 
-/// The same where the runs are those of their events: the bytes are those of the joined package with its
-/// events.
+/// Appends all of a joined package whose traces are kept as runs between its magic and its digest. Where the
+/// runs are those of their events, the bytes are those of the joined package with its events.
 pub fn encode_compact_joined(joined: &CompactJoined, to: &mut Bytes) -> Result<(), AllocError>
-    requires first { IsCut joined.now.first.runs }
-    requires second { IsCut joined.now.second.runs }
-    ensures { OnOk result (to.new ≡ to.old ++ joined_sections (whole_join joined.now)) }
+    ensures bytes { OnOk result (to.new ≡ to.old ++ compact_sections joined.now) }
+    ensures typed { OnOk result (AllByRecursion TypedCommonTable joined.now.tables) }
+    ensures whole { IsCut joined.now.first.runs → IsCut joined.now.second.runs →
+        OnOk result (to.new ≡ to.old ++ joined_sections (whole_join joined.now)) }
 {
-    encode_cut_joined(joined, to)
+    encode_compact_sections(joined, to)
 }

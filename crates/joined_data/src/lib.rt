@@ -21,6 +21,6 @@ mod queue;
 pub use compact_joined::{CompactJoined, CompactRun, ParsedJoined};
 pub use copying::copy_package;
 pub use decoding::decode_all;
-pub use encoding::{encode_compact_joined, encode_cut_joined, encode_joined};
+pub use encoding::{encode_compact_joined, encode_joined};
 pub use joined::{Clash, ClashKind, Joined, JoinedRun, Reason, Reasons, Which};
 pub use joining::{JoinStop, join_owned, join_with_runs};

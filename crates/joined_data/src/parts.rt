@@ -3,17 +3,14 @@
 
 ghost use Rattle.std.specs.Prelude.{◌≡◌, ◌++◌, map, IfOk, OnOk};
 ghost use Rattle.std.specs.List.{flat_map};
-ghost use Rattle.run_model.specs.Package.{own_row, own_table};
 ghost use Rattle.joined_data.specs.Joined.{present_path, presents_of, row_reason, table_reasons, whole_path};
 ghost use Rattle.joined_data.specs.Joined.{wholes_of};
 ghost use Rattle.joined_data.specs.Parts.{parts_in};
 
 use crate::joined::{JoinedRun, Reason, Reasons};
 use ldv_value::{List, Names, Paths, Utf8};
-use run_model::{
-    Package, PackedFile, PackedFiles, PackedRow, PackedRows, PackedTable, PackedTables,
-};
-use sql_model::{Table, TableRow, TableRows, Tables};
+use run_model::{Package, PackedFile, PackedFiles, PackedRows, PackedTables, own_tables_of};
+use sql_model::Tables;
 use std::alloc::{AllocError, Global};
 
 /// The parts of a package.
@@ -54,7 +51,7 @@ pub(crate) fn parts_of(alloc: Global, package: Package) -> Result<Parts, AllocEr
             events,
         },
         files,
-        tables: own_tables(alloc, tables)?,
+        tables: own_tables_of(alloc, tables)?,
     })
 }
 
@@ -137,53 +134,4 @@ fn add_reasons(table: &Utf8, rows: &PackedRows, reasons: &mut Reasons) -> Result
         })?;
     }
     Ok(())
-}
-
-fn own_tables(alloc: Global, packed: PackedTables) -> Result<Tables, AllocError>
-    ensures { IfOk result (λ tables. tables ≡ map own_table packed) }
-{
-    let mut tables = Tables::with_capacity(alloc, packed.len())?;
-    for table in packed.into_vec() {
-        tables.push(own_table(alloc, table)?)?;
-    }
-    Ok(tables)
-}
-
-fn own_table(alloc: Global, packed: PackedTable) -> Result<Table, AllocError>
-    ensures { IfOk result (λ table. table ≡ own_table packed) }
-{
-    let PackedTable {
-        name,
-        schema,
-        next,
-        rows,
-    } = packed;
-    Ok(Table {
-        name,
-        schema,
-        rows: own_rows(alloc, rows)?,
-        next,
-    })
-}
-
-fn own_rows(alloc: Global, packed: PackedRows) -> Result<TableRows, AllocError>
-    ensures { IfOk result (λ rows. rows ≡ map own_row packed) }
-{
-    let mut rows = TableRows::with_capacity(alloc, packed.len())?;
-    for row in packed.into_vec() {
-        rows.push(own_row(row))?;
-    }
-    Ok(rows)
-}
-
-fn own_row(packed: PackedRow) -> TableRow
-    ensures { result ≡ own_row packed }
-{
-    let PackedRow {
-        number,
-        statement: _,
-        rule: _,
-        values,
-    } = packed;
-    TableRow { number, values }
 }

@@ -17,7 +17,7 @@ pub(crate) enum Held {
     Many(LineageSet),
 }
 
-/// The most rows of a list. It takes as many bytes as the words of a table of a million rows.
+/// The most rows of a list: 196,608 bytes, which is what the words of 1,572,864 rows take.
 const MOST: usize = 16_384;
 
 fn push_row(rows: &mut Vec<(Row, u32)>, row: Row, version: u32) -> Result<(), AllocError>

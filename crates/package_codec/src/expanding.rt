@@ -25,7 +25,8 @@ pub fn expanded_package(alloc: Global, package: CompactPackage) -> Result<Packag
     Ok(whole)
 }
 
-/// All events that runs stand for. Room for them is made at once.
+/// All events that runs stand for. Room for them is made at once, where there are no more than a package may
+/// have.
 pub fn events_in(alloc: Global, runs: EventRuns) -> Result<Events, AllocError>
     requires { list_all is_run runs ≡ true }
     ensures { IfOk result (λ events. events ≡ events_in runs) }

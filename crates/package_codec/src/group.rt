@@ -29,9 +29,11 @@ pub(crate) trait GroupedRow<P>: Drop {
     fn table(&self) -> &Utf8
         ensures { result.now ≡ table_of self.now };
 
+    /// What the format writes of it after the table's name.
     fn payload(&self) -> P
         ensures { result ≡ part_of self.now };
 
+    /// The row of a table of which the format has this.
     fn of_group(table: Utf8, part: P) -> Self
         ensures { result ≡ place table part };
 }

@@ -8,6 +8,7 @@ ghost use Rattle.package_codec.specs.Runs.{are_longest, are_runs, total, max_eve
 use crate::event_run::{EventRun, joins};
 use crate::same_act::is_asked;
 
+// The most events of a run: its start, and two for each of at most 10,000,000 steps.
 const MAX_EVENTS: u32 = 20_000_001;
 
 /// Whether these are the longest runs of a trace, and of no more events than one may have.

@@ -29,7 +29,8 @@ pub(crate) struct Progress {
     step: u32,
 }
 
-/// Whether runs stand for the events of a run that starts with a path and has the given number of steps.
+/// Whether the events that these runs stand for are the trace of an execution that starts with a path and
+/// takes the given number of steps.
 pub fn is_trace(path: &Utf8, steps: u32, runs: &[EventRun]) -> bool
     requires { list_all is_run runs.now ≡ true }
     ensures { result ≡ trace_test path.now steps (events_in runs.now) }

@@ -3,10 +3,10 @@
 ghost use Rattle.std.specs.Prelude.{◌≡◌, ◌↔◌, Some, None, take};
 ghost use Rattle.package_codec.specs.Version.{HasMagic, has_magic, magic, version_of};
 
-/// The bytes of a magic.
+/// How many bytes a magic has.
 pub const MAGIC_LENGTH: usize = 8;
 
-/// A version of the format. Both are read; `spell` writes the second.
+/// A version of the format. Both are read, and packages are written in the second.
 #[derive(Clone, Copy, Debug, PartialEq, Eq)]
 pub enum Version {
     /// The trace is written event by event.

@@ -257,3 +257,46 @@ stop_once bytes stop o is once = by (joined_damage_before bytes) once
 pub stop_due : (bytes : List ℕ) (stop : PackageStop) → CompactJoinedReadsAs (Err stop) (joined_reading bytes) → JoinedReadsAs (Err stop) (joined_reading bytes)
 stop_due bytes (Damaged kind) due = due
 stop_due bytes NoMemory due = tt
+
+-- ---- the answer with the scripts of both runs
+
+abbrev whole_of : Result ParsedJoined PackageStop → Result Joined PackageStop
+whole_of (Ok p) = Ok (whole_join p.cut)
+whole_of (Err stop) = Err stop
+
+whole_says : (r : Result ParsedJoined PackageStop) (due : Result Joined DamageKind) → CompactJoinedReadsAs (cut_of r) due → JoinedReadsAs (whole_of r) due
+whole_says (Ok p) due h = h
+whole_says (Err (Damaged kind)) due h = h
+whole_says (Err NoMemory) due h = tt
+
+whole_once : (r : Result ParsedJoined PackageStop) (o : Option DamageKind) → IfSome o (λ kind. cut_of r ≡ damaged kind) → IfSome o (λ kind. whole_of r ≡ damaged kind)
+whole_once r None h = tt
+whole_once (Ok p) (Some kind) h = absurd cc
+whole_once (Err stop) (Some kind) h = ap (stopped {X = Joined}) (same_stop stop (Damaged kind) h)
+
+parsed_err : (r : Result ParsedJoined PackageStop) (kind : DamageKind) → whole_of r ≡ damaged kind → r ≡ damaged kind
+parsed_err (Ok p) kind e = absurd cc
+parsed_err (Err stop) kind e = ap (stopped {X = ParsedJoined}) (whole_stop stop (Damaged kind) e)
+  where
+    whole_stop : (stop other : PackageStop) → stopped {X = Joined} stop ≡ stopped {X = Joined} other → stop ≡ other
+    whole_stop stop other e = cc
+
+module _ (bytes : List ℕ) (r : Result ParsedJoined PackageStop) (due : CompactJoinedReadsAs (cut_of r) (joined_reading bytes)) (once : IfSome (joined_damage_before bytes) (λ kind. cut_of r ≡ damaged kind)) where
+  says_whole : JoinedReadsAs (whole_of r) (joined_reading bytes)
+  says_whole = whole_says r (joined_reading bytes) due
+
+  at_once_whole : IfSome (joined_damage_before bytes) (λ kind. whole_of r ≡ damaged kind)
+  at_once_whole = whole_once r (joined_damage_before bytes) once
+
+  pub parsed_magic : (r ≡ damaged Magic) ↔ (has_joined_magic bytes ≡ false)
+  parsed_magic =
+      let both = magic_is bytes (whole_of r) says_whole at_once_whole in
+      (λ e. both.0 (ap whole_of e), λ none. parsed_err r Magic (both.1 none))
+
+  pub parsed_digest : (r ≡ damaged Digest) ↔ ((has_joined_magic bytes ≡ true) × (¬ HasDigest bytes))
+  parsed_digest =
+      let both = digest_is bytes (whole_of r) says_whole at_once_whole in
+      (λ e. both.0 (ap whole_of e), λ no. parsed_err r Digest (both.1 no))
+
+  pub parsed_form : r ≡ damaged Form → HasDigest bytes × IsNoJoined bytes
+  parsed_form e = form_is bytes (whole_of r) says_whole at_once_whole (ap whole_of e)

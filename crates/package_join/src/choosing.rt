@@ -6,13 +6,13 @@ ghost use Rattle.std.specs.Option.{option_or};
 ghost use Rattle.slicer.specs.Marks.{has_name, reason_at};
 ghost use Rattle.joined_data.specs.Joined.{as_present, is_among, picked_file, picked_package, picked_table};
 ghost use Rattle.joined_data.specs.Joined.{run_package};
-ghost use Rattle.package_join.specs.inner.Picked.{file_by, need_for, reason_for, reason_if};
+ghost use Rattle.package_join.specs.inner.Picked.{file_by, reason_for, reason_if};
 
 use joined_data::{Joined, JoinedRun, Reason, Reasons, Which};
 use ldv_value::{CopyItem, List, Names};
 use run_model::{Mode, Package, PackedFile, PackedFiles, PackedTables};
-use slicer::{NameSet, Reasons as FirstReasons, add_all, has, note_need, pack_tables};
-use sql_model::{Member, Need, Tables};
+use slicer::{NameSet, Reasons as FirstReasons, Why, add_names, has_name, note_named, pack_tables};
+use sql_model::Tables;
 use std::alloc::{AllocError, Global};
 
 /// The package of a run: the files, tables and rows that it needs, each row with its reason.
@@ -52,7 +52,7 @@ pub(crate) fn name_set(alloc: Global, names: &Names) -> Result<NameSet, AllocErr
     ensures { IfOk result (λ set. (q : Items ℕ) → has_name set q ≡ is_among q names.now) }
 {
     let mut set = NameSet::new(alloc);
-    add_all(alloc, &mut set, names.items())?;
+    add_names(alloc, &mut set, names.items())?;
     Ok(set)
 }
 
@@ -93,9 +93,9 @@ fn file_by(
     ensures { IfOk result (λ picked.
         picked ≡ file_by (has_name wholes.now) (has_name presents.now) file.now) }
 {
-    if has(wholes, &file.path) {
+    if has_name(wholes, &file.path) {
         Ok(Some(file.copy_item(alloc)?))
-    } else if has(presents, &file.path) {
+    } else if has_name(presents, &file.path) {
         Ok(Some(as_present(file)?))
     } else {
         Ok(None)
@@ -140,19 +140,9 @@ fn note_reason(alloc: Global, first: &mut FirstReasons, reason: &Reason) -> Resu
     ensures { OnOk result ((table : Items ℕ) (row : ℕ) → reason_at first.new table row
         ≡ option_or (reason_at first.old table row) (reason_if reason.now table row)) }
 {
-    let need = need_of(reason)?;
-    note_need(alloc, first, reason.statement, &need)
-}
-
-fn need_of(reason: &Reason) -> Result<Need, AllocError>
-    ensures { IfOk result (λ need. need ≡ need_for reason.now) }
-{
-    Ok(Need {
-        member: Member {
-            table: reason.table.copy()?,
-            row: reason.row,
-            version: 0,
-        },
+    let why = Why {
+        statement: reason.statement,
         rule: reason.rule,
-    })
+    };
+    note_named(alloc, first, &reason.table, reason.row, why)
 }

@@ -12,7 +12,7 @@ ghost use Rattle.package_join.specs.ParsedJoins.{if_sections_are, valid_start};
 
 use crate::choosing::picked_package;
 use joined_data::{
-    CompactJoined, CompactRun, JoinStop, ParsedJoined, decode_all, encode_cut_joined,
+    CompactJoined, CompactRun, JoinStop, ParsedJoined, decode_all, encode_compact_joined,
     join_with_runs,
 };
 use ldv_value::Bytes;
@@ -119,7 +119,7 @@ fn if_spelling_is(
     ensures typed { IfOk result (λ p. AllByRecursion TypedCommonTable p.cut.tables) }
 {
     let mut made = Bytes::new(alloc);
-    encode_cut_joined(&joined.cut, &mut made)?;
+    encode_compact_joined(&joined.cut, &mut made)?;
     if made.as_slice() == bytes {
         Ok(joined)
     } else {

@@ -48,7 +48,15 @@ pub fn read_parsed_joined(alloc: Global, bytes: &[u8]) -> Result<ParsedJoined, P
     // No events stand beside the runs.
     ensures bare { IfOk result (λ p.
         (p.cut.first.bare.events ≡ []) × (p.cut.second.bare.events ≡ [])) }
+    ensures first { IfOk result (λ p. are_runs p.cut.first.runs ≡ true) }
+    ensures second { IfOk result (λ p. are_runs p.cut.second.runs ≡ true) }
     ensures parsed { IfOk result StartRuns }
+    ensures magic { (result ≡ Err (PackageStop.Damaged DamageKind.Magic))
+        ↔ (has_joined_magic bytes.now ≡ false) }
+    ensures digest { (result ≡ Err (PackageStop.Damaged DamageKind.Digest))
+        ↔ ((has_joined_magic bytes.now ≡ true) × (¬ HasDigest bytes.now)) }
+    ensures form { result ≡ Err (PackageStop.Damaged DamageKind.Form) →
+        HasDigest bytes.now × IsNoJoined bytes.now }
     ensures reading { CompactJoinedReadsAs (cut_of result) (joined_reading bytes.now) }
 {
     parsed_answer(alloc, bytes)

@@ -13,7 +13,7 @@ use joined_data::{CompactJoined, Joined, JoinedRun, ParsedJoined, Which};
 use ldv_value::{Bytes, File, Files, Utf8};
 use run_model::{PackedFile, PackedFiles, ParsedWorld, World};
 use script_parse::Script;
-use slicer::{NameSet, has};
+use slicer::{NameSet, has_name};
 use sql_model::Tables;
 use std::alloc::{AllocError, Global};
 
@@ -121,7 +121,7 @@ fn seen_by(alloc: Global, presents: &NameSet, file: PackedFile) -> Option<File>
     let PackedFile { path, content } = file;
     match content {
         Some(content) => Some(File { path, content }),
-        None => empty_if(alloc, has(presents, &path), path),
+        None => empty_if(alloc, has_name(presents, &path), path),
     }
 }
 

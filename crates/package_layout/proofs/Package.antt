@@ -351,3 +351,27 @@ within_limit b d n len le e = omega (arith, ap length e, length-append b (sha256
 pub runs_cut : (r : Result CompactPackage PackageStop) → IfOk r (λ r. are_runs r.runs ≡ true) → IfOk r (λ r. IsCut r.runs)
 runs_cut (Ok r) h = is_cut r.runs h
 runs_cut (Err stop) h = tt
+
+-- ---- the same of what was read with its script
+
+pub parsed_cut : (r : Result ParsedPackage PackageStop) → IfOk r (λ p. are_runs p.cut.runs ≡ true) → IfOk r (λ p. IsCut p.cut.runs)
+parsed_cut (Ok p) h = is_cut p.cut.runs h
+parsed_cut (Err stop) h = tt
+
+parsed_err : (r : Result ParsedPackage PackageStop) (kind : DamageKind) → cut_of r ≡ damaged kind → r ≡ damaged kind
+parsed_err (Ok p) kind e = absurd cc
+parsed_err (Err stop) kind e = ap (stopped {X = ParsedPackage}) (same_stop stop (Damaged kind) e)
+
+module _ (bytes : List ℕ) (r : Result ParsedPackage PackageStop) (due : CompactReadsAs (cut_of r) (reading bytes)) (once : IfSome (damage_before bytes) (λ kind. cut_of r ≡ damaged kind)) where
+  pub parsed_magic : (r ≡ damaged Magic) ↔ (version_of bytes ≡ None)
+  parsed_magic =
+      let both = runs_magic bytes (cut_of r) due once in
+      (λ e. both.0 (ap cut_of e), λ none. parsed_err r Magic (both.1 none))
+
+  pub parsed_digest : (r ≡ damaged Digest) ↔ (IsSome (version_of bytes) × (¬ HasDigest bytes))
+  parsed_digest =
+      let both = runs_digest bytes (cut_of r) due once in
+      (λ e. both.0 (ap cut_of e), λ no. parsed_err r Digest (both.1 no))
+
+  pub parsed_form : r ≡ damaged Form → HasDigest bytes × IsUnspelled bytes
+  parsed_form e = runs_form bytes (cut_of r) due once (ap cut_of e)

@@ -9,10 +9,10 @@ use package_codec::MAGIC_LENGTH;
 use sha2::{Digest, Sha256};
 use std::alloc::AllocError;
 
-/// The bytes of a digest.
+/// How many bytes a digest has.
 pub const DIGEST_LENGTH: usize = 32;
 
-/// The bytes of a magic and a digest, which every package has.
+/// How many bytes a magic and a digest have, which begin and end every package.
 const SHORTEST_LENGTH: usize = MAGIC_LENGTH + DIGEST_LENGTH;
 
 /// The bytes, followed by their digest.

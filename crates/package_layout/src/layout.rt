@@ -77,6 +77,7 @@ pub fn read_package(alloc: Global, bytes: &[u8]) -> Result<Package, PackageStop>
 pub fn read_compact(alloc: Global, bytes: &[u8]) -> Result<CompactPackage, PackageStop>
     ensures found { IfOk result (λ r. IsTyped (expanded_package r) × IsValidPackage (expanded_package r)
         × IsSpelled bytes.now (expanded_package r)) }
+    ensures runs { IfOk result (λ r. are_runs r.runs ≡ true) }
     ensures cut { IfOk result (λ r. IsCut r.runs) }
     ensures bare { IfOk result (λ r. r.bare.events ≡ []) }
     ensures magic { (result ≡ Err (PackageStop.Damaged DamageKind.Magic)) ↔ (version_of bytes.now ≡ None) }
@@ -91,11 +92,19 @@ pub fn read_compact(alloc: Global, bytes: &[u8]) -> Result<CompactPackage, Packa
 }
 
 /// The package of `read_compact`, with the script that it starts with. `expanded_package` makes its events.
+/// The answers are those of `read_package`.
 pub fn read_parsed(alloc: Global, bytes: &[u8]) -> Result<ParsedPackage, PackageStop>
     ensures found { IfOk result (λ p. IsTyped (expanded_package p.cut)
         × IsValidPackage (expanded_package p.cut) × IsSpelled bytes.now (expanded_package p.cut)) }
     ensures parsed { IfOk result StartsWith }
     ensures runs { IfOk result (λ p. are_runs p.cut.runs ≡ true) }
+    ensures cut { IfOk result (λ p. IsCut p.cut.runs) }
+    ensures bare { IfOk result (λ p. p.cut.bare.events ≡ []) }
+    ensures magic { (result ≡ Err (PackageStop.Damaged DamageKind.Magic)) ↔ (version_of bytes.now ≡ None) }
+    ensures digest { (result ≡ Err (PackageStop.Damaged DamageKind.Digest))
+        ↔ (IsSome (version_of bytes.now) × (¬ HasDigest bytes.now)) }
+    ensures form { result ≡ Err (PackageStop.Damaged DamageKind.Form) →
+        HasDigest bytes.now × IsUnspelled bytes.now }
     ensures reading { CompactReadsAs (cut_of result) (reading bytes.now) }
 {
     parsed_answer(alloc, bytes)

@@ -9,7 +9,7 @@ use crate::start::parsed_world;
 use ldv_value::{Bytes, CopyItem, File, Files};
 use run_model::{
     Package, PackedFile, PackedFiles, PackedRow, PackedRows, PackedTable, PackedTables,
-    ParsedWorld, World,
+    ParsedWorld, World, own_tables_of,
 };
 use script_parse::Script;
 use sql_model::{Table, TableRow, TableRows, Tables};
@@ -137,55 +137,6 @@ fn files_of(alloc: Global, packed: PackedFiles) -> Result<Files, AllocError>
     Ok(files)
 }
 
-fn row_of(row: PackedRow) -> TableRow
-    ensures { result ≡ own_row row }
-{
-    let PackedRow {
-        number,
-        statement: _,
-        rule: _,
-        values,
-    } = row;
-    TableRow { number, values }
-}
-
-fn rows_of(alloc: Global, packed: PackedRows) -> Result<TableRows, AllocError>
-    ensures { IfOk result (λ rows. rows ≡ map own_row packed) }
-{
-    let mut rows = TableRows::with_capacity(alloc, packed.len())?;
-    for row in packed.into_vec() {
-        rows.push(row_of(row))?;
-    }
-    Ok(rows)
-}
-
-fn table_of(alloc: Global, table: PackedTable) -> Result<Table, AllocError>
-    ensures { IfOk result (λ own. own ≡ own_table table) }
-{
-    let PackedTable {
-        name,
-        schema,
-        next,
-        rows,
-    } = table;
-    Ok(Table {
-        name,
-        schema,
-        rows: rows_of(alloc, rows)?,
-        next,
-    })
-}
-
-fn tables_of(alloc: Global, packed: PackedTables) -> Result<Tables, AllocError>
-    ensures { IfOk result (λ tables. tables ≡ map own_table packed) }
-{
-    let mut tables = Tables::with_capacity(alloc, packed.len())?;
-    for table in packed.into_vec() {
-        tables.push(table_of(alloc, table)?)?;
-    }
-    Ok(tables)
-}
-
 /// The world that a package has in it, as of `own_world`, in the package's own memory: no file and no row is
 /// copied.
 pub fn own_world_of(alloc: Global, package: Package) -> Result<World, AllocError>
@@ -205,7 +156,7 @@ pub fn own_world_of(alloc: Global, package: Package) -> Result<World, AllocError
         start,
         seed,
         files: files_of(alloc, files)?,
-        tables: tables_of(alloc, tables)?,
+        tables: own_tables_of(alloc, tables)?,
     })
 }
 

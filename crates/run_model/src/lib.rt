@@ -10,6 +10,7 @@ mod law;
 mod name;
 mod order;
 mod outcome;
+mod own;
 mod package;
 mod text;
 mod tracer;
@@ -20,6 +21,7 @@ pub use event::{Act, Event, Events};
 pub use law::{few_events_law, never_stuck_law, world_events_law};
 pub use name::ProcName;
 pub use outcome::{Outcome, PathOutcome, PathOutcomes, ProcOutcome, ProcOutcomes};
+pub use own::own_tables_of;
 pub use package::{
     Entries, Entry, Log, Logs, Mode, Package, PackedFile, PackedFiles, PackedRow, PackedRows,
     PackedTable, PackedTables,

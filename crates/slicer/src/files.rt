@@ -8,7 +8,7 @@ ghost use Rattle.slicer.specs.Marks.{has_name, need_as, packed_by};
 ghost use Rattle.run_model.specs.Slice.{is_path, whole_path, present_path, changed_path, names_initial};
 ghost use Rattle.run_model.specs.Slice.{packed_as, files_needed};
 
-use crate::name_set::{NameSet, add, has};
+use crate::name_set::{NameSet, add_name, has_name};
 use ldv_value::{File, Utf8};
 use run_model::{Act, Event, PackedFile, PackedFiles};
 use std::alloc::{AllocError, Global};
@@ -19,7 +19,7 @@ fn only_if(path: &Utf8, found: bool) -> Option<&Utf8>
     if found { Some(path) } else { None }
 }
 
-fn whole_in(act: &Act) -> Option<&Utf8>
+fn whole_path(act: &Act) -> Option<&Utf8>
     ensures { option_map (λ p. p.now) result ≡ whole_path act.now }
 {
     match act {
@@ -32,7 +32,7 @@ fn whole_in(act: &Act) -> Option<&Utf8>
     }
 }
 
-fn present_in(act: &Act) -> Option<&Utf8>
+fn present_path(act: &Act) -> Option<&Utf8>
     ensures { option_map (λ p. p.now) result ≡ present_path act.now }
 {
     match act {
@@ -43,7 +43,7 @@ fn present_in(act: &Act) -> Option<&Utf8>
     }
 }
 
-fn changed_in(act: &Act) -> Option<&Utf8>
+fn changed_path(act: &Act) -> Option<&Utf8>
     ensures { option_map (λ p. p.now) result ≡ changed_path act.now }
 {
     match act {
@@ -65,10 +65,10 @@ fn add_unchanged(
     ensures { OnOk result ((q : List ℕ) → has_name names.new q
         ≡ (has_name names.old q || (not (has_name changed.now q) && is_path q (Some path.now)))) }
 {
-    if has(changed, path) {
+    if has_name(changed, path) {
         return Ok(());
     }
-    add(alloc, names, path)
+    add_name(alloc, names, path)
 }
 
 fn note_needed(
@@ -93,11 +93,11 @@ fn note_changed(alloc: Global, changed: &mut NameSet, path: Option<&Utf8>) -> Re
 {
     match path {
         None => Ok(()),
-        Some(path) => add(alloc, changed, path),
+        Some(path) => add_name(alloc, changed, path),
     }
 }
 
-// The paths that events need whole and those that they need present, before an earlier event changes them.
+// The paths that events need whole and those that they need present, where no earlier event changes them.
 #[derive(Drop)]
 struct Paths {
     whole: NameSet,
@@ -119,14 +119,14 @@ fn note_events(
         || (not (has_name changed.old q) && names_initial present_path q events.now))) }
 {
     for event in events {
-        note_needed(alloc, &mut paths.whole, changed, whole_in(&event.act))?;
-        note_needed(alloc, &mut paths.present, changed, present_in(&event.act))?;
-        note_changed(alloc, changed, changed_in(&event.act))?;
+        note_needed(alloc, &mut paths.whole, changed, whole_path(&event.act))?;
+        note_needed(alloc, &mut paths.present, changed, present_path(&event.act))?;
+        note_changed(alloc, changed, changed_path(&event.act))?;
     }
     Ok(())
 }
 
-fn named_initially(alloc: Global, events: &[Event]) -> Result<Paths, AllocError>
+fn initial_paths(alloc: Global, events: &[Event]) -> Result<Paths, AllocError>
     ensures whole { IfOk result (λ paths. (q : List ℕ) → has_name paths.whole q
         ≡ names_initial whole_path q events.now) }
     ensures present { IfOk result (λ paths. (q : List ℕ) → has_name paths.present q
@@ -148,13 +148,13 @@ fn pack_file(
 ) -> Result<Option<PackedFile>, AllocError>
     ensures { IfOk result (λ packed. packed ≡ packed_by whole.now present.now file.now) }
 {
-    if has(whole, &file.path) {
+    if has_name(whole, &file.path) {
         return Ok(Some(PackedFile {
             path: file.path.copy()?,
             content: Some(file.content.copy()?),
         }));
     }
-    if has(present, &file.path) {
+    if has_name(present, &file.path) {
         return Ok(Some(PackedFile {
             path: file.path.copy()?,
             content: None,
@@ -186,6 +186,6 @@ pub(crate) fn needed_files(
 ) -> Result<PackedFiles, AllocError>
     ensures { IfOk result (λ packed. packed ≡ files_needed events.now files.now) }
 {
-    let Paths { whole, present } = named_initially(alloc, events)?;
+    let Paths { whole, present } = initial_paths(alloc, events)?;
     pack_files(alloc, files, &whole, &present)
 }

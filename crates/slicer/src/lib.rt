@@ -13,7 +13,7 @@ mod row_set;
 mod tables;
 mod united;
 
-pub use name_set::{NameSet, add_all, has};
+pub use name_set::{NameSet, add_names, has_name};
 pub use needed::{Sliced, slice, slice_files};
-pub use reasons::{Reasons, RowReasons, Why, note_named, note_need};
+pub use reasons::{Reasons, RowReasons, Why, note_named};
 pub use tables::pack_tables;

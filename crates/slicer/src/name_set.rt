@@ -15,18 +15,18 @@ use std::collections::BTreeMap;
 pub type NameSet = BTreeMap<String, ()>;
 
 /// Whether a name is in the set.
-pub fn has(names: &NameSet, name: &Utf8) -> bool
+pub fn has_name(names: &NameSet, name: &Utf8) -> bool
     ensures { result ≡ has_name names.now name.now }
 {
     names.contains_key(name.as_str())
 }
 
 /// Puts a name into the set. It is copied where the set hasn't got it.
-pub(crate) fn add(alloc: Global, names: &mut NameSet, name: &Utf8) -> Result<(), AllocError>
+pub(crate) fn add_name(alloc: Global, names: &mut NameSet, name: &Utf8) -> Result<(), AllocError>
     ensures { OnOk result ((q : List ℕ) → has_name names.new q
         ≡ (has_name names.old q || same_text name.now q)) }
 {
-    if has(names, name) {
+    if has_name(names, name) {
         return Ok(());
     }
     let key = String::from_str(alloc, name.as_str())?;
@@ -35,12 +35,12 @@ pub(crate) fn add(alloc: Global, names: &mut NameSet, name: &Utf8) -> Result<(),
 }
 
 /// Puts names into the set.
-pub fn add_all(alloc: Global, names: &mut NameSet, more: &[Utf8]) -> Result<(), AllocError>
+pub fn add_names(alloc: Global, names: &mut NameSet, more: &[Utf8]) -> Result<(), AllocError>
     ensures { OnOk result ((q : List ℕ) → has_name names.new q
         ≡ (has_name names.old q || list_any (λ name. same_text name q) more.now)) }
 {
     for name in more {
-        add(alloc, names, name)?;
+        add_name(alloc, names, name)?;
     }
     Ok(())
 }
@@ -56,7 +56,7 @@ fn add_tables(alloc: Global, names: &mut NameSet, act: &Act) -> Result<(), Alloc
             tables,
             reads: _,
             made: _,
-        } => add_all(alloc, names, tables.items()),
+        } => add_names(alloc, names, tables.items()),
         _ => Ok(()),
     }
 }

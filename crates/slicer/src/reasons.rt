@@ -80,8 +80,8 @@ pub fn note_named(
     }
 }
 
-/// Notes a row that a statement needs, if it isn't there.
-pub fn note_need(
+// Notes a row that a statement needs, if it isn't there.
+fn note_need(
     alloc: Global,
     reasons: &mut Reasons,
     statement: u32,

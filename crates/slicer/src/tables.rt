@@ -9,7 +9,7 @@ ghost use Rattle.run_model.specs.Slice.{packed_because};
 ghost use Rattle.slicer.specs.inner.Rows.{tables_from};
 
 use crate::initial::initial_rows;
-use crate::name_set::{NameSet, has, tables_asked};
+use crate::name_set::{NameSet, has_name, tables_asked};
 use crate::reasons::{Reasons, RowReasons, Why, reasons_in};
 use ldv_value::CopyItem;
 use run_model::{Event, PackedRow, PackedRows, PackedTable, PackedTables};
@@ -86,7 +86,7 @@ fn push_asked(
     ensures { OnOk result (to.new ≡ (if has_name names.now table.now.name then to.old
         ++ table_because (reason_at reasons.now) table.now ∷ [] else to.old)) }
 {
-    if has(names, &table.name) {
+    if has_name(names, &table.name) {
         to.push(pack_table(alloc, reasons, table)?)
     } else {
         Ok(())

@@ -122,7 +122,7 @@ fn execute_checked(
     }
 }
 
-// What a statement gives that a check doesn't accept.
+// The outcome of a statement that the check refuses.
 fn change_of_stop(alloc: Global, stop: CheckStop) -> Result<Change, AllocError>
     ensures { (s : Statement) (store : StoreHistory) (keep : Bool)
         → Stops stop (checked_of s (catalog_of (tables_now store)))
@@ -156,7 +156,7 @@ fn execute_and_return(
 }
 
 // Checks a statement, and executes it where it isn't refused. The statement is given back.
-fn asked_or_refused(
+fn execute_or_refuse(
     alloc: Global,
     statement: Statement,
     store: &mut Store,
@@ -208,7 +208,7 @@ fn execute_statement(
 {
     store.tell_formed();
     let room = room_for(alloc, &store.catalog().names, &statement, keep)?;
-    let (change, asked) = asked_or_refused(alloc, statement, store, time, keep)?;
+    let (change, asked) = execute_or_refuse(alloc, statement, store, time, keep)?;
     Ok(list_asked(room, asked, change, store, keep))
 }
 

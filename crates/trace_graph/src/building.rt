@@ -185,7 +185,7 @@ impl<'a> Building<'a> {
         copy_keys(alloc, keys.as_slice())
     }
 
-    /// Takes the edges out, those that were noted too, with room for so many more.
+    /// Takes the edges out, with those that were only noted. `room` is how many of these to expect.
     pub(crate) fn take_edges(&mut self, alloc: Global, room: usize) -> Result<Edges, AllocError>
         ensures edges { IfOk result (λ edges. edges
             ≡ with_notes (map edge_at self.old.spans.entries) self.old.notes) }

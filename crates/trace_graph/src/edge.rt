@@ -13,7 +13,7 @@ pub struct Edge {
     pub last: u32,
 }
 
-/// Edges.
+/// Edges, in the order in which events make them first.
 pub type Edges = List<Edge>;
 
 impl CopyItem for Edge {

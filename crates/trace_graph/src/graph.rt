@@ -41,7 +41,7 @@ impl Graph {
         ensures { IfOk result (λ graph. graph ≡ graph_of events.now) }
     {
         let texts = NodeTexts::of_events(alloc, events)?;
-        over_texts(alloc, &texts, events.items())
+        graph_over_texts(alloc, &texts, events.items())
     }
 
     /// The graph of well-formed lists of nodes and edges.
@@ -89,7 +89,7 @@ impl Graph {
 }
 
 // The graph of events whose texts are held, with texts of its own.
-fn over_texts(alloc: Global, texts: &NodeTexts, events: &[Event]) -> Result<Graph, AllocError>
+fn graph_over_texts(alloc: Global, texts: &NodeTexts, events: &[Event]) -> Result<Graph, AllocError>
     requires fits { IsTrue (made_fits 1 events.now) }
     requires held { IsTrue (acts_held texts.now.held.keys events.now) }
     requires between { IsTrue (are_between (length (with_events no_parts 1 events.now).nodes)

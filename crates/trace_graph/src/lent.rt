@@ -38,7 +38,7 @@ impl<'a> LentGraph<'a> {
             graph.edges.items)) }
     {
         let mut building = Building::new(alloc);
-        lent_in(alloc, &mut building, texts, events)
+        lent_graph_in(alloc, &mut building, texts, events)
     }
 
     /// The place of the node of a path, from 0. It looks at each node.
@@ -51,7 +51,7 @@ impl<'a> LentGraph<'a> {
 }
 
 // The graph of events, which is built where nothing is yet.
-fn lent_in<'a>(
+fn lent_graph_in<'a>(
     alloc: Global,
     building: &mut Building<'a>,
     texts: &'a NodeTexts,

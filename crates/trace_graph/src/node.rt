@@ -19,7 +19,7 @@ pub enum Node {
     Reply(u32),
 }
 
-/// Nodes.
+/// Nodes, in the order in which events name them first.
 pub type Nodes = List<Node>;
 
 impl CopyItem for Node {

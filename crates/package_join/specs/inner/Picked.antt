@@ -1,6 +1,5 @@
 -- The package of a run, by sets of names and a map of reasons.
 use Rattle.std.specs.Prelude.{ℕ, List, [], ◌∷◌, Bool, if◌then◌else◌, Option, Some, None}
-use Rattle.sql_model.specs.declared.need.Need.{Need}
 use Rattle.run_model.specs.Slice.{Reason as SliceReason}
 use Rattle.package_join.specs.Types.{PackedFile}
 use Rattle.joined_data.specs.declared.joined.Reason.{Reason}
@@ -17,13 +16,7 @@ file_by whole present file =
 abbrev pub slice_reason : Reason → SliceReason
 slice_reason reason = record { statement = reason.statement; rule = reason.rule }
 
--- the reason as a need of the row as it was at first
-abbrev pub need_for : Reason → Need
-need_for reason = record {
-  member = record { table = reason.table; row = reason.row; version = 0 };
-  rule = reason.rule;
-}
-
+-- the reason, where it is one for this row
 abbrev pub reason_if : Reason → List ℕ → ℕ → Option SliceReason
 reason_if reason table row = if is_reason table row reason then Some (slice_reason reason) else None
 

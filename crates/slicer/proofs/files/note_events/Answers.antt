@@ -20,15 +20,15 @@ loop-event-preserved c =
       whole = λ q.
           named_more (has_name paths.whole q) (has_name c.note_needed.new.names q) (has_name changed q) (has_name c.note_changed.new.changed q)
           (is_path q (whole_path e.act)) (is_path q (changed_path e.act)) (names_initial whole_path q (drop (i + 1) es))
-          (c.in_ok-note_needed.ensures q ∙ ap (λ (o : Option (List ℕ)). has_name paths.whole q || (not (has_name changed q) && is_path q o)) c.whole_in.ensures)
-          (c.in_ok-note_changed.ensures q ∙ ap (λ (o : Option (List ℕ)). has_name changed q || is_path q o) c.changed_in.ensures)
+          (c.in_ok-note_needed.ensures q ∙ ap (λ (o : Option (List ℕ)). has_name paths.whole q || (not (has_name changed q) && is_path q o)) c.whole_path.ensures)
+          (c.in_ok-note_changed.ensures q ∙ ap (λ (o : Option (List ℕ)). has_name changed q || is_path q o) c.changed_path.ensures)
           ∙ ap (λ (rest : List Event). has_name paths.whole q || (not (has_name changed q) && names_initial whole_path q rest)) (sym left)
           ∙ c.loop-event.invariant.whole q;
       present = λ q.
           named_more (has_name paths.present q) (has_name c.note_needed-in-loop-event.new.names q) (has_name changed q) (has_name c.note_changed.new.changed q)
           (is_path q (present_path e.act)) (is_path q (changed_path e.act)) (names_initial present_path q (drop (i + 1) es))
-          (c.in_ok-note_needed-2.ensures q ∙ ap (λ (o : Option (List ℕ)). has_name paths.present q || (not (has_name changed q) && is_path q o)) c.present_in.ensures)
-          (c.in_ok-note_changed.ensures q ∙ ap (λ (o : Option (List ℕ)). has_name changed q || is_path q o) c.changed_in.ensures)
+          (c.in_ok-note_needed-2.ensures q ∙ ap (λ (o : Option (List ℕ)). has_name paths.present q || (not (has_name changed q) && is_path q o)) c.present_path.ensures)
+          (c.in_ok-note_changed.ensures q ∙ ap (λ (o : Option (List ℕ)). has_name changed q || is_path q o) c.changed_path.ensures)
           ∙ ap (λ (rest : List Event). has_name paths.present q || (not (has_name changed q) && names_initial present_path q rest)) (sym left)
           ∙ c.loop-event.invariant.present q;
     }

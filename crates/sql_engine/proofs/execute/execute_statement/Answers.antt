@@ -12,7 +12,7 @@ use Rattle.sql_engine.proofs.execute.execute_statement.Goals as goal
 pub list_asked-requires : goal.list_asked-requires
 list_asked-requires c = λ kept.
     let old = c.args.store.now in
-    let new = c.asked_or_refused.new.store in
+    let new = c.execute_or_refuse.new.store in
     let same : c.catalog.result.now ≡ catalog_of (tables_now new) =
     c.catalog.ensures ∙ sym (same_catalog c.args.statement c.args.keep old new c.in_ok-change.change c.tell_formed.ensures c.in_ok-change.ensures.outcome) in
     subst (λ (s : Statement). IsFresh s (catalog_of (tables_now new)).names c.in_ok-room.room) (sym c.in_ok-change.ensures.statement)
@@ -22,7 +22,7 @@ list_asked-requires c = λ kept.
 pub returns-clause-done : goal.returns-clause-done
 returns-clause-done c =
     let old = c.args.store.now in
-    let new = c.asked_or_refused.new.store in
+    let new = c.execute_or_refuse.new.store in
     let is = c.in_ok-change.ensures.outcome in
     let same : catalog_of (tables_now new) ≡ catalog_of (tables_now old) =
     same_catalog c.args.statement c.args.keep old new c.in_ok-change.change c.tell_formed.ensures is in

@@ -4,7 +4,7 @@ use Rattle.sql_engine.specs.Types.{Catalog, Checked}
 use Rattle.table_store.specs.Histories.{tables_now}
 use Rattle.sql_check.specs.Gives.{Stops}
 use Rattle.sql_model.specs.Places.{checked_of}
-use Rattle.sql_engine.proofs.execute.asked_or_refused.Goals as goal
+use Rattle.sql_engine.proofs.execute.execute_or_refuse.Goals as goal
 
 pub execute_and_return-requires-clause-checked : goal.execute_and_return-requires-clause-checked
 execute_and_return-requires-clause-checked c =
