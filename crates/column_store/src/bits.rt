@@ -65,6 +65,7 @@ impl Bits {
         requires { more < 2 ^ 32 }
         ensures items { self.new.items ≡ self.old.items }
         ensures room { OnOk result (more ≤ self.new.spare) }
+        ensures spare { self.old.spare ≤ self.new.spare }
         ensures err { OnErr result (self.new ≡ self.old) }
     {
         self.words.reserve(more / 64 + 1)

@@ -56,7 +56,7 @@ impl Column {
 
     /// A copy of a cell.
     #[tactic(auto, using(crate::proofs::CellLaws::cell_rules))]
-    pub fn copy_cell(&self, alloc: Global, slot: usize) -> Result<Value, AllocError>
+    pub(crate) fn copy_cell(&self, alloc: Global, slot: usize) -> Result<Value, AllocError>
         requires { slot < length self.now.items }
         ensures { IfOk result (λ value. value ≡ slice_index_or self.now.items slot Null) }
     {
@@ -71,7 +71,7 @@ impl Column {
 
     /// How a cell compares to a value, in the total order.
     #[tactic(auto, using(crate::proofs::CellLaws::cell_rules))]
-    pub fn compare_cell(&self, slot: usize, other: &Value) -> Ordering
+    pub(crate) fn compare_cell(&self, slot: usize, other: &Value) -> Ordering
         requires { slot < length self.now.items }
         ensures { result ≡ order (slice_index_or self.now.items slot Null) other.now }
     {
@@ -87,13 +87,14 @@ impl Column {
         }
     }
 
-    /// Makes room for more cells. On `AllocError` the cells are as they were.
+    /// Makes room for more cells. On `AllocError` the cells are as they were, and there is no less room.
     #[tactic(auto, using(crate::proofs::CellLaws::cell_rules))]
     pub fn reserve(&mut self, more: usize) -> Result<(), AllocError>
         requires { more < 2 ^ 32 }
         ensures kind { self.new.text ≡ self.old.text }
         ensures items { self.new.items ≡ self.old.items }
         ensures room { OnOk result (more ≤ self.new.spare) }
+        ensures spare { self.old.spare ≤ self.new.spare }
     {
         match &mut self.held {
             Held::Ints(ints) => ints.reserve(more),

@@ -15,7 +15,8 @@ use std::alloc::{AllocError, Global};
 use std::cmp::Ordering;
 use std::mem;
 
-/// Makes room for more cells in each column. On `AllocError` the cells are as they were.
+/// Makes room for more cells in each column. On `AllocError` the cells are as they were, and there is no less
+/// room in any column.
 pub fn reserve_cells(columns: &mut Vec<Column>, more: usize) -> Result<(), AllocError>
     requires { more < 2 ^ 32 }
     ensures count { length columns.new.items ≡ length columns.old.items }
@@ -27,6 +28,9 @@ pub fn reserve_cells(columns: &mut Vec<Column>, more: usize) -> Result<(), Alloc
         ≡ (slice_index_or columns.old.items k no_cells).text }
     ensures room { OnOk result ((k : ℕ) → k < length columns.old.items
         → more ≤ (slice_index_or columns.new.items k no_cells).spare) }
+    ensures spare { (k : ℕ) → k < length columns.old.items
+        → (slice_index_or columns.old.items k no_cells).spare
+        ≤ (slice_index_or columns.new.items k no_cells).spare }
 {
     for place in 0..columns.len() {
         let column = &mut columns[place];

@@ -54,12 +54,13 @@ impl IntColumn {
         }
     }
 
-    /// Makes room for more cells. On `AllocError` the cells are as they were.
+    /// Makes room for more cells. On `AllocError` the cells are as they were, and there is no less room.
     #[tactic(auto, using(crate::proofs::IntCellLaws::cell_rules))]
     pub fn reserve(&mut self, more: usize) -> Result<(), AllocError>
         requires { more < 2 ^ 32 }
         ensures items { self.new.items ≡ self.old.items }
         ensures room { OnOk result (more ≤ self.new.spare) }
+        ensures spare { self.old.spare ≤ self.new.spare }
     {
         reserve_eighth(&mut self.values, more)?;
         self.nulls.reserve(more)?;

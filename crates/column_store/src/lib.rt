@@ -1,7 +1,7 @@
-//! Columns of values in memory: numbers as they lie with their NULLs as bits, and texts; rows are appended,
-//! replaced and copied at their slots.
+//! Columns of values in memory: integers as an array with their NULLs as bits, and texts. Rows are appended,
+//! replaced and copied by slot.
 //!
-//! What it promises stands in `docs/GUARANTEES.md`, how it works in `docs/ARCHITECTURE.md`.
+//! Entry: `push_cells` in `src/columns.rt`. Read first: `specs/Cells.antt`.
 #![tactic(auto)]
 
 mod bits;

@@ -2,7 +2,9 @@
 //!
 //! The words are the files, and after them `--case NAME` where only the cases of that name are wanted. It
 //! prints a line for each file, one for each difference, and the two counts at the end. Its status is 0
-//! only where a case was run and nothing differed. `docs/CASES.md` says how to write a case.
+//! only where a case was run and nothing differed. `docs/internals/CASES.md` says how to write a case.
+//!
+//! Entry: `main` in `src/main.rt`. Read first: `specs/Same.antt`.
 #![tactic(auto)]
 
 mod call;

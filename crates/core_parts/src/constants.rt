@@ -38,7 +38,7 @@ pub fn constant_value(alloc: Global, expr: &Expr) -> Result<Value, AllocError>
 
 /// The value that an expression has over every row: that of one that names no column, as a number, a text,
 /// `-5` or `2 * 3`; NULL where it leaves 64 bits. `None` where it names a column.
-pub fn constant_of(alloc: Global, expr: &Expr) -> Result<Option<Value>, AllocError>
+pub(crate) fn constant_of(alloc: Global, expr: &Expr) -> Result<Option<Value>, AllocError>
     ensures found { IfOk result (λ found. is_some found ≡ is_nameless expr.now) }
     ensures value { IfOk result (λ found. IfSome found (IsConstant expr.now)) }
 {

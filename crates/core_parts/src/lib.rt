@@ -1,7 +1,11 @@
 //! The parts of a checked statement, for the crates that evaluate it: cores, expressions with the places of
-//! their columns, conditions taken apart.
+//! their columns, conjuncts.
 //!
-//! What it promises stands in `docs/GUARANTEES.md`, how it works in `docs/ARCHITECTURE.md`.
+//! An expression is bound to the places of its columns once (`placed`), and conditions are split at AND
+//! (`conditions`). From the conjuncts come the key that they fix (`fixing`, `constants`), the tests of
+//! single columns (`mask`), and the equalities of a join.
+//!
+//! Entry: `placed_items` in `src/placed.rt`. Read first: `specs/Placing.antt`.
 #![tactic(auto)]
 
 mod conditions;
@@ -17,7 +21,7 @@ mod refs_by;
 mod truths;
 
 pub use conditions::{conjuncts, conjuncts_of};
-pub use constants::{constant_of, constant_value};
+pub use constants::constant_value;
 pub use cores::{column_indexes, core_of, query_of};
 pub use equality::{is_column, is_equal_test};
 pub use fixing::fixed_key;

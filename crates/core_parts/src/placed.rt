@@ -118,7 +118,8 @@ pub fn column_of_source(before: u128, place: usize) -> Option<usize>
     }
 }
 
-/// An expression with the places that it takes of those from `at` on; afterwards `at` is after them.
+/// An expression with the places that it takes of those from `at` on; afterwards `at` is after them. On
+/// `AllocError` it is as it was.
 pub fn placed_at(
     alloc: Global,
     expr: &Expr,
@@ -128,28 +129,34 @@ pub fn placed_at(
     ensures expr { IfOk result (λ placed. placed.expr ≡ expr.now) }
     ensures places { IfOk result (λ placed. placed.places ≡ own_places expr.now (drop at.old places.now)) }
     ensures others { OnOk result (drop at.new places.now ≡ other_places expr.now (drop at.old places.now)) }
+    ensures err { OnErr result (at.new ≡ at.old) }
 {
+    let copy = expr.copy_item(alloc)?;
     let mut own = List::new(alloc);
     take_places(expr, places, at, &mut own)?;
     Ok(BoundExpr {
-        expr: expr.copy_item(alloc)?,
+        expr: copy,
         places: own,
     })
 }
 
-/// Items with the places that they take of those from `at` on; afterwards `at` is after them.
+/// Items with the places that they take of those from `at` on; afterwards `at` is after them. On `AllocError`
+/// it is as it was.
 pub fn placed_items(
     alloc: Global,
     items: &[Item],
     places: &Places,
     at: &mut usize,
 ) -> Result<List<BoundExpr>, AllocError>
-    ensures { IfOk result (λ placed.
+    ensures ok { IfOk result (λ placed.
         PlacesItems items.now placed (drop at.old places.now) (drop at.new places.now)) }
+    ensures err { OnErr result (at.new ≡ at.old) }
 {
+    let mut end = *at;
     let mut made = List::new(alloc);
     for item in items {
-        made.push(placed_at(alloc, &item.expr, places, at)?)?;
+        made.push(placed_at(alloc, &item.expr, places, &mut end)?)?;
     }
+    *at = end;
     Ok(made)
 }

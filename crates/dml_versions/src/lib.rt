@@ -1,6 +1,12 @@
 //! INSERT, UPDATE and DELETE over a store, with the rows that they need and the versions that they make.
 //!
-//! What it promises stands in `docs/GUARANTEES.md`, how it works in `docs/ARCHITECTURE.md`.
+//! `finding` finds the rows for which WHERE is True: by the key if WHERE fixes each of its columns by a
+//! constant (`keys`), else among the rows that pass the tests of single columns (`tested`). `rows` or
+//! `updates` makes the new values, and `needs` the lists, all before the store changes.
+//! `proofs/RefuseLaws.antt` and `proofs/ReferLaws.antt` say that the store refuses what the definitions
+//! refuse.
+//!
+//! Entry: `insert` in `src/inserting.rt`. Read first: `specs/Changing.antt`.
 #![tactic(auto)]
 
 mod change;

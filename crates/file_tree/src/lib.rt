@@ -1,7 +1,7 @@
 //! The files of a run: bytes by path, and which paths the run touched. Contracts see a `Tree` as one
 //! `FileState` of `ldv_value`.
 //!
-//! What it promises stands in `docs/GUARANTEES.md`, how it works in `docs/ARCHITECTURE.md`.
+//! Entry: `open_path` in `src/tree.rt`. Read first: `specs/FileState.antt` of `ldv_value`.
 #![tactic(auto)]
 
 mod contents;

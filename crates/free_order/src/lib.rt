@@ -1,6 +1,10 @@
 //! Replay in another order of steps, of runs whose processes share no path that one of them changes.
 //!
-//! What it promises stands in `docs/GUARANTEES.md`, how it works in `docs/ARCHITECTURE.md`.
+//! States are taken by name, without the numbers of processes and the scheduler (`proofs/Boards.antt`). Then
+//! two neighbouring steps of different processes may be exchanged (`proofs/Exchange.antt`), and each step
+//! brings the end one step nearer (`proofs/Descent.antt`).
+//!
+//! Entry: `replay_other_seed` in `src/other_seed.rt`. Read first: `specs/Orders.antt`.
 #![tactic(auto)]
 
 mod acts;

@@ -1,6 +1,8 @@
 //! Grouping: the answer rows of a core that groups, and the lineage of the groups that HAVING rejects.
 //!
-//! What it promises stands in `docs/GUARANTEES.md`, how it works in `docs/ARCHITECTURE.md`.
+//! Groups are found by a map over the values of the GROUP BY columns.
+//!
+//! Entry: `group` in `src/grouping.rt`. Read first: `specs/Evaluating.antt`.
 #![tactic(auto)]
 
 mod columns;

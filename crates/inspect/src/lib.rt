@@ -1,6 +1,9 @@
-//! Reports on a package: why it has what it has, and what happened in the run that it was recorded of.
+//! Reports on a package: why it has what it has, and what happened in the recorded run.
 //!
-//! What it promises stands in `docs/GUARANTEES.md`, how it works in `docs/ARCHITECTURE.md`.
+//! The name of a process is made only if a report has it, so that memory is linear in the package and the
+//! report. `depends_text` takes the package by value, and has dropped its events before it searches.
+//!
+//! Entry: `why_text` in `src/why.rt`. Read first: `specs/WhyReports.antt`.
 #![tactic(auto)]
 
 mod append;

@@ -1,5 +1,5 @@
 -- The parts of a package, and what two of them are joined to; and what a call that joins two returns.
-use Rattle.std.specs.Prelude.{◌≡◌, [], Option, Some, None, Result, Ok, Err}
+use Rattle.std.specs.Prelude.{◌≡◌, Option, Some, None, Result, Ok, Err}
 use Rattle.std.specs.Option.{option_or}
 use Rattle.ldv_value.specs.Options.{first_some}
 use Rattle.joined_data.specs.Types.{Package}
@@ -11,19 +11,6 @@ use Rattle.joined_data.specs.declared.parts.Parts.{Parts}
 use Rattle.joined_data.specs.Joined.{run_in, own_tables, merged_files, merged_tables, unless_clash}
 use Rattle.joined_data.specs.Joined.{file_cmp, file_clash, table_cmp, table_clash, rows_clash, keys_clash}
 use Rattle.joined_data.specs.Merging.{first_clash}
-
--- a package without its logs, which an included one hasn't got
-abbrev pub without_logs : Package → Package
-without_logs p = record {
-  mode = p.mode;
-  start = p.start;
-  seed = p.seed;
-  steps = p.steps;
-  files = p.files;
-  tables = p.tables;
-  logs = [];
-  events = p.events;
-}
 
 abbrev pub parts_in : Package → Parts
 parts_in p = record { run = run_in p; files = p.files; tables = own_tables p }

@@ -1,12 +1,11 @@
 //! Joined packages as data: their types, the parts of a package, how the lists of two are merged and where
 //! they differ, and the bytes of a joined package between its magic and its digest.
 //!
-//! What it promises stands in `docs/GUARANTEES.md`, how it works in `docs/ARCHITECTURE.md`.
+//! Entry: `join_owned` in `src/joining.rt`. Read first: `specs/Joined.antt`.
 #![tactic(auto)]
 
 mod clash;
 mod compact_joined;
-mod copying;
 mod decoding;
 mod differences;
 mod encoding;
@@ -19,7 +18,6 @@ mod parts;
 mod queue;
 
 pub use compact_joined::{CompactJoined, CompactRun, ParsedJoined};
-pub use copying::copy_package;
 pub use decoding::decode_all;
 pub use encoding::{encode_compact_joined, encode_joined};
 pub use joined::{Clash, ClashKind, Joined, JoinedRun, Reason, Reasons, Which};

@@ -1,6 +1,6 @@
 //! Bytes as JSON: the value that they are the text of.
 //!
-//! What it promises stands in `docs/GUARANTEES.md`, how it works in `docs/ARCHITECTURE.md`.
+//! Entry: `read_json` in `src/reading.rt`. Read first: `specs/Reading.antt`.
 #![tactic(auto)]
 
 mod reading;

@@ -1,7 +1,9 @@
-//! Kernels over sets of numbers (bit i of word j is the number 64 * j + i) and over columns, eight words or
-//! numbers at a time. No call takes memory or fails.
+//! Kernels over sets of numbers and over columns, eight words or numbers at a time. Bit i of word j is the
+//! number 64 * j + i.
 //!
-//! What it promises stands in `docs/GUARANTEES.md`, how it works in `docs/ARCHITECTURE.md`.
+//! No call takes memory or fails.
+//!
+//! Entry: `select_i64` in `src/select.rt`. Read first: `specs/Sets.antt`.
 #![tactic(auto)]
 
 mod members;

@@ -2,6 +2,8 @@
 //!
 //! Its few lines and the streams of `ldv_io` are the trusted edge: what standard input gave and what the
 //! system took is no clause.
+//!
+//! Entry: `main` in `src/main.rt`. Read first: `specs/Ends.antt` of `ldv_top`.
 #![tactic(auto)]
 
 use ldv_io::{StdSink, StdSource, write_all};

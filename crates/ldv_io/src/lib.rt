@@ -1,6 +1,6 @@
 //! Sources and sinks of bytes, and the two calls that read a whole input and write a whole output.
 //!
-//! What it promises stands in `docs/GUARANTEES.md`, how it works in `docs/ARCHITECTURE.md`.
+//! Entry: `read_all` in `src/whole.rt`. Read first: `specs/Causes.antt`.
 #![tactic(auto)]
 
 mod memory;

@@ -1,12 +1,14 @@
 -- What an audit comes to is what is due.
-use Rattle.std.proofs.Common.{◌≡◌, ℕ, ◌<◌, List, length, refl, sym, ap, ◌∙◌, true, false}
-use Rattle.std.specs.Prelude.{Option, Some, None, Result, Ok, Err, IsSome, is_some}
+use Rattle.std.proofs.Common.{◌≡◌, ℕ, ◌<◌, List, length, refl, sym, ap, ◌∙◌, subst, true, false}
+use Rattle.std.specs.Prelude.{Option, Some, None, Result, Ok, Err, IsSome, IsTrue, is_some}
 use Rattle.ldv_value.specs.Limits.{input_limit}
+use Rattle.ldv_value.proofs.Options.{same-some}
 use Rattle.run_model.specs.declared.package.Package.{Package}
 use Rattle.run_model.specs.declared.world.World.{World}
+use Rattle.run_model.specs.Package.{own_world}
 use Rattle.run_model.specs.WorldRun.{ends_within}
 use Rattle.run_laws.proofs.BudgetLaw.{ended_outcome, going_outcome}
-use Rattle.replay_db.specs.Auditing.{AuditsWorld, recorded_spelling}
+use Rattle.replay_db.specs.Auditing.{AuditsWorld, HasTables, OwnFittingLaw, fits_world, recorded_spelling}
 use Rattle.replay_db.specs.declared.soundness.AuditStop.{AuditStop}
 use Rattle.replay_db.specs.declared.soundness.AuditStop.TheVariants as stops
 use Rattle.replay_db.specs.declared.soundness.Verdict.{Verdict}
@@ -72,3 +74,9 @@ module _ (budget : ℕ) (input : List ℕ) (w : World) (some : IsSome (version_o
 -- bytes that are spelled have a version
 pub is_versioned : (input : List ℕ) (p : Package) → IsSpelled input p → IsSome (version_of input)
 is_versioned input p spelled = ap is_some spelled.1
+
+-- and it has the tables of the package's own world
+pub has_tables_read : OwnFittingLaw → (input : List ℕ) (p : Package) → IsSpelled input p → HasTables input (own_world p)
+has_tables_read own input p spelled = λ version is.
+    let same : version ≡ spelled.0 = same-some version spelled.0 (sym is ∙ spelled.1) in
+    subst (λ (v : Version). IsTrue (fits_world v (own_world p))) (sym same) (own spelled.0 p spelled.2.fits)

@@ -1,6 +1,6 @@
 -- A package that was recorded is replayed as its world is run.
 use Rattle.std.proofs.Common.{◌≡◌, ℕ, ◌≤◌, List, [], length, refl, sym, ap, ◌∙◌, subst, true}
-use Rattle.std.specs.Prelude.{Some, Ok, codes}
+use Rattle.std.specs.Prelude.{Some, Ok, IsTrue, codes}
 use Rattle.ldv_value.specs.Limits.{input_limit, max_steps}
 use Rattle.run_model.specs.declared.outcome.Outcome.{Outcome}
 use Rattle.run_model.specs.declared.package.Mode.{Mode}
@@ -12,9 +12,11 @@ use Rattle.run_model.specs.Package.{package_of, own_world}
 use Rattle.run_model.specs.WorldRun.{ends_within, outcome_within, steps_by}
 use Rattle.sql_model.specs.Tables.{tables_test}
 use Rattle.package_layout.specs.Valid.{reading}
+use Rattle.package_codec.specs.Plain.{fits_version}
 use Rattle.package_codec.specs.Version.{version_of}
+use Rattle.package_codec.specs.declared.version.Version.{Version}
 use Rattle.package_codec.specs.declared.version.Version.TheVariants.{Two}
-use Rattle.package_layout.specs.Whole.{spelling}
+use Rattle.package_layout.specs.Whole.{spelling, spelling_as}
 use Rattle.run_laws.proofs.BudgetLaw.{outcome_ends, ended_outcome, enough_outcome}
 use Rattle.run_laws.proofs.EndedLaw.{ended_starts}
 use Rattle.run_laws.proofs.RunSteps.{steps_at_most}
@@ -46,7 +48,8 @@ module _ (again : ReadAgain) (counted : ShortCounted) (valid : ValidPackageLaw) 
   read_back : (mode : Mode) (n : ℕ) (w : World) → ValidWorld w → n ≤ max_steps → ends_within n w ≡ true
       → length (spelling (package_of mode n w)) ≤ input_limit
       → reading (spelling (package_of mode n w)) ≡ Ok (package_of mode n w)
-  read_back = packed_read again counted valid typed valid_tables
+  read_back mode n w valid_world bounded ended short =
+      packed_read again counted valid typed valid_tables mode n w valid_world bounded ended Two refl short
 
   -- over the needed rows
   own_due : (n budget : ℕ) (w : World) → ends_within n w ≡ true → tables_test w.tables ≡ true → steps_by n [] w ≤ budget
@@ -80,14 +83,16 @@ module _ (again : ReadAgain) (counted : ShortCounted) (valid : ValidPackageLaw) 
   either_due Excluded n budget w ended tables enough outcome comes = log_due n budget w ended tables enough outcome comes
 
   spelling_due : (mode : Mode) (n budget : ℕ) (w : World) → ValidWorld w → n ≤ max_steps
-      → length (spelling (package_of mode n w)) ≤ input_limit
+      → (version : Version) → IsTrue (fits_version version (package_of mode n w))
+      → length (spelling_as version (package_of mode n w)) ≤ input_limit
       → steps_by n [] w ≤ budget
       → (outcome : Outcome) → outcome_within n w ≡ Some outcome
-      → due_replay budget (spelling (package_of mode n w)) ≡ due_world n w
-  spelling_due mode n budget w valid_world bounded short enough outcome comes =
+      → due_replay budget (spelling_as version (package_of mode n w)) ≡ due_world n w
+  spelling_due mode n budget w valid_world bounded version fits short enough outcome comes =
       let ended : ends_within n w ≡ true = outcome_ends n w outcome comes in
-      rw (not_too_long (spelling (package_of mode n w)) short)
-      (ap (due_of_reading (replayed_package budget)) (read_back mode n w valid_world bounded ended short)
+      rw (not_too_long (spelling_as version (package_of mode n w)) short)
+      (ap (due_of_reading (replayed_package budget))
+      (packed_read again counted valid typed valid_tables mode n w valid_world bounded ended version fits short)
       ∙ either_due mode n budget w ended (valid_tables w valid_world) enough outcome comes)
 
   -- an audit of the package with the needed rows
@@ -118,7 +123,8 @@ module _ (again : ReadAgain) (counted : ShortCounted) (valid : ValidPackageLaw) 
   replay_due mode n budget w input package_of enough =
       let outcome = ended_outcome n w package_of.ends in
       ap (due_replay budget) package_of.same
-      ∙ spelling_due mode n budget w package_of.valid package_of.bounded package_of.short enough outcome.0 outcome.1
+      ∙ spelling_due mode n budget w package_of.valid package_of.bounded package_of.version package_of.fits package_of.short
+      enough outcome.0 outcome.1
 
   -- the package that is recorded of a document
   pub recorded_due : (mode : Mode) (n : ℕ) (document : List ℕ) (w : World) → length document ≤ input_limit → n ≤ max_steps → world_reading document ≡ Ok w → ValidWorld w
@@ -138,7 +144,7 @@ module _ (again : ReadAgain) (counted : ShortCounted) (valid : ValidPackageLaw) 
         spelled = bytes;
         read_back = ap reading bytes ∙ read_back mode n w valid_world bounded ended spelled.0;
         within = steps_at_most n [] w;
-        replayed = λ steps enough. ap (due_replay steps) bytes ∙ spelling_due mode n steps w valid_world bounded spelled.0 enough ran.outcome ran.comes ∙ sym runs;
+        replayed = λ steps enough. ap (due_replay steps) bytes ∙ spelling_due mode n steps w valid_world bounded Two refl spelled.0 enough ran.outcome ran.comes ∙ sym runs;
         ends = ap (λ (d : DueOutput). d.exit) (runs ∙ done_world);
         sound = λ included steps enough. mode_sound mode n steps w _ included valid_world bounded ended spelled.0 enough bytes;
       }

@@ -15,7 +15,7 @@ use Rattle.run_laws.specs.Laws.{BetweenLaw, SameRun}
 use Rattle.package_codec.proofs.Numbers.{sized_law}
 use Rattle.package_codec.specs.Fields.{sized_at, text_spelling}
 use Rattle.package_layout.specs.Valid.{IsValidPackage, reading}
-use Rattle.package_layout.specs.Whole.{IsTyped, spelling}
+use Rattle.package_layout.specs.Whole.{IsTyped}
 use Rattle.package_join.proofs.TypedJoins.{together_typed}
 use Rattle.joined_data.specs.declared.joined.Joined.{Joined}
 use Rattle.joined_data.specs.declared.joined.Which.{Which}
@@ -27,7 +27,7 @@ use Rattle.package_join.specs.Worlds.{joined_world}
 use Rattle.replay_db.specs.Worlds.{WorldTablesLaw, ValidPackageLaw, TypedPackageLaw}
 use Rattle.ldv_top.specs.Due.{due_world}
 use Rattle.ldv_top.specs.DueOfJoins.{due_join_bytes, pair_in}
-use Rattle.ldv_top.specs.TwoRuns.{AnyJoinedLaw, AreTwo, PairLaw, TwoRunsLaw, included_of, its_due, its_steps, two_joined}
+use Rattle.ldv_top.specs.TwoRuns.{AnyJoinedLaw, AreTwo, IsInVersion, PairLaw, TwoRunsLaw, included_of, its_due, its_steps, two_joined}
 use Rattle.ldv_top.proofs.HeadlineLaw.{same_due}
 use Rattle.ldv_top.proofs.JoinResponses.{both_found, pair_due, pair_read, run_due}
 use Rattle.ldv_top.proofs.ReadBack.{ReadAgain, ShortCounted, read_back}
@@ -54,8 +54,11 @@ module _ (again : ReadAgain) (counted : ShortCounted) (valid : ValidPackageLaw) 
     pub package_typed : IsTyped (included_of n w)
     package_typed = typed Included n w valid_world bounded ended
 
-    pub package_read : length (spelling (included_of n w)) ≤ input_limit → reading (spelling (included_of n w)) ≡ Ok (included_of n w)
-    package_read short = read_back again counted valid typed valid_tables Included n w valid_world bounded ended short
+    pub package_read : (bytes : List ℕ) → IsInVersion (included_of n w) bytes → reading bytes ≡ Ok (included_of n w)
+    package_read bytes is =
+        ap reading is.same
+        ∙ read_back again counted valid typed valid_tables Included n w valid_world bounded ended is.version is.fits
+        (subst (λ (l : List ℕ). length l ≤ input_limit) is.same is.short)
 
     -- a world between runs as it does
     pub between_due : (v : World) (budget : ℕ) → Between n v w → steps_by n [] w ≤ budget → due_world budget v ≡ due_world n w
@@ -96,10 +99,12 @@ module _ (again : ReadAgain) (counted : ShortCounted) (valid : ValidPackageLaw) 
       let a : Package = included_of n v in
       let b : Package = included_of m w in
       let two = pair.two in
-      let first : reading (spelling a) ≡ Ok a = package_read n v two.first_valid two.first_bounded two.first_ends pair.first_short in
-      let second : reading (spelling b) ≡ Ok b = package_read m w two.second_valid two.second_bounded two.second_ends pair.second_short in
-      let found : pair_in input ≡ Some (spelling a, spelling b) = ap pair_in pair.same ∙ two_read (spelling a) (spelling b) pair.first_short pair.second_short in
-      sym (pair_due input a b pair.short (pair_read input (spelling a) (spelling b) a b found first second))
+      let p : List ℕ = pair.first_bytes in
+      let q : List ℕ = pair.second_bytes in
+      let first : reading p ≡ Ok a = package_read n v two.first_valid two.first_bounded two.first_ends p pair.first in
+      let second : reading q ≡ Ok b = package_read m w two.second_valid two.second_bounded two.second_ends q pair.second in
+      let found : pair_in input ≡ Some (p, q) = ap pair_in pair.same ∙ two_read p q pair.first.short pair.second.short in
+      sym (pair_due input a b pair.short (pair_read input p q a b found first second))
       ∙ ap due_join_bytes (joined_two n m v w two).joined
 
   pub two_runs_law : TwoRunsLaw

@@ -1,5 +1,5 @@
--- What is spelled of the package of a valid world's run is read back as that package.
-use Rattle.std.proofs.Common.{◌≡◌, ℕ, ◌≤◌, length, refl, true}
+-- What is spelled of the package of a valid world's run is read back as that package, in each version.
+use Rattle.std.proofs.Common.{◌≡◌, ℕ, ◌≤◌, length, true}
 use Rattle.std.specs.Prelude.{Ok, IsTrue}
 use Rattle.ldv_value.specs.Limits.{input_limit, max_steps}
 use Rattle.run_model.specs.declared.package.Mode.{Mode}
@@ -12,8 +12,7 @@ use Rattle.package_codec.specs.Plain.{fits_version}
 use Rattle.package_layout.specs.Valid.{IsValidPackage, reading}
 use Rattle.package_layout.specs.Counted.{IsCounted}
 use Rattle.package_codec.specs.declared.version.Version.{Version}
-use Rattle.package_codec.specs.declared.version.Version.TheVariants.{Two}
-use Rattle.package_layout.specs.Whole.{spelling_as, spelling, IsTyped}
+use Rattle.package_layout.specs.Whole.{spelling_as, IsTyped}
 use Rattle.replay_db.specs.Worlds.{TypedFor, TypedWorld, ValidWorld, WorldTablesLaw, ValidPackageLaw, TypedPackageLaw}
 
 -- whatever a package of this mode asks of a world's values
@@ -30,9 +29,10 @@ ShortCounted = (version : Version) (p : Package) → length (spelling_as version
 
 module _ (again : ReadAgain) (counted : ShortCounted) (valid : ValidPackageLaw) (typed : TypedPackageLaw) (valid_tables : WorldTablesLaw) where
   pub read_back : (mode : Mode) (n : ℕ) (w : World) → ValidWorld w → n ≤ max_steps → ends_within n w ≡ true
-      → length (spelling (package_of mode n w)) ≤ input_limit
-      → reading (spelling (package_of mode n w)) ≡ Ok (package_of mode n w)
-  read_back mode n w valid_world bounded ended short =
-      again Two (package_of mode n w) (typed mode n w valid_world bounded ended)
+      → (version : Version) → IsTrue (fits_version version (package_of mode n w))
+      → length (spelling_as version (package_of mode n w)) ≤ input_limit
+      → reading (spelling_as version (package_of mode n w)) ≡ Ok (package_of mode n w)
+  read_back mode n w valid_world bounded ended version fits short =
+      again version (package_of mode n w) (typed mode n w valid_world bounded ended)
       (valid mode n w valid_world.ruled (valid_tables w valid_world) (typed_for mode w valid_world.typed) bounded ended)
-      refl (counted Two (package_of mode n w) short)
+      fits (counted version (package_of mode n w) short)

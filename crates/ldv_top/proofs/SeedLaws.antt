@@ -62,7 +62,7 @@ module _ (again : ReadAgain) (counted : ShortCounted) (valid : ValidPackageLaw) 
       let read : reading input ≡ Ok p =
       ap reading is
       ∙ read_back again counted valid typed valid_tables Excluded n w package_of_world.valid package_of_world.bounded
-      package_of_world.ends package_of_world.short in
+      package_of_world.ends package_of_world.version package_of_world.fits package_of_world.short in
       let short : length input ≤ input_limit = subst (λ (l : List ℕ). length l ≤ input_limit) (sym is) package_of_world.short in
       sym (reseeded_read seed budget p input short read)
       ∙ free_same order n seed budget w package_of_world.ends (valid_tables w package_of_world.valid) private enough

@@ -38,7 +38,7 @@ pub record Responds {Writer : Type 0}
     : Type 0 where
   -- the exit is the one that is due, and Done has written its bytes
   pub due : Comes response exit (taken sink) (taken after)
-  -- a fault comes only where the sink's count of faults increased
+  -- a fault comes only if the sink's count of faults increased, or stands at its greatest value
   pub write_fault : exit ≡ WriteFault → Rose (faults sink) (faults after)
   pub unwritten : IsQuiet exit → after ≡ sink
   pub not_read : exit ≢ ReadFault
@@ -54,7 +54,7 @@ pub record Ends {Reader Writer : Type 0}
   pub usage : (exit ≡ Usage) ↔ (command_of words ≡ None)
   -- without a command that reads, nothing is read
   pub unread : reads (command_of words) ≡ false → source_after ≡ source
-  -- a fault comes only where the stream's count of faults increased
+  -- a fault comes only if the stream's count of faults increased, or stands at its greatest value
   pub read_fault : exit ≡ ReadFault → Rose (read_faults source) (read_faults source_after)
   pub write_fault : exit ≡ WriteFault → Rose (write_faults sink) (write_faults sink_after)
   -- every other exit is the one that is due, and Done has written its bytes; only out of memory may come in
@@ -73,7 +73,8 @@ pub record Ends {Reader Writer : Type 0}
   pub recorded : (mode : Mode) (budget : ℕ) (document : List ℕ) → command_of words ≡ Some (Record mode budget)
       → left source ≡ Some document → exit ≡ Done
       → IsRecording mode budget document (due_record mode budget document).bytes
-  -- the package of a valid world is replayed as the world is run, within at least the steps of that run
+  -- the package of a valid world, in either version, is replayed as the world is run, within at least the
+  -- steps of that run
   pub headline : (mode : Mode) (n budget : ℕ) (w : World) (input : List ℕ)
       → command_of words ≡ Some (Replay budget) → left source ≡ Some input → IsPackageOf mode n w input
       → steps_by n [] w ≤ budget → Comes (due_world n w) exit (taken sink) (taken sink_after)
@@ -95,7 +96,8 @@ pub record Ends {Reader Writer : Type 0}
       → left source ≡ Some input → IsDocumentOf p input
       → (report_due (DependsOn path) p ≡ due_by_names p path)
       × Comes (due_by_numbers p path) exit (taken sink) (taken sink_after)
-  -- the packages of two valid worlds with the same files and tables are joined without a clash
+  -- the packages of two valid worlds with the same files and tables, each in either version, are joined
+  -- without a clash
   pub joins : (n m : ℕ) (v w : World) (input : List ℕ) → command_of words ≡ Some Join
       → left source ≡ Some input → IsPair n m v w input
       → Comes (due_spelling (joined_spelling (two_joined n m v w))) exit (taken sink) (taken sink_after)

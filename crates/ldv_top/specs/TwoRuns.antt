@@ -1,5 +1,5 @@
 -- What `join` and `replay --run` promise of each other.
-use Rattle.std.specs.Prelude.{◌≡◌, ◌≤◌, ℕ, List, [], ◌++◌, length, true}
+use Rattle.std.specs.Prelude.{◌≡◌, ◌≤◌, ℕ, List, [], ◌++◌, length, true, IsTrue}
 use Rattle.ldv_value.specs.Limits.{input_limit, max_steps}
 use Rattle.run_model.specs.declared.package.Mode.TheVariants.{Included}
 use Rattle.run_model.specs.declared.package.Package.{Package}
@@ -16,7 +16,9 @@ use Rattle.joined_data.specs.Rooms.{IsTypedJoined}
 use Rattle.package_join.specs.Valid.{IsValidJoined}
 use Rattle.package_join.specs.Worlds.{joined_world}
 use Rattle.package_codec.specs.Fields.{text_spelling}
-use Rattle.package_layout.specs.Whole.{spelling}
+use Rattle.package_codec.specs.Plain.{fits_version}
+use Rattle.package_codec.specs.declared.version.Version.{Version}
+use Rattle.package_layout.specs.Whole.{spelling_as}
 use Rattle.ldv_top.specs.Due.{due_replay_run, due_world}
 use Rattle.ldv_top.specs.DueOfJoins.{due_join}
 use Rattle.ldv_top.specs.DueParts.{DueOutput, due_spelling}
@@ -40,12 +42,21 @@ included_of n w = package_of Included n w
 abbrev pub two_joined : ℕ → ℕ → World → World → Joined
 two_joined n m v w = put_together (included_of n v) (included_of m w)
 
--- the input is their included packages, each with its length before it
+-- a package's bytes in a version that has all of it
+pub record IsInVersion («package» : Package) (bytes : List ℕ) : Type 0 where
+  pub version : Version
+  pub fits : IsTrue (fits_version version «package»)
+  pub short : length bytes ≤ input_limit
+  pub same : bytes ≡ spelling_as version «package»
+
+-- The input is their included packages, each with its length before it. Either may be of either version.
 pub record IsPair (n m : ℕ) (v w : World) (input : List ℕ) : Type 0 where
   pub two : AreTwo n m v w
-  pub first_short : length (spelling (included_of n v)) ≤ input_limit
-  pub second_short : length (spelling (included_of m w)) ≤ input_limit
-  pub same : input ≡ text_spelling (spelling (included_of n v)) ++ text_spelling (spelling (included_of m w))
+  pub first_bytes : List ℕ
+  pub second_bytes : List ℕ
+  pub first : IsInVersion (included_of n v) first_bytes
+  pub second : IsInVersion (included_of m w) second_bytes
+  pub same : input ≡ text_spelling first_bytes ++ text_spelling second_bytes
   pub short : length input ≤ input_limit
 
 -- the input is what they are joined to

@@ -6,6 +6,7 @@ ghost use Rattle.package_layout.specs.StartScript.{StartsWith};
 ghost use Rattle.package_codec.specs.Version.{version_of};
 ghost use Rattle.run_model.specs.Package.{own_world};
 ghost use Rattle.run_model.specs.Start.{IsParsed, start_script};
+ghost use Rattle.replay_db.specs.Auditing.{HasTables};
 ghost use Rattle.replay_db.specs.Runs.{CanRun};
 ghost use Rattle.replay_db.specs.declared.soundness.Verdict.TheVariants.{Unsound};
 ghost use Rattle.ldv_top.specs.Due.{response_due};
@@ -57,6 +58,7 @@ fn audited_response(
     requires parsed { StartsWith parsed }
     requires bounded { budget ≤ max_steps }
     requires versioned { IsSome (version_of input.now) }
+    requires fits { HasTables input.now (own_world parsed.cut.bare) }
     ensures { IfOk result (λ response. response_due response
         ≡ audited_package budget input.now parsed.cut.bare) }
 {
@@ -79,6 +81,7 @@ fn included_response(
     requires parsed { start_script (own_world «package») ≡ Some script.instructions }
     requires bounded { budget ≤ max_steps }
     requires versioned { IsSome (version_of input.now) }
+    requires fits { HasTables input.now (own_world «package») }
     ensures { IfOk result (λ response. response_due response
         ≡ audited_world budget input.now (own_world «package»)) }
 {
@@ -97,6 +100,7 @@ fn world_response(
     requires parsed { IsParsed own.now }
     requires bounded { budget ≤ max_steps }
     requires versioned { IsSome (version_of input.now) }
+    requires fits { HasTables input.now own.now.world }
     ensures { IfOk result (λ response. response_due response
         ≡ audited_world budget input.now own.now.world) }
 {

@@ -8,7 +8,7 @@ use package_layout::DamageKind;
 use run_model::ProcName;
 use world_json::WorldFault;
 
-/// How the program ends. Each exit comes in the order of `docs/ARCHITECTURE.md`.
+/// How the program ends. Each exit comes in the order of `docs/COMMANDS.md`.
 #[derive(Drop)]
 pub enum Exit {
     /// All was written.

@@ -1,7 +1,7 @@
-//! The program without its streams: `ldv` reads a source, and writes what the words ask for to a sink. What
-//! it promises of its exit is `Ends` of `specs/Ends.antt`.
+//! The program without its streams: `ldv` reads a source, and writes what its words ask for to a sink.
+//! `Ends` of `specs/Ends.antt` is what it promises of its exit.
 //!
-//! What it promises stands in `docs/GUARANTEES.md`, how it works in `docs/ARCHITECTURE.md`.
+//! Entry: `ldv` and `ldv_main` in `src/top.rt`. Read first: `specs/Due.antt`.
 #![tactic(auto)]
 
 mod audit;

@@ -1,40 +1,38 @@
 //! `replay`: from a package to the outcome of its run.
 
-ghost use Rattle.std.specs.Prelude.{◌≡◌, ◌≤◌, Some, length, IfOk};
+ghost use Rattle.std.specs.Prelude.{◌≡◌, ◌≤◌, length, IfOk};
 ghost use Rattle.ldv_value.specs.Limits.{input_limit, max_steps};
 ghost use Rattle.run_model.specs.declared.package.Package.{Package};
 ghost use Rattle.run_model.specs.Package.{own_world};
-ghost use Rattle.run_model.specs.Start.{start_script};
 ghost use Rattle.package_layout.specs.StartScript.{StartsWith};
 ghost use Rattle.replay_db.specs.Runs.{CanRun};
 ghost use Rattle.replay_log.specs.Replays.{CanReplay, Replays};
 ghost use Rattle.ldv_top.specs.Due.{response_due, due_world, due_log, replayed_package, due_replay};
 
 use crate::reading::read_parsed_of;
-use crate::response::{Response, parsed_response};
+use crate::response::{Response, ended_response};
 use ldv_value::Bytes;
 use package_codec::{CompactPackage, ParsedPackage};
 use package_layout::PackageStop;
 use proc_core::RunStop;
-use replay_db::own_parsed_world;
+use replay_db::replay_included_read;
 use replay_log::{can_replay_law, replay_parsed};
 use run_model::{Mode, Outcome, Package, outcome_text};
-use script_parse::Script;
 use std::alloc::{AllocError, Global};
 
 fn included_response(
     alloc: Global,
     budget: u32,
-    package: Package,
-    script: Script,
+    parsed: ParsedPackage,
 ) -> Result<Response, AllocError>
-    requires can_run { CanRun (own_world «package») }
-    requires parsed { start_script (own_world «package») ≡ Some script.instructions }
+    requires can_run { CanRun (own_world parsed.cut.bare) }
+    requires parsed { StartsWith parsed }
     requires bounded { budget ≤ max_steps }
-    ensures { IfOk result (λ response. response_due response ≡ due_world budget (own_world «package»)) }
+    ensures { IfOk result (λ response. response_due response
+        ≡ due_world budget (own_world parsed.cut.bare)) }
 {
-    let own = own_parsed_world(alloc, package, script)?;
-    parsed_response(alloc, budget, own)
+    let ended = replay_included_read(alloc, parsed, budget);
+    ended_response(alloc, budget, ended)
 }
 
 // The response to what comes of the run of a package over its recorded replies.
@@ -58,15 +56,16 @@ fn log_response(
 fn excluded_response(
     alloc: Global,
     budget: u32,
-    package: Package,
-    script: Script,
+    parsed: ParsedPackage,
 ) -> Result<Response, AllocError>
-    requires can_replay { CanReplay «package» }
-    requires parsed { start_script (own_world «package») ≡ Some script.instructions }
+    requires can_replay { CanReplay parsed.cut.bare }
+    requires parsed { StartsWith parsed }
     requires bounded { budget ≤ max_steps }
-    ensures { IfOk result (λ response. response_due response ≡ due_log budget «package») }
+    ensures { IfOk result (λ response. response_due response ≡ due_log budget parsed.cut.bare) }
 {
-    let ended = replay_parsed(alloc, package, &script, budget);
+    let ParsedPackage { cut, script } = parsed;
+    let CompactPackage { bare, runs: _ } = cut;
+    let ended = replay_parsed(alloc, bare, &script, budget);
     log_response(alloc, budget, ended)
 }
 
@@ -77,11 +76,9 @@ fn replay_package(alloc: Global, budget: u32, parsed: ParsedPackage) -> Result<R
     requires bounded { budget ≤ max_steps }
     ensures { IfOk result (λ response. response_due response ≡ replayed_package budget parsed.cut.bare) }
 {
-    let ParsedPackage { cut, script } = parsed;
-    let CompactPackage { bare, runs: _ } = cut;
-    match bare.mode {
-        Mode::Included => included_response(alloc, budget, bare, script),
-        Mode::Excluded => excluded_response(alloc, budget, bare, script),
+    match parsed.cut.bare.mode {
+        Mode::Included => included_response(alloc, budget, parsed),
+        Mode::Excluded => excluded_response(alloc, budget, parsed),
     }
 }
 

@@ -1,7 +1,9 @@
-//! Values, lists, texts and files: the vocabulary of every other crate. `AllocError`, and a variant
-//! `NoMemory` of any error of this repository, means out of memory and nothing else.
+//! Values, their order, lists, texts, files and limits: the vocabulary of every other crate.
 //!
-//! What it promises stands in `docs/GUARANTEES.md`, how it works in `docs/ARCHITECTURE.md`.
+//! `AllocError`, and a variant `NoMemory` of any error of this repository, means out of memory and nothing
+//! else.
+//!
+//! Entry: `holds` in `src/order.rt`. Read first: `specs/Order.antt`.
 #![tactic(auto)]
 
 mod bytes;

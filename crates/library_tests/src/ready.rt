@@ -38,8 +38,12 @@ fn set_of(
     Ok(set)
 }
 
-fn expect_number(rt: &impl Abort, set: &ReadySet, k: u32, want: Option<u32>) {
-    assert!(rt; set.nth(k) == want, "at {k}");
+fn is_at(set: &ReadySet, k: u64, want: u32) -> bool {
+    0 < set.len() && set.pick_at(k) == want
+}
+
+fn expect_pick(rt: &impl Abort, set: &ReadySet, k: u64, want: u32) {
+    assert!(rt; is_at(set, k, want), "at {k}");
 }
 
 fn has_count(set: &ReadySet, count: usize) -> bool {
@@ -50,17 +54,21 @@ fn has_count(set: &ReadySet, count: usize) -> bool {
 fn expect_numbers(rt: &impl Abort, set: &ReadySet, wants: &[u32]) {
     assert!(rt; has_count(set, wants.len()));
     for (want, k) in wants.iter().zip(0..set.len()) {
-        expect_number(rt, set, k, Some(*want));
+        expect_pick(rt, set, u64::from(k), *want);
     }
-    expect_number(rt, set, set.len(), None);
 }
 
 fn expect_contained(rt: &impl Abort, set: &ReadySet, number: u32, want: bool) {
     assert!(rt; set.contains(number) == want, "has {number}");
 }
 
-fn expect_after(rt: &impl Abort, set: &ReadySet, last: u32, want: Option<u32>) {
-    assert!(rt; set.next_after(last) == want, "after {last}");
+// In turn, as under seed 0.
+fn is_turn(set: &ReadySet, last: u32, want: u32) -> bool {
+    0 < set.len() && set.pick_next(last) == want
+}
+
+fn expect_turn(rt: &impl Abort, set: &ReadySet, last: u32, want: u32) {
+    assert!(rt; is_turn(set, last, want), "after {last}");
 }
 
 // Puts a number that was made into the set, or takes it out.
@@ -110,15 +118,8 @@ fn changes(rt: HostRuntime) -> Result<(), Fail> {
         expect_contained(&rt, &set, number, is_in);
     }
     expect_numbers(&rt, &set, &[3, 4, 9]);
-    for (last, want) in [
-        (0, Some(3)),
-        (3, Some(4)),
-        (4, Some(9)),
-        (9, None),
-        (10, None),
-        (u32::MAX, None),
-    ] {
-        expect_after(&rt, &set, last, want);
+    for (last, want) in [(0, 3), (3, 4), (4, 9), (9, 3), (10, 3), (u32::MAX, 3)] {
+        expect_turn(&rt, &set, last, want);
     }
     Ok(())
 }
@@ -131,17 +132,7 @@ fn empties(rt: HostRuntime) -> Result<(), Fail> {
     expect_numbers(&rt, &set, &[1]);
     change(&rt, &mut set, 1, false);
     expect_numbers(&rt, &set, &[]);
-    expect_after(&rt, &set, 0, None);
     Ok(())
-}
-
-// In turn, as under seed 0.
-fn is_turn(set: &ReadySet, last: u32, want: u32) -> bool {
-    0 < set.len() && set.pick_next(last) == want
-}
-
-fn expect_turn(rt: &impl Abort, set: &ReadySet, last: u32, want: u32) {
-    assert!(rt; is_turn(set, last, want), "after {last}");
 }
 
 #[test]
@@ -165,10 +156,6 @@ fn takes_turns(rt: HostRuntime) -> Result<(), Fail> {
         }
     }
     Ok(())
-}
-
-fn is_at(set: &ReadySet, k: u64, want: u32) -> bool {
-    0 < set.len() && set.pick_at(k) == want
 }
 
 // At random: by the generator without its 33 lowest bits, whatever these are.
@@ -203,10 +190,6 @@ fn draws(rt: HostRuntime) -> Result<(), Fail> {
     Ok(())
 }
 
-fn expect_pick(rt: &impl Abort, set: &ReadySet, k: u64, want: u32) {
-    assert!(rt; is_at(set, k, want), "at {k}");
-}
-
 // The index is counted round; the largest one leaves 0 by three.
 #[test]
 fn picks_at_an_index(rt: HostRuntime) -> Result<(), Fail> {
@@ -229,9 +212,9 @@ fn every_third(rt: &impl Abort, alloc: Global, made: u32) -> Result<ReadySet, Al
 fn holds_as_many_as_there_may_be(rt: HostRuntime) -> Result<(), Fail> {
     let set = every_third(&rt, rt.alloc(), 65_535)?;
     assert!(rt; set.len() == 21_845);
-    expect_number(&rt, &set, 10_000, Some(30_000));
-    expect_number(&rt, &set, 21_844, Some(65_532));
-    expect_after(&rt, &set, 40_000, Some(40_002));
+    expect_pick(&rt, &set, 10_000, 30_000);
+    expect_pick(&rt, &set, 21_844, 65_532);
+    expect_turn(&rt, &set, 40_000, 40_002);
     expect_turn(&rt, &set, 65_532, 0);
     Ok(())
 }

@@ -1,7 +1,11 @@
-//! Lineage: the rows of tables that an answer row comes from, each at one version. `Picks` and `Answers` are
-//! what evaluators of queries hand to one another.
+//! Lineage: the rows of tables that an answer row comes from, each at one version. The evaluators of queries
+//! pass each other `Picks` and `Answers`.
 //!
-//! What it promises stands in `docs/GUARANTEES.md`, how it works in `docs/ARCHITECTURE.md`.
+//! A `LineageSet` is a bitmap in blocks (`blocks`, and those of all tables in `table_blocks`), with the
+//! versions above 0 beside it (`versions`). The `LineageRows` of one row are a list while they are few
+//! (`held`).
+//!
+//! Entry: `union` in `src/set.rt`. Read first: `specs/Lineage.antt`.
 #![tactic(auto)]
 
 mod answer;

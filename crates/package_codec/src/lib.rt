@@ -1,7 +1,11 @@
-//! The parts of a package as bytes: values, files, tables, logs, events and runs of events, spelled and read,
-//! and what runs of events stand for.
+//! The parts of a package as bytes: values, files, tables, logs, events and runs of events.
 //!
-//! What it promises stands in `docs/GUARANTEES.md`, how it works in `docs/ARCHITECTURE.md`.
+//! Each part has three definitions: its bytes, what the format has room for, and how it is read from the
+//! front of bytes. `proofs/` shows that what was written is read back, whatever follows, and that what was
+//! read has these bytes. A trace of either version is read into runs of equal events, and judged by the
+//! first and the last event of each.
+//!
+//! Entry: `encode_list` and `decode_list` in `src/codec.rt`. Read first: `specs/Fields.antt`.
 #![tactic(auto)]
 
 mod codec;

@@ -16,7 +16,7 @@ use Rattle.joined_data.specs.declared.joining.JoinStop.{JoinStop}
 use Rattle.joined_data.specs.Joined.{clash_of, joined_of, put_together, run_package, unless_clash}
 use Rattle.package_join.specs.Laws.{IsIncluded, ValidLaw}
 use Rattle.joined_data.specs.Parts.{JoinsAs}
-use Rattle.joined_data.specs.Parts.{without_logs}
+use Rattle.package_join.specs.inner.Copying.{without_logs}
 use Rattle.package_join.specs.Valid.{IsValidJoined}
 use Rattle.package_join.proofs.Picks.{pick_law, anew_law}
 

@@ -11,7 +11,9 @@ ghost use Rattle.package_join.specs.inner.Picked.{file_by, reason_for, reason_if
 use joined_data::{Joined, JoinedRun, Reason, Reasons, Which};
 use ldv_value::{CopyItem, List, Names};
 use run_model::{Mode, Package, PackedFile, PackedFiles, PackedTables};
-use slicer::{NameSet, Reasons as FirstReasons, Why, add_names, has_name, note_named, pack_tables};
+use slicer::{
+    NameSet, Reasons as FirstReasons, Why, has_name, note_named, pack_tables, set_of_names,
+};
 use sql_model::Tables;
 use std::alloc::{AllocError, Global};
 
@@ -51,8 +53,7 @@ pub(crate) fn picked_package(
 pub(crate) fn name_set(alloc: Global, names: &Names) -> Result<NameSet, AllocError>
     ensures { IfOk result (λ set. (q : Items ℕ) → has_name set q ≡ is_among q names.now) }
 {
-    let mut set = NameSet::new(alloc);
-    add_names(alloc, &mut set, names.items())?;
+    let set = set_of_names(alloc, names.items())?;
     Ok(set)
 }
 

@@ -10,7 +10,8 @@ ghost use Rattle.joined_data.specs.Joined.{joined_of};
 ghost use Rattle.joined_data.specs.Parts.{JoinsAs};
 ghost use Rattle.package_join.specs.Valid.{IsValidJoined};
 
-use joined_data::{CompactJoined, JoinStop, Joined, copy_package, join_owned, join_with_runs};
+use crate::copying::copy_package;
+use joined_data::{CompactJoined, JoinStop, Joined, join_owned, join_with_runs};
 use package_codec::CompactPackage;
 use run_model::Package;
 use std::alloc::Global;

@@ -1,10 +1,11 @@
-//! Two runs in one package: the files and tables of two included packages, which are there once, and of each
-//! run what it needs of them.
+//! Two runs in one package: the files and tables of two included packages, each stored once, and what each
+//! run needs of them.
 //!
-//! What it promises stands in `docs/GUARANTEES.md`, how it works in `docs/ARCHITECTURE.md`.
+//! Entry: `join` in `src/joins.rt`. Read first: `specs/Joined.antt` of `joined_data`.
 #![tactic(auto)]
 
 mod choosing;
+mod copying;
 mod joins;
 mod judging;
 mod law;

@@ -1,7 +1,10 @@
-//! The bytes of a package, in two versions of the layout: `spell` gives them, `read_package` reads them, and
-//! `read_compact` reads them without making the events. Its parts are spelled and read by `package_codec`.
+//! The bytes of a package, in two versions of the layout: `spell` writes them, `read_package` reads them,
+//! and `read_compact` reads them without making the events.
 //!
-//! What it promises stands in `docs/GUARANTEES.md`, how it works in `docs/ARCHITECTURE.md`.
+//! A package is its magic, its parts in order (by `package_codec`) and its digest. Both versions are read
+//! into runs of events and judged there; `read_package` makes the events last, of a package that is valid.
+//!
+//! Entry: `read_package` and `read_compact` in `src/layout.rt`. Read first: `specs/Whole.antt`.
 #![tactic(auto)]
 
 mod damage;

@@ -1,9 +1,10 @@
 //! From packages to bytes.
 
-ghost use Rattle.std.specs.Prelude.{◌≡◌, ◌<◌, ◌≤◌, ◌-◌, ◌++◌, IfOk, OnOk, IsErrOf, length};
+ghost use Rattle.std.specs.Prelude.{◌≡◌, ◌<◌, ◌≤◌, ◌-◌, ◌++◌, IfOk, OnOk, IsErrOf, IsTrue, length};
 ghost use Rattle.sha2.specs.Sha256.{sha256};
 ghost use Rattle.ldv_value.specs.Limits.{input_limit};
 ghost use Rattle.package_codec.specs.CompactPackages.{expanded_package};
+ghost use Rattle.package_codec.specs.Plain.{fits_version};
 ghost use Rattle.package_codec.specs.Runs.{IsCut};
 ghost use Rattle.package_codec.specs.declared.version.Version.TheVariants.{Two};
 ghost use Rattle.package_layout.specs.Whole.{body, spelling, spelling_as, IsTyped};
@@ -28,10 +29,11 @@ pub fn spell(alloc: Global, package: &Package) -> Result<Bytes, SpellStop>
     spell_as(alloc, package, Version::Two)
 }
 
-/// The one spelling of a package in a version. `TooLong` exactly where it has more than 67,108,864 bytes, its
-/// digest counted. What the version hasn't is left out, and rules and refusals by foreign keys keep their
-/// numbers: such bytes aren't read as a package of it (`package_codec/specs/Plain.antt`).
+/// The one spelling of a package in a version, which has all that is in the package: `fits_version` tests it,
+/// and the second version has all. `TooLong` exactly where it has more than 67,108,864 bytes, its digest
+/// counted.
 pub fn spell_as(alloc: Global, package: &Package, version: Version) -> Result<Bytes, SpellStop>
+    requires fits { IsTrue (fits_version version «package».now) }
     ensures bytes { IfOk result (λ bytes. bytes ≡ spelling_as version «package».now) }
     ensures within { IfOk result (λ bytes. length bytes ≤ input_limit) }
     ensures too_long { IsErrOf result SpellStop.TooLong →

@@ -1,11 +1,14 @@
 -- Where a text may be cut around another.
-use Rattle.std.proofs.Common.{◌≡◌, ℕ, suc, ◌+◌, ◌<◌, ◌≤◌, List, [], ◌∷◌, ◌++◌, length, get_or, take, drop, refl, sym, ap, ◌∙◌, subst, true, false, inl, inr, arith, get_or-drop, length-append}
+use Rattle.std.proofs.Common.{◌≡◌, ℕ, zero, suc, ◌+◌, ◌<◌, ◌≤◌, List, [], ◌∷◌, ◌++◌, length, get_or, take, drop, refl, sym, ap, ◌∙◌, subst, true, false, inl, inr, arith, get_or-drop, length-append, length-drop}
 use Rattle.std.specs.Prelude.{Option, Some, None, IfSome, ◌==◌}
 use Rattle.std.specs.Str.{IsUtf8, IsCharBoundary}
+use Rattle.std.proofs.lemmas.Bool.{eq-eqb}
+use Rattle.std.proofs.lemmas.List.{get_or_append_left}
 use Rattle.std.proofs.lemmas.Str.{IsUtf8-drop, IsCharBoundary-start, IsCharBoundary-from_take, IsCharBoundary-from_rest}
 use Rattle.ldv_value.proofs.Cases.{cases-bool}
 use Rattle.ldv_value.proofs.SameBytes.{nat_eq-true}
 use Rattle.ldv_value.proofs.Lists.{take-front}
+use Rattle.memchr.specs.Find.{OccursAt, FindsNeedle}
 use Rattle.run_model.specs.StepVariables.{begins_with, first_place}
 
 -- ---- what begins with a text
@@ -40,6 +43,71 @@ placed passed by (b ∷ bs) n is = elim (cases-bool (begins_with by (b ∷ bs)))
       let more = placed (passed + 1) by bs n found in
       record { count = suc more.count; same = omega (arith, more.same); within = omega (arith, more.within); begins = more.begins }
 ]
+
+-- ---- where a search finds a text
+
+-- what begins with a text has it there
+occurs : (by text : List ℕ) (k : ℕ) → k ≤ length text → begins_with by (drop k text) ≡ true → OccursAt text by k
+occurs by text k within begins =
+    let is : drop k text ≡ by ++ drop (length by) (drop k text) = begun by (drop k text) begins in
+    let size : length (drop k text) ≡ length by + length (drop (length by) (drop k text)) = ap length is ∙ length-append by (drop (length by) (drop k text)) in
+    record {
+      fits = omega (arith, within, size, length-drop k text);
+      reads = λ j less.
+          sym (get_or-drop k text j 0) ∙ ap (λ (l : List ℕ). get_or l j 0) is ∙ get_or_append_left by (drop (length by) (drop k text)) 0 j less;
+    }
+
+begins_by : (by rest : List ℕ) → length by ≤ length rest → ((j : ℕ) → j < length by → get_or rest j 0 ≡ get_or by j 0) → begins_with by rest ≡ true
+begins_by [] rest fits reads = refl
+begins_by (b ∷ bs) [] fits reads = absurd (omega (arith, fits))
+begins_by (b ∷ bs) (c ∷ cs) fits reads =
+    let first : (b == c) ≡ true = eq-eqb b c (sym (reads 0 (omega arith))) in
+    let more : begins_with bs cs ≡ true = begins_by bs cs (omega (arith, fits)) (λ j less. reads (suc j) (omega (arith, less))) in
+    rw first more
+
+begins_at : (by text : List ℕ) (k : ℕ) → OccursAt text by k → begins_with by (drop k text) ≡ true
+begins_at by text k there =
+    begins_by by (drop k text) (omega (arith, there.fits, length-drop k text)) (λ j less. get_or-drop k text j 0 ∙ there.reads j less)
+
+-- a text begins at no place below a number
+abbrev Nowhere_below : ℕ → List ℕ → List ℕ → Type 0
+Nowhere_below n by text = (i : ℕ) → i < n → begins_with by (drop i text) ≡ true → ⊥
+
+none_from : (passed : ℕ) (by text : List ℕ) → Nowhere_below (length text) by text → first_place passed by text ≡ None
+none_from passed by [] none = refl
+none_from passed by (b ∷ bs) none = elim (cases-bool (begins_with by (b ∷ bs))) [
+  | inl here ↦ absurd (none 0 (omega arith) here)
+  | inr elsewhere ↦ rw elsewhere (none_from (passed + 1) by bs (λ i less. none (suc i) (omega (arith, less))))
+]
+
+first_from : (passed : ℕ) (by text : List ℕ) (k : ℕ) → k < length text → begins_with by (drop k text) ≡ true → Nowhere_below k by text
+    → first_place passed by text ≡ Some (passed + k)
+first_from passed by [] k within begins none = absurd (omega (arith, within))
+first_from passed by (b ∷ bs) zero within begins none =
+    let same : passed ≡ passed + 0 = omega arith in
+    rw begins (ap {B = Option ℕ} Some same)
+first_from passed by (b ∷ bs) (suc k) within begins none = elim (cases-bool (begins_with by (b ∷ bs))) [
+  | inl here ↦ absurd (none 0 (omega arith) here)
+  | inr elsewhere ↦
+      let same : passed + 1 + k ≡ passed + suc k = omega arith in
+      rw elsewhere (first_from (passed + 1) by bs k (omega (arith, within)) begins (λ i less. none (suc i) (omega (arith, less))) ∙ ap {B = Option ℕ} Some same)
+]
+
+pub found_first : (by text : List ℕ) (r : Option ℕ) → 0 < length by → FindsNeedle text by 0 r → r ≡ first_place 0 by text
+found_first by text None some found =
+    sym (none_from 0 by text (λ i less begins. found i (omega arith) (omega (arith, less)) (occurs by text i (omega (arith, less)) begins)))
+found_first by text (Some k) some found =
+    let within : k < length text = omega (arith, some, found.1.fits) in
+    let same : k ≡ 0 + k = omega arith in
+    ap {B = Option ℕ} Some same
+    ∙ sym (first_from 0 by text k within (begins_at by text k found.1)
+    (λ i less begins. found.0.before i (omega arith) less (occurs by text i (omega (arith, less, within)) begins)))
+
+pub found_within : (by text : List ℕ) (r : Option ℕ) → FindsNeedle text by 0 r → IfSome r (λ n. n ≤ length text)
+found_within by text None found = tt
+found_within by text (Some k) found = omega (arith, found.1.fits)
+
+pub ruleset found_rules = (found_first, found_within)
 
 -- ---- cuts
 

@@ -32,4 +32,3 @@ pub mod StartScripts
 pub mod Starts
 pub mod StepSame
 pub mod Stepping
-pub mod Turns

@@ -4,7 +4,7 @@ ghost use Rattle.std.specs.Prelude.{◌≡◌, ◌+◌, ◌<◌, ◌≤◌, ◌^
 ghost use Rattle.std.specs.Str.{IsCharBoundary};
 ghost use Rattle.sql_model.specs.Meaning.{or_null};
 ghost use Rattle.proc_core.specs.Types.{Text};
-ghost use Rattle.run_model.specs.StepVariables.{begins_with, first_place};
+ghost use Rattle.run_model.specs.StepVariables.{first_place};
 ghost use Rattle.proc_core.specs.inner.SlotVariables.{split_at_place, split_value, slot_cut, slot_cut_parts};
 ghost use Rattle.proc_core.specs.inner.Slots.{slot_value};
 
@@ -12,6 +12,7 @@ use crate::computed::WRONG_KIND;
 use crate::process::SlotProcess;
 use crate::variables::{value_at, variable_at};
 use ldv_value::{Utf8, Value};
+use memchr::memmem;
 use script_code::SlotOperand;
 use std::alloc::{AllocError, Global};
 
@@ -22,42 +23,14 @@ pub(crate) struct CutParts {
     pub after: Utf8,
 }
 
-// Whether a text begins with another.
-fn begins_with(by: &[u8], text: &[u8]) -> bool
-    ensures { result ≡ begins_with by.now text.now }
-{
-    let mut wanted = by;
-    let mut rest = text;
-    while let [first, others @ ..] = wanted {
-        match rest {
-            [] => return false,
-            [next, more @ ..] => {
-                if *first != *next {
-                    return false;
-                }
-                wanted = others;
-                rest = more;
-            }
-        }
-    }
-    true
-}
-
-// The first place where a text has another in it.
+// The first place where a text has another in it, which isn't empty. It takes time linear in both.
+#[tactic(auto, using(crate::proofs::CutPlaces::found_rules))]
 fn first_place(by: &[u8], text: &[u8]) -> Option<usize>
+    requires { 0 < length by.now }
     ensures place { result ≡ first_place 0 by.now text.now }
     ensures within { IfSome result (λ n. n ≤ length text.now) }
 {
-    let mut passed: usize = 0;
-    let mut rest = text;
-    while let [_first, others @ ..] = rest {
-        if begins_with(by, rest) {
-            return Some(passed);
-        }
-        passed += 1;
-        rest = others;
-    }
-    None
+    memmem::find(text, by)
 }
 
 // The parts of a text before and after another one that stands in it at a place; where it stands nowhere,

@@ -106,7 +106,7 @@ fn finish_open<T: Tracer>(
 fn refuse_open<T: Tracer>(
     found: bool,
     path: &Utf8,
-    place: u32,
+    place: usize,
     process: &mut SlotProcess,
     who: Who,
     tracer: &mut T,
@@ -125,7 +125,7 @@ fn open_there<T: Tracer>(
     slot: usize,
     mode: OpenMode,
     path: Utf8,
-    place: u32,
+    place: usize,
     process: &mut SlotProcess,
     tree: &mut Tree,
     who: Who,
@@ -162,7 +162,7 @@ fn open<T: Tracer>(
     slot: usize,
     mode: OpenMode,
     path: Option<Utf8>,
-    place: u32,
+    place: usize,
     process: &mut SlotProcess,
     tree: &mut Tree,
     who: Who,
@@ -216,7 +216,7 @@ pub(crate) fn open_to_write(process: &SlotProcess, slot: usize) -> Option<&SlotF
 }
 
 // Gives a variable the line that was read, goes on at the label at the end of the file, or ends by misuse.
-fn take_line(read: LineRead, to: usize, slot: usize, place: u32, process: &mut SlotProcess)
+fn take_line(read: LineRead, to: usize, slot: usize, place: usize, process: &mut SlotProcess)
     requires room { process.old.place + 1 < 2 ^ 64 }
     ensures { (file : OpenFile) → open_at slot process.old ≡ Some file
         → process.new ≡ slot_take_line read to slot file place process.old }
@@ -255,7 +255,13 @@ fn read<T: Tracer>(
 }
 
 // Takes what was read, or ends by misuse where the slot has no file that is open for reading.
-fn take_read(read: Option<LineRead>, to: usize, slot: usize, place: u32, process: &mut SlotProcess)
+fn take_read(
+    read: Option<LineRead>,
+    to: usize,
+    slot: usize,
+    place: usize,
+    process: &mut SlotProcess,
+)
     requires { process.old.place + 1 < 2 ^ 64 }
     ensures { (st : FileState) → IsReadBy (slot_open_for allows_read slot process.old) st read
         → process.new ≡ (slot_read_next (slot_open_for allows_read slot process.old) to slot place process.old
@@ -271,7 +277,7 @@ fn take_read(read: Option<LineRead>, to: usize, slot: usize, place: u32, process
 fn read_line<T: Tracer>(
     to: usize,
     slot: usize,
-    place: u32,
+    place: usize,
     process: &mut SlotProcess,
     tree: &Tree,
     who: Who,
@@ -355,7 +361,7 @@ fn write_line<T: Tracer>(
 /// `remove v else L`
 fn remove<T: Tracer>(
     path: Option<Utf8>,
-    place: u32,
+    place: usize,
     process: &mut SlotProcess,
     tree: &mut Tree,
     who: Who,
@@ -377,7 +383,7 @@ fn remove<T: Tracer>(
 
 fn remove_path<T: Tracer>(
     path: &Utf8,
-    place: u32,
+    place: usize,
     process: &mut SlotProcess,
     tree: &mut Tree,
     who: Who,

@@ -1,7 +1,12 @@
-//! The runtime: processes that run scripts over files and a database, under a scheduler. `specs/Stands.antt`
-//! says when a run is in a state of `run_model`.
+//! The runtime: processes that run scripts over files and a database, under a scheduler.
 //!
-//! What it promises stands in `docs/GUARANTEES.md`, how it works in `docs/ARCHITECTURE.md`.
+//! `specs/Stands.antt` says when a machine in memory represents a state of `run_model`. A process holds
+//! values by slot; each instruction is defined over slots in the files of `specs/inner` whose names begin
+//! with Slot. Lemmas (`OwnSame`, `FileSame`, `ReplySame`, `SpawnSame`, `AskSame`, and `StepSame` of all) say
+//! that a step over slots is the step that `run_model` defines. A `ReadySet` says of each process whether it
+//! is runnable.
+//!
+//! Entry: `to_end` in `src/run.rt`. Read first: `specs/Stands.antt`.
 #![tactic(auto)]
 
 mod ask;

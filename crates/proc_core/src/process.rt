@@ -56,10 +56,10 @@ impl SlotProcess {
 
     /// Goes on at the place of a label.
     #[inline(always)]
-    pub(crate) fn go_to(&mut self, place: u32)
+    pub(crate) fn go_to(&mut self, place: usize)
         ensures { self.new ≡ slot_went_to place self.old }
     {
-        self.place = place as usize;
+        self.place = place;
     }
 
     /// Gives a variable a value.

@@ -122,7 +122,7 @@ fn fetch_from(
     cursor: SlotCursor,
     slot: usize,
     to: &Slots,
-    place: u32,
+    place: usize,
     process: &mut SlotProcess,
 ) -> Result<(), AllocError>
     requires { process.old.place + 1 < 2 ^ 64 }
@@ -139,7 +139,7 @@ fn fetch_from(
 pub(crate) fn fetch(
     slot: usize,
     to: &Slots,
-    place: u32,
+    place: usize,
     process: &mut SlotProcess,
 ) -> Result<(), AllocError>
     requires { process.old.place + 1 < 2 ^ 64 }

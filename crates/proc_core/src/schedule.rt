@@ -1,11 +1,10 @@
 //! The scheduler: which process makes the next step.
 
-ghost use Rattle.std.specs.Prelude.{◌≡◌, ◌+◌, ◌<◌, ◌^◌, None, false, true, length, slice_get};
-ghost use Rattle.std.specs.Prelude.{slice_index_or};
+ghost use Rattle.std.specs.Prelude.{◌≡◌, ◌<◌, None, length, slice_get};
 ghost use Rattle.std.specs.Option.{option_map};
 ghost use Rattle.run_model.specs.Core.{Core};
 ghost use Rattle.proc_core.specs.inner.Flags.{runnable_flags};
-ghost use Rattle.ready_set.specs.Ready.{next_round, numbers};
+ghost use Rattle.ready_set.specs.Ready.{numbers};
 ghost use Rattle.run_model.specs.Schedule.{choose, core_after_choice, moved_x, at_random, pick_of};
 ghost use Rattle.proc_core.specs.inner.SlotStep.{slot_is_runnable, slot_waits_at, slot_waits_for};
 ghost use Rattle.proc_core.specs.inner.SlotStep.{slot_still_runs};
@@ -99,37 +98,13 @@ fn pick_random(ready: &ReadySet, x: u64) -> u32
     ready.pick_at(x >> 33)
 }
 
-// Whether the number after one is in the set.
-fn has_next(ready: &ReadySet, last: u32) -> bool
-    ensures few { result ≡ true → last < 2 ^ 30 }
-    ensures there { result ≡ true → slice_index_or ready.now.flags (last + 1) false ≡ true }
-{
-    if last < ready.made_count() {
-        ready.contains(last + 1)
-    } else {
-        false
-    }
-}
-
-// The number whose turn it is after one: the next, or else the first after it, which takes a search.
-fn pick_in_turn(ready: &ReadySet, last: u32) -> u32
-    requires { 0 < length (numbers ready.now.flags) }
-    ensures { result ≡ next_round last (numbers ready.now.flags) }
-{
-    if has_next(ready, last) {
-        last + 1
-    } else {
-        ready.pick_next(last)
-    }
-}
-
 // The number that the scheduler picks: by turns under seed 0, and at random under any other.
 fn pick_one(ready: &ReadySet, seed: u64, last: u32, x: u64) -> u32
     requires { 0 < length (numbers ready.now.flags) }
     ensures { result ≡ pick_of seed last x (numbers ready.now.flags) }
 {
     if seed == 0 {
-        pick_in_turn(ready, last)
+        ready.pick_next(last)
     } else {
         pick_random(ready, x)
     }

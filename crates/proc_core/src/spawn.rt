@@ -42,7 +42,7 @@ fn end_misused(machine: &mut Machine, number: usize)
 }
 
 // Lets the process of a number go on at the place of a label.
-fn go_to_at(place: u32, number: usize, processes: &mut Vec<SlotProcess>)
+fn go_to_at(place: usize, number: usize, processes: &mut Vec<SlotProcess>)
     requires { number < length processes.old.items }
     ensures { (r : SlotProcess) → slice_get processes.old.items number ≡ Some r
         → processes.new.items ≡ slice_set processes.old.items number (slot_went_to place r) }
@@ -52,7 +52,7 @@ fn go_to_at(place: u32, number: usize, processes: &mut Vec<SlotProcess>)
 }
 
 // The same in a machine, of which all else stays.
-fn jump_at(machine: &mut Machine, place: u32, number: usize)
+fn jump_at(machine: &mut Machine, place: usize, number: usize)
     requires { number < length machine.old.processes.items }
     ensures left { (r : SlotProcess) → slice_get machine.old.processes.items number ≡ Some r
         → machine.new.processes.items
@@ -68,7 +68,7 @@ fn refuse<T: Tracer>(
     who: Who,
     path: &Utf8,
     found: bool,
-    place: u32,
+    place: usize,
     tracer: &mut T,
 ) -> Result<(), AllocError>
     requires { who.number < length machine.old.processes.items }
@@ -165,7 +165,7 @@ fn spawn_path<T: Tracer>(
     child: usize,
     path: Utf8,
     arguments: Values,
-    place: u32,
+    place: usize,
     tracer: &mut T,
 ) -> Result<(), AllocError>
     requires says { slot_request_at machine.old who.number

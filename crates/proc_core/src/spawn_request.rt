@@ -20,7 +20,7 @@ pub(crate) struct SpawnRequest {
     pub child: usize,
     pub path: Option<Utf8>,
     pub arguments: Values,
-    pub place: u32,
+    pub place: usize,
 }
 
 fn request_of_instr(

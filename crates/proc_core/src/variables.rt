@@ -180,7 +180,7 @@ pub(crate) fn let_number(to: usize, value: &SlotOperand, process: &mut SlotProce
 }
 
 #[inline(always)]
-fn jump_where(jumps: bool, place: u32, process: &mut SlotProcess)
+fn jump_where(jumps: bool, place: usize, process: &mut SlotProcess)
     requires { process.old.place + 1 < 2 ^ 64 }
     ensures { process.new ≡ slot_jump_where jumps place process.old }
 {
@@ -209,7 +209,7 @@ pub(crate) fn jump_if(
     op: Cmp,
     left: &SlotOperand,
     right: &SlotOperand,
-    place: u32,
+    place: usize,
     process: &mut SlotProcess,
 )
     requires { process.old.place + 1 < 2 ^ 64 }

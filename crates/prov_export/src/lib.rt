@@ -1,6 +1,9 @@
 //! Graphs as provenance documents: JSON after PROV-JSON, in a profile of this project's own.
 //!
-//! What it promises stands in `docs/GUARANTEES.md`, how it works in `docs/ARCHITECTURE.md`.
+//! A document is read to a JSON value; nodes and edges are taken out of it by name; the graph is written
+//! anew and compared with the bytes. All look-ups are in maps.
+//!
+//! Entry: `write_prov` in `src/writing.rt`. Read first: `specs/Document.antt`.
 #![tactic(auto)]
 
 mod depending;
@@ -13,6 +16,7 @@ mod members;
 mod name_map;
 mod node_reading;
 mod objects;
+mod ordering;
 mod reading;
 mod relation;
 mod writing;

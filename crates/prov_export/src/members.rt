@@ -1,29 +1,15 @@
 //! Members of objects.
 
-ghost use Rattle.std.specs.Prelude.{◌≡◌, option_map, string_bytes, OnOk};
-ghost use Rattle.serde_json.specs.Data.{object, put};
+ghost use Rattle.std.specs.Prelude.{◌≡◌, option_map};
+ghost use Rattle.serde_json.specs.Data.{object};
 ghost use Rattle.serde_json.specs.Find.{get_member};
 ghost use Rattle.serde_json.specs.View.{view, members_view};
 ghost use Rattle.prov_export.specs.Reading.{members_at, number_at, text_at, time_at, time_of};
 
 use serde_json::{Map, Value};
-use std::alloc::AllocError;
 
 /// The members of an object.
 pub(crate) type Members = Map<String, Value>;
-
-/// Puts a member into an object, in place of the one that has its name.
-pub(crate) fn put_member(
-    members: &mut Members,
-    name: String,
-    value: Value,
-) -> Result<(), AllocError>
-    ensures { OnOk result (members_view members.new.entries
-        ≡ put (string_bytes name) (view value) (members_view members.old.entries)) }
-{
-    members.insert(name, value)?;
-    Ok(())
-}
 
 /// An object of these members.
 pub(crate) fn object_of(members: Members) -> Value

@@ -1,24 +1,59 @@
-//! The document of a graph.
+//! The document of a graph: its text, member by member.
 
-ghost use Rattle.std.specs.Prelude.{◌≡◌, ◌<◌, length, IfOk, OnOk, IsTrue};
-ghost use Rattle.serde_json.specs.Data.{string, no_members, put};
+ghost use Rattle.std.specs.Prelude.{◌≡◌, ◌++◌, length, string_bytes, true, false, IfOk, OnOk, IsTrue};
+ghost use Rattle.json.specs.Print.{quoted};
+ghost use Rattle.serde_json.specs.Data.{string, put};
 ghost use Rattle.serde_json.specs.View.{view, members_view};
-ghost use Rattle.trace_graph.specs.Graph.{are_between, is_between};
-ghost use Rattle.prov_export.specs.Document.{place_value, with_node, with_nodes, nodes_value, node_at, edge_relation};
-ghost use Rattle.prov_export.specs.Document.{edge_value, edge_members, with_edge, with_edges, edges_value};
-ghost use Rattle.prov_export.specs.Document.{all_edges, document, prov_text, edge_name};
-ghost use Rattle.prov_export.specs.Document.{relation_name, source_name, target_name};
+ghost use Rattle.serde_json.specs.Written.{comma_if, compact_text, has_float, members_text};
+ghost use Rattle.trace_graph.specs.Graph.{is_between};
+ghost use Rattle.prov_export.specs.Document.{place_value, nodes_value, edge_value, edge_members, edges_value};
+ghost use Rattle.prov_export.specs.Document.{prov_text, relation_name, source_name, target_name};
 ghost use Rattle.prov_export.specs.Ids.{node_id};
+ghost use Rattle.prov_export.specs.inner.Texts.{members_by, all_pass, member_text, name_text};
+ghost use Rattle.prov_export.specs.inner.Texts.{all_nodes_text, all_edges_text, edges_text};
+ghost use Rattle.prov_export.specs.Types.{Derived, Generated, Informed};
 
-use crate::ids::{edge_name, is_entity, is_kind, node_id};
-use crate::members::{Members, object_of, put_member};
-use crate::relation::{
-    Relation, is_relation, relation_name, relation_of, source_name, target_name,
-};
+use crate::ids::node_id;
+use crate::members::{Members, object_of};
+use crate::ordering::{EdgeEntries, NodeEntries, edge_entries, node_at, node_entries};
+use crate::relation::{Relation, relation_name, source_name, target_name};
 use ldv_value::Bytes;
 use serde_json::{Value, put};
 use std::alloc::{AllocError, Global};
 use trace_graph::{Edge, Graph, Node};
+
+// ---- values and names
+
+// Appends the text of a value.
+fn append_value(alloc: Global, value: &Value, to: &mut Bytes) -> Result<(), AllocError>
+    ensures { OnOk result (has_float (view value.now) ≡ false
+        → to.new ≡ to.old ++ compact_text (view value.now)) }
+{
+    let text = value.to_vec(alloc)?;
+    to.extend(text.as_slice())
+}
+
+fn append_comma(later: bool, to: &mut Bytes) -> Result<(), AllocError>
+    ensures { OnOk result (to.new ≡ to.old ++ comma_if later) }
+{
+    if later { to.extend(b",") } else { Ok(()) }
+}
+
+fn append_text(alloc: Global, text: String, to: &mut Bytes) -> Result<(), AllocError>
+    ensures { OnOk result (to.new ≡ to.old ++ quoted (string_bytes text)) }
+{
+    let value = Value::String(text);
+    append_value(alloc, &value, to)
+}
+
+// Appends a name with its colon, after a comma where a member stands before.
+fn append_name(alloc: Global, later: bool, name: String, to: &mut Bytes) -> Result<(), AllocError>
+    ensures { OnOk result (to.new ≡ to.old ++ name_text later (string_bytes name)) }
+{
+    append_comma(later, to)?;
+    append_text(alloc, name, to)?;
+    to.extend(b":")
+}
 
 // ---- nodes
 
@@ -30,75 +65,70 @@ fn place_value(alloc: Global, place: usize) -> Result<Value, AllocError>
     Ok(object_of(members))
 }
 
-fn put_node_there(
-    alloc: Global,
-    place: usize,
-    node: &Node,
-    members: &mut Members,
-) -> Result<(), AllocError>
-    ensures { OnOk result (members_view members.new.entries
-        ≡ put (node_id node.now) (place_value place) (members_view members.old.entries)) }
+fn append_place(alloc: Global, place: usize, to: &mut Bytes) -> Result<(), AllocError>
+    ensures { OnOk result (to.new ≡ to.old ++ compact_text (place_value place)) }
 {
-    let id = node_id(alloc, node)?;
     let value = place_value(alloc, place)?;
-    put_member(members, id, value)
+    append_value(alloc, &value, to)
 }
 
-fn put_node(
+fn append_node(
+    alloc: Global,
+    later: bool,
+    name: String,
+    place: usize,
+    to: &mut Bytes,
+) -> Result<(), AllocError>
+    ensures { OnOk result (to.new
+        ≡ to.old ++ member_text later (string_bytes name) (place_value place)) }
+{
+    append_name(alloc, later, name, to)?;
+    append_place(alloc, place, to)
+}
+
+fn append_each_node(alloc: Global, entries: NodeEntries, to: &mut Bytes) -> Result<(), AllocError>
+    ensures { OnOk result (to.new
+        ≡ to.old ++ members_text false (members_by place_value entries.entries)) }
+{
+    let mut later = false;
+    for (name, place) in entries {
+        append_node(alloc, later, name, place, to)?;
+        later = true;
+    }
+    to.extend(b"}")
+}
+
+fn append_node_object(
     alloc: Global,
     entity: bool,
-    place: usize,
-    node: &Node,
-    members: &mut Members,
+    nodes: &[Node],
+    to: &mut Bytes,
 ) -> Result<(), AllocError>
-    ensures { OnOk result (members_view members.new.entries
-        ≡ with_node entity place node.now (members_view members.old.entries)) }
+    ensures { OnOk result (to.new ≡ to.old ++ compact_text (nodes_value entity nodes.now)) }
 {
-    if is_kind(entity, node) {
-        put_node_there(alloc, place, node, members)
-    } else {
-        Ok(())
-    }
+    let entries = node_entries(alloc, entity, nodes)?;
+    to.extend(b"{")?;
+    append_each_node(alloc, entries, to)
 }
 
-// The nodes that are entities, where `entity` is true; else the activities.
-fn node_members(alloc: Global, entity: bool, nodes: &[Node]) -> Result<Members, AllocError>
-    ensures { IfOk result (λ members. members_view members.entries
-        ≡ with_nodes entity 0 nodes.now no_members) }
+// Appends the member of the entities, or where `entity` is false of the activities.
+fn append_nodes(
+    alloc: Global,
+    later: bool,
+    name: &str,
+    entity: bool,
+    graph: &Graph,
+    to: &mut Bytes,
+) -> Result<(), AllocError>
+    ensures { OnOk result (to.new
+        ≡ to.old ++ member_text later name.now (nodes_value entity graph.now.nodes)) }
 {
-    let mut members = Members::new(alloc);
-    let mut place = 0;
-    for node in nodes {
-        put_node(alloc, entity, place, node, &mut members)?;
-        place += 1;
-    }
-    Ok(members)
-}
-
-fn nodes_value(alloc: Global, entity: bool, nodes: &[Node]) -> Result<Value, AllocError>
-    ensures { IfOk result (λ value. view value ≡ nodes_value entity nodes.now) }
-{
-    let members = node_members(alloc, entity, nodes)?;
-    Ok(object_of(members))
+    let text = String::from_str(alloc, name)?;
+    append_name(alloc, later, text, to)?;
+    append_node_object(alloc, entity, graph.nodes().items(), to)
 }
 
 // ---- edges
-
-fn node_at(nodes: &[Node], place: usize) -> &Node
-    requires { place < length nodes.now }
-    ensures { result.now ≡ node_at nodes.now place }
-{
-    &nodes[place]
-}
-
-fn edge_relation(nodes: &[Node], edge: &Edge) -> Relation
-    requires { IsTrue (is_between (length nodes.now) edge.now) }
-    ensures { result ≡ edge_relation nodes.now edge.now }
-{
-    let source = is_entity(node_at(nodes, edge.source));
-    let target = is_entity(node_at(nodes, edge.target));
-    relation_of(source, target)
-}
 
 fn id_value(alloc: Global, node: &Node) -> Result<Value, AllocError>
     ensures { IfOk result (λ value. view value ≡ string (node_id node.now)) }
@@ -144,141 +174,130 @@ fn edge_members(
     Ok(members)
 }
 
-fn edge_value(
+fn append_edge_value(
     alloc: Global,
     relation: Relation,
     nodes: &[Node],
     edge: &Edge,
-) -> Result<Value, AllocError>
-    requires { IsTrue (is_between (length nodes.now) edge.now) }
-    ensures { IfOk result (λ value. view value ≡ edge_value relation nodes.now edge.now) }
+    to: &mut Bytes,
+) -> Result<(), AllocError>
+    requires { is_between (length nodes.now) edge.now ≡ true }
+    ensures { OnOk result (to.new ≡ to.old ++ compact_text (edge_value relation nodes.now edge.now)) }
 {
     let members = edge_members(alloc, relation, nodes, edge)?;
-    Ok(object_of(members))
+    let value = object_of(members);
+    append_value(alloc, &value, to)
 }
 
-fn put_edge_there(
+fn append_edge(
     alloc: Global,
     relation: Relation,
     nodes: &[Node],
-    number: usize,
-    edge: &Edge,
-    members: &mut Members,
+    later: bool,
+    name: String,
+    edge: Edge,
+    to: &mut Bytes,
 ) -> Result<(), AllocError>
-    requires { IsTrue (is_between (length nodes.now) edge.now) }
-    ensures { OnOk result (members_view members.new.entries
-        ≡ put (edge_name number) (edge_value relation nodes.now edge.now)
-        (members_view members.old.entries)) }
+    requires { is_between (length nodes.now) edge ≡ true }
+    ensures { OnOk result (to.new
+        ≡ to.old ++ member_text later (string_bytes name) (edge_value relation nodes.now edge)) }
 {
-    let name = edge_name(alloc, number as u128)?;
-    let value = edge_value(alloc, relation, nodes, edge)?;
-    put_member(members, name, value)
+    append_name(alloc, later, name, to)?;
+    append_edge_value(alloc, relation, nodes, &edge, to)
 }
 
-fn put_edge(
+fn append_each_edge(
     alloc: Global,
     relation: Relation,
     nodes: &[Node],
-    number: usize,
-    edge: &Edge,
-    members: &mut Members,
+    entries: EdgeEntries,
+    to: &mut Bytes,
 ) -> Result<(), AllocError>
-    requires { IsTrue (is_between (length nodes.now) edge.now) }
-    ensures { OnOk result (members_view members.new.entries
-        ≡ with_edge relation nodes.now number edge.now (members_view members.old.entries)) }
+    requires { all_pass (is_between (length nodes.now)) entries.entries ≡ true }
+    ensures { OnOk result (to.new
+        ≡ to.old ++ members_text false (members_by (edge_value relation nodes.now) entries.entries)) }
 {
-    if is_relation(relation, edge_relation(nodes, edge)) {
-        put_edge_there(alloc, relation, nodes, number, edge, members)
-    } else {
-        Ok(())
+    let mut later = false;
+    for (name, edge) in entries {
+        append_edge(alloc, relation, nodes, later, name, edge, to)?;
+        later = true;
     }
+    to.extend(b"}")
 }
 
-// The edges of a relation.
-fn relation_members(
+fn append_edge_object(
     alloc: Global,
     relation: Relation,
-    nodes: &[Node],
-    edges: &[Edge],
-) -> Result<Members, AllocError>
-    requires { IsTrue (are_between (length nodes.now) edges.now) }
-    ensures { IfOk result (λ members. members_view members.entries
-        ≡ with_edges relation nodes.now 0 edges.now no_members) }
+    graph: &Graph,
+    to: &mut Bytes,
+) -> Result<(), AllocError>
+    ensures { OnOk result (to.new ≡ to.old ++ compact_text (edges_value relation graph.now)) }
 {
-    let mut members = Members::new(alloc);
-    let mut number = 0;
-    for edge in edges {
-        put_edge(alloc, relation, nodes, number, edge, &mut members)?;
-        number += 1;
-    }
-    Ok(members)
+    let nodes = graph.nodes().items();
+    let entries = edge_entries(alloc, relation, nodes, graph.edges().items())?;
+    to.extend(b"{")?;
+    append_each_edge(alloc, relation, nodes, entries, to)
+}
+
+// Appends the member of a relation's edges, before which others stand.
+fn append_edges(
+    alloc: Global,
+    relation: Relation,
+    graph: &Graph,
+    to: &mut Bytes,
+) -> Result<(), AllocError>
+    ensures { OnOk result (to.new
+        ≡ to.old ++ member_text true (relation_name relation) (edges_value relation graph.now)) }
+{
+    let text = String::from_str(alloc, relation_name(relation))?;
+    append_name(alloc, true, text, to)?;
+    append_edge_object(alloc, relation, graph, to)
 }
 
 // ---- the document
 
-// Puts the entities, or where `entity` is false the activities, under a name.
-fn put_nodes(
-    alloc: Global,
-    name: &str,
-    entity: bool,
-    graph: &Graph,
-    members: &mut Members,
-) -> Result<(), AllocError>
-    ensures { OnOk result (members_view members.new.entries
-        ≡ put name.now (nodes_value entity graph.now.nodes) (members_view members.old.entries)) }
+// Appends the members of all nodes.
+fn append_all_nodes(alloc: Global, graph: &Graph, to: &mut Bytes) -> Result<(), AllocError>
+    ensures { OnOk result (to.new ≡ to.old ++ all_nodes_text graph.now) }
 {
-    let value = nodes_value(alloc, entity, graph.nodes().items())?;
-    put(members, alloc, name, value)
+    append_nodes(alloc, false, "activity", false, graph, to)?;
+    append_nodes(alloc, true, "entity", true, graph, to)
 }
 
-fn edges_value(alloc: Global, relation: Relation, graph: &Graph) -> Result<Value, AllocError>
-    ensures { IfOk result (λ value. view value ≡ edges_value relation graph.now) }
+// Appends the members of all edges.
+fn append_all_edges(alloc: Global, graph: &Graph, to: &mut Bytes) -> Result<(), AllocError>
+    ensures { OnOk result (to.new ≡ to.old ++ all_edges_text graph.now) }
 {
-    let nodes = graph.nodes().items();
-    let edges = graph.edges().items();
-    let members = relation_members(alloc, relation, nodes, edges)?;
-    Ok(object_of(members))
+    append_edges(alloc, Relation::Used, graph, to)?;
+    append_from_derived(alloc, graph, to)
 }
 
-// Puts the edges of a relation under its name.
-fn put_edges(
-    alloc: Global,
-    relation: Relation,
-    graph: &Graph,
-    members: &mut Members,
-) -> Result<(), AllocError>
-    ensures { OnOk result (members_view members.new.entries
-        ≡ put (relation_name relation) (edges_value relation graph.now) (members_view members.old.entries)) }
+// Appends the members of edges from `wasDerivedFrom` on.
+fn append_from_derived(alloc: Global, graph: &Graph, to: &mut Bytes) -> Result<(), AllocError>
+    ensures { OnOk result (to.new ≡ to.old ++ (edges_text Derived graph.now
+        ++ (edges_text Generated graph.now ++ edges_text Informed graph.now))) }
 {
-    let value = edges_value(alloc, relation, graph)?;
-    put(members, alloc, relation_name(relation), value)
+    append_edges(alloc, Relation::Derived, graph, to)?;
+    append_from_generated(alloc, graph, to)
 }
 
-fn all_edges(alloc: Global, graph: &Graph) -> Result<Members, AllocError>
-    ensures { IfOk result (λ members. members_view members.entries ≡ all_edges graph.now) }
+// Appends the members of edges from `wasGeneratedBy` on.
+fn append_from_generated(alloc: Global, graph: &Graph, to: &mut Bytes) -> Result<(), AllocError>
+    ensures { OnOk result (to.new
+        ≡ to.old ++ (edges_text Generated graph.now ++ edges_text Informed graph.now)) }
 {
-    let mut members = Members::new(alloc);
-    put_edges(alloc, Relation::Informed, graph, &mut members)?;
-    put_edges(alloc, Relation::Generated, graph, &mut members)?;
-    put_edges(alloc, Relation::Derived, graph, &mut members)?;
-    put_edges(alloc, Relation::Used, graph, &mut members)?;
-    Ok(members)
+    append_edges(alloc, Relation::Generated, graph, to)?;
+    append_edges(alloc, Relation::Informed, graph, to)
 }
 
-fn document(alloc: Global, graph: &Graph) -> Result<Value, AllocError>
-    ensures { IfOk result (λ value. view value ≡ document graph.now) }
-{
-    let mut members = all_edges(alloc, graph)?;
-    put_nodes(alloc, "entity", true, graph, &mut members)?;
-    put_nodes(alloc, "activity", false, graph, &mut members)?;
-    Ok(object_of(members))
-}
-
-/// The document of a graph, as compact JSON. `AllocError` means out of memory only.
+/// The document of a graph, as compact JSON. It takes little more memory than the text, the graph and the
+/// names of one object. `AllocError` means out of memory only.
 pub fn write_prov(alloc: Global, graph: &Graph) -> Result<Bytes, AllocError>
     ensures { IfOk result (λ text. text ≡ prov_text graph.now) }
 {
-    let document = document(alloc, graph)?;
-    let text = document.to_vec(alloc)?;
-    Ok(Bytes::of_vec(text))
+    let mut text = Bytes::of_slice(alloc, b"{")?;
+    append_all_nodes(alloc, graph, &mut text)?;
+    append_all_edges(alloc, graph, &mut text)?;
+    text.extend(b"}")?;
+    Ok(text)
 }

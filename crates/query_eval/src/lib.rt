@@ -1,7 +1,12 @@
-//! Queries, from FROM to LIMIT: picked combinations, answer rows of cores that don't group, merging, ORDER BY
-//! and LIMIT, each row with its lineage.
+//! Queries from FROM to LIMIT: joined rows, the answers of cores that don't group, DISTINCT and UNION, ORDER
+//! BY and LIMIT, each row with its lineage.
 //!
-//! What it promises stands in `docs/GUARANTEES.md`, how it works in `docs/ARCHITECTURE.md`.
+//! A source holds the rows of one table in FROM that can be in a joined row. If conditions fix its whole key
+//! by constants, the index of the table gives its one row. Else the conditions on single columns choose
+//! slots by scans, and only the rows left are copied. `proofs/StoredSourceLaws.antt` says why no row is
+//! lost, and `proofs/Levels.antt` why the steps of a join give the rows of the product in its order.
+//!
+//! Entry: `picked` in `src/picking.rt`. Read first: `specs/Picking.antt`.
 #![tactic(auto)]
 
 mod conditions;

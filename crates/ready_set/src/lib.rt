@@ -1,7 +1,9 @@
-//! A set of numbers that are made one after another, kept so that the next one in it is found in logarithmic
-//! time. The scheduler keeps the processes that may run in it.
+//! A set of numbers that are made one after another. The scheduler keeps the runnable processes in it.
 //!
-//! What it promises stands in `docs/GUARANTEES.md`, how it works in `docs/ARCHITECTURE.md`.
+//! A number costs eight to sixteen bytes. Each call but `reserve` takes logarithmic time; `reserve` doubles
+//! the room when it is full, in linear time.
+//!
+//! Entry: `pick_next` in `src/set.rt`. Read first: `specs/Ready.antt`.
 #![tactic(auto)]
 
 mod set;

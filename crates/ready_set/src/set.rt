@@ -127,35 +127,13 @@ impl ReadySet {
         self.len() == 0
     }
 
-    /// The number at an index of the sorted list of the numbers, from 0; `None` at and past its end.
-    pub fn nth(&self, k: u32) -> Option<u32>
-        ensures { result ≡ slice_get (numbers self.now.flags) k }
-    {
-        if k < self.len() {
-            Some(self.number_at(k))
-        } else {
-            None
-        }
-    }
-
-    /// The least number in the set above a number; `None` where there is none.
-    pub fn next_after(&self, last: u32) -> Option<u32>
-        ensures { result ≡ find (nat_lt last) (numbers self.now.flags) }
-    {
-        let next = last as usize + 1;
-        if next < self.made {
-            self.nth(self.count_before(next))
-        } else {
-            None
-        }
-    }
-
-    /// The least number in the set above one, or else the least of all.
+    /// The least number in the set above one, or else the least of all. Where it is the one after, this takes
+    /// no search.
     pub fn pick_next(&self, last: u32) -> u32
         requires { 0 < length (numbers self.now.flags) }
         ensures { result ≡ next_round last (numbers self.now.flags) }
     {
-        match self.next_after(last) {
+        match self.find_above(last) {
             Some(number) => number,
             None => self.number_at(0),
         }
@@ -167,6 +145,51 @@ impl ReadySet {
         ensures { result ≡ at_round (numbers self.now.flags) k }
     {
         self.number_at((k % u64::from(self.len())) as u32)
+    }
+
+    // The least number in the set above a number; `None` where there is none.
+    fn find_above(&self, last: u32) -> Option<u32>
+        ensures { result ≡ find (nat_lt last) (numbers self.now.flags) }
+    {
+        if self.has_next(last) {
+            Some(last + 1)
+        } else {
+            self.search_above(last)
+        }
+    }
+
+    // Whether the number after one is in the set.
+    fn has_next(&self, last: u32) -> bool
+        ensures few { result ≡ true → last < 2 ^ 30 }
+        ensures there { result ≡ true → slice_index_or self.now.flags (last + 1) false ≡ true }
+    {
+        if last < self.made_count() {
+            self.contains(last + 1)
+        } else {
+            false
+        }
+    }
+
+    fn search_above(&self, last: u32) -> Option<u32>
+        ensures { result ≡ find (nat_lt last) (numbers self.now.flags) }
+    {
+        let next = last as usize + 1;
+        if next < self.made {
+            self.get(self.count_before(next))
+        } else {
+            None
+        }
+    }
+
+    // The number at an index of the sorted list of the numbers, from 0; `None` at and past its end.
+    fn get(&self, k: u32) -> Option<u32>
+        ensures { result ≡ slice_get (numbers self.now.flags) k }
+    {
+        if k < self.len() {
+            Some(self.number_at(k))
+        } else {
+            None
+        }
     }
 
     // The number at an index of the sorted list.

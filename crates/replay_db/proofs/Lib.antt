@@ -22,8 +22,5 @@ pub mod OwnWorlds
 pub mod RecordedRuns
 mod RunsBetween
 mod RunTraces
-mod StatementRows
-mod RunRows
-mod InitialRows
 mod LoggedRuns
 mod TableDue

@@ -17,7 +17,7 @@ use Rattle.slicer.specs.InitialRows.{ReadsInitialRows}
 use Rattle.run_model.proofs.StartScripts.{has_script}
 use Rattle.replay_db.specs.Runs.{CanRun}
 use Rattle.replay_db.specs.Types.{File, Instr, Event, World}
-use Rattle.replay_db.proofs.InitialRows.{initial_rows_law}
+use Rattle.slicer.proofs.InitialRows.{initial_rows_law}
 use Rattle.replay_db.proofs.TraceValid.{traced}
 
 -- a file that is there has a valid path

@@ -10,6 +10,7 @@ use Rattle.run_model.specs.Package.{package_of, own_world}
 use Rattle.run_model.specs.Start.{start_script}
 use Rattle.run_model.specs.WorldRun.{ends_within, steps_by}
 use Rattle.package_codec.specs.Plain.{fits_version}
+use Rattle.package_codec.specs.Version.{version_of}
 use Rattle.package_layout.specs.Valid.{IsValidPackage}
 use Rattle.package_codec.specs.declared.version.Version.{Version}
 use Rattle.package_layout.specs.Whole.{spelling_as, IsTyped}
@@ -18,6 +19,7 @@ use Rattle.replay_db.specs.declared.soundness.Verdict.{Verdict}
 use Rattle.replay_db.specs.declared.soundness.Verdict.TheVariants.{Sound, Unsound}
 use Rattle.replay_db.specs.declared.soundness.AuditStop.{AuditStop}
 use Rattle.replay_db.specs.declared.soundness.AuditStop.TheVariants.{NotEnded, TooLong, NoMemory}
+pub use Rattle.value_laws.specs.Fitting.{fits_world, OwnFittingLaw}
 
 -- ---- the verdict
 
@@ -33,6 +35,10 @@ recorded_spelling budget version w = spelling_as version (package_of Included bu
 -- what is due of a package in a version: that of its own world
 abbrev pub own_spelling : ℕ → Version → Package → List ℕ
 own_spelling budget version p = recorded_spelling budget version (own_world p)
+
+-- the version that bytes begin as has the tables of a world, as it has those of the package that they spell
+abbrev pub HasTables : List ℕ → World → Type 0
+HasTables bytes w = (version : Version) → version_of bytes ≡ Some version → IsTrue (fits_world version w)
 
 -- ---- what an audit comes to
 

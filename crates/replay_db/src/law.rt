@@ -1,24 +1,19 @@
 //! The laws of packages: what they have of a world, that they are valid, and that they are found sound.
 
-ghost use Rattle.replay_db.specs.Laws.{MembershipLaw, InitialRowsLaw};
+ghost use Rattle.replay_db.specs.Laws.{MembershipLaw};
 ghost use Rattle.replay_db.specs.Auditing.{SoundLaw, RecordedSoundLaw, OwnSoundLaw};
 ghost use Rattle.replay_db.specs.Runs.{WorldRunsLaw, OwnRunsLaw, OwnWorldLaw};
 ghost use Rattle.replay_db.specs.Worlds.{WorldTablesLaw, ValidPackageLaw, TypedPackageLaw};
+ghost use Rattle.value_laws.specs.Fitting.{OwnFittingLaw};
 
 use package_layout::round_trip_law;
 use run_model::world_events_law;
-use value_laws::steps_law;
+use value_laws::{fitting_law, steps_law};
 
 /// Of worlds that meet the rules, that one lies between the slice of a run and its world is said by what is
 /// in it as by what was cut. The function has no body: its contract is the theorem.
 pub fn members_law()
     ensures { MembershipLaw }
-{}
-
-/// A run's events read each initial row first as it was at first, and make none of them. The function has no
-/// body: its contract is the theorem.
-pub fn initial_rows_law()
-    ensures { InitialRowsLaw }
 {}
 
 /// The package of a valid world's run that has ended is itself valid, so its spelling is read back as it,
@@ -32,7 +27,10 @@ pub fn package_law()
     ensures runs { WorldRunsLaw }
     ensures own_runs { OwnRunsLaw }
     ensures own_world { OwnWorldLaw }
+    // Of each version that has the package.
+    ensures own_tables { OwnFittingLaw }
 {
+    fitting_law();
     steps_law();
     world_events_law();
 }

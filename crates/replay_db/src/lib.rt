@@ -1,6 +1,6 @@
 //! Worlds run, recorded and replayed over the engine, audits of packages, and why a package is enough.
 //!
-//! What it promises stands in `docs/GUARANTEES.md`, how it works in `docs/ARCHITECTURE.md`.
+//! Entry: `record_world` in `src/record.rt`. Read first: `specs/Runs.antt`.
 #![tactic(auto)]
 
 mod copy;
@@ -19,11 +19,11 @@ mod table;
 mod trace;
 
 pub use error::EndStop;
-pub use law::{audit_law, initial_rows_law, members_law, package_law};
+pub use law::{audit_law, members_law, package_law};
 pub use own::{own_parsed_world, own_world, own_world_of};
 pub use record::{record_parsed, record_world};
 pub use recorder::Recorder;
-pub use replay::{replay_included, replay_included_parsed};
+pub use replay::{replay_included, replay_included_parsed, replay_included_read};
 pub use run::{run_parsed, run_world};
 pub use soundness::{AuditStop, Verdict, audit, audit_parsed};
 pub use start::parsed_world;

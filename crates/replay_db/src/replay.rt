@@ -3,6 +3,7 @@
 ghost use Rattle.std.specs.Prelude.{◌≡◌, ◌≤◌, Some};
 ghost use Rattle.ldv_value.specs.Gives.{Gives};
 ghost use Rattle.ldv_value.specs.Limits.{max_steps};
+ghost use Rattle.package_layout.specs.StartScript.{StartsWith};
 ghost use Rattle.run_model.specs.Package.{own_world};
 ghost use Rattle.run_model.specs.Start.{start_script};
 ghost use Rattle.run_model.specs.WorldRun.{outcome_within};
@@ -11,6 +12,7 @@ ghost use Rattle.replay_db.specs.Runs.{CanRun, Stops};
 use crate::error::EndStop;
 use crate::own::{own_parsed_world, own_world};
 use crate::run::{run_owned, run_parsed};
+use package_codec::{CompactPackage, ParsedPackage};
 use run_model::{Outcome, Package};
 use script_parse::Script;
 use std::alloc::Global;
@@ -44,4 +46,21 @@ pub fn replay_included_parsed(
 {
     let own = own_parsed_world(alloc, package, script)?;
     run_parsed(alloc, own, budget)
+}
+
+/// The outcome of the run of an included package's own world, as of `replay_included_parsed`, from all that
+/// was read of the package. The runs of its trace and its number of steps are let go unseen.
+pub fn replay_included_read(
+    alloc: Global,
+    parsed: ParsedPackage,
+    budget: u32,
+) -> Result<Outcome, EndStop>
+    requires can_run { CanRun (own_world parsed.cut.bare) }
+    requires parsed { StartsWith parsed }
+    requires bounded { budget ≤ max_steps }
+    ensures { Gives Stops result (outcome_within budget (own_world parsed.cut.bare)) }
+{
+    let ParsedPackage { cut, script } = parsed;
+    let CompactPackage { bare, runs: _ } = cut;
+    replay_included_parsed(alloc, bare, script, budget)
 }

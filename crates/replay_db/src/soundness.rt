@@ -1,14 +1,15 @@
 //! The audit of a package: whether it is that of its own world's run.
 
-ghost use Rattle.std.specs.Prelude.{◌≡◌, ◌≤◌, ◌+◌, Some, length, drop, nat_eq, IfOk, IsSome};
+ghost use Rattle.std.specs.Prelude.{◌≡◌, ◌≤◌, ◌+◌, Some, length, drop, nat_eq, IfOk, IsSome, IsTrue};
 ghost use Rattle.std.specs.List.{common_prefix_len};
 ghost use Rattle.ldv_value.specs.Limits.{max_steps};
 ghost use Rattle.package_codec.specs.Version.{version_of};
 ghost use Rattle.package_codec.specs.declared.version.Version.{Version};
 ghost use Rattle.run_model.specs.Package.{own_world};
 ghost use Rattle.run_model.specs.Start.{IsParsed};
-ghost use Rattle.replay_db.specs.Auditing.{Audits, AuditsWorld, verdict_on};
+ghost use Rattle.replay_db.specs.Auditing.{Audits, AuditsWorld, HasTables, verdict_on};
 ghost use Rattle.replay_db.specs.Runs.{CanRun};
+ghost use Rattle.value_laws.specs.Fitting.{fits_world};
 
 use crate::error::EndStop;
 use crate::own::parsed_copy;
@@ -17,6 +18,7 @@ use package_codec::{Version, version_of};
 use package_layout::{SpellStop, spell_as};
 use run_model::{Mode, Package, ParsedWorld};
 use std::alloc::{AllocError, Global};
+use value_laws::fitting_law;
 
 /// What an audit says of a package.
 #[derive(Clone, Copy, Debug, PartialEq, Eq)]
@@ -63,8 +65,8 @@ fn verdict_on(bytes: &[u8], due: &[u8]) -> Verdict
 }
 
 /// Compares the bytes of an included package with those of the package of its own world's run, within a
-/// budget of at most 10,000,000 steps. The bytes have a version, and that package is spelled in it. Nothing
-/// of the recorded trace is looked at.
+/// budget of at most 10,000,000 steps. The bytes have a version, which has the package's tables, and the
+/// package of that run is spelled in it. Nothing of the recorded trace is looked at.
 ///
 /// `NotEnded` comes exactly where that run hasn't ended after these steps, and `TooLong` exactly where it
 /// has and its package has more than 67,108,864 bytes in that version.
@@ -77,6 +79,7 @@ pub fn audit(
     requires can_run { CanRun (own_world «package».now) }
     requires bounded { budget ≤ max_steps }
     requires versioned { IsSome (version_of bytes.now) }
+    requires fits { HasTables bytes.now (own_world «package».now) }
     ensures { (version : Version) → version_of bytes.now ≡ Some version
         → Audits budget version «package».now bytes.now result }
 {
@@ -97,6 +100,7 @@ pub fn audit_parsed(
     requires parsed { IsParsed own.now }
     requires bounded { budget ≤ max_steps }
     requires versioned { IsSome (version_of bytes.now) }
+    requires fits { HasTables bytes.now own.now.world }
     ensures { (version : Version) → version_of bytes.now ≡ Some version
         → AuditsWorld budget version own.now.world bytes.now result }
 {
@@ -116,8 +120,10 @@ fn audit_as(
     requires can_run { CanRun own.now.world }
     requires parsed { IsParsed own.now }
     requires bounded { budget ≤ max_steps }
+    requires fits { IsTrue (fits_world version own.now.world) }
     ensures { AuditsWorld budget version own.now.world bytes.now result }
 {
+    fitting_law();
     let package = match record_parsed(alloc, own, Mode::Included, budget) {
         Ok(package) => package,
         Err(EndStop::NotEnded) => return Err(AuditStop::NotEnded),

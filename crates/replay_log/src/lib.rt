@@ -1,7 +1,9 @@
-//! The run of a package over its recorded replies: a process that asks what it asked in the recorded run gets
-//! the reply that it got there.
+//! The run of a package over its recorded replies: a process that asks what it asked in the recorded run
+//! gets the reply that it got there.
 //!
-//! What it promises stands in `docs/GUARANTEES.md`, how it works in `docs/ARCHITECTURE.md`.
+//! A question takes a logarithm of the number of processes and one comparison with the recorded one.
+//!
+//! Entry: `replay_parsed` in `src/replay.rt`. Read first: `specs/Replays.antt`.
 #![tactic(auto)]
 
 mod copies;

@@ -1,7 +1,8 @@
-//! Version chains: every value that a row ever had, and since when. A caller that must not fail half way
-//! makes room by `reserve` first; `end` never takes any.
+//! Version chains: every value that a row ever had, and since when.
 //!
-//! What it promises stands in `docs/GUARANTEES.md`, how it works in `docs/ARCHITECTURE.md`.
+//! A caller that must not fail half way calls `reserve` first. `end` takes no memory.
+//!
+//! Entry: `as_of` in `src/chain.rt`. Read first: `specs/History.antt`.
 #![tactic(auto)]
 
 mod chain;

@@ -4,7 +4,7 @@ use Rattle.std.specs.Fmt.{digits}
 use Rattle.run_model.specs.declared.name.ProcName.{ProcName}
 use Rattle.joined_data.specs.declared.joined.ClashKind.TheVariants as kinds
 use Rattle.package_layout.specs.declared.damage.DamageKind.TheVariants.{Magic, Digest, Form}
-use Rattle.world_json.specs.declared.fault.WorldFault.TheVariants.{NotJson, Shape, Name, Limit, RowType, NotNull, Key, NoStart, BadScript}
+use Rattle.world_json.specs.declared.fault.WorldFault.TheVariants.{NotJson, Shape, Name, Limit, RowType, NotNull, Key, Reference, NoStart, BadScript}
 use Rattle.ldv_top.specs.declared.exit.Exit.{Exit}
 use Rattle.ldv_top.specs.declared.exit.Exit.TheVariants.{Done, Usage, ReadFault, WriteFault, TooLong, NotWorld, NotEnded, Damaged, Diverged, NoSuch, NoMemory, PackageTooLong, NotPrivate, NotProv, Clash}
 use Rattle.ldv_top.specs.Exits.{status_of, line_of}
@@ -72,6 +72,9 @@ not_null = (refl, refl)
 
 key : Ends (NotWorld Key) 6 (codes "ldv: not a world: key\n")
 key = (refl, refl)
+
+reference : Ends (NotWorld Reference) 6 (codes "ldv: not a world: reference\n")
+reference = (refl, refl)
 
 no_start : Ends (NotWorld NoStart) 6 (codes "ldv: not a world: no start\n")
 no_start = (refl, refl)

@@ -5,4 +5,6 @@
 //! It has no code and promises nothing to other crates. Its lemmas (`proofs/`) are checked against the
 //! definitions of `run_model` and of `ldv_top`, so that a definition which comes to mean something else is
 //! refused here. Each expected value was worked out by hand from the rule that stands above it.
+//!
+//! Read first: `proofs/WorkedSchedules.antt`.
 #![tactic(auto)]

@@ -28,6 +28,7 @@ pub mod SqlAnswers
 pub mod StatementNames
 pub mod StatementSame
 pub mod StatementVersions
+pub mod StepKinds
 pub mod StepTrails
 pub mod TableSteps
 pub mod Targets

@@ -1,7 +1,7 @@
-//! Worlds, runs, events, packages and outcomes. A run is defined over any database; SQL over tables is one
+//! Worlds, runs, events, packages and outcomes. A run is defined over any database: SQL over tables is one
 //! (`specs/SqlDatabase.antt`), recorded replies are another (`specs/LogDatabase.antt`).
 //!
-//! What it promises stands in `docs/GUARANTEES.md`, how it works in `docs/ARCHITECTURE.md`.
+//! Entry: `outcome_text` in `src/text.rt`. Read first: `specs/Run.antt`.
 #![tactic(auto)]
 
 mod database;

@@ -15,6 +15,10 @@ const OUTCOME: &str = "outcome 1 0\nprocess 0 0 0 0\n\n";
 const ASKING: &[u8] = br#"{"start":["main"],"files":{"main":"sql q \"SELECT a FROM t\"\n"},
     "tables":{"t":{"columns":[["a","INT"]],"rows":[[7]]}}}"#;
 
+// A world whose run writes a path, which then depends on something.
+const WRITING: &[u8] = br#"{"start":["main"],
+    "files":{"main":"open f w \"out\" else x\nwrite f 1\nx:\n"}}"#;
+
 // More calls than any of the runs below makes.
 const CALLS: u64 = 1_000;
 
@@ -239,7 +243,7 @@ fn one_write_of_a_generated_world_fails(rt: HostRuntime) -> Result<(), Fail> {
     Ok(())
 }
 
-fn commands_on_packages() -> [&'static str; 9] {
+fn commands_on_packages() -> [&'static str; 10] {
     [
         "replay",
         "table t 0",
@@ -250,6 +254,7 @@ fn commands_on_packages() -> [&'static str; 9] {
         "inspect depends main",
         "audit",
         "migrate",
+        "prov",
     ]
 }
 
@@ -264,7 +269,21 @@ fn one_call_on_a_package_fails(rt: HostRuntime) -> Result<(), Fail> {
 #[test]
 fn one_call_on_recorded_replies_fails(rt: HostRuntime) -> Result<(), Fail> {
     let package = written_bytes(&rt, rt.alloc(), "record --excluded", ASKING)?;
-    every_command(&rt, rt.alloc(), &["replay", "migrate"], package.as_slice())?;
+    let commands = ["replay", "replay --seed 7", "migrate"];
+    every_command(&rt, rt.alloc(), &commands, package.as_slice())?;
+    Ok(())
+}
+
+// The provenance document of a run that writes a path.
+fn provenance(rt: &impl Abort, alloc: Global) -> Result<Vec<u8>, AllocError> {
+    let package = written_bytes(rt, alloc, "record", WRITING)?;
+    written_bytes(rt, alloc, "prov", package.as_slice())
+}
+
+#[test]
+fn one_call_on_a_provenance_document_fails(rt: HostRuntime) -> Result<(), Fail> {
+    let document = provenance(&rt, rt.alloc())?;
+    every_call(&rt, rt.alloc(), "prov depends out", document.as_slice())?;
     Ok(())
 }
 
@@ -276,7 +295,8 @@ fn pair_of_packages(rt: &impl Abort, alloc: Global) -> Result<Vec<u8>, AllocErro
 
 fn every_call_on_joined(rt: &impl Abort, alloc: Global, pair: &[u8]) -> Result<(), AllocError> {
     let joined = written_bytes(rt, alloc, "join", pair)?;
-    every_call(rt, alloc, "replay --run 2", joined.as_slice())
+    let commands = ["replay --run 1", "replay --run 2"];
+    every_command(rt, alloc, &commands, joined.as_slice())
 }
 
 fn every_call_on_pair(rt: &impl Abort, alloc: Global, pair: &[u8]) -> Result<(), AllocError> {

@@ -1,12 +1,12 @@
-//! Tests of what neither a proof nor a case of bytes shows: sizes, streams that fail, graphs of traces, and
-//! calls that no command makes.
+//! Tests of runs, packages and the program, of what neither a proof nor a case of bytes shows.
 //!
-//! It has the tests of runs, packages and the program, and `library_tests` those of the libraries up to the
-//! engine. Neither has any code but tests, so that no library is proved twice for its tests; they are two so
-//! that the gate proves the other one while the upper libraries are. What bytes can show belongs into the
-//! cases of `conformance`. What is expected was worked out by hand.
+//! They cover sizes, streams that fail, graphs of traces, and calls that no command makes. What bytes can
+//! show belongs into the cases of `conformance`, and `library_tests` has the tests of the libraries up to
+//! the engine. What is expected was worked out by hand.
 #![tactic(auto)]
 
+#[cfg(test)]
+mod between;
 #[cfg(test)]
 mod copies;
 #[cfg(test)]

@@ -10,14 +10,15 @@ ghost use Rattle.replay_db.specs.Runs.{CanRun};
 
 use crate::worlds::world_of_text;
 use file_tree::Tree;
+use free_order::{OrderStop, replay_other_seed};
 use ldv_value::{Bytes, Files, Parts, RowList, Utf8, Value, Values, is_strictly_sorted};
 use package_layout::{read_package, spell};
 use proc_core::Run;
 use replay_db::{Recorder, package_law, record_world, replay_included, table_at};
 use replay_log::{ReplyLog, can_replay_law, replay_excluded, replay_seeded};
 use run_model::{
-    Act, Database, Entries, Entry, Event, Events, ListTracer, Log, Logs, Mode, Package, ProcName,
-    World,
+    Act, Database, Entries, Entry, Event, Events, ListTracer, Log, Logs, Mode, Outcome, Package,
+    ProcName, World, outcome_text,
 };
 use sql_model::Reply;
 use std::alloc::{AllocError, Global};
@@ -387,6 +388,40 @@ fn is_replayed_by_seed(alloc: Global, package: &Package, seed: u64) -> bool
     }
 }
 
+// What comes of the run of WORLD by any seed, by hand: no process changes a path.
+const OUTCOME: &[u8] = b"outcome 2 0\n\
+process 0 0 0 2\n\nrows 1\nrow 1\ntext 1\na\nchanged 2\n\
+process 0.0 0 0 1\n\nrows 1\nrow 1\nint 2\n";
+
+fn is_outcome(alloc: Global, outcome: &Outcome) -> bool {
+    match outcome_text(alloc, outcome) {
+        Ok(text) => text.as_slice() == OUTCOME,
+        Err(_) => false,
+    }
+}
+
+// Whether a package is replayed so in another order of its steps.
+fn is_replayed_in_another_order(alloc: Global, package: &Package, seed: u64) -> bool
+    requires { IsValidPackage «package».now }
+{
+    can_replay_law();
+    match replay_other_seed(alloc, package, seed, BUDGET) {
+        Ok(outcome) => is_outcome(alloc, &outcome),
+        Err(_) => false,
+    }
+}
+
+// Whether it is refused an order, since it has rows.
+fn is_not_private(alloc: Global, package: &Package) -> bool
+    requires { IsValidPackage «package».now }
+{
+    can_replay_law();
+    match replay_other_seed(alloc, package, 7, BUDGET) {
+        Err(OrderStop::NotPrivate) => true,
+        _ => false,
+    }
+}
+
 // Whether the run of a package's own world has two.
 fn is_run(alloc: Global, package: &Package) -> bool
     requires typed { IsTyped «package».now }
@@ -426,6 +461,21 @@ fn replays_a_package_that_stays(rt: HostRuntime) -> Result<(), Fail> {
     let package = read_recorded(&rt, rt.alloc(), Mode::Excluded);
     assert!(rt; is_replayed(rt.alloc(), &package));
     assert!(rt; is_replayed_by_seed(rt.alloc(), &package, 7));
+    Ok(())
+}
+
+#[test]
+fn replays_in_another_order(rt: HostRuntime) -> Result<(), Fail> {
+    let package = read_recorded(&rt, rt.alloc(), Mode::Excluded);
+    assert!(rt; is_replayed_in_another_order(rt.alloc(), &package, 0));
+    assert!(rt; is_replayed_in_another_order(rt.alloc(), &package, 7));
+    Ok(())
+}
+
+#[test]
+fn gives_no_other_order_to_a_package_with_rows(rt: HostRuntime) -> Result<(), Fail> {
+    let package = read_recorded(&rt, rt.alloc(), Mode::Included);
+    assert!(rt; is_not_private(rt.alloc(), &package));
     Ok(())
 }
 

@@ -56,14 +56,14 @@ pub enum OwnInstr {
     },
     /// `goto L`
     Jump {
-        place: u32,
+        place: usize,
     },
     /// `if v = w goto L`, and the other comparisons
     JumpIf {
         op: Cmp,
         left: SlotOperand,
         right: SlotOperand,
-        place: u32,
+        place: usize,
     },
     /// `print v v*`
     Print {
@@ -81,7 +81,7 @@ pub enum OwnInstr {
     Fetch {
         cursor: usize,
         to: Slots,
-        place: u32,
+        place: usize,
     },
     /// `count x c`
     Count {
@@ -103,13 +103,13 @@ pub enum FileInstr {
         file: usize,
         mode: OpenMode,
         path: SlotOperand,
-        place: u32,
+        place: usize,
     },
     /// `readline x f else L`
     ReadLine {
         to: usize,
         file: usize,
-        place: u32,
+        place: usize,
     },
     /// `write f v v*`
     WriteLine {
@@ -124,7 +124,7 @@ pub enum FileInstr {
     /// `remove v else L`
     Remove {
         path: SlotOperand,
-        place: u32,
+        place: usize,
     },
     /// `exists x v`
     Exists {
@@ -146,7 +146,7 @@ pub enum SlotInstr {
         child: usize,
         path: SlotOperand,
         arguments: SlotOperands,
-        place: u32,
+        place: usize,
     },
     /// `wait x p`
     Wait {

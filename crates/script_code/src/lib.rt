@@ -1,7 +1,10 @@
-//! Scripts as a machine runs them: the instructions of a parsed script with a slot for each of its names, and
-//! the table of those names.
+//! Scripts as a machine runs them: the instructions of a parsed script with a slot for each of its names,
+//! and the table of those names.
 //!
-//! What it promises stands in `docs/GUARANTEES.md`, how it works in `docs/ARCHITECTURE.md`.
+//! A script is resolved when it is read, in one walk. Variables, files, cursors and children have slots of
+//! their own, each kind from 0.
+//!
+//! Entry: `read_code` in `src/read.rt`. Read first: `specs/Resolved.antt`.
 #![tactic(auto)]
 
 mod code;

@@ -193,7 +193,7 @@ fn jump_if_instr(
     op: Cmp,
     left: &Operand,
     right: &Operand,
-    place: u32,
+    place: usize,
 ) -> Result<SlotInstr, AllocError>
     ensures slotted { IfOk result (Resolves scope.new (named.JumpIf op left.now right.now place)) }
     ensures keeps { OnOk result (KeepsAll scope.old scope.new) }
@@ -235,7 +235,7 @@ fn open_instr(
     file: &Utf8,
     mode: OpenMode,
     path: &Operand,
-    place: u32,
+    place: usize,
 ) -> Result<SlotInstr, AllocError>
     ensures slotted { IfOk result (Resolves scope.new (named.OpenPath file.now mode path.now place)) }
     ensures keeps { OnOk result (KeepsAll scope.old scope.new) }
@@ -256,7 +256,7 @@ fn read_line_instr(
     scope: &mut Scope,
     to: &Utf8,
     file: &Utf8,
-    place: u32,
+    place: usize,
 ) -> Result<SlotInstr, AllocError>
     ensures slotted { IfOk result (Resolves scope.new (named.ReadLine to.now file.now place)) }
     ensures keeps { OnOk result (KeepsAll scope.old scope.new) }
@@ -308,7 +308,7 @@ fn remove_instr(
     alloc: Global,
     scope: &mut Scope,
     path: &Operand,
-    place: u32,
+    place: usize,
 ) -> Result<SlotInstr, AllocError>
     ensures slotted { IfOk result (Resolves scope.new (named.Remove path.now place)) }
     ensures keeps { OnOk result (KeepsAll scope.old scope.new) }
@@ -341,7 +341,7 @@ fn spawn_instr(
     child: &Utf8,
     path: &Operand,
     arguments: &Operands,
-    place: u32,
+    place: usize,
 ) -> Result<SlotInstr, AllocError>
     ensures slotted { IfOk result (Resolves scope.new (named.Spawn child.now path.now arguments.now place)) }
     ensures keeps { OnOk result (KeepsAll scope.old scope.new) }
@@ -395,7 +395,7 @@ fn fetch_instr(
     scope: &mut Scope,
     cursor: &Utf8,
     to: &Names,
-    place: u32,
+    place: usize,
 ) -> Result<SlotInstr, AllocError>
     ensures slotted { IfOk result (Resolves scope.new (named.Fetch cursor.now to.now place)) }
     ensures keeps { OnOk result (KeepsAll scope.old scope.new) }

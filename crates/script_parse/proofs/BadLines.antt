@@ -1,6 +1,6 @@
 -- The line that is reported is the least line that is bad by the grammar.
 use Rattle.std.proofs.Common.{◌≡◌, ◌≢◌, ◌⊎◌, ℕ, suc, ◌+◌, ◌<◌, ◌≤◌, List, [], ◌∷◌, ◌++◌, length, refl, sym, ap, ◌∙◌, subst, cond, Bool, true, false, inl, inr, Some, None, arith, add-zero, is_some}
-use Rattle.std.specs.Prelude.{Option, IsUtf8, codes, option_to_list, Result, Ok, Err, IfOk, IfErr}
+use Rattle.std.specs.Prelude.{◌==◌, ◌&&◌, Option, IsUtf8, codes, option_to_list, Result, Ok, Err, IfOk, IfErr}
 use Rattle.std.specs.Str.{is_utf8}
 use Rattle.std.proofs.lemmas.Bool.{cases_Bool, cases_lt, eq-eqb, false≢true}
 use Rattle.std.proofs.lemmas.Str.{IsUtf8-from_is_utf8, is_utf8-from_IsUtf8}
@@ -21,8 +21,8 @@ use Rattle.script_parse.specs.declared.parse.ScriptStop.TheVariants.{Line as Lin
 use Rattle.ldv_value.specs.Options.{◌>>=◌, only_if}
 use Rattle.script_parse.specs.Names.{is_text}
 use Rattle.script_parse.specs.Tokens.{tokens_of}
-use Rattle.script_parse.specs.Lines.{lines_of, form_of, is_comment, line_of}
-use Rattle.script_parse.specs.Script.{entry_of, entries_from, labels_from, definition_of, with_place, is_first, resolve, resolve_line, instructions_of, first_unresolved_line, look_up, script_of, first_bad_line, IfLine}
+use Rattle.script_parse.specs.Lines.{lines_of, starts_with_feed, grow, form_of, is_comment, line_of}
+use Rattle.script_parse.specs.Script.{entry_of, entries_from, entries_of, labels_from, definition_of, with_place, is_first, resolve, resolve_line, instructions_of, first_unresolved_line, look_up, script_of, first_bad_line, IfLine}
 use Rattle.script_parse.specs.Grammar.{Blank, Names, Does, IsScript}
 use Rattle.script_parse.specs.BadLine.{Anywhere, HasAForm, Defines, IsDefined, Uses, IsBadLine, IsBad, IsFirstBad, IsFirstBadLine}
 use Rattle.ldv_value.proofs.Cases.{cases-option}
@@ -348,6 +348,39 @@ first_complete bytes n (lines, are, (bad, least)) =
     let below : n ≤ first_bad_line bytes = least (first_bad_line bytes) (subst (λ (k : List (List ℕ)). IsBad k (first_bad_line bytes)) same first.0) in
     (none, omega (arith, above, below))
 
+-- WITHIN THE BYTES
+
+grown_within : (b : ℕ) (lines : List (List ℕ)) → length (grow b lines) ≤ suc (length lines)
+grown_within b [] = omega arith
+grown_within b (line ∷ lines) = omega arith
+
+-- each line is a byte at least
+lines_within : (bytes : List ℕ) → length (lines_of bytes) ≤ length bytes
+lines_within [] = omega arith
+lines_within (b ∷ bs) = elim (cases_Bool (b == 10)) [
+  | inl hit ↦
+      let one : lines_of (b ∷ bs) ≡ [] ∷ lines_of bs = rw hit refl in
+      omega (arith, ap length one, lines_within bs)
+  | inr miss ↦ elim (cases_Bool (b == 13 && starts_with_feed bs)) [
+    | inl return ↦
+        let none : lines_of (b ∷ bs) ≡ lines_of bs = rw (miss, return) refl in
+        omega (arith, ap length none, lines_within bs)
+    | inr plain ↦
+        let more : lines_of (b ∷ bs) ≡ grow b (lines_of bs) = rw (miss, plain) refl in
+        omega (arith, ap length more, grown_within b (lines_of bs), lines_within bs)
+  ]
+]
+
+unresolved_within : (look : List ℕ → Option Definition) (n : ℕ) (ls : List (List ℕ)) → 1 ≤ n → first_unresolved_line look (entries_from n ls) + 1 ≤ n + length ls
+unresolved_within look n [] one = omega (arith, one)
+unresolved_within look n (x ∷ xs) one = elim (goes look n (line_of x) (entries_from (n + 1) xs)) [
+  | inl bad ↦ omega (arith, bad.1)
+  | inr good ↦ omega (arith, good.1, unresolved_within look (n + 1) xs (omega arith))
+]
+
+first_bad_within : (bytes : List ℕ) → first_bad_line bytes ≤ length bytes
+first_bad_within bytes = omega (arith, unresolved_within (look_up (entries_of bytes)) 1 (lines_of bytes) (omega arith), lines_within bytes)
+
 -- RESULTS
 
 pub reading_is : (bytes : List ℕ) (r : Result Script ScriptStop) → IfOk r (λ script. script_of bytes ≡ Some script.instructions) → IfOk r (λ script. IsScript bytes script.instructions)
@@ -371,5 +404,10 @@ pub bad_is : (bytes : List ℕ) (r : Result Script ScriptStop) → NoneReported 
 bad_is bytes (Ok script) h = tt
 bad_is bytes (Err (LineStop n)) h = subst (IsFirstBadLine bytes) (sym h.1) (first_sound bytes h.0)
 bad_is bytes (Err NoMemory) h = tt
+
+pub within_is : (bytes : List ℕ) (r : Result Script ScriptStop) → NoneReported bytes r → IfErr r (λ stop. IfLine stop (λ n. n ≤ length bytes))
+within_is bytes (Ok script) h = tt
+within_is bytes (Err (LineStop n)) h = omega (arith, h.1, first_bad_within bytes)
+within_is bytes (Err NoMemory) h = tt
 
 pub ruleset result_rules = (reading_is, bad_is)

@@ -19,7 +19,7 @@ pub(crate) fn labels(alloc: Global, entries: &Entries) -> Result<Labels, AllocEr
     ensures { IfOk result (λ labels. (name : List ℕ) → get_by_text labels name ≡ look_up entries.now name) }
 {
     let mut labels = Labels::new(alloc);
-    let mut place: u64 = 0;
+    let mut place: usize = 0;
     for entry in entries.items() {
         add_label(alloc, &mut labels, entry, place)?;
         if is_instruction(&entry.line) {
@@ -46,7 +46,7 @@ fn add_label(
     alloc: Global,
     labels: &mut Labels,
     entry: &Entry,
-    place: u64,
+    place: usize,
 ) -> Result<(), AllocError>
     ensures { OnOk result ((name : List ℕ)
         → get_by_text labels.new name

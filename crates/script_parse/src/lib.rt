@@ -1,6 +1,9 @@
-//! Scripts: the instructions of a process, and their reading from bytes.
+//! Scripts: the instructions of a process, and their parser.
 //!
-//! What it promises stands in `docs/GUARANTEES.md`, how it works in `docs/ARCHITECTURE.md`.
+//! `split` cuts lines, `scan` cuts a line into tokens, `form` and `forms` read an instruction from tokens,
+//! `labels` finds the places of labels, and `parse` puts them into the instructions.
+//!
+//! Entry: `parse_script` in `src/parse.rt`. Read first: `specs/Grammar.antt`.
 #![tactic(auto)]
 
 mod form;

@@ -34,5 +34,5 @@ pub(crate) struct Definition {
     /// The number of the line, from 1.
     pub line: u64,
     /// The number of instructions before it.
-    pub place: u64,
+    pub place: usize,
 }

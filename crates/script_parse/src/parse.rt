@@ -1,17 +1,15 @@
 //! From bytes to a script.
 
-ghost use Rattle.std.specs.Prelude.{◌≡◌, List, Some, IfOk, IfErr, IsSome, option_map};
+ghost use Rattle.std.specs.Prelude.{◌≡◌, ◌≤◌, List, Some, IfOk, IfErr, IsSome, length, option_map};
 ghost use Rattle.std.specs.BTreeMap.{get_by_text};
 ghost use Rattle.script_parse.specs.declared.script.Instr.{Instr};
 ghost use Rattle.script_parse.specs.BadLine.{IsFirstBadLine};
-ghost use Rattle.script_parse.specs.inner.Gives.{GivesLine};
 ghost use Rattle.script_parse.specs.Grammar.{IsScript};
 ghost use Rattle.script_parse.specs.Script.{script_of, first_bad_line, resolve, is_first, with_place};
 ghost use Rattle.script_parse.specs.Script.{instructions_of, first_unresolved_line, Answers, IfLine, look_up};
 
 use crate::labels::{Labels, labels};
 use crate::line::{Entries, Entry, Line};
-use crate::line_error::LineError;
 use crate::script::{Instr, Instrs, Script};
 use crate::split::entries;
 use ldv_value::Utf8;
@@ -23,9 +21,8 @@ pub enum ScriptStop {
     /// They aren't a script. The number, from 1, is that of the first bad line: one that isn't UTF-8 or
     /// has no form, that defines a label which an earlier line defines, or that uses a label which no
     /// line defines.
-    Line(u32),
-    /// Out of memory. It also comes where the number of the first bad line, or of the instructions before a
-    /// label that is used, isn't a `u32`, which takes more than 4 GiB of bytes.
+    Line(u64),
+    /// Out of memory.
     NoMemory,
 }
 
@@ -47,6 +44,7 @@ pub fn parse_script(alloc: Global, bytes: &[u8]) -> Result<Script, ScriptStop>
     ensures reading { IfOk result (λ script. IsScript bytes.now script.instructions) }
     ensures none { IfErr result (λ stop. IfLine stop (λ n. (is : List Instr) → ¬ IsScript bytes.now is)) }
     ensures first { IfErr result (λ stop. IfLine stop (IsFirstBadLine bytes.now)) }
+    ensures within { IfErr result (λ stop. IfLine stop (λ n. n ≤ length bytes.now)) }
     // The same as functions of the bytes.
     ensures script { IfOk result (λ script. script_of bytes.now ≡ Some script.instructions) }
     ensures line { IfErr result (λ stop. IfLine stop (λ n. (script_of bytes.now ≡ None)
@@ -108,56 +106,35 @@ fn instructions(alloc: Global, labels: &Labels, entries: Entries) -> Result<Inst
     for entry in entries.into_vec() {
         let number = entry.number;
         match resolve(labels, entry) {
-            Ok(None) => {}
-            Ok(Some(instr)) => instructions.push(instr)?,
-            Err(LineError::Malformed) => return Err(bad_line(number)),
-            Err(LineError::NoMemory) => return Err(ScriptStop::NoMemory),
+            None => return Err(ScriptStop::Line(number)),
+            Some(None) => {}
+            Some(Some(instr)) => instructions.push(instr)?,
         }
     }
     Ok(instructions)
 }
 
-// The stop that reports the bad line of a number.
-fn bad_line(number: u64) -> ScriptStop
-    ensures { IfLine result (λ n. n ≡ number) }
-{
-    match u32::try_from(number) {
-        Ok(number) => ScriptStop::Line(number),
-        Err(_) => ScriptStop::NoMemory,
-    }
-}
-
-// What a line comes to: its instruction with the place of its label, or none where it defines a label.
-fn resolve(labels: &Labels, entry: Entry) -> Result<Option<Instr>, LineError>
-    ensures { GivesLine result (resolve (get_by_text labels.now) entry) }
+// What a line comes to: its instruction with the place of its label, or none where it defines a label. `None`
+// where the line is bad.
+fn resolve(labels: &Labels, entry: Entry) -> Option<Option<Instr>>
+    ensures { result ≡ resolve (get_by_text labels.now) entry }
 {
     let Entry { number, line } = entry;
     match line {
-        None => Err(LineError::Malformed),
-        Some(Line::Blank) => Ok(None),
+        None => None,
+        Some(Line::Blank) => Some(None),
         Some(Line::Label(name)) => {
-            if !is_first(labels, number, &name) {
-                return Err(LineError::Malformed);
+            if is_first(labels, number, &name) {
+                Some(None)
+            } else {
+                None
             }
-            Ok(None)
         }
-        Some(Line::Plain(instr)) => Ok(Some(instr)),
-        Some(Line::Jumping(instr, label)) => {
-            let Some(place) = place_of(labels, &label) else {
-                return Err(LineError::Malformed);
-            };
-            with_label_place(instr, place)
-        }
-    }
-}
-
-// An instruction with the place of its label.
-fn with_label_place(instr: Instr, place: u64) -> Result<Option<Instr>, LineError>
-    ensures { GivesLine result (Some (Some (with_place place instr))) }
-{
-    match u32::try_from(place) {
-        Ok(place) => Ok(Some(with_place(instr, place))),
-        Err(_) => Err(LineError::NoMemory),
+        Some(Line::Plain(instr)) => Some(Some(instr)),
+        Some(Line::Jumping(instr, label)) => match place_of(labels, &label) {
+            None => None,
+            Some(place) => Some(Some(with_place(instr, place))),
+        },
     }
 }
 
@@ -171,7 +148,7 @@ fn is_first(labels: &Labels, number: u64, name: &Utf8) -> bool
     }
 }
 
-fn place_of(labels: &Labels, name: &Utf8) -> Option<u64>
+fn place_of(labels: &Labels, name: &Utf8) -> Option<usize>
     ensures { result ≡ option_map (λ d. d.place) (get_by_text labels.now name.now) }
 {
     match labels.get(name.as_str()) {
@@ -180,7 +157,7 @@ fn place_of(labels: &Labels, name: &Utf8) -> Option<u64>
     }
 }
 
-fn with_place(instr: Instr, place: u32) -> Instr
+fn with_place(instr: Instr, place: usize) -> Instr
     ensures { result ≡ with_place place instr }
 {
     match instr {

@@ -63,14 +63,14 @@ pub enum Instr {
     },
     /// `goto L`
     Jump {
-        place: u32,
+        place: usize,
     },
     /// `if v = w goto L`, and the other comparisons
     JumpIf {
         op: Cmp,
         left: Operand,
         right: Operand,
-        place: u32,
+        place: usize,
     },
     /// `print v v*`
     Print {
@@ -85,13 +85,13 @@ pub enum Instr {
         file: Utf8,
         mode: OpenMode,
         path: Operand,
-        place: u32,
+        place: usize,
     },
     /// `readline x f else L`
     ReadLine {
         to: Utf8,
         file: Utf8,
-        place: u32,
+        place: usize,
     },
     /// `write f v v*`
     WriteLine {
@@ -110,7 +110,7 @@ pub enum Instr {
     /// `remove v else L`
     Remove {
         path: Operand,
-        place: u32,
+        place: usize,
     },
     /// `exists x v`
     Exists {
@@ -122,7 +122,7 @@ pub enum Instr {
         child: Utf8,
         path: Operand,
         arguments: Operands,
-        place: u32,
+        place: usize,
     },
     /// `wait x p`
     Wait {
@@ -139,7 +139,7 @@ pub enum Instr {
     Fetch {
         cursor: Utf8,
         to: Names,
-        place: u32,
+        place: usize,
     },
     /// `count x c`
     Count {

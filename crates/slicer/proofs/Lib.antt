@@ -1,6 +1,9 @@
 pub mod DueLaws
 pub mod FreshLaws
 pub mod InitialLaws
+pub mod InitialRows
 pub mod NameLaws
 pub mod ReasonLaws
 pub mod RowSetLaws
+pub mod RunRows
+pub mod StatementRows

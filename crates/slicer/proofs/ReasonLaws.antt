@@ -1,10 +1,11 @@
 -- The map of reasons, step by step.
 use Rattle.std.proofs.Common.{◌≡◌, ℕ, List, [], ◌∷◌, refl, sym, ap, ◌∙◌, cond, true, false, arith, inl, inr}
-use Rattle.std.specs.Prelude.{Option, Some, None, is_some, ◌==◌, nat_lt, String, bytes_eq}
+use Rattle.std.specs.Prelude.{Option, Some, None, is_some, ◌==◌, nat_lt, String, string_bytes, bytes_eq}
+use Rattle.std.specs.Cmp.Lexicographic.{slice_cmp}
 use Rattle.std.specs.List.{filter_map}
 use Rattle.std.specs.Option.{option_map, option_or}
 use Rattle.std.specs.declared.alloc.Global.{Global}
-use Rattle.std.specs.BTreeMap.{BTreeMap, get, get_by_text, is_at, Updates}
+use Rattle.std.specs.BTreeMap.{BTreeMap, get, get_by_text, is_at, IsUnchanged, Updates}
 use Rattle.std.specs.Map.{lookup}
 use Rattle.std.specs.Ordering.{nat_cmp, is_eq}
 use Rattle.std.proofs.lemmas.Bool.{cases_Bool}
@@ -70,7 +71,30 @@ module _ (m n : BTreeMap ℕ Why) (row : ℕ) (why : Why) where
 pub none_empty : (m : BTreeMap ℕ Why) → m.entries ≡ [] → (q : ℕ) → row_reason m q ≡ None
 none_empty m empty q = ap (λ (entries : List (ℕ × Why)). option_map reason_from (lookup (is_at (nat_cmp q)) entries)) empty
 
+-- rows that a refused insertion left as they were
+pub row_unchanged : (m n : BTreeMap ℕ Why) → IsUnchanged m n → (q : ℕ) → row_reason n q ≡ row_reason m q
+row_unchanged m n same q = ap (λ (entries : List (ℕ × Why)). option_map reason_from (lookup (is_at (nat_cmp q)) entries)) same
+
 -- ---- the tables
+
+-- and so for the tables
+pub reasons_unchanged : (m n : BTreeMap (String Global) (BTreeMap ℕ Why)) → IsUnchanged m n → (table : List ℕ) (row : ℕ)
+    → reason_at n table row ≡ reason_at m table row
+reasons_unchanged m n same table row =
+    ap (λ (es : List (String Global × BTreeMap ℕ Why)). reason_among (lookup (is_at (λ k. slice_cmp nat_cmp table (string_bytes k))) es) row) same
+
+-- the rows of a table, whose reasons are as before
+pub read_kept : (m n : BTreeMap (String Global) (BTreeMap ℕ Why)) (rows : BTreeMap ℕ Why) (named : List ℕ)
+    → ((table : List ℕ) → get_by_text n table ≡ cond (bytes_eq named table) (Some rows) (get_by_text m table))
+    → ((row : ℕ) → row_reason rows row ≡ reason_at m named row)
+    → (table : List ℕ) (row : ℕ) → reason_at n table row ≡ reason_at m table row
+read_kept m n rows named updates kept table row = elim (cases_Bool (bytes_eq named table)) [
+  | inl hit ↦
+      let same : named ≡ table = (bytes_eq-Decides named table).0 hit in
+      ap (λ (o : Option (BTreeMap ℕ Why)). reason_among o row) (updates table)
+      ∙ rw hit (kept row ∙ ap (λ (t : List ℕ). reason_at m t row) same)
+  | inr miss ↦ ap (λ (o : Option (BTreeMap ℕ Why)). reason_among o row) (updates table) ∙ rw miss refl
+]
 
 -- the rows of a table that a read is of, before and after it
 pub read_step : (m n : BTreeMap (String Global) (BTreeMap ℕ Why)) (rows : BTreeMap ℕ Why) (statement : ℕ) (need : Need)

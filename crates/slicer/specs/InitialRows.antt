@@ -1,12 +1,17 @@
 -- Initial rows in the events of a run, and in its graph.
-use Rattle.std.specs.Prelude.{◌≡◌, ℕ, ◌==◌, List, Bool, true, false, not, ◌&&◌, is_some}
+use Rattle.std.specs.Prelude.{◌≡◌, ℕ, ◌==◌, List, Bool, true, false, not, ◌&&◌, is_some, Some}
 use Rattle.std.specs.List.{list_any}
+use Rattle.script_parse.specs.declared.script.Instr.{Instr}
 use Rattle.sql_model.specs.Scope.{same_text}
+use Rattle.sql_model.specs.Tables.{tables_test}
 use Rattle.sql_model.specs.declared.need.Member.{Member}
 use Rattle.sql_model.specs.declared.table.Table.{Table}
 use Rattle.run_model.specs.declared.event.Event.{Event}
 use Rattle.run_model.specs.declared.package.PackedTable.{PackedTable}
+use Rattle.run_model.specs.declared.world.World.{World}
 use Rattle.run_model.specs.Slice.{first_reason, is_table_needed}
+use Rattle.run_model.specs.Start.{start_script}
+use Rattle.run_model.specs.WorldRun.{events_by}
 use Rattle.trace_graph.specs.declared.node.Node.TheVariants.{Row}
 use Rattle.trace_graph.specs.Graph.{Parts, same_node}
 use Rattle.trace_graph.specs.GraphLaws.{leads}
@@ -44,6 +49,12 @@ pub record ReadsInitialRows (events : List Event) (tables : List Table) : Type 0
   -- a statement that needs a row names its table
   pub named : (table : List ℕ) (row : ℕ) → is_some (first_reason table row events) ≡ true
       → is_table_needed events table ≡ true
+
+-- the events of a run read each initial row first as it was at first, and make none of them
+abbrev pub InitialRowsLaw : Type 0
+InitialRowsLaw = (n : ℕ) (picks : List ℕ) (w : World) (script : List Instr) → start_script w ≡ Some script
+    → tables_test w.tables ≡ true
+    → ReadsInitialRows (events_by n picks w) w.tables
 
 -- the graph has the row as it was at first, and no statement made it
 abbrev pub is_initial_node : Parts → Member → Bool

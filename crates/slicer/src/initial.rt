@@ -38,7 +38,8 @@ fn add_node(alloc: Global, rows: &mut RowSet, node: &Node) -> Result<(), AllocEr
     }
 }
 
-fn first_rows(alloc: Global, nodes: &[Node]) -> Result<RowSet, AllocError>
+/// The rows whose first version is among nodes.
+pub(crate) fn first_rows(alloc: Global, nodes: &[Node]) -> Result<RowSet, AllocError>
     ensures { IfOk result (λ rows. (table : List ℕ) (row : ℕ) → has_row rows table row
         ≡ list_any (same_node (Row (at_first table row))) nodes.now) }
 {

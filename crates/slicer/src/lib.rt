@@ -1,11 +1,15 @@
 //! What a run needs of its world, from the run's events and their graph.
 //!
-//! What it promises stands in `docs/GUARANTEES.md`, how it works in `docs/ARCHITECTURE.md`.
+//! Files come from the events, rows from the graph, and the events give each row its reason. Rows are united
+//! in blocks of bits (`docs/internals/DECISIONS.md` says why).
+//!
+//! Entry: `slice` in `src/needed.rt`. Read first: `specs/Slice.antt` of `run_model`.
 #![tactic(auto)]
 
 mod files;
 mod fresh;
 mod initial;
+mod law;
 mod name_set;
 mod needed;
 mod reasons;
@@ -13,7 +17,8 @@ mod row_set;
 mod tables;
 mod united;
 
-pub use name_set::{NameSet, add_names, has_name};
+pub use law::initial_rows_law;
+pub use name_set::{NameSet, has_name, set_of_names};
 pub use needed::{Sliced, slice, slice_files};
 pub use reasons::{Reasons, RowReasons, Why, note_named};
 pub use tables::pack_tables;

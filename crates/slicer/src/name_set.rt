@@ -34,8 +34,8 @@ pub(crate) fn add_name(alloc: Global, names: &mut NameSet, name: &Utf8) -> Resul
     Ok(())
 }
 
-/// Puts names into the set.
-pub fn add_names(alloc: Global, names: &mut NameSet, more: &[Utf8]) -> Result<(), AllocError>
+// Puts names into the set.
+fn add_names(alloc: Global, names: &mut NameSet, more: &[Utf8]) -> Result<(), AllocError>
     ensures { OnOk result ((q : List ℕ) → has_name names.new q
         ≡ (has_name names.old q || list_any (λ name. same_text name q) more.now)) }
 {
@@ -43,6 +43,16 @@ pub fn add_names(alloc: Global, names: &mut NameSet, more: &[Utf8]) -> Result<()
         add_name(alloc, names, name)?;
     }
     Ok(())
+}
+
+/// The set of these names.
+pub fn set_of_names(alloc: Global, names: &[Utf8]) -> Result<NameSet, AllocError>
+    ensures { IfOk result (λ set. (q : List ℕ) → has_name set q
+        ≡ list_any (λ name. same_text name q) names.now) }
+{
+    let mut set = NameSet::new(alloc);
+    add_names(alloc, &mut set, names)?;
+    Ok(set)
 }
 
 // Adds the tables that a statement asks.

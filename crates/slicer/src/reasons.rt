@@ -1,6 +1,6 @@
 //! The first statement that needs each row.
 
-ghost use Rattle.std.specs.Prelude.{◌≡◌, ◌&&◌, ◌%◌, ◌<◌, OnOk, IfOk, List as Items, ℕ, Option, None};
+ghost use Rattle.std.specs.Prelude.{◌≡◌, ◌&&◌, ◌%◌, ◌<◌, OnOk, OnErr, IfOk, List as Items, ℕ, Option, None};
 ghost use Rattle.std.specs.Prelude.{length, true};
 ghost use Rattle.std.specs.BTreeMap.{get_by_text};
 ghost use Rattle.slicer.specs.Marks.{reason_at, reason_of_named, reason_of_read, reason_of_row, row_reason};
@@ -32,9 +32,11 @@ pub type RowReasons = BTreeMap<u32, Why>;
 pub type Reasons = BTreeMap<String, RowReasons>;
 
 // Notes a row of a table, if it isn't there.
+#[tactic(auto, using(crate::proofs::ReasonLaws::row_unchanged))]
 fn note_row(rows: &mut RowReasons, row: u32, why: Why) -> Result<(), AllocError>
-    ensures { OnOk result ((q : ℕ) → row_reason rows.new q
+    ensures noted { OnOk result ((q : ℕ) → row_reason rows.new q
         ≡ option_or (row_reason rows.old q) (reason_of_row row why q)) }
+    ensures err { OnErr result ((q : ℕ) → row_reason rows.new q ≡ row_reason rows.old q) }
 {
     if rows.contains_key(&row) {
         return Ok(());
@@ -44,6 +46,7 @@ fn note_row(rows: &mut RowReasons, row: u32, why: Why) -> Result<(), AllocError>
 }
 
 // Notes a row of a table of which none is there.
+#[tactic(auto, using(crate::proofs::ReasonLaws::reasons_unchanged))]
 fn note_table(
     alloc: Global,
     reasons: &mut Reasons,
@@ -52,8 +55,10 @@ fn note_table(
     why: Why,
 ) -> Result<(), AllocError>
     requires { get_by_text reasons.old table.now ≡ None }
-    ensures { OnOk result ((t : Items ℕ) (n : ℕ) → reason_at reasons.new t n
+    ensures noted { OnOk result ((t : Items ℕ) (n : ℕ) → reason_at reasons.new t n
         ≡ option_or (reason_at reasons.old t n) (reason_of_named table.now row why t n)) }
+    ensures err { OnErr result ((t : Items ℕ) (n : ℕ)
+        → reason_at reasons.new t n ≡ reason_at reasons.old t n) }
 {
     let key = String::from_str(alloc, table.as_str())?;
     let mut rows = RowReasons::new(alloc);
@@ -63,7 +68,7 @@ fn note_table(
 }
 
 /// Notes why a row of a table is needed, if the row isn't there. The table's name is copied where it is the
-/// first row of the table.
+/// first row of the table. `AllocError` means out of memory only, and then the reasons are as before.
 pub fn note_named(
     alloc: Global,
     reasons: &mut Reasons,
@@ -71,8 +76,10 @@ pub fn note_named(
     row: u32,
     why: Why,
 ) -> Result<(), AllocError>
-    ensures { OnOk result ((t : Items ℕ) (n : ℕ) → reason_at reasons.new t n
+    ensures noted { OnOk result ((t : Items ℕ) (n : ℕ) → reason_at reasons.new t n
         ≡ option_or (reason_at reasons.old t n) (reason_of_named table.now row why t n)) }
+    ensures err { OnErr result ((t : Items ℕ) (n : ℕ)
+        → reason_at reasons.new t n ≡ reason_at reasons.old t n) }
 {
     match reasons.get_mut(table.as_str()) {
         Some(rows) => note_row(rows, row, why),

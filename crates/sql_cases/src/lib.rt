@@ -3,4 +3,6 @@
 //!
 //! It has no code and promises nothing to other crates. Its lemmas (`proofs/`) are checked against the
 //! definitions of `sql_model`, so that a definition with another meaning is refused here.
+//!
+//! Read first: `proofs/WorkedAnswers.antt`.
 #![tactic(auto)]

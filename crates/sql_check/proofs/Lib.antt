@@ -1,3 +1,4 @@
+pub mod Grouped
 pub mod Lists
 pub mod Mapped
 pub mod Parts

@@ -1,6 +1,6 @@
 //! Columns that aren't there or are ambiguous, and columns that aren't grouped by.
 
-ghost use Rattle.std.specs.Prelude.{◌≡◌, ◌||◌, ◌&&◌, ◌++◌, IfOk, not};
+ghost use Rattle.std.specs.Prelude.{◌≡◌, ◌||◌, ◌&&◌, ◌++◌, IfOk, OnOk, not};
 ghost use Rattle.std.specs.List.{list_all, list_any, range_with_len};
 ghost use Rattle.sql_model.specs.Kinds.{names_in, outer_names};
 ghost use Rattle.sql_model.specs.Refusals.{groups, item_places, having_places, lacks_in_scope};
@@ -8,7 +8,7 @@ ghost use Rattle.sql_model.specs.Refusals.{answer_columns, core_lacks_column, is
 ghost use Rattle.sql_model.specs.Refusals.{query_lacks_column, insert_lacks_column};
 ghost use Rattle.sql_model.specs.Refusals.{update_lacks_column, lacks_column};
 ghost use Rattle.sql_model.specs.Scope.{has_column, resolves, places_in};
-ghost use Rattle.sql_check.specs.inner.Sources.{is_among, all_among};
+ghost use Rattle.sql_check.specs.inner.Sources.{is_among, all_among, AddsPlace, AreSamePlaces};
 
 use crate::answer_column::{AnswerColumn, answer_columns, is_order_key};
 use crate::core_names::{core_resolves, exprs_resolve, groups, names_of, optional_resolves};
@@ -92,30 +92,42 @@ fn core_lacks_column(alloc: Global, core: &Core, catalog: &Catalog) -> Result<bo
     ensures { IfOk result (λ lacks. lacks ≡ core_lacks_column catalog.now core.now) }
 {
     let scope = scope_of(alloc, core.from.items(), catalog)?;
-    let grouped = name_places(alloc, &scope, core.group.items())?;
+    let grouped = grouped_places(alloc, &scope, core.group.items())?;
     Ok(lacks_in_scope(&scope, core, &grouped))
 }
 
 fn lacks_in_scope(scope: &[Entry], core: &Core, grouped: &[usize]) -> bool
-    requires { grouped.now ≡ places_in scope.now core.now.group }
+    requires { AreSamePlaces grouped.now (places_in scope.now core.now.group) }
     ensures { result ≡ lacks_in_scope scope.now core.now }
 {
     !core_resolves(scope, core) || has_ungrouped_column(scope, core, grouped)
 }
 
-// The places of column names.
-fn name_places(
+// The places of column names, each once: there are no more than columns in scope, however many names.
+fn grouped_places(
     alloc: Global,
     scope: &[Entry],
     names: &[ColumnName],
 ) -> Result<Vec<usize>, AllocError>
-    ensures { IfOk result (λ places. places.items ≡ places_in scope.now names.now) }
+    ensures { IfOk result (λ places. AreSamePlaces places.items (places_in scope.now names.now)) }
 {
-    let mut places = Vec::with_capacity(alloc, names.len())?;
+    let mut places = Vec::new(alloc);
     for name in names {
-        places.push(place_of(scope, name))?;
+        add_place(&mut places, place_of(scope, name))?;
     }
     Ok(places)
+}
+
+// Adds a place, unless it is there.
+#[tactic(auto, using(crate::proofs::Grouped::place_added, crate::proofs::Grouped::place_there))]
+fn add_place(places: &mut Vec<usize>, place: usize) -> Result<(), AllocError>
+    ensures { OnOk result (AddsPlace places.old.items place places.new.items) }
+{
+    if is_among(places, place) {
+        return Ok(());
+    }
+    places.push(place)?;
+    Ok(())
 }
 
 // Whether a core groups, and a column outside its aggregates isn't grouped by.

@@ -1,7 +1,10 @@
-//! The check of SQL statements against schemas: the refusals that only these decide, and the places of
-//! columns.
+//! The check of statements against schemas: refusals by names and kinds, and the places of columns.
 //!
-//! What it promises stands in `docs/GUARANTEES.md`, how it works in `docs/ARCHITECTURE.md`.
+//! `tables` finds missing tables, `columns` missing and ungrouped columns, `clash` kinds and counts that
+//! don't fit, each over the whole statement before the next begins. Then `places` lists the places of its
+//! columns. `scope` says what a name can mean.
+//!
+//! Entry: `check` in `src/checking.rt`. Read first: `specs/Places.antt` of `sql_model`.
 #![tactic(auto)]
 
 mod aggregate;

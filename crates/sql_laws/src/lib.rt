@@ -1,7 +1,9 @@
-//! Laws of what statements mean, over the definitions of `sql_model` alone, each as the contract of a
-//! function without a body. A new law proves nothing anew in `sql_model`.
+//! Laws of what statements mean, over the definitions of `sql_model` alone. Each is the contract of a
+//! function without a body.
 //!
-//! What it promises stands in `docs/GUARANTEES.md`, how it works in `docs/ARCHITECTURE.md`.
+//! They are a crate of their own so that a new law proves nothing anew in `sql_model`.
+//!
+//! Entry: `statement_law` in `src/law.rt`. Read first: `specs/StatementLaw.antt`.
 #![tactic(auto)]
 
 mod law;

@@ -9,6 +9,7 @@ pub mod NewNumbers
 pub mod OriginSets
 pub mod ParentSchemas
 pub mod ReferenceLists
+pub mod ReferringRows
 pub mod RepeatedNames
 pub mod ReservedWords
 pub mod SameValues

@@ -1,12 +1,20 @@
-//! SQL as this product has it: types of statements, tables, replies and needs, which texts are which
-//! statements, what these mean, and the value of an expression over a row.
+//! SQL as this product has it: the types of statements, tables, replies and needs, which texts are which
+//! statements, what they mean, and the value of an expression over a row.
 //!
-//! What it promises stands in `docs/GUARANTEES.md`, how it works in `docs/ARCHITECTURE.md`.
+//! Which text is which statement is defined twice: as a grammar (`GrammarOfTokens`, `Grammar` of
+//! expressions, `GrammarOfStatements`), and as a function from left to right (`Texts`, over `Tokens`,
+//! `Expressions`, `Queries` and others). Meaning stands in `Tables` (valid schemas, tables, databases),
+//! `Scope` (which column a name means), `Kinds`, `Refusals`, `Places`, `Meaning` (expressions),
+//! `QueryAnswer` and `Sorting`, `Changes`, `Statements` (refusal, reply, the tables after), `ForeignKeys`
+//! and `References`, `Needs`, and `Origins` (lineages as sets).
+//!
+//! Entry: `truth_of` in `src/value.rt`. Read first: `specs/Statements.antt`.
 #![tactic(auto)]
 
 mod arithmetic;
 mod catalog;
 mod column_test;
+mod database;
 mod expr;
 mod foreign;
 mod key;
@@ -28,6 +36,7 @@ mod value;
 
 pub use catalog::{Catalog, Checked};
 pub use column_test::{CellTest, ColumnTest};
+pub use database::is_database;
 pub use expr::{ColumnName, ColumnNames, Expr, ExprRows, Exprs, Fold, Operator};
 pub use foreign::{MAX_FOREIGN, NamedSchema, have_parents};
 pub use key::{RowKey, value_at};
@@ -38,10 +47,7 @@ pub use references::{references_hold, refers_to_none};
 pub use repeats::has_twice;
 pub use reply::{Replies, Reply, SqlRefusal};
 pub use rows::{allows, are_rows, are_short, has_kind};
-pub use schema::{
-    is_key_not_null, meets_column_count, meets_column_names, meets_foreign, meets_key_places,
-    meets_schema,
-};
+pub use schema::{is_key_not_null, meets_column_count, meets_column_names, meets_schema};
 pub use sql_names::is_sql_name;
 pub use statement::{
     Core, Cores, Delete, FromItem, FromItems, Insert, Item, Items, Order, OrderKey, Orders, Query,

@@ -1,95 +1,227 @@
 //! References of rows to rows of parents, in n log n steps. No key is copied.
 
-ghost use Rattle.std.specs.Prelude.{◌≡◌, List, Some, None, IfOk};
+ghost use Rattle.std.specs.Prelude.{◌≡◌, List, [], ◌∷◌, None, IfOk, not, ◌&&◌, ◌||◌, filter};
 ghost use Rattle.std.specs.BTreeSet.{contains_by};
 ghost use Rattle.std.specs.List.{list_all, list_any};
-ghost use Rattle.std.specs.Option.{option_map};
 ghost use Rattle.sql_model.specs.Keys.{values_at};
 ghost use Rattle.ldv_value.specs.Order.{values_order};
-ghost use Rattle.sql_model.specs.inner.KeySets.{refers_among};
+ghost use Rattle.sql_model.specs.inner.KeySets.{hold_in, holds_by, names, refers_among, same_foreign};
+ghost use Rattle.sql_model.specs.inner.KeySets.{table_holds_in};
 ghost use Rattle.sql_model.specs.Meaning.{is_null};
-ghost use Rattle.sql_model.specs.References.{all_have_parents, has_key, has_parent, is_referring};
+ghost use Rattle.sql_model.specs.References.{all_have_parents, has_key, has_parent};
 ghost use Rattle.sql_model.specs.References.{references_hold};
 ghost use Rattle.ldv_value.specs.Cells.{value_at};
-ghost use Rattle.sql_model.specs.Scope.{table_at};
-ghost use Rattle.sql_model.specs.Types.{Value};
+ghost use Rattle.sql_model.specs.Types.{Value, Table as Seen};
 
-use crate::table::{Foreign, Foreigns, Table, TableRow, TableRows, Tables};
+use crate::table::{Foreign, Table, TableRow, TableRows, Tables};
 use crate::truths::is_null;
 use crate::unique::{KeyOf, value_or};
 use ldv_value::{Places, Utf8, Value, Values};
 use std::alloc::{AllocError, Global};
 use std::collections::BTreeSet;
+use std::marker::Model;
 
 /// Whether each key to which a row refers is one of a row of the parent. `AllocError` means out of memory
 /// only.
+#[tactic(auto, using(crate::proofs::ReferringRows::all_hold))]
 pub fn references_hold(alloc: Global, tables: &Tables) -> Result<bool, AllocError>
     ensures { IfOk result (λ holds. holds ≡ references_hold tables.now) }
 {
+    let referring = referring_rows(alloc, tables)?;
+    hold_among(alloc, tables.items(), referring)
+}
+
+// A foreign key, and rows of its table.
+#[derive(Drop)]
+struct Referring<'a> {
+    foreign: &'a Foreign,
+    rows: &'a TableRows,
+}
+
+impl<'a> Model for Referring<'a> {
+    ghost use Rattle.sql_model.specs.inner.KeySets.{Referring as Seen};
+
+    ghost Value = { Seen };
+
+    ghost view = { λ r. record { foreign = r.foreign.now; rows = r.rows.now } };
+}
+
+impl<'a> Referring<'a> {
+    // Whether the foreign key names a table.
+    fn names(&self, parent: &Table) -> bool
+        ensures { result ≡ names parent.now self.now }
+    {
+        parent.name == self.foreign.parent
+    }
+
+    // Whether each row that refers lacks no parent, which some keys are those of.
+    fn is_among(&self, keys: &BTreeSet<KeyOf<'a>>) -> bool
+        ensures { result ≡ list_all (refers_among keys.now self.now.foreign) self.now.rows }
+    {
+        are_among(keys, self.foreign, self.rows)
+    }
+}
+
+// The foreign keys by which some row refers to a key. One that its table has several times is there once.
+fn referring_rows<'a>(alloc: Global, tables: &'a Tables) -> Result<Vec<Referring<'a>>, AllocError>
+    ensures { IfOk result (λ found. (parents : List Seen)
+        → list_all (hold_in parents) found.items ≡ list_all (table_holds_in parents) tables.now) }
+{
+    let mut found = Vec::new(alloc);
     for table in tables.items() {
-        if !is_referring(alloc, tables, table)? {
+        add_referring(&mut found, table)?;
+    }
+    Ok(found)
+}
+
+fn add_referring<'a>(found: &mut Vec<Referring<'a>>, table: &'a Table) -> Result<(), AllocError>
+    ensures { IfOk result (λ none. (parents : List Seen)
+        → list_all (hold_in parents) found.new.items
+        ≡ (list_all (hold_in parents) found.old.items && table_holds_in parents table.now)) }
+{
+    let mut left = table.schema.foreign.items();
+    while let [foreign, others @ ..] = left {
+        add_last(found, foreign, others, &table.rows)?;
+        left = others;
+    }
+    Ok(())
+}
+
+// Adds a foreign key of a table, unless it is left out.
+#[tactic(auto, using(crate::proofs::ReferringRows::last_added, crate::proofs::ReferringRows::none_added))]
+fn add_last<'a>(
+    found: &mut Vec<Referring<'a>>,
+    foreign: &'a Foreign,
+    others: &[Foreign],
+    rows: &'a TableRows,
+) -> Result<(), AllocError>
+    ensures { IfOk result (λ none. (parents : List Seen)
+        → (list_all (hold_in parents) found.new.items && list_all (all_have_parents parents rows.now) others.now)
+        ≡ (list_all (hold_in parents) found.old.items
+        && list_all (all_have_parents parents rows.now) (foreign.now ∷ others.now))) }
+{
+    if is_left_out(foreign, others, rows) {
+        return Ok(());
+    }
+    found.push(Referring { foreign, rows })?;
+    Ok(())
+}
+
+// Whether the same foreign key is among those after it, or no row refers by it.
+fn is_left_out(foreign: &Foreign, others: &[Foreign], rows: &TableRows) -> bool
+    ensures { result ≡ (list_any (same_foreign foreign.now) others.now
+        || list_all (has_parent None foreign.now) rows.now) }
+{
+    is_one_of(foreign, others) || refer_to_none(foreign, rows)
+}
+
+fn is_one_of(foreign: &Foreign, others: &[Foreign]) -> bool
+    ensures { result ≡ list_any (same_foreign foreign.now) others.now }
+{
+    others.iter().any(|other| is_same(foreign, other))
+}
+
+fn is_same(foreign: &Foreign, other: &Foreign) -> bool
+    ensures { result ≡ same_foreign foreign.now other.now }
+{
+    foreign.columns == other.columns && foreign.parent == other.parent
+}
+
+// Whether no row lacks its parent among some tables. Of each table the keys are gathered once at most.
+fn hold_among<'a>(
+    alloc: Global,
+    parents: &'a [Table],
+    referring: Vec<Referring<'a>>,
+) -> Result<bool, AllocError>
+    ensures { IfOk result (λ holds. holds ≡ list_all (hold_in parents.now) referring.entry.items) }
+{
+    let mut left = referring;
+    let mut rest = parents;
+    while let [parent, others @ ..] = rest {
+        if !judge(alloc, parent, &mut left)? {
             return Ok(false);
         }
+        rest = others;
     }
+    Ok(have_none(left.as_slice()))
+}
+
+// Judges those that refer to a table, and leaves the others where none of them lacks its parent.
+#[tactic(auto, using(crate::proofs::ReferringRows::first_parent))]
+fn judge<'a>(
+    alloc: Global,
+    parent: &'a Table,
+    left: &mut Vec<Referring<'a>>,
+) -> Result<bool, AllocError>
+    ensures { IfOk result (λ holds. (parents : List Seen)
+        → list_all (hold_in (parent.now ∷ parents)) left.old.items
+        ≡ (holds && list_all (hold_in parents) left.new.items)) }
+{
+    if !hold_by(alloc, parent, left.as_slice())? {
+        return Ok(false);
+    }
+    leave_others(left, parent);
     Ok(true)
 }
 
-#[tactic(auto, using(crate::proofs::ParentSchemas::none_missing))]
-fn is_referring(alloc: Global, tables: &Tables, table: &Table) -> Result<bool, AllocError>
-    ensures { IfOk result (λ holds. holds ≡ is_referring tables.now table.now) }
+// Leaves those that refer to other tables.
+fn leave_others<'a>(left: &mut Vec<Referring<'a>>, parent: &Table)
+    ensures { left.new.items ≡ filter (λ r. not (names parent.now r)) left.old.items }
 {
-    refer_by_each(alloc, tables, &table.schema.foreign, &table.rows)
+    left.retain(|r| !r.names(parent));
 }
 
-fn refer_by_each(
-    alloc: Global,
-    tables: &Tables,
-    foreigns: &Foreigns,
-    rows: &TableRows,
-) -> Result<bool, AllocError>
-    ensures { IfOk result (λ holds. holds ≡ list_all (all_have_parents tables.now rows.now) foreigns.now) }
+fn have_none<'a>(left: &[Referring<'a>]) -> bool
+    ensures { result ≡ list_all (hold_in []) left.now }
 {
-    for foreign in foreigns.items() {
-        if !are_referring(alloc, tables, foreign, rows)? {
-            return Ok(false);
+    left.iter().all(|r| refer_to_none(r.foreign, r.rows))
+}
+
+// Whether none of those that refer to a table lacks its parent.
+#[tactic(auto, using(crate::proofs::ReferringRows::none_named))]
+fn hold_by<'a>(
+    alloc: Global,
+    parent: &'a Table,
+    referring: &[Referring<'a>],
+) -> Result<bool, AllocError>
+    ensures { IfOk result (λ holds. holds ≡ list_all (holds_by parent.now) referring.now) }
+{
+    if !is_named(parent, referring) {
+        return Ok(true);
+    }
+    let keys = keys_of(alloc, &parent.schema.key, &parent.rows)?;
+    Ok(are_all_among(&keys, parent, referring))
+}
+
+fn is_named<'a>(parent: &Table, referring: &[Referring<'a>]) -> bool
+    ensures { result ≡ list_any (names parent.now) referring.now }
+{
+    referring.iter().any(|r| r.names(parent))
+}
+
+fn are_all_among<'a>(
+    keys: &BTreeSet<KeyOf<'a>>,
+    parent: &Table,
+    referring: &[Referring<'a>],
+) -> bool
+    ensures { result ≡ list_all
+        (λ r. not (names parent.now r) || list_all (refers_among keys.now r.foreign) r.rows) referring.now }
+{
+    for r in referring {
+        if r.names(parent) && !r.is_among(keys) {
+            return false;
         }
     }
-    Ok(true)
+    true
 }
 
-// Whether no row lacks its parent by a foreign key.
-fn are_referring(
-    alloc: Global,
-    tables: &Tables,
-    foreign: &Foreign,
-    rows: &TableRows,
-) -> Result<bool, AllocError>
-    ensures { IfOk result (λ holds. holds ≡ all_have_parents tables.now rows.now foreign.now) }
-{
-    match table_at(tables, &foreign.parent) {
-        None => Ok(refer_to_none(foreign, rows)),
-        Some(parent) => have_parent(alloc, parent, foreign, rows),
-    }
-}
-
+// Whether each row refers to no key.
 fn refer_to_none(foreign: &Foreign, rows: &TableRows) -> bool
     ensures { result ≡ list_all (has_parent None foreign.now) rows.now }
 {
     rows.items()
         .iter()
         .all(|row| refers_to_none(foreign, &row.values))
-}
-
-fn have_parent<'a>(
-    alloc: Global,
-    parent: &'a Table,
-    foreign: &'a Foreign,
-    rows: &'a TableRows,
-) -> Result<bool, AllocError>
-    ensures { IfOk result (λ holds. holds ≡ list_all (has_parent (Some parent.now) foreign.now) rows.now) }
-{
-    let keys = keys_of(alloc, &parent.schema.key, &parent.rows)?;
-    Ok(are_among(&keys, foreign, rows))
 }
 
 fn are_among<'a>(keys: &BTreeSet<KeyOf<'a>>, foreign: &'a Foreign, rows: &'a TableRows) -> bool
@@ -101,13 +233,6 @@ fn are_among<'a>(keys: &BTreeSet<KeyOf<'a>>, foreign: &'a Foreign, rows: &'a Tab
         }
     }
     true
-}
-
-// The table of a name.
-fn table_at<'a>(tables: &'a Tables, name: &Utf8) -> Option<&'a Table>
-    ensures { option_map (λ table. table.now) result ≡ table_at name.now tables.now }
-{
-    tables.items().iter().find(|table| table.name == *name)
 }
 
 // The keys of rows.

@@ -3,9 +3,9 @@
 ghost use Rattle.std.specs.Prelude.{◌≡◌, IfOk, map, slice_get, length, nat_lt};
 ghost use Rattle.std.specs.List.{list_all};
 ghost use Rattle.sql_model.specs.SqlNames.{sql_name_test};
-ghost use Rattle.sql_model.specs.Tables.{column_count_test, column_names, column_names_test, is_not_null};
-ghost use Rattle.sql_model.specs.Tables.{foreign_key_test, foreign_test, key_not_null_test, key_places_test};
-ghost use Rattle.sql_model.specs.Tables.{schema_test};
+ghost use Rattle.sql_model.specs.Tables.{are_distinct, column_count_test, column_names, column_names_test};
+ghost use Rattle.sql_model.specs.Tables.{foreign_key_test, foreign_test, is_not_null, key_not_null_test};
+ghost use Rattle.sql_model.specs.Tables.{key_places_test, schema_test};
 
 use crate::foreign::MAX_FOREIGN;
 use crate::repeats::has_twice;
@@ -33,12 +33,8 @@ pub fn meets_schema(alloc: Global, schema: &Schema) -> Result<bool, AllocError>
     meets_foreign(alloc, &schema.columns, &schema.foreign)
 }
 
-/// Whether there are at most 16 foreign keys, each with places of columns, from 0, none of them twice.
-pub fn meets_foreign(
-    alloc: Global,
-    columns: &Columns,
-    foreigns: &Foreigns,
-) -> Result<bool, AllocError>
+// Whether there are at most 16 foreign keys, each with places of columns, from 0, none of them twice.
+fn meets_foreign(alloc: Global, columns: &Columns, foreigns: &Foreigns) -> Result<bool, AllocError>
     ensures { IfOk result (λ holds. holds ≡ foreign_test columns.now foreigns.now) }
 {
     if foreigns.len() > MAX_FOREIGN {
@@ -76,6 +72,13 @@ pub fn meets_column_names(alloc: Global, columns: &Columns) -> Result<bool, Allo
     if !are_sql_names(columns) {
         return Ok(false);
     }
+    are_distinct(alloc, columns)
+}
+
+// Whether no two columns have the same name.
+pub(crate) fn are_distinct(alloc: Global, columns: &Columns) -> Result<bool, AllocError>
+    ensures { IfOk result (λ holds. holds ≡ are_distinct columns.now) }
+{
     let names = names_of(alloc, columns)?;
     Ok(!has_twice(alloc, names)?)
 }
@@ -99,8 +102,8 @@ fn names_of<'a>(alloc: Global, columns: &'a Columns) -> Result<Vec<&'a str>, All
     Ok(names)
 }
 
-/// Whether a key has places of columns, from 0, none of them twice.
-pub fn meets_key_places(alloc: Global, columns: &Columns, key: &Places) -> Result<bool, AllocError>
+// Whether a key has places of columns, from 0, none of them twice.
+fn meets_key_places(alloc: Global, columns: &Columns, key: &Places) -> Result<bool, AllocError>
     ensures { IfOk result (λ holds. holds ≡ key_places_test columns.now key.now) }
 {
     if !are_places(columns, key) {

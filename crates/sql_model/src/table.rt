@@ -95,6 +95,16 @@ impl Precedes for TableRow {
     }
 }
 
+impl Precedes for Table {
+    ghost use Rattle.sql_model.specs.Tables.{table_precedes};
+
+    ghost is_before = { table_precedes };
+
+    fn precedes(&self, other: &Table) -> bool {
+        self.name.precedes(&other.name)
+    }
+}
+
 impl CopyItem for TableRow {
     fn copy_item(&self, _alloc: Global) -> Result<Self, AllocError> {
         Ok(TableRow {

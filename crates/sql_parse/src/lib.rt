@@ -1,6 +1,10 @@
-//! SQL's parser: from a text with its parameters to the statement that it is by the grammar of `sql_model`.
+//! The SQL parser: from a text with its parameters to the statement that the grammar of `sql_model` gives
+//! it.
 //!
-//! What it promises stands in `docs/GUARANTEES.md`, how it works in `docs/ARCHITECTURE.md`.
+//! `scan` cuts a text into tokens, and `given` puts each parameter in the place of its `?`. The other
+//! modules read the tokens from left to right, each its part of the grammar.
+//!
+//! Entry: `parse` in `src/reading.rt`. Read first: `specs/Texts.antt` of `sql_model`.
 #![tactic(auto)]
 
 mod change;

@@ -1,7 +1,15 @@
 //! Tables through time: the rows that each table has now, and those that it had after each time. Contracts
-//! see a store as its tables, each with the changes of every row that it ever held (`specs/Histories.antt`).
+//! see a store as its tables, each with the changes of every row that it ever held.
 //!
-//! What it promises stands in `docs/GUARANTEES.md`, how it works in `docs/ARCHITECTURE.md`.
+//! `docs/internals/STORAGE.md` draws a table in memory. A change first takes all memory that it needs
+//! (`room`); the rest can't fail (`apply`). The keys of new rows are entered into the index one by one
+//! (`claim`). If an UPDATE leaves the key alone, the index stays as it is. If it changes a key, the keys of
+//! the updated rows are compared with each other and with those of all other rows (`rekey`, `clash`). New
+//! keys are entered before the rows change, and get their rows afterwards, which takes no memory. References
+//! are judged first, over the tables as they would be (`refusals`, by `parents` and `children`), and their
+//! refusal counts only if nothing else refuses the change.
+//!
+//! Entry: `insert_all` in `src/store.rt`. Read first: `specs/Histories.antt`.
 #![tactic(auto)]
 
 mod apply;

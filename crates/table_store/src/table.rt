@@ -171,7 +171,7 @@ impl TableStore {
     }
 
     /// The number of slots: one for each row that the table ever held, sorted by row number.
-    pub fn slots(&self) -> u64
+    pub(crate) fn slots(&self) -> u64
         ensures { result ≡ length self.now.slots }
     {
         self.rows.len() as u64
@@ -219,7 +219,7 @@ impl TableStore {
     /// constant, and clears all others. The column is of INT, and the mask has a word for each 64 slots,
     /// rounded up.
     #[tactic(auto, using(crate::proofs::TableLaws::column_kind))]
-    pub fn scan(&self, column: u64, op: Cmp, constant: i64, mask: &mut [u64])
+    pub(crate) fn scan(&self, column: u64, op: Cmp, constant: i64, mask: &mut [u64])
         requires column { option_map (λ column. column.text) (slice_get self.now.schema.columns column)
             ≡ Some false }
         requires mask { length mask.old ≡ (length self.now.slots + 63) / 64 }
@@ -233,7 +233,7 @@ impl TableStore {
     /// Sets the bits of the slots whose row stands and has NULL in the column, or, where `is_null` is false,
     /// another value, and clears all others. Past the last column there is NULL. The mask has a word for each
     /// 64 slots, rounded up.
-    pub fn scan_nulls(&self, column: u64, is_null: bool, mask: &mut [u64])
+    pub(crate) fn scan_nulls(&self, column: u64, is_null: bool, mask: &mut [u64])
         requires { length mask.old ≡ (length self.now.slots + 63) / 64 }
         ensures { (n : ℕ) → member mask.new n ≡ option_map_or
             (λ row. null_passes is_null (slice_index_or row.values column Null))

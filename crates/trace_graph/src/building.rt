@@ -10,7 +10,7 @@ ghost use Rattle.trace_graph.specs.Links.{link, event_links};
 ghost use Rattle.trace_graph.specs.NodeTexts.{act_texts, are_held, acts_held};
 
 use crate::edge::Edges;
-use crate::key::{NodeKey, NodeKeys, copy_keys, number, place_number};
+use crate::key::{NodeKey, NodeKeys, copy_keys, number};
 use crate::note::{Note, Notes, add_notes};
 use crate::span::{Spans, edges_of};
 use crate::texts::NodeTexts;
@@ -48,22 +48,21 @@ impl<'a> Building<'a> {
     }
 
     /// The place of a node, which comes last if it isn't there yet.
-    pub(crate) fn place(&mut self, key: NodeKey<'a>) -> Result<u32, AllocError>
+    pub(crate) fn place(&mut self, key: NodeKey<'a>) -> Result<usize, AllocError>
         ensures parts { OnOk result (parts_of self.new
             ≡ with_place (parts_of self.old) (node_of key.entry)) }
         ensures place { IfOk result (λ place. place
             ≡ place_in (parts_of self.old).nodes (node_of key.entry)) }
     {
-        let at = number(&mut self.keys, key)?;
-        let place = place_number(at)?;
+        let place = number(&mut self.keys, key)?;
         Ok(place)
     }
 
     /// Notes a link between two places at a time.
     pub(crate) fn note_link(
         &mut self,
-        source: u32,
-        target: u32,
+        source: usize,
+        target: usize,
         time: u32,
     ) -> Result<(), AllocError>
         ensures { OnOk result (parts_of self.new ≡ with_noted (parts_of self.old) source target time) }
@@ -89,9 +88,7 @@ impl<'a> Building<'a> {
     {
         let from = number(&mut self.keys, source)?;
         let to = number(&mut self.keys, target)?;
-        let from_number = place_number(from)?;
-        let to_number = place_number(to)?;
-        self.note_link(from_number, to_number, time)
+        self.note_link(from, to, time)
     }
 
     // Puts all links that were noted among the edges.

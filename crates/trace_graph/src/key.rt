@@ -121,17 +121,6 @@ pub(crate) fn path_place(keys: &[NodeKey<'_>], path: &str) -> Option<usize>
     keys.iter().position(|key| names_path(key, path))
 }
 
-/// A place in four bytes. A table of nodes is refused memory before it has as many.
-pub(crate) fn place_number(place: usize) -> Result<u32, AllocError>
-    ensures { IfOk result (λ number. number ≡ place) }
-{
-    if place <= 4_294_967_295 {
-        Ok(place as u32)
-    } else {
-        Err(AllocError)
-    }
-}
-
 // The node of a key, with texts of its own.
 fn node_at(alloc: Global, key: &NodeKey<'_>) -> Result<Node, AllocError>
     ensures { IfOk result (λ node. node ≡ node_of key.now) }

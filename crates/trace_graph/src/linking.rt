@@ -98,7 +98,7 @@ impl<'a> Building<'a> {
         time: u32,
         process: u32,
         statement: u32,
-    ) -> Result<(u32, u32), AllocError>
+    ) -> Result<(usize, usize), AllocError>
         ensures parts { OnOk result (parts_of self.new
             ≡ with_links (parts_of self.old) (statement_links time process statement)) }
         ensures statement { IfOk result (λ places. IsAt (parts_of self.new).nodes (Ask statement) places.0) }
@@ -119,7 +119,7 @@ impl<'a> Building<'a> {
         texts: &'a NodeTexts,
         time: u32,
         statement: u32,
-        reply: u32,
+        reply: usize,
         need: &Need,
     ) -> Result<(), AllocError>
         requires place { IsAt (parts_of self.old).nodes (Reply statement) reply }
@@ -139,7 +139,7 @@ impl<'a> Building<'a> {
         texts: &'a NodeTexts,
         time: u32,
         statement: u32,
-        reply: u32,
+        reply: usize,
         reads: &[Need],
     ) -> Result<(), AllocError>
         requires place { IsAt (parts_of self.old).nodes (Reply statement) reply }
@@ -159,7 +159,7 @@ impl<'a> Building<'a> {
         texts: &'a NodeTexts,
         time: u32,
         statement: u32,
-        ask: u32,
+        ask: usize,
         member: &Member,
     ) -> Result<(), AllocError>
         requires place { IsAt (parts_of self.old).nodes (Ask statement) ask }
@@ -179,7 +179,7 @@ impl<'a> Building<'a> {
         texts: &'a NodeTexts,
         time: u32,
         statement: u32,
-        ask: u32,
+        ask: usize,
         made: &[Member],
     ) -> Result<(), AllocError>
         requires place { IsAt (parts_of self.old).nodes (Ask statement) ask }

@@ -10,18 +10,18 @@ use std::alloc::{AllocError, Global};
 use std::marker::Model;
 use std::mem;
 
-// The notes of a piece, which takes 48 KiB.
+// The notes of a piece, which takes 96 KiB.
 const PIECE: usize = 4_096;
 
 /// A link between two places of nodes at a time.
 #[derive(Clone, Copy)]
 pub(crate) struct Note {
-    pub(crate) source: u32,
-    pub(crate) target: u32,
+    pub(crate) source: usize,
+    pub(crate) target: usize,
     pub(crate) time: u32,
 }
 
-/// Links in the order in which they were noted. A note takes a third of what an edge and its entry in a table
+/// Links in the order in which they were noted. A note takes half of what an edge and its entry in a table
 /// do. They are in pieces, for which an allocator has room where events lay that were dropped. For one long
 /// list it asks the system for more, as it does for all that takes more than some 128 KiB.
 #[derive(Drop)]

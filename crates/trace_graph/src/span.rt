@@ -16,8 +16,8 @@ pub(crate) struct Span {
 }
 
 /// The span of each edge, by the places of its source and its target, in the order in which edges were first
-/// seen. A place takes four bytes here: a statement that changes a row has six edges.
-pub(crate) type Spans = IndexMap<(u32, u32), Span>;
+/// seen.
+pub(crate) type Spans = IndexMap<(usize, usize), Span>;
 
 // A span, if there is one, with a time more.
 fn span_with(span: Option<Span>, time: u32) -> Span
@@ -38,8 +38,8 @@ fn span_with(span: Option<Span>, time: u32) -> Span
 /// Adds a time to the edge between two places. Most edges are new, and a new one is looked up once.
 pub(crate) fn add_time(
     spans: &mut Spans,
-    source: u32,
-    target: u32,
+    source: usize,
+    target: usize,
     time: u32,
 ) -> Result<(), AllocError>
     ensures { OnOk result (map edge_at spans.new.entries
@@ -55,8 +55,8 @@ pub(crate) fn add_time(
 // Puts the span that an edge had back, with a time more.
 fn widen(
     spans: &mut Spans,
-    source: u32,
-    target: u32,
+    source: usize,
+    target: usize,
     span: Span,
     time: u32,
 ) -> Result<(), AllocError>
@@ -68,13 +68,13 @@ fn widen(
 }
 
 // The edge of an entry.
-fn edge_at(ends: (u32, u32), span: Span) -> Edge
+fn edge_at(ends: (usize, usize), span: Span) -> Edge
     ensures { result ≡ edge_at (ends, span) }
 {
     let (source, target) = ends;
     Edge {
-        source: source as usize,
-        target: target as usize,
+        source,
+        target,
         first: span.first,
         last: span.last,
     }

@@ -1,3 +1,5 @@
+pub mod FittingNeeds
+pub mod FittingRuns
 pub mod GoodAnswers
 pub mod GoodChanges
 pub mod GoodCounts

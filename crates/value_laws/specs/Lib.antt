@@ -1,4 +1,5 @@
 pub mod Answers
+pub mod Fitting
 pub mod Literals
 pub mod Steps
 pub mod Values

@@ -1,13 +1,16 @@
-//! Laws of the values that a run makes: each is a number of 64 bits, or a text of UTF-8 that isn't too
-//! long.
+//! Laws of the values that a run makes: each is a number of 64 bits, or a text of UTF-8 within the limit.
 //!
-//! What it promises stands in `docs/GUARANTEES.md`, how it works in `docs/ARCHITECTURE.md`.
+//! A law beside them says that what comes of foreign keys alone isn't there if no table has one.
+//!
+//! Entry: `steps_law` in `src/steps.rt`. Read first: `specs/Values.antt`.
 #![tactic(auto)]
 
 mod answers;
+mod fitting;
 mod literals;
 mod steps;
 
 pub use answers::answers_law;
+pub use fitting::fitting_law;
 pub use literals::literals_law;
 pub use steps::steps_law;

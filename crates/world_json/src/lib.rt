@@ -1,7 +1,10 @@
-//! World documents: the world that a JSON document is, or the first fault by which it is none; and the
-//! worlds that `gen` makes.
+//! World documents: the world that a JSON document describes, or the first fault by which it describes none;
+//! and the worlds of `gen`.
 //!
-//! What it promises stands in `docs/GUARANTEES.md`, how it works in `docs/ARCHITECTURE.md`.
+//! Bytes are read to a JSON value, the value to a `Document` of typed parts, the document to a world. Each
+//! step consumes what the one before made, so that memory is freed on the way.
+//!
+//! Entry: `world_of` in `src/world.rt`. Read first: `specs/Reading.antt`.
 #![tactic(auto)]
 
 mod cells;

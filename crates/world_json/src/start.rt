@@ -33,9 +33,19 @@ fn parse_content(alloc: Global, bytes: &[u8]) -> Result<Script, WorldStop>
 {
     match parse_script(alloc, bytes) {
         Ok(script) => Ok(script),
-        Err(ScriptStop::Line(number)) => Err(WorldStop::Fault(WorldFault::BadScript(number))),
+        Err(ScriptStop::Line(number)) => {
+            Err(WorldStop::Fault(WorldFault::BadScript(line_number(number))))
+        }
         Err(ScriptStop::NoMemory) => Err(WorldStop::NoMemory),
     }
+}
+
+// The number of a line in a file, which isn't long.
+fn line_number(number: u64) -> u32
+    requires { number < 2 ^ 32 }
+    ensures { result ≡ number }
+{
+    number as u32
 }
 
 fn find_start<'a>(start: &Words, files: &'a Files) -> Option<&'a File>

@@ -16,7 +16,7 @@ loop-item-preserved c =
     let item = c.item-item.result in
     let made = c.loop-item.made in
     let placed = c.in_ok-placed_at.field-0 in
-    let at : List ℕ = drop c.loop-item.at c.args.places.now in
+    let at : List ℕ = drop c.loop-item.end c.args.places.now in
     let split : drop i items ≡ item ∷ drop (i + 1) items = drop_item items i item c.loop-item-test.true c.item-item.is in
     record {
       exprs =

@@ -8,5 +8,5 @@ abbrev pub invariant-loop-item : goal.invariant-loop-item
 invariant-loop-item l = record {
   exprs : map (λ p. p.expr) l.made ++ map (λ item. item.expr) (drop l.item-index l.items) ≡ map (λ item. item.expr) l.items;
   placed : (scope : List InScope) (more : List ℕ) → drop l.fn.at l.places ≡ places_in scope (names_of_items l.items) ++ more
-      → (drop l.at l.places ≡ places_in scope (names_of_items (drop l.item-index l.items)) ++ more) × AreAllPlaced scope l.made;
+      → (drop l.end l.places ≡ places_in scope (names_of_items (drop l.item-index l.items)) ++ more) × AreAllPlaced scope l.made;
 }

@@ -3,7 +3,7 @@ use Rattle.std.specs.Prelude.{IfOk}
 use Rattle.package_codec.specs.CompactPackages.{expanded_package}
 use Rattle.ldv_top.specs.declared.response.Response.{Response}
 use Rattle.ldv_top.specs.Due.{DueOutput, response_due}
-use Rattle.ldv_top.proofs.AuditResponses.{is_versioned}
+use Rattle.ldv_top.proofs.AuditResponses.{is_versioned, has_tables_read}
 use Rattle.ldv_top.proofs.BareLaws.{audit_read}
 use Rattle.ldv_top.proofs.audit.bytes_response.Goals as goal
 
@@ -13,6 +13,10 @@ audited_response-requires-clause-can_run c =
 
 pub audited_response-requires-clause-versioned : goal.audited_response-requires-clause-versioned
 audited_response-requires-clause-versioned c = is_versioned c.args.input.now (expanded_package c.in-Ok.parsed.cut) c.in-Ok.ensures.found.2
+
+pub audited_response-requires-clause-fits : goal.audited_response-requires-clause-fits
+audited_response-requires-clause-fits c =
+    has_tables_read c.package_law.ensures.own_tables c.args.input.now (expanded_package c.in-Ok.parsed.cut) c.in-Ok.ensures.found.2
 
 pub returns-in-Ok : goal.returns-in-Ok
 returns-in-Ok c =

@@ -20,3 +20,6 @@ returns-clause-own_runs c = own_runs
 
 pub returns-clause-own_world : goal.returns-clause-own_world
 returns-clause-own_world c = own_valid
+
+pub returns-clause-own_tables : goal.returns-clause-own_tables
+returns-clause-own_tables c = c.fitting_law.ensures.own

@@ -10,8 +10,8 @@ use Rattle.slicer.specs.Marks.{row_reason, reason_among, reason_at, reason_of_ro
 use Rattle.slicer.proofs.ReasonLaws.{read_step, none_empty}
 use Rattle.slicer.proofs.reasons.note_table.Goals as goal
 
-pub returns : goal.returns
-returns c =
+pub returns-clause-noted : goal.returns-clause-noted
+returns-clause-noted c =
     let old = c.args.reasons.now in
     let new = c.insert.new.self in
     let rows = c.note_row.new.rows in
@@ -24,7 +24,7 @@ returns c =
     λ q. btree_map_updates_text (string_bytes c.in_ok-key.key) old new (Some rows) c.in_ok-insert.ensures.updates q
     ∙ ap (λ (k : List ℕ). cond (bytes_eq k q) (Some rows) (get_by_text old q)) key in
     let steps : (row : ℕ) → row_reason rows row ≡ option_or (reason_at old table row) (reason_of_row needed why row) =
-    λ row. c.in_ok-note_row.ensures row
+    λ row. c.in_ok-note_row.ensures.noted row
     ∙ ap (λ (o : Option Reason). option_or o (reason_of_row needed why row))
     (none_empty c.new-rows.result c.new-rows.ensures.empty row ∙ ap (λ (o : Option (BTreeMap ℕ Why)). reason_among o row) (sym c.requires)) in
     read_step old new rows why.statement need updates steps

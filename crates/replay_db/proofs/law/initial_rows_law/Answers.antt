@@ -1,5 +1,0 @@
-use Rattle.replay_db.proofs.InitialRows.{initial_rows_law}
-use Rattle.replay_db.proofs.law.initial_rows_law.Goals as goal
-
-pub returns : goal.returns
-returns c = initial_rows_law
