@@ -36,6 +36,8 @@ AIMS = {
     ("depends us", "rows 1000000"): 4.5,
     ("depends MiB", "rows 1000000"): 8.0,
     ("hard", None): 2.0,
+    ("hard worlds", None): 3.0,
+    ("hard worlds MiB", None): 2.0,
 }
 
 

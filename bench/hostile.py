@@ -87,7 +87,7 @@ def corpus():
     """Documents and packages of the cases and the examples: of each those that are run, and all. And
     provenance documents and joined packages."""
     good, documents, sound, packages, provenance, joined = [], [], [], [], [], []
-    for path in sorted(glob.glob(os.path.join(ROOT, 'crates/conformance/data/*.json'))):
+    for path in sorted(glob.glob(os.path.join(ROOT, 'crates/conformance/data/*/*.json'))):
         for case in json.load(open(path, encoding='utf-8')):
             data = bytes_of(case['input'])
             if len(data) > LONGEST or case['words'][:1] in ([], ['gen']):

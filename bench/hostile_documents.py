@@ -6,7 +6,7 @@ from hostile_packages import mutated_bytes
 
 sys.path.insert(0, os.path.join(os.path.dirname(os.path.dirname(os.path.abspath(__file__))), 'tools'))
 from ldvtools.errors import Malformed, Refused                               # noqa: E402
-from ldvtools.prov import ancestry                                           # noqa: E402
+from ldvtools.prov import ancestry, place_of                                     # noqa: E402
 from ldvtools.provenance import Edge, Node, Provenance, document_text, read_provenance   # noqa: E402
 
 NUMBERS = (0, 1, 2, 9, 10, 9_999_999, 10_000_000, 10_000_001, 2 ** 32 - 1, 2 ** 32, 2 ** 64 - 1, 2 ** 64,
@@ -73,7 +73,7 @@ def reads(data, path, answer):
     status, output, _ = answer
     try:
         provenance = read_provenance(data)
-        _, found, _ = ancestry(provenance, path)
+        _, found, _ = ancestry(provenance, place_of(provenance, path, None))
     except Malformed as fault:
         return None if status == 16 else 'status %r where the input is no document: %s' % (status, fault)
     except Refused:

@@ -111,6 +111,9 @@ rule('Steps are 1 to 10,000,000.', 'plain', [
 ], [
     ('steps 1 and no event after the start', {'trace': [started()]}),
     ('steps 10,000,000', {'steps': 10000000}),
+    ('fewer steps than its run takes', {
+        'files.0.content': 'print 1\nprint 2\nexit 3',
+        'output': 'outcome 1 0\nprocess 0 3 4 0\n1\n2\n\n'}),
     ('the last event at step 10,000,000', {'steps': 10000000, 'trace.1.step': 10000000}),
 ])
 allowed('Any seed is one.', 'plain', [

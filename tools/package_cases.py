@@ -2,9 +2,9 @@
 """Writes the cases of packages: for each rule of a valid package some that break this rule only, each with a
 right digest, beside some that come as close and are valid. spelling.py makes the bytes.
 
-    python3 tools/package_cases.py                writes packages.json, packages_in_runs.json, traces.json,
-                                                  needs.json, migrate.json and joined_packages.json into
-                                                  crates/conformance/data
+    python3 tools/package_cases.py                writes rules.json, rules_version2.json, traces.json and
+                                                  migrate.json into crates/conformance/data/packages,
+                                                  sql/needs.json and joins/rules.json
     python3 tools/package_cases.py --check        fails where one of them isn't what this script would write
     python3 tools/package_cases.py --list         each rule with the names of its cases
     python3 tools/package_cases.py --large DIR    writes the packages that are too long to be stored, each as
@@ -49,10 +49,10 @@ def replayed(rules):
 
 def stored():
     """The text of each file, by its name."""
-    return {'packages.json': replayed(RULES), 'packages_in_runs.json': replayed(RUNS),
-            'traces.json': lines([trace_case(*given) for given in CASES]),
-            'needs.json': lines(list(need_cases(2))),
-            'migrate.json': lines(list(migrations())), 'joined_packages.json': lines(list(join_cases()))}
+    return {'packages/rules.json': replayed(RULES), 'packages/rules_version2.json': replayed(RUNS),
+            'packages/traces.json': lines([trace_case(*given) for given in CASES]),
+            'sql/needs.json': lines(list(need_cases(2))),
+            'packages/migrate.json': lines(list(migrations())), 'joins/rules.json': lines(list(join_cases()))}
 
 
 def differing():

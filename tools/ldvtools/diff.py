@@ -11,6 +11,9 @@ packages the rows of a table are compared by their numbers, and statements by wh
 replies, by text, parameters and reply. Statements are counted from 0 within their process, as in `diverged`
 of `ldv`, replies from 1, as in outcome.py. Of two traces the first event that differs is shown.
 
+Cells are shown as they were read where a package, or the world of --world, says what its columns are; --raw
+shows them as they are carried.
+
 Statuses: 0 no difference; 1 a difference; 2 wrong words, or the two can't be read or compared.
 """
 from __future__ import annotations
@@ -22,14 +25,17 @@ import itertools
 import sys
 from typing import Dict, Iterator, List, Optional, Sequence, Tuple
 
-from .errors import Malformed, Misused, Refused, said, words_of
+from .errors import Malformed, Misused, Refused, command, words_of
 from .language import ASKED
-from .outcome import Asked, asked_in, read_input, write_out
+from .outcome import Asked, as_read, asked_in, named_document, read_input, write_out
 from .outcomes import Outcome, read_outcome
+from .package_tables import columns_of, tables_as_read
 from .packages import Asked as AskedEvent, Event, Package, PackedTable, Run, read_package
+from .reply_columns import answers_of, shown_reply
 from .trace import event_line
 from .values import Reply, Row, cell, escaped, plain_count, reply_title
-from .worlds import read_world
+from .world_digest import digests_in, without_digest
+from .worlds import have_numbers, read_world
 
 SHOWN = 20
 
@@ -117,7 +123,8 @@ def outcome_differences(before: Outcome, after: Outcome, asked: Asked, limit: in
             yield f"process {name} prints something else"
             yield from text_differences(one.printed, other.printed, limit)
         yield from replies_differences(name, one.replies, other.replies, asked, limit)
-    yield from files_differences(dict(before.touched), dict(after.touched), limit)
+    yield from files_differences(dict(without_digest(before).touched), dict(without_digest(after).touched),
+                                 limit)
 
 
 def replies_differences(name: str, before: List[Reply], after: List[Reply], asked: Asked,
@@ -223,9 +230,32 @@ def trace_differences(before: Package, after: Package) -> Iterator[str]:
         return
     yield (f"the traces differ: {plain_count(before.event_count(), 'event')}, and {after.event_count()}; "
            f"first at event {found[0]}, counted from 0")
-    for sign, event, package in zip("-+", found[1:], (before, after)):
-        if event is not None:
-            yield f"  {sign} {event_line(event, package.process_names())}"
+    lines = [None if event is None else event_line(event, package.process_names())
+             for event, package in zip(found[1:], (before, after))]
+    for sign, line in zip("-+", lines):
+        if line is not None:
+            yield f"  {sign} {line}"
+    if lines[0] == lines[1] and found[1] is not None and found[2] is not None:
+        yield from asked_differences(found[1].asked, found[2].asked)
+
+
+def asked_differences(before: Optional[AskedEvent], after: Optional[AskedEvent]) -> Iterator[str]:
+    """What two statements needed and made that have the same numbers of these."""
+    if before is None or after is None:
+        return
+    pairs = ((before.tables, after.tables), (need_lines(before), need_lines(after)),
+             (made_lines(before), made_lines(after)))
+    for one, other in pairs:
+        found = next(((left, right) for left, right in itertools.zip_longest(one, other) if left != right),
+                     None)
+        if found is not None:
+            yield f"    first in: {found[0] or 'nothing'}, and {found[1] or 'nothing'}"
+            return
+
+
+def made_lines(asked: AskedEvent) -> List[str]:
+    return [f"{table} {each.row} made as version {each.version}" for table, made in asked.made
+            for each in made]
 
 
 def first_difference(before: Sequence[Run],
@@ -261,6 +291,7 @@ def given_words(words: Optional[Sequence[str]]) -> argparse.Namespace:
     parser.add_argument("--world", metavar="FILE",
                         help="the world of the first outcome: names the statements")
     parser.add_argument("--run", type=int, choices=(1, 2), help="of joined packages: which of their runs")
+    parser.add_argument("--raw", action="store_true", help="numbers and dates as they are carried")
     parser.add_argument("--all", action="store_true", help="show all lines that differ")
     return parser.parse_args(words)
 
@@ -274,7 +305,8 @@ def check_no_worlds(first: bytes, second: bytes) -> None:
         raise Misused(f"{which}: compare the outcomes that ldv run makes, or the packages of ldv record")
 
 
-def compared(given: argparse.Namespace) -> Iterator[str]:
+def compared(given: argparse.Namespace, notes: List[str]) -> Iterator[str]:
+    """The lines that say what differs. Adds what is said of how cells are shown."""
     first, second = (read_input(path) for path in (given.first, given.second))
     limit = sys.maxsize if given.all else SHOWN
     check_no_worlds(first, second)
@@ -284,24 +316,51 @@ def compared(given: argparse.Namespace) -> Iterator[str]:
     if are_packages[0]:
         if given.world:
             raise Misused("--world goes with outcomes")
-        return package_differences(read_package(first, given.run), read_package(second, given.run), limit)
-    before = read_outcome(first)
-    asked = asked_in(read_world(read_input(given.world)), before) if given.world else {}
-    return outcome_differences(before, read_outcome(second), asked, limit)
+        packages = [package_shown(read_package(data, given.run), given.raw, notes)
+                    for data in (first, second)]
+        return package_differences(packages[0], packages[1], limit)
+    before, after = read_outcome(first), read_outcome(second)
+    if digests_in(before) != digests_in(after) and digests_in(before) and digests_in(after):
+        notes.append("the two are outcomes of two worlds, of other data or other statements")
+    if not given.world:
+        return outcome_differences(before, after, {}, limit)
+    document = named_document(given.world, "world document", read_world)
+    asked = asked_in(document, before)
+    if not given.raw:
+        notes += document.notes()
+        before, after = (as_read(outcome, asked, document, {})[0] for outcome in (before, after))
+    return outcome_differences(before, after, asked, limit)
+
+
+def package_shown(package: Package, is_raw: bool, notes: List[str]) -> Package:
+    """A package whose cells and replies are shown as they were read."""
+    if is_raw:
+        return package
+    columns = columns_of(package)
+    notes += columns.notes(have_numbers(table.columns for table in package.tables))
+    tables = [table._replace(rows=shown.rows)
+              for table, shown in zip(package.tables, tables_as_read(package.tables, columns))]
+    logs = [log._replace(entries=[
+        entry._replace(reply=shown_reply(entry.reply, answers_of(entry.text, columns, None)))
+        for entry in log.entries]) for log in package.logs]
+    return package._replace(tables=tables, logs=logs)
+
+
+def work(words: Optional[Sequence[str]]) -> int:
+    given = given_words(words)
+    notes: List[str] = []
+    try:
+        lines = list(compared(given, notes))
+    except (Malformed, Misused) as fault:
+        raise Refused(str(fault)) from None
+    for note in dict.fromkeys(notes if lines else ()):
+        print(f"diff.py: {note}", file=sys.stderr)
+    write_out("".join(line + "\n" for line in lines))
+    return 1 if lines else 0
 
 
 def main(words: Optional[Sequence[str]] = None) -> int:
-    given = given_words(words)
-    try:
-        lines = list(compared(given))
-    except (Malformed, Misused, Refused) as fault:
-        print(f"diff.py: {fault}", file=sys.stderr)
-        return 2
-    except OSError as fault:
-        print(f"diff.py: {said(fault)}", file=sys.stderr)
-        return 2
-    write_out("".join(line + "\n" for line in lines))
-    return 1 if lines else 0
+    return command("diff.py", work, words, "outcome", failed=2)
 
 
 if __name__ == "__main__":

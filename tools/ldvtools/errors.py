@@ -2,6 +2,7 @@
 from __future__ import annotations
 
 import argparse
+import os
 import sys
 from typing import Callable, Optional, Sequence
 
@@ -28,31 +29,62 @@ class Misused(Exception):
 
 def said(fault: OSError) -> str:
     """An error of the system in one line."""
+    if isinstance(fault, BrokenPipeError):
+        return "standard output: nobody reads it any more"
     if fault.strerror is None:
         return str(fault)
     return f"{fault.filename or 'standard output'}: {fault.strerror}"
 
 
 def command(name: str, work: Callable[[Optional[Sequence[str]]], int],
-            words: Optional[Sequence[str]], expected: str) -> int:
-    """The status of a command: of its work, or 1 or 2 where that fails, with one line on standard error.
+            words: Optional[Sequence[str]], expected: str, failed: int = 1) -> int:
+    """The status of a command: of its work, or `failed` or 2 where that fails, with one line on standard
+    error.
 
     `expected` says what a malformed input should have been.
     """
+    status = failed
     try:
-        return work(words)
+        status = work(words)
+        sys.stdout.flush()
+        return status
     except TwoRuns as fault:
-        print(f"{name}: {fault}", file=sys.stderr)
+        tell(f"{name}: {fault}")
     except Malformed as fault:
-        print(f"{name}: no {expected}: {fault}", file=sys.stderr)
+        tell(f"{name}: no {expected}: {fault}")
     except Refused as fault:
-        print(f"{name}: {fault}", file=sys.stderr)
+        tell(f"{name}: {fault}")
     except OSError as fault:
-        print(f"{name}: {said(fault)}", file=sys.stderr)
+        leave_output()
+        tell(f"{name}: {said(fault)}")
+    except MemoryError:
+        tell(f"{name}: there isn't memory enough for this input")
+    except RecursionError:
+        tell(f"{name}: an input nests too deep")
     except Misused as fault:
-        print(f"{name}: {fault} ({name} --help says more)", file=sys.stderr)
+        tell(f"{name}: {fault} ({name} --help says more)")
         return 2
-    return 1
+    return failed
+
+
+def tell(line: str) -> None:
+    """A line to standard error, where that can be written."""
+    try:
+        print(line, file=sys.stderr)
+    except (OSError, ValueError):
+        pass
+
+
+def leave_output() -> None:
+    """Gives up what standard output couldn't take: else it fails again at the end of the process, which then
+    ends with a status of its own."""
+    try:
+        handle = sys.stdout.fileno()
+        empty = os.open(os.devnull, os.O_WRONLY)
+        os.dup2(empty, handle)
+        os.close(empty)
+    except (OSError, ValueError):
+        pass
 
 
 def words_of(name: str, told: Optional[str], given: str = "", what: str = "") -> argparse.ArgumentParser:

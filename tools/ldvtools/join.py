@@ -7,7 +7,8 @@
 The input of `ldv join` is each package with its length before it, a number of four bytes, the highest first.
 Where the two clash nothing is written, and it is said what differs first, and in which package: a file that
 both have whole, a table, a row, or two rows of one key. This is the clash that `ldv join` would name. That
-both are valid packages is what `ldv join` says.
+both are valid packages is what `ldv join` says. Cells are shown as they were read, where the packages say
+what their columns are; --raw shows them as they are carried.
 
 Statuses: 0 written; 1 they clash, one has recorded replies in place of rows, is no package or is too long, or
 a file can't be read or written; 2 wrong words.
@@ -17,12 +18,15 @@ from __future__ import annotations
 import sys
 from typing import Dict, Iterator, List, NamedTuple, Optional, Sequence, Tuple
 
+from .columns import FOLDER, UNKNOWN, Columns, Known, Source, read_columns
 from .errors import Malformed, Misused, Refused, TwoRuns, command, words_of
 from .outcome import read_input
+from .package_tables import columns_of
 from .packages import Package, PackedRow, PackedTable, read_package
 from .values import Value, cell, counted, escaped
 
 MAX_LENGTH = (1 << 32) - 1
+BothColumns = Tuple[Columns, Columns]
 
 
 class Clash(NamedTuple):
@@ -46,8 +50,42 @@ def file_clash(first: Package, second: Package, names: Tuple[str, str]) -> Optio
         line = content[:place].count(b"\n") + 1
         return Clash(f"file {path}", [
             f"{names[0]} has {counted(len(content), 'byte')} of it, {names[1]} "
-            f"{counted(len(other), 'byte')}; the first difference is at byte {place}, in line {line}"])
+            f"{counted(len(other), 'byte')}; the first difference is at byte {place}, in line {line}",
+            *file_advice(path, content, other, names, path in (first.start[:1] + second.start[:1]))])
     return None
+
+
+def file_advice(path: str, content: bytes, other: bytes, names: Tuple[str, str],
+                is_start: bool) -> Iterator[str]:
+    """What to do about a file that both have with other bytes, where that is known."""
+    if path.startswith(FOLDER):
+        yield from columns_advice(content, other, names)
+    elif is_start:
+        yield ("it is the script of a run; where world.py made it of statements, --name gives it another "
+               "name, which is that of the world's file where -o names one")
+
+
+def columns_advice(content: bytes, other: bytes, names: Tuple[str, str]) -> Iterator[str]:
+    """In what two files differ that say what columns of a table are."""
+    try:
+        one, another = read_columns(content), read_columns(other)
+    except Malformed:
+        return
+    if one.source != another.source:
+        yield (f"the table {one.table} was read from {told_source(one.source)} in {names[0]}, from "
+               f"{told_source(another.source)} in {names[1]}: it has to come of one file or database")
+    for column in one.columns:
+        twin = another.column(column.name)
+        if twin is not None and twin != column:
+            differs = [field for field in column._fields if getattr(column, field) != getattr(twin, field)]
+            yield (f"column {column.name}: " + "; ".join(
+                f"{field} {getattr(column, field) or 'none'} in {names[0]}, {getattr(twin, field) or 'none'} "
+                f"in {names[1]}" for field in differs))
+
+
+def told_source(source: Source) -> str:
+    digest = f" (SHA-256 {source.digest[:16]}..)" if source.digest else ""
+    return f"{escaped(source.file) or 'a file without a name'}{digest}"
 
 
 def foreign_text(table: PackedTable) -> str:
@@ -87,7 +125,12 @@ def table_clash(first: Package, second: Package, names: Tuple[str, str]) -> Opti
     return None
 
 
-def row_clash(first: Package, second: Package, names: Tuple[str, str]) -> Optional[Clash]:
+def cell_as_read(value: Value, column: Optional[Known]) -> str:
+    return cell(value if column is None else column.shown(value))
+
+
+def row_clash(first: Package, second: Package, names: Tuple[str, str],
+              columns: BothColumns = (UNKNOWN, UNKNOWN)) -> Optional[Clash]:
     """The least table and number of a row that both have with different values."""
     for one, other in pairs(first, second):
         others = {row.number: row for row in other.rows}
@@ -96,7 +139,8 @@ def row_clash(first: Package, second: Package, names: Tuple[str, str]) -> Option
             if twin is not None and twin.values != row.values:
                 cells = zip(one.names(), row.values, twin.values)
                 return Clash(f"row {one.name} {row.number}", [
-                    f"column {name}: {cell(value)} in {names[0]}, {cell(another)} in {names[1]}"
+                    f"column {name}: {cell_as_read(value, columns[0].column(one.name, name))} in {names[0]}, "
+                    f"{cell_as_read(another, columns[1].column(one.name, name))} in {names[1]}"
                     for name, value, another in cells if value != another])
     return None
 
@@ -118,7 +162,8 @@ def holders(first: Package, second: Package, table: str, number: int, names: Tup
     return " and ".join(has)
 
 
-def key_clash(first: Package, second: Package, names: Tuple[str, str]) -> Optional[Clash]:
+def key_clash(first: Package, second: Package, names: Tuple[str, str],
+              columns: BothColumns = (UNKNOWN, UNKNOWN)) -> Optional[Clash]:
     """The least table in which a row of either has the key of an earlier row, and the first such row."""
     for name, (table, rows) in sorted(merged(first, second).items()):
         places = [table.names().index(column) for column in table.key]
@@ -126,7 +171,8 @@ def key_clash(first: Package, second: Package, names: Tuple[str, str]) -> Option
         for number in sorted(rows) if places else ():
             key = tuple(rows[number].values[place] for place in places)
             if key in seen:
-                shown = ", ".join(f"{column} {cell(value)}" for column, value in zip(table.key, key))
+                shown = ", ".join(f"{column} {cell_as_read(value, columns[0].column(name, column))}"
+                                  for column, value in zip(table.key, key))
                 both = " and ".join(f"row {row} of {holders(first, second, name, row, names)}"
                                     for row in (seen[key], number))
                 return Clash(f"key {name} {number}", [f"{both} have the same key: {shown}"])
@@ -134,14 +180,11 @@ def key_clash(first: Package, second: Package, names: Tuple[str, str]) -> Option
     return None
 
 
-def clash_of(first: Package, second: Package, names: Tuple[str, str] = ("the first", "the second")) \
-        -> Optional[Clash]:
+def clash_of(first: Package, second: Package, names: Tuple[str, str] = ("the first", "the second"),
+             columns: BothColumns = (UNKNOWN, UNKNOWN)) -> Optional[Clash]:
     """What differs first: all files are looked at before tables, these before rows, and these before keys."""
-    for look in (file_clash, table_clash, row_clash, key_clash):
-        clash = look(first, second, names)
-        if clash is not None:
-            return clash
-    return None
+    return (file_clash(first, second, names) or table_clash(first, second, names)
+            or row_clash(first, second, names, columns) or key_clash(first, second, names, columns))
 
 
 # ---- the input of `ldv join`
@@ -171,12 +214,15 @@ def work(words: Optional[Sequence[str]]) -> int:
     parser = words_of("join.py", __doc__)
     parser.add_argument("packages", nargs=2, metavar="PACKAGE",
                         help="an included package; - is standard input")
-    names = parser.parse_args(words).packages
+    parser.add_argument("--raw", action="store_true", help="numbers and dates as the packages carry them")
+    given = parser.parse_args(words)
+    names = given.packages
     if names == ["-", "-"]:
         raise Misused("standard input is only one of them")
     (one, first), (other, second) = map(read_one, names)
     said = (names[0], names[1]) if names[0] != names[1] else ("the first", "the second")
-    clash = clash_of(first, second, said)
+    columns = (UNKNOWN, UNKNOWN) if given.raw else (columns_of(first), columns_of(second))
+    clash = clash_of(first, second, said, columns)
     if clash is not None:
         print(f"join.py: clash: {escaped(clash.name)}", file=sys.stderr)
         for line in clash.lines:

@@ -24,6 +24,11 @@ In a table numbers stand right and texts left. A text stands in quotes where it 
 else: where it is empty, NULL or a number, has blanks at an end, or has characters that don't show. In CSV
 NULL is an empty field (or what --null says) and the empty text is "".
 
+A world that says what its columns are where they were read (docs/FORMATS.md), and a package that has it, show
+them so by themselves: decimals, dates and times as they were, heads with their units. SUM, MIN and MAX of a
+column are shown as the column is, a product with the decimals of both, and a COUNT as a number; what else is
+computed is shown as it is carried, and its head says (raw). --raw shows all as it is carried.
+
 --scale NAME=N shows the numbers of each column with this head as decimals with N digits after the point, as
 `world.py --scale` carried them: at 2, 300 is 3.00. A column without a name has its place for a head, so
 --scale 2=1 is such a second column. It holds for tables and CSV, and changes no outcome.
@@ -40,18 +45,20 @@ import argparse
 import os
 import re
 import sys
-from typing import Dict, List, Optional, Sequence, Set, Tuple
+from typing import Callable, Dict, List, Mapping, Optional, Sequence, Set, Tuple
 
 from .agreement import check_replies
-from .errors import Misused, Refused, command, words_of
+from .errors import Malformed, Misused, Refused, TwoRuns, command, words_of
 from .language import MISUSES
 from .outcomes import Outcome, read_outcome
 from .packages import read_package
+from .reply_columns import answers_of, heads_of_answers, shown_reply
 from .rerun import Question, questions_of
 from .sql import NoReading, Query, parse_statement
 from .sql_check import judge
 from .values import (Reply, Row, Scaled, Value, cell, csv_line, escaped, heads_of, plain_count, reply_title,
                      table_lines)
+from .world_digest import digests_in, without_digest
 from .worlds import Document, read_world, world_of_package
 
 Asked = Dict[Tuple[str, int], Tuple[Question, List[str]]]
@@ -119,15 +126,45 @@ def text_lines(text: str) -> List[str]:
 
 def column_names(question: Question, document: Document) -> List[str]:
     """The names of a reply's columns, as far as they have one."""
-    names = judge(question.text, question.params, document.schemas).names
+    kinds = document.kinds or document.schemas
+    names = judge(question.text, question.params, kinds).names
     return [name or str(place) for place, name in enumerate(names, 1)]
 
 
+def check_world(document: Document, outcome: Outcome) -> None:
+    """Malformed where an outcome names the digest of its world, and that is another one."""
+    found = digests_in(outcome)
+    if document.digest and found and document.digest not in found:
+        raise Malformed(f"it is of a world with the digest {found[0][:16]}.., and this one has "
+                        f"{document.digest[:16]}..: the world was edited since, or is another one; make the "
+                        "outcome anew")
+
+
 def asked_in(document: Document, outcome: Outcome) -> Asked:
+    check_world(document, outcome)
     questions = questions_of(document.world, outcome)
     check_replies(questions, document.schemas)
     return {(question.process, question.place): (question, column_names(question, document))
             for question in questions}
+
+
+def as_read(outcome: Outcome, asked: Asked, document: Document,
+            scales: Mapping[str, int]) -> Tuple[Outcome, Asked]:
+    """An outcome whose replies are shown as their columns were read, with heads that have their units. What
+    --scale names is as that says."""
+    heads = dict(asked)
+    processes = []
+    for process in outcome.processes:
+        replies = []
+        for number, reply in enumerate(process.replies):
+            found = asked.get((process.name, number))
+            answers = answers_of(found[0].text, document.columns, document.schemas) if found else []
+            replies.append(shown_reply(reply, answers))
+            if found:
+                names = heads_of(found[1], len(answers))
+                heads[process.name, number] = (found[0], heads_of_answers(names, answers, list(scales)))
+        processes.append(process._replace(replies=replies))
+    return outcome._replace(processes=processes), heads
 
 
 # ---- decimals
@@ -282,6 +319,7 @@ def read_words(given: Optional[Sequence[str]]) -> argparse.Namespace:
     parser.add_argument("--file", metavar="PATH", help="only the bytes of the file at this path")
     parser.add_argument("--scale", metavar="NAME=N", action="append", default=[],
                         help="show the columns with this head as decimals with N digits after the point")
+    parser.add_argument("--raw", action="store_true", help="numbers and dates as the world carries them")
     parser.add_argument("--null", default="", metavar="WORD", help="NULL in CSV (default: an empty field)")
     parser.add_argument("--world", metavar="FILE", help="the world of which it is the outcome")
     parser.add_argument("--package", metavar="FILE", help="the package of which it is the outcome")
@@ -321,10 +359,22 @@ def write_bytes(data: bytes) -> None:
 def document_of(words: argparse.Namespace) -> Optional[Document]:
     """The world that the words name, if they do."""
     if words.world:
-        return read_world(read_input(words.world))
+        return named_document(words.world, "world document", lambda data: read_world(data))
     if words.package:
-        return world_of_package(read_package(read_input(words.package), words.run))
+        return named_document(words.package, "package",
+                              lambda data: world_of_package(read_package(data, words.run)))
     return None
+
+
+def named_document(path: str, what: str, read: Callable[[bytes], Document]) -> Document:
+    """The world of a file that isn't the outcome. A message names it."""
+    data = read_input(path)
+    try:
+        return read(data)
+    except TwoRuns:
+        raise
+    except Malformed as fault:
+        raise Refused(f"{path}: no {what}: {fault}") from None
 
 
 def work(given: Optional[Sequence[str]]) -> int:
@@ -337,7 +387,12 @@ def work(given: Optional[Sequence[str]]) -> int:
     ends = end_lines(outcome)
     scales = scales_of(words.scale)
     notes = scale_notes(scales, asked, document)
-    show(scaled(outcome, asked, scales) if scales else outcome, asked, words)
+    outcome = scaled(outcome, asked, scales) if scales else outcome
+    if document is not None and asked is not None and not words.raw:
+        outcome, asked = as_read(outcome, asked, document, scales)
+        shows_replies = not (words.printed or words.file is not None)
+        notes += document.notes() if shows_replies and not scales else list(document.columns.faults)
+    show(outcome, asked, words)
     for note in notes + ([] if words.null or not (words.folder or words.csv) else null_notes(outcome, words)):
         print(f"outcome.py: {note}", file=sys.stderr)
     if words.folder or words.csv or words.printed or words.file is not None:
@@ -363,7 +418,7 @@ def show(outcome: Outcome, asked: Optional[Asked], words: argparse.Namespace) ->
     elif words.csv:
         write_out(csv_sections(outcome, words.null, asked))
     else:
-        write_out("".join(line + "\n" for line in shown_lines(outcome, asked)))
+        write_out("".join(line + "\n" for line in shown_lines(without_digest(outcome), asked)))
 
 
 def main(given: Optional[Sequence[str]] = None) -> int:

@@ -5,6 +5,7 @@ import re
 from typing import Dict, List, NamedTuple, NoReturn, Optional, Tuple
 
 from .errors import Malformed
+from .file_kinds import told_kind
 from .language import MAX_FILE, MAX_PATH, MAX_PROCESSES, MAX_TEXT
 from .values import Reply, Row, Value, changed_reply, refused_reply, rows_reply
 
@@ -158,6 +159,12 @@ def read_outcome(data: bytes) -> Outcome:
     """The outcome that bytes spell; Malformed where they spell none."""
     if not data:
         raise Malformed("it is empty; did the run fail? It says why on standard error")
+    if data.startswith(b"outcome ") and data.split(b"\n", 1)[0].endswith(b"\r"):
+        raise Malformed("its lines end with CR and LF: something changed the ends of its lines; copy it as "
+                        "it is")
+    kind = None if data.startswith(b"outcom") else told_kind(data)
+    if kind:
+        raise Malformed(f"it is {kind}")
     reader = Reader(data)
     head = reader.line(rf"outcome {NATURAL} {NATURAL}", "outcome P F")
     processes = reader.number(head[0], 1, MAX_PROCESSES, "the number of processes")

@@ -18,11 +18,17 @@
     tools/package.py --rows world.package                 its rows, each with the statement that needed it
                                                           first and the rule; of a joined package, by run
     tools/package.py --run 2 ..                           of a joined package, the second of its runs
+    tools/package.py --run 2 --package both.joined > second.package
+                                                          its package, for `audit`, `inspect` and `table`
 
 docs/FORMATS.md has the format. Both versions, both kinds and joined packages are read. The digest is
 compared, and the rest is read as far as it is needed here: that a package is valid is what `ldv replay` says.
-In CSV, NULL is an empty field and the empty text is "". In the world of --world the rows of a table are
-numbered anew, from 0.
+In CSV, NULL is an empty field and the empty text is "".
+
+A package that says what its columns are where they were read (docs/FORMATS.md) gives its cells back so by
+itself: decimals and dates as they were, REAL in SQLite with the types of the source, words for NULL in CSV,
+units in the heads. --raw gives them as they are carried, whole numbers and texts. In the world of --world the
+rows of a table are numbered anew, from 0.
 
 Statuses: 0 shown; 1 the input is no package, it hasn't what was asked for,
 or a file can't be read or written; 2 wrong words.
@@ -31,21 +37,22 @@ from __future__ import annotations
 
 import argparse
 import os
-import sqlite3
 import sys
 from typing import Dict, Iterator, List, Optional, Sequence, Tuple, Union
 
-from .check import check_joins, findings_of, warning_lines
+from .findings import check_joins, findings_of, warning_lines
+from .columns import FOLDER, UNKNOWN, Columns, path_of, script_lines
 from .documents import as_json, document, row_lines, table_json, write_file
 from .errors import Refused, command, words_of
 from .language import RULE_TEXTS
 from .outcome import read_input, write_out
+from .package_bytes import package_bytes
 from .package_places import byte_lines
+from .package_tables import check_rows, columns_of, tables_as_read, write_csv, write_sqlite
 from .packages import Asked, Joined, Package, PackedRow, PackedTable, read_any, read_package
 from .scripts_of_statements import script_of
-from .values import Row, Value, cell, counted, csv_line, escaped, reply_title, table_lines
-
-REASON_COLUMNS = ["ldv_row", "ldv_statement", "ldv_rule"]
+from .values import Row, cell, counted, escaped, reply_title, table_lines
+from .worlds import have_numbers
 
 
 # ---- what is shown
@@ -164,71 +171,6 @@ def need_lines(package: Package, asked: Asked) -> Iterator[str]:
         yield f"rule {rule}: the row {RULE_TEXTS[rule]}"
 
 
-# ---- tables for other tools
-
-def columns_of(table: PackedTable, reasons: bool) -> List[str]:
-    return (REASON_COLUMNS if reasons else []) + table.names()
-
-
-def rows_of(table: PackedTable, reasons: bool) -> Iterator[List[Value]]:
-    for row in table.rows:
-        why: Row = [row.number, row.statement, row.rule] if reasons else []
-        yield why + row.values
-
-
-def check_rows(package: Package, what: str) -> None:
-    if package.mode == "excluded":
-        raise Refused(f"it has recorded replies and no rows, so that it makes no {what}")
-
-
-def write_csv(package: Package, folder: str, reasons: bool) -> None:
-    check_rows(package, "table")
-    os.makedirs(folder, exist_ok=True)
-    for table in package.tables:
-        with open(os.path.join(folder, table.name + ".csv"), "w", encoding="utf-8", newline="") as file:
-            file.write(csv_line(columns_of(table, reasons), end="\r\n"))
-            for row in rows_of(table, reasons):
-                file.write(csv_line(row, end="\r\n"))
-
-
-def quoted(name: str) -> str:
-    return '"' + name + '"'
-
-
-def make_table(table: PackedTable, reasons: bool) -> str:
-    kinds = (["INTEGER", "INTEGER", "TEXT"] if reasons else []) + [
-        kind.replace("INT", "INTEGER") for _, kind in table.columns]
-    parts = [f"{quoted(name)} {kind}" for name, kind in zip(columns_of(table, reasons), kinds)]
-    if table.key:
-        parts.append(f"PRIMARY KEY ({', '.join(map(quoted, table.key))})")
-    for foreign in table.foreign:
-        columns = ", ".join(map(quoted, foreign.columns))
-        parts.append(f"FOREIGN KEY ({columns}) REFERENCES {quoted(foreign.parent)}")
-    return f"CREATE TABLE {quoted(table.name)} ({', '.join(parts)})"
-
-
-def write_sqlite(package: Package, path: str, reasons: bool) -> None:
-    check_rows(package, "table")
-    if os.path.exists(path):
-        raise Refused(f"{path} is there already")
-    database = sqlite3.connect(path)
-    try:
-        # A package may have a row without the rows to which it refers.
-        database.execute("PRAGMA foreign_keys = OFF")
-        with database:
-            for table in package.tables:
-                database.execute(make_table(table, reasons))
-                marks = ", ".join("?" * len(columns_of(table, reasons)))
-                database.executemany(f"INSERT INTO {quoted(table.name)} VALUES ({marks})",
-                                     rows_of(table, reasons))
-    except sqlite3.Error as fault:
-        database.close()
-        if os.path.exists(path):
-            os.remove(path)
-        raise Refused(str(fault)) from None
-    database.close()
-
-
 # ---- files
 
 def place_in(folder: str, path: str) -> str:
@@ -309,7 +251,11 @@ def world_of(package: Package, asks: Sequence[str]) -> Tuple[bytes, List[str]]:
         tables.append((table.name, table_json(table.columns, table.key, rows, table.next, foreign)))
     if asks:
         made = script_of([(text, f"--ask {place}") for place, text in enumerate(asks, 1)], {})
-        files = {"main": made.data}
+        known = {path: content for path, content in package.files
+                 if path.startswith(FOLDER) and content is not None}
+        lines = script_lines(name for name, _ in tables if path_of(name) in known)
+        lines += ["known:"] if lines else []
+        files = {"main": made.data + "".join(line + "\n" for line in lines).encode(), **known}
         notes.append("counts and sums are over these packed rows alone")
         return document(["main"], 0, files, tables), notes + warnings_of(package, files, made.places)
     return document(package.start, package.seed, {path: content or b"" for path, content in package.files},
@@ -328,6 +274,8 @@ def given_words(words: Optional[Sequence[str]]) -> argparse.Namespace:
     what.add_argument("--statement", metavar="N", type=int,
                       help="the rows that the statement N needed, from 0")
     what.add_argument("--world", action="store_true", help="a world document of its files and rows")
+    what.add_argument("--package", action="store_true", dest="package_out",
+                      help="the package of a run of a joined one, in version 2, which ldv takes by itself")
     what.add_argument("--sizes", action="store_true", help="how many bytes each section has")
     what.add_argument("--byte", metavar="N", type=int, help="what stands at the byte N, from 0")
     what.add_argument("--rows", action="store_true",
@@ -335,42 +283,67 @@ def given_words(words: Optional[Sequence[str]]) -> argparse.Namespace:
     parser.add_argument("--ask", metavar="STATEMENT", action="append", default=[],
                         help="with --world: a statement for its script, which asks these only")
     parser.add_argument("-o", "--output", metavar="FILE",
-                        help="with --world: the document (default: standard output)")
+                        help="with --world or --package: what is made (default: standard output)")
     parser.add_argument("--reasons", action="store_true",
                         help="with --csv or --sqlite: why each row is there")
+    parser.add_argument("--raw", action="store_true", help="numbers and dates as the package carries them")
     parser.add_argument("--run", type=int, choices=(1, 2), help="of a joined package: which of its runs")
     given = parser.parse_args(words)
     if given.reasons and not (given.csv or given.sqlite):
         parser.error("--reasons goes with --csv or --sqlite")
-    if (given.ask or given.output) and not given.world:
-        parser.error("--ask and -o go with --world")
+    if given.ask and not given.world:
+        parser.error("--ask goes with --world")
+    if given.output and not (given.world or given.package_out):
+        parser.error("-o goes with --world or --package")
     return given
+
+
+def say(notes: Sequence[str]) -> None:
+    for note in notes:
+        begin = "" if note.startswith("warning: ") else "note: "
+        print(f"package.py: {begin}{note}", file=sys.stderr)
+
+
+def columns_shown(found: Union[Package, Joined], given: argparse.Namespace) -> Columns:
+    """What is known of the columns whose cells are shown. Says where that is nothing."""
+    if given.raw:
+        return UNKNOWN
+    columns = columns_of(found)
+    say(columns.notes(have_numbers(table.columns for table in found.tables)))
+    return columns
 
 
 def show(data: bytes, given: argparse.Namespace) -> None:
     """Writes what the words ask for, of a package of one run."""
     package = read_package(data, given.run)
-    if given.csv:
-        write_csv(package, given.csv, given.reasons)
-    elif given.sqlite:
-        write_sqlite(package, given.sqlite, given.reasons)
+    if given.csv or given.sqlite or given.statement is not None or given.rows:
+        show_tables(package, columns_shown(package, given), given)
     elif given.files:
         write_files(package, given.files)
     elif given.file:
         sys.stdout.buffer.write(file_of(package, given.file))
         sys.stdout.buffer.flush()
-    elif given.statement is not None:
-        write_out("".join(line + "\n" for line in statement_lines(package, given.statement)))
+    elif given.package_out:
+        write_file(package_bytes(package), given.output)
     elif given.world:
         world, notes = world_of(package, given.ask)
-        for note in notes:
-            begin = "" if note.startswith("warning: ") else "note: "
-            print(f"package.py: {begin}{note}", file=sys.stderr)
+        say(notes)
         write_file(world, given.output)
-    elif given.rows:
-        write_out("".join(line + "\n" for line in row_lines_of(package)))
     else:
         write_out("".join(line + "\n" for line in summary(package)))
+
+
+def show_tables(package: Package, columns: Columns, given: argparse.Namespace) -> None:
+    """Writes what has cells of tables, as these were read."""
+    shown = package._replace(tables=tables_as_read(package.tables, columns))
+    if given.csv:
+        write_csv(package, given.csv, given.reasons, columns)
+    elif given.sqlite:
+        say(write_sqlite(package, given.sqlite, given.reasons, columns))
+    elif given.statement is not None:
+        write_out("".join(line + "\n" for line in statement_lines(shown, given.statement)))
+    else:
+        write_out("".join(line + "\n" for line in row_lines_of(shown)))
 
 
 def work(words: Optional[Sequence[str]]) -> int:
@@ -383,10 +356,12 @@ def work(words: Optional[Sequence[str]]) -> int:
         write_out("".join(line + "\n" for line in byte_lines(data, given.byte)))
         return 0
     asks_part = (given.csv or given.sqlite or given.files or given.file or given.statement is not None
-                 or given.world)
+                 or given.world or given.package_out)
     found = read_any(data) if not asks_part and given.run is None else None
     if isinstance(found, Joined):
-        lines = joined_row_lines(found) if given.rows else joined_summary(found)
+        columns = columns_shown(found, given) if given.rows else UNKNOWN
+        shown = found._replace(tables=tables_as_read(found.tables, columns))
+        lines = joined_row_lines(shown) if given.rows else joined_summary(found)
         write_out("".join(line + "\n" for line in lines))
     else:
         show(data, given)

@@ -11,6 +11,7 @@ import struct
 from typing import Callable, Dict, Iterator, List, Mapping, NamedTuple, Optional, Tuple, TypeVar, Union
 
 from .errors import Malformed, Refused, TwoRuns
+from .file_kinds import told_kind
 from .language import (ACTS, ASKED, ENDED, KEYED_REFUSALS, KINDS, MAX_EVENTS, MAX_PROCESSES, MODES, NAME,
                        REFUSALS, RULES, SPAWNED, WAITED)
 from .values import Reply, Row, Value, changed_reply, refused_reply, rows_reply
@@ -424,10 +425,12 @@ def read_any(data: bytes, reads: Callable[[bytes, int], Reader] = Reader) -> Uni
     reader of these bytes without their digest, and of their version."""
     magic = data[:MAGIC_LENGTH]
     if magic not in VERSIONS and magic != JOINED:
-        raise Malformed("it doesn't begin with LDVPACK1 or LDVPACK2, as `ldv record` writes a package")
+        kind = told_kind(data)
+        raise Malformed("it doesn't begin with LDVPACK1 or LDVPACK2, as `ldv record` writes a package"
+                        + (f"; it is {kind}" if kind else "; it is empty" if not data else ""))
     digest = data[-DIGEST_LENGTH:]
     if len(data) < MAGIC_LENGTH + DIGEST_LENGTH or hashlib.sha256(data[:-DIGEST_LENGTH]).digest() != digest:
-        raise Malformed("its digest is another one")
+        raise Malformed("its digest is another one: bytes were lost or changed on the way")
     reader = reads(data[:-DIGEST_LENGTH], VERSIONS.get(magic, 2))
     found: Union[Package, Joined] = reader.joined() if magic == JOINED else reader.package()
     reader.end()

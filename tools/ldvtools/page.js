@@ -43,7 +43,8 @@ const digits = value => value !== null && typeof value === "object" ? value.i : 
 function cell(value) {
   if (value === null) return el("td", {class: "null"}, "NULL");
   if (value === "") return el("td", {}, el("span", {class: "soft"}, "(empty)"));
-  if (typeof value === "string") return el("td", {}, value);
+  // Dates and other short texts aren't broken over two lines, nor are numbers.
+  if (typeof value === "string") return el("td", {class: value.length <= 24 ? "short" : ""}, value);
   return el("td", {class: "number"}, String(digits(value)));
 }
 
@@ -52,10 +53,10 @@ function paged(heads, rows, make, perPage = ROWS) {
   const body = el("tbody"), place = el("span", {class: "soft"}), holder = el("div");
   let page = 0;
   const pages = () => Math.max(1, Math.ceil(rows.length / perPage));
-  const step = (by, text) => el("button", {onclick: () => {
-    page = Math.min(pages() - 1, Math.max(0, page + by)); show(); }}, text);
+  const step = (by, text) => el("button", {"aria-label": by < 0 ? "page before" : "next page",
+    onclick: () => { page = Math.min(pages() - 1, Math.max(0, page + by)); show(); }}, text);
   const back = step(-1, "‹"), on = step(1, "›");
-  const goto = el("input", {type: "number", min: 1, size: 6, title: "page", onchange: event => {
+  const goto = el("input", {type: "number", min: 1, size: 6, "aria-label": "page", onchange: event => {
     page = Math.min(pages() - 1, Math.max(0, Number(event.target.value) - 1 || 0)); show(); }});
   const bar = el("div", {class: "bar pager"}, back, place, on, goto);
   function show() {
@@ -133,7 +134,10 @@ function head() {
     fact("start", D.start.join(" ")), fact("seed", D.seed),
     fact("steps", D.steps.toLocaleString("en")), fact("events", D.events.toLocaleString("en")),
     fact("statements", D.statements.length.toLocaleString("en"))),
-    el("div", {class: "facts"}, fact("SHA-256", D.digest)),
+    el("div", {class: "facts"},
+      D.fileDigest && fact("SHA-256 of the file, as sha256sum writes it", D.fileDigest),
+      fact("digest within it, of the bytes before its end", D.digest)),
+    D.notes.map(note => el("p", {class: "red"}, note)),
     verdictBadge(),
     D.refused > 0 && el("span", {class: "badge bad", id: "refused"},
       `${D.refused} of ${counted(D.replies, "statement")} ${D.refused === 1 ? "was" : "were"} refused`),
@@ -210,13 +214,36 @@ function statementRow(number) {
   const count = statement.needs.reduce((sum, [, rows]) => sum + rows.length, 0);
   const tables = "tables: " + (statement.tables.join(", ") || "none");
   const chosenClass = number === chosen ? "chosen" : "";
-  return el("tr", {"data-statement": number, class: chosenClass, onclick: () => choose(number)},
+  const onkeydown = event => { if (event.key === "Enter" || event.key === " ") {
+    event.preventDefault();
+    choose(number);
+    document.querySelector(`tr[data-statement="${number}"]`).focus();
+  } };
+  return el("tr", {"data-statement": number, class: chosenClass, tabindex: 0, onkeydown,
+    "aria-expanded": String(number === chosen), onclick: () => choose(number)},
     el("td", {class: "number"}, number), el("td", {}, statement.process),
     el("td", {class: "number"}, statement.step),
     el("td", {}, statement.text === null ? el("span", {class: "soft"}, tables)
-      : el("code", {}, statement.text.slice(0, 300))),
-    el("td", {class: isRefused ? "red" : ""}, statement.reply ? statement.reply.title : ""),
+      : el("code", {}, statement.text.slice(0, 300)),
+      statement.params.length > 0 && el("div", {class: "soft params"},
+        "with " + statement.params.join(", "))),
+    el("td", {class: isRefused ? "reply red" : "reply"}, statement.reply ? statement.reply.title : "",
+      preview(statement)),
     el("td", {class: "number"}, count));
+}
+
+// The first rows of a reply, in the list of statements.
+const FIRST_ROWS = 3, FIRST_COLUMNS = 6;
+function preview(statement) {
+  const rows = statement.reply ? statement.reply.rows : [];
+  if (!rows.length) return null;
+  const width = Math.min(FIRST_COLUMNS, rows[0].length);
+  const names = Array.from({length: width}, (_, place) => statement.columns[place] || String(place + 1));
+  const more = rows.length > FIRST_ROWS || rows[0].length > FIRST_COLUMNS;
+  const short = value => typeof value === "string" && value.length > 40 ? value.slice(0, 39) + "…" : value;
+  return [el("table", {class: "preview"}, el("tr", {}, names.map(name => el("th", {}, name))),
+    rows.slice(0, FIRST_ROWS).map(row => el("tr", {}, row.slice(0, width).map(value => cell(short(value)))))),
+    more && el("span", {class: "soft"}, "and more: a click shows all")];
 }
 
 function replyOf(statement) {
@@ -285,7 +312,8 @@ function statementSection() {
   const onchange = event => statementList.use(event.target.checked ? refused : numbers);
   const only = el("input", {type: "checkbox", onchange});
   return section("statements", "Statements", el("p", {class: "soft"},
-    "A click on a statement shows its reply and marks the rows that it needed."),
+    "Each with the first rows of its reply. A click on a statement shows all of it and marks the rows " +
+    "that it needed."),
     refused.length > 0 && el("label", {class: "bar"}, only, "refused ones alone"),
     statementList, statementPanel);
 }
@@ -350,7 +378,8 @@ function timeSection() {
   const {columns, steps, lanes} = D.marks, left = 190, height = 22, limit = 120;
   const shown = lanes.slice(0, limit), width = left + columns + 20;
   const x = step => left + step * columns / (steps + 1);
-  const picture = svg("svg", {width, height: shown.length * height + 40, id: "time", role: "img"});
+  const picture = svg("svg", {width, height: shown.length * height + 40, id: "time", role: "img",
+    "aria-label": "processes and files over the steps of the run"});
   shown.forEach(([kind, name, marks], place) => {
     const y = 20 + place * height;
     put(picture, [svg("text", {x: 0, y: y + 4, "data-lane": `${kind} ${name}`},
@@ -367,7 +396,8 @@ function timeSection() {
     }
   });
   const bottom = shown.length * height + 30;
-  put(picture, [0, .25, .5, .75, 1].map(part => svg("text", {x: x(part * steps) - 6, y: bottom},
+  put(picture, [0, .25, .5, .75, 1].map(part => svg("text", {x: x(part * steps), y: bottom, class: "axis",
+    "text-anchor": part === 1 ? "end" : part === 0 ? "start" : "middle"},
     Math.round(part * steps).toLocaleString("en"))));
   const key = (color, text) => { const mark = el("i"); mark.style.background = color; return [mark, text]; };
   const leftOut = lanes.length - limit;
@@ -450,13 +480,14 @@ function nodeOrder(a, b) {
 }
 
 function choosePath(path) {
-  cameSelect.value = path;
+  cameSelect.value = "path:" + path;
   showCame();
 }
 
 function showCame() {
   camePanel.replaceChildren();
-  const target = D.graph.nodes.findIndex(node => node[0] === "path" && node[1] === cameSelect.value);
+  const [kind, ...rest] = cameSelect.value.split(":"), wanted = rest.join(":");
+  const target = D.graph.nodes.findIndex(node => node[0] === kind && String(node[1]) === wanted);
   if (target < 0) return;
   const found = cameFrom(target), places = [...found.keys()].sort(nodeOrder);
   if (!places.length) {
@@ -529,7 +560,8 @@ function layout(groups, edges, target) {
   const width = 20 + (Math.max(...[...spots.values()].map(spot => spot.x)) + boxWidth);
   const tip = svg("marker", {id: "tip", viewBox: "0 0 8 8", refX: 7, refY: 4, markerWidth: 7, markerHeight: 7,
     orient: "auto"}, svg("path", {d: "M0 0L8 4L0 8z", fill: "#7c8995"}));
-  const picture = svg("svg", {width, height: 4 * laneHigh - 30, id: "graph", role: "img"},
+  const picture = svg("svg", {width, height: 4 * laneHigh - 30, id: "graph", role: "img",
+    "aria-label": "what had a part in it, as a picture; the list below has the same"},
     svg("defs", {}, tip));
   for (const edge of edges.values()) put(picture, [drawnEdge(edge, spots, boxWidth, high)]);
   for (const [name, group] of groups) {
@@ -588,13 +620,19 @@ function cameSection() {
     "ldv inspect depends answers it."));
   const paths = D.graph.nodes.filter(node => node[0] === "path").map(node => node[1]);
   const wrote = new Set(D.touched.map(file => file.path));
-  put(cameSelect, paths.sort((a, b) => wrote.has(b) - wrote.has(a)).map(path =>
-    el("option", {value: path}, path + (wrote.has(path) ? " (written)" : ""))));
+  const option = (kind, name, text) => el("option", {value: `${kind}:${name}`}, text);
+  const asked = D.graph.nodes.filter(node => node[0] === "reply").map(node => node[1]);
+  const told = number => `reply ${number}: ${(D.statements[number].text || "").slice(0, 60)}`;
+  const others = paths.filter(path => !wrote.has(path) && !path.startsWith("ldv-world/"));
+  const written = paths.filter(path => wrote.has(path));
+  put(cameSelect, [written.map(path => option("path", path, path + " (written)")),
+    asked.sort((a, b) => a - b).map(number => option("reply", number, told(number))),
+    others.map(path => option("path", path, path))]);
   showCame();
-  return section("came", "What a file came from", el("p", {class: "soft"},
-    "All that can have had a part in what the file is at the end. A click on a file in the picture asks " +
-    "for that one, a click on a statement shows it."),
-    el("label", {class: "bar"}, "file", cameSelect), camePanel);
+  return section("came", "What a file or a reply came from", el("p", {class: "soft"},
+    "All that can have had a part in what the file is at the end, or in the reply. A click on a file in " +
+    "the picture asks for that one, a click on a statement shows it."),
+    el("label", {class: "bar"}, "file or reply", cameSelect), camePanel);
 }
 
 // ---- files
@@ -610,7 +648,7 @@ function fileSection() {
 
 function page() {
   const titles = {outcome: "Outcome", statements: "Statements", tables: "Tables", time: "Over steps",
-    came: "What a file came from", files: "Files"};
+    came: "What a file or a reply came from", files: "Files"};
   onlyNeeded = el("input", {type: "checkbox"});
   const sections = [outcomeSection(), statementSection(), tableSection(), timeSection(), null, fileSection()];
   sections[4] = cameSection();

@@ -24,13 +24,16 @@ import html
 import json
 import os
 import pkgutil
+import re
 import sys
-from typing import List, Optional, Sequence, Tuple
+from typing import Optional, Sequence, Tuple
 
 from .documents import write_file
 from .errors import Misused, Refused, command, words_of
+from .file_kinds import told_kind
 from .outcome import read_input
 from .outcomes import Outcome, read_outcome
+from .package_bytes import package_bytes
 from .packages import Package, read_package
 from .page_data import Json, page_json
 from .program import answer_of
@@ -80,15 +83,30 @@ def page_text(data: Json) -> str:
 def asked_program(program: str, data: bytes, package: Package, run: Optional[int],
                   budget: Sequence[str]) -> Tuple[Outcome, Optional[str]]:
     """The replay, and what `audit` says of a package with rows."""
-    which: List[str] = ["--run", str(run)] if run else []
-    status, output, error = answer_of(program, ["replay", *which, *budget], data)
+    # A run of a joined package is taken apart, since a joined one isn't audited.
+    data = package_bytes(package) if run else data
+    status, output, error = answer_of(program, ["replay", *budget], data)
     if status != 0:
-        raise Refused(f"{program} replay ends with {status}: {error}")
+        raise Refused(f"{program} replay ends with {status}{f': {error}' if error else ' and says nothing'}")
+    if not output:
+        raise Refused(f"{program} replay wrote no outcome: it isn't the program ldv")
     verdict: Optional[str] = None
-    if package.mode == "included" and not run:
+    if package.mode == "included":
         status, said, error = answer_of(program, ["audit", *budget], data)
         verdict = said.decode().strip() if status == 0 else f"not audited: {error}"
     return read_outcome(output), verdict
+
+
+VERDICT = re.compile(rb"(?:sound|unsound (?:0|[1-9][0-9]{0,9}))\n")
+
+
+def verdict_in(data: bytes, path: str) -> str:
+    """What `audit` wrote; anything else is refused, since a page would show it as a verdict."""
+    if not VERDICT.fullmatch(data):
+        kind = told_kind(data)
+        raise Refused(f"{path} isn't what ldv audit writes, `sound` or `unsound N` and LF"
+                      + (f", but {kind}" if kind else ""))
+    return data.decode().strip()
 
 
 # ---- the command
@@ -100,6 +118,7 @@ def given_words(words: Optional[Sequence[str]]) -> argparse.Namespace:
     parser.add_argument("--steps", metavar="N", type=int, help="with --ldv: the budget of the replay")
     parser.add_argument("--audit", metavar="FILE", help="what `audit` wrote of it")
     parser.add_argument("--run", type=int, choices=(1, 2), help="of a joined package: which of its runs")
+    parser.add_argument("--raw", action="store_true", help="numbers and dates as the package carries them")
     parser.add_argument("--name", help="what the page calls it (default: the name of the file)")
     parser.add_argument("-o", "--output", metavar="FILE", help="the page (default: standard output)")
     given = parser.parse_args(words)
@@ -115,12 +134,13 @@ def work(words: Optional[Sequence[str]]) -> int:
     data = read_input(given.package)
     package = read_package(data, given.run)
     outcome = read_outcome(read_input(given.replayed)) if given.replayed else None
-    verdict = read_input(given.audit).decode(errors="replace").strip() if given.audit else None
+    verdict = verdict_in(read_input(given.audit), given.audit) if given.audit else None
     if given.ldv:
         budget = ["--steps", str(given.steps or max(package.steps, 1))]
         outcome, verdict = asked_program(given.ldv, data, package, given.run, budget)
     name = given.name or (os.path.basename(given.package) if given.package else "a package")
-    text = page_text(page_json(package, name, len(data), outcome, verdict))
+    digest = hashlib.sha256(data).hexdigest()
+    text = page_text(page_json(package, name, len(data), outcome, verdict, digest, given.raw))
     write_file(text.encode(), given.output)
     return 0
 

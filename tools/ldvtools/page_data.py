@@ -5,13 +5,19 @@ import base64
 from typing import Any, Dict, Iterable, List, Optional, Set, Tuple
 
 from .agreement import check_replies
+from .columns import UNKNOWN, Columns
+from .findings import operands_known, text_of
 from .language import ACTS, ASKED, MISUSES, RULE_TEXTS
 from .outcome import column_names
 from .outcomes import Outcome
+from .package_tables import columns_of, tables_as_read
 from .packages import Asked, Entry, Package
+from .reply_columns import answers_of, heads_of_answers, shown_reply
 from .rerun import Question, questions_of
+from .scripts import BadLine, read_script
 from .trace import graph_of, lives
-from .values import Reply, Value, cell, reply_title
+from .values import Reply, Scaled, Value, cell, heads_of, reply_title
+from .world_digest import FOLDER, without_digest
 from .worlds import Document, world_of_package
 
 # What a number of JavaScript carries exactly.
@@ -22,7 +28,10 @@ Json = Any
 
 
 def value_json(value: Value) -> Json:
-    """A value; a number that JavaScript wouldn't carry exactly as {"i": its digits}."""
+    """A value; a number that JavaScript wouldn't carry exactly as {"i": its digits}, a decimal as {"i": as it
+    was read}."""
+    if isinstance(value, Scaled):
+        return {"i": str(value)}
     return {"i": str(value)} if isinstance(value, int) and abs(value) > EXACT else value
 
 
@@ -56,9 +65,13 @@ class Statement:
         self.columns: List[str] = []
         self.reply: Optional[Reply] = None
 
-    def know(self, question: Question, document: Document) -> None:
+    def know(self, question: Question, document: Document, is_raw: bool = True) -> None:
         self.text, self.params, self.reply = question.text, question.params, question.reply
         self.columns = column_names(question, document)
+        if not is_raw and self.reply is not None:
+            answers = answers_of(question.text, document.columns, document.schemas)
+            self.reply = shown_reply(self.reply, answers)
+            self.columns = heads_of_answers(heads_of(self.columns, len(answers)), answers)
 
     def json(self) -> Json:
         needs = [[table, [[need.row, need.version, need.rule] for need in rows]]
@@ -70,9 +83,35 @@ class Statement:
                 "needs": needs, "made": made}
 
 
-def statements_of(package: Package, outcome: Optional[Outcome]) -> List[Statement]:
-    """The statements of the trace; their texts from the outcome of the replay,
-    or from the recorded replies."""
+def written_texts(package: Package) -> Dict[str, List[Tuple[str, List[Value]]]]:
+    """The statements of each process whose script asks them one by one, with their parameters: nothing but
+    its lines says in which order."""
+    files, found = dict(package.files), {}
+    for name, path, _, _, _ in lives(package):
+        try:
+            script = read_script(files.get(path) or b"")
+        except BadLine:
+            continue
+        known = operands_known(script)
+        asked, is_plain = [], True
+        last = max((place for place, each in enumerate(script.instructions) if each.word == "sql"),
+                   default=-1)
+        for each in script.instructions[:last + 1]:
+            if each.word == "sql":
+                text = text_of(each.operands[0], known)
+                values = [operand for operand in each.operands[1:]]
+                is_plain = is_plain and text is not None and not any(operand.name for operand in values)
+                asked.append((text or "", [operand.value for operand in values]))
+            elif each.word not in ("print", "let"):
+                is_plain = False
+        if is_plain and asked:
+            found[name] = asked
+    return found
+
+
+def statements_of(package: Package, outcome: Optional[Outcome], is_raw: bool = True) -> List[Statement]:
+    """The statements of the trace; their texts from the outcome of the replay, from the recorded replies, or
+    from scripts that ask one statement after the other."""
     names = package.process_names()
     found = [Statement(run.first.step, names[run.first.process], run.first.asked) for run in package.runs
              if run.first.act == ASKED and run.first.asked is not None]
@@ -81,7 +120,7 @@ def statements_of(package: Package, outcome: Optional[Outcome]) -> List[Statemen
         questions = questions_of(document.world, outcome)
         check_replies(questions, document.schemas)
         for statement, question in zip(found, questions):
-            statement.know(question, document)
+            statement.know(question, document, is_raw)
     elif package.logs:
         left: Dict[str, List[Entry]] = {log.process: list(reversed(log.entries)) for log in package.logs}
         for statement in found:
@@ -89,21 +128,26 @@ def statements_of(package: Package, outcome: Optional[Outcome]) -> List[Statemen
             if entry is not None:
                 statement.know(Question(statement.process, statement.step, 0, 0, entry.text, entry.params,
                                         entry.reply),
-                               document)
+                               document, is_raw)
+    else:
+        texts = {name: list(reversed(asked)) for name, asked in written_texts(package).items()}
+        for statement in found:
+            if texts.get(statement.process):
+                statement.text, statement.params = texts[statement.process].pop()
     return found
 
 
 # ---- the parts
 
-def table_json(package: Package) -> List[Json]:
+def table_json(package: Package, columns: Columns = UNKNOWN) -> List[Json]:
     return [{
         "name": table.name,
-        "columns": [list(column) for column in table.columns],
+        "columns": [list(column) for column in shown.columns],
         "key": table.key,
         "foreign": [f"({', '.join(each.columns)}) refers to {each.parent}" for each in table.foreign],
         "next": table.next,
-        "rows": [[row.number, row.statement, row.rule, *values_json(row.values)] for row in table.rows],
-    } for table in package.tables]
+        "rows": [[row.number, row.statement, row.rule, *values_json(row.values)] for row in shown.rows],
+    } for table, shown in zip(package.tables, tables_as_read(package.tables, columns))]
 
 
 def process_json(package: Package, outcome: Optional[Outcome]) -> List[Json]:
@@ -136,8 +180,8 @@ def writers(package: Package) -> Dict[str, List[Json]]:
 
 def touched_json(package: Package, outcome: Optional[Outcome]) -> Json:
     """The files that the run left or removed, with those that wrote them."""
-    by = writers(package)
-    after = dict(outcome.touched) if outcome else {}
+    by = {path: ways for path, ways in writers(package).items() if not path.startswith(FOLDER)}
+    after = dict(without_digest(outcome).touched) if outcome else {}
     paths = list(after) if outcome else sorted(by, key=lambda path: path.encode())
     return [{"path": path, "known": path in after, "content": bytes_json(after.get(path)),
              "by": by.get(path, [])}
@@ -162,7 +206,9 @@ def marks_of(package: Package) -> Json:
         if act.has_path:
             mark(("path", event.path), "change" if act.changes else "look", event.step, run.times, run.stride)
         mark(lane, "ask" if event.act == ASKED else "act", event.step, run.times, run.stride)
-    ordered = sorted(lanes, key=lambda lane: lane[0] == "path")
+    made = {name: place for place, name in enumerate(names)}
+    ordered = sorted(lanes, key=lambda lane: (lane[0] == "path", made.get(lane[1], 0) if lane[0] != "path"
+                                              else 0))
     return {"columns": COLUMNS, "steps": package.steps,
             "lanes": [[*lane, {kind: sorted(found) for kind, found in lanes[lane].items()}]
                       for lane in ordered]}
@@ -177,14 +223,17 @@ def graph_json(package: Package) -> Json:
 
 
 def page_json(package: Package, name: str, size: int, outcome: Optional[Outcome],
-              verdict: Optional[str]) -> Json:
-    """All that a page shows."""
-    statements = statements_of(package, outcome)
+              verdict: Optional[str], file_digest: str = "", is_raw: bool = False) -> Json:
+    """All that a page shows. Cells are as they were read, where the package says what its columns are, unless
+    they are to be raw."""
+    columns = UNKNOWN if is_raw else columns_of(package)
+    statements = statements_of(package, outcome, is_raw)
     replies = [statement.reply for statement in statements if statement.reply is not None]
     processes = process_json(package, outcome)
     return {
         "name": name, "size": size, "kind": package.mode, "version": package.version,
-        "digest": package.digest, "start": package.start, "seed": str(package.seed), "steps": package.steps,
+        "digest": package.digest, "fileDigest": file_digest, "notes": list(columns.faults),
+        "start": package.start, "seed": str(package.seed), "steps": package.steps,
         "events": package.event_count(), "verdict": verdict, "replayed": outcome is not None,
         "replies": len(replies), "refused": sum(reply.kind == "refused" for reply in replies),
         "misused": sum(process["misuse"] is not None for process in processes),
@@ -193,7 +242,7 @@ def page_json(package: Package, name: str, size: int, outcome: Optional[Outcome]
         "files": [{"path": path, "content": bytes_json(content)} for path, content in package.files],
         "touched": touched_json(package, outcome),
         "statements": [statement.json() for statement in statements],
-        "tables": table_json(package),
+        "tables": table_json(package, columns),
         "marks": marks_of(package),
         "graph": graph_json(package),
     }

@@ -9,8 +9,10 @@ import re
 from typing import Dict, List, NamedTuple, Optional, Set, Tuple
 
 from .errors import Malformed
+from .file_kinds import PROVENANCE, told_kind
 from .language import MAX_PATH, NAME, RESERVED
-from .trace import LAST_TIME, Graph
+from .packages import Package
+from .trace import LAST_TIME, Graph, graph_of
 
 MAX_NUMBER = 2**32 - 1
 # A number as an id and a name of an edge have it.
@@ -182,11 +184,16 @@ def read_provenance(data: bytes) -> Provenance:
         text = data.decode()
         document = members(json.loads(text), "the document")
     except UnicodeDecodeError:
-        raise Malformed("it isn't UTF-8") from None
+        raise Malformed(f"it is {told_kind(data)}" if told_kind(data) else "it isn't UTF-8") from None
     except RecursionError:
         raise Malformed("it nests too deep") from None
     except ValueError as fault:
-        raise Malformed(f"it isn't JSON: {fault}") from None
+        kind = told_kind(data)
+        kind = None if kind == PROVENANCE else kind
+        where = ""
+        if isinstance(fault, json.JSONDecodeError):
+            where = f": line {fault.lineno} column {fault.colno}"
+        raise Malformed(f"it is {kind}" if kind else f"it isn't JSON{where}") from None
     nodes, places = nodes_in(document)
     provenance = Provenance(nodes, edges_in(document, places))
     due = document_text(provenance)
@@ -213,3 +220,23 @@ def document_text(provenance: Provenance) -> str:
             relation.target: provenance.nodes[edge.target].id,
         }
     return json.dumps(document, ensure_ascii=False, separators=(",", ":"), sort_keys=True)
+
+
+# ---- of a package
+
+def provenance_of(package: Package) -> Provenance:
+    """The graph of a package's trace, of which `ldv prov` writes the document: nodes come in the order in
+    which edges name them."""
+    graph = graph_of(package)
+    found = list(graph.nodes)
+    places: Dict[int, int] = {}
+    edges = [Edge(places.setdefault(source, len(places)), places.setdefault(target, len(places)), *times)
+             for (source, target), times in graph.edges.items()]
+    return Provenance([node_in(graph, *found[place]) for place in places], edges)
+
+
+def node_in(graph: Graph, kind: object, *name: object) -> Node:
+    """A node of a graph, whose processes have names, with the number of a process in place of that."""
+    if kind == "process":
+        return Node("process", str(graph.made[str(name[0])]))
+    return Node(str(kind), "/".join(map(str, name)))

@@ -29,6 +29,7 @@ class Lines:
         self.text, self.name, self.renamed = text, name, renamed
         self.lines: List[str] = []
         self.places: List[str] = []
+        self.faults: List[str] = []
         # The number of the line at a place up to which lines were counted.
         self.line, self.counted = 1, 0
 
@@ -54,7 +55,13 @@ class Lines:
                 self.add(f"# {text[place + 2:end].strip()}".rstrip(), place)
                 place = end
                 continue
-            match = check_token(TOKEN.match(text, place), text, place, self.name, self.renamed)
+            try:
+                match = check_token(TOKEN.match(text, place), text, place, self.name, self.renamed)
+            except Refused as fault:
+                # What is wrong in the statements behind it is said too.
+                self.faults.append(str(fault))
+                place, parts = end_of_statement(text, place), []
+                continue
             if match.lastgroup == "end":
                 self.add_statement(parts, begun)
                 parts = []
@@ -72,6 +79,15 @@ class Lines:
             refuse(self.text, self.name, begun, f"a statement of {length} bytes; the limit is {MAX_TEXT}")
         if statement:
             self.add(f'sql q "{escaped(statement)}"', begun)
+
+
+def end_of_statement(text: str, place: int) -> int:
+    """The place of the `;` behind a place, in no quotes, or of the end of the text."""
+    while place < len(text) and text[place] != ";":
+        quote = text[place]
+        end = text.find(quote, place + 1) if quote in "'\"" else -1
+        place = end + 1 if end >= 0 else place + 1
+    return place
 
 
 def refuse(text: str, name: str, place: int, fault: str) -> NoReturn:
@@ -125,11 +141,15 @@ def script_of(texts: Sequence[Tuple[str, str]], renamed: Mapping[str, str]) -> M
     """A script that asks the statements of some (text, name)."""
     lines: List[str] = []
     places: List[str] = []
+    faults: List[str] = []
     for text, name in texts:
         found = Lines(text, name, renamed)
         found.add_all()
-        if not any(line.startswith("sql ") for line in found.lines):
+        faults += found.faults
+        if not found.faults and not any(line.startswith("sql ") for line in found.lines):
             raise Refused(f"{name}: there is no statement in it")
         lines += found.lines
         places += found.places
+    if faults:
+        raise Refused("\n".join(faults))
     return Made("".join(line + "\n" for line in lines).encode(), places)

@@ -7,7 +7,7 @@ from dataclasses import dataclass, field, replace
 from typing import Callable, Dict, List, NamedTuple, NoReturn, Optional, Tuple, Union
 
 from .language import MAX_DEPTH, MAX_INT, MAX_NAME, MAX_SOURCES, MAX_TEXT, RESERVED
-from .sql_hints import JOIN_WORDS, hint_at
+from .sql_hints import JOIN_WORDS, OTHER_JOINS, hint_at
 from .values import Value
 
 
@@ -190,7 +190,11 @@ class Parser:
         self.nesting = 0
         self.parameters = 0
         self.warnings: List[str] = []
-        self.nevers: List[Tuple[int, str]] = []
+        self.nevers: List[Tuple[int, str]] = [
+            (token.at, "-- is two minuses here, and begins no comment: write - - where these are meant")
+            for token, after in zip(self.tokens, self.tokens[1:])
+            if token.text == after.text == "-" and {token.kind, after.kind} == {"sign"}
+            and token.end == after.at]
 
     def next(self) -> Token:
         return self.tokens[self.place]
@@ -442,11 +446,21 @@ class Parser:
             name = self.name("another name of the table")
         elif self.is_name():
             name = self.take()
-            if name.text in JOIN_WORDS and self.is_word("join"):
-                self.warnings.append(f"{name.text.upper()} before JOIN is read as another name of "
-                                     f"{table.text}: "
-                                     f"this is an inner join; {JOIN_WORDS[name.text]}")
+            if self.is_word("join"):
+                self.note_join(table, name)
         core.sources.append(Source(table.text, name.text, table.at))
+
+    def note_join(self, table: Token, name: Token) -> None:
+        """Notes a word before JOIN that is another name of a table here, and a kind of join elsewhere. One by
+        which no column is named may be such a word too."""
+        word, how = name.text, JOIN_WORDS.get(name.text) or OTHER_JOINS.get(name.text)
+        reads = f"{word.upper()} before JOIN is read as another name of {table.text}"
+        if how is not None:
+            self.warnings.append(f"{reads}: this is an inner join; {how}")
+        elif not any(token.text == word and after.text == "." for token, after in zip(
+                self.tokens, self.tokens[1:])):
+            self.nevers.append((name.at, f"{reads}, by which no column is named: this is an inner join; "
+                                         f"where a name is meant, write AS {word}"))
 
     def item(self) -> Item:
         expr = self.expr()

@@ -16,6 +16,19 @@ JOIN_WORDS = {
     "cross": "write a comma between the tables",
     "natural": "write JOIN .. ON with the columns that have to be equal",
 }
+NO_PARTNER = ("the rows without a partner are found by a script: for each row SELECT COUNT(*) of its "
+              f"partners ({PARTNERS})")
+HOW = "take the word away: how rows are found is no matter of a statement here"
+ONE_PARTNER = "SELECT DISTINCT of the columns of one table gives each row once that has a partner"
+# Words before JOIN of still other dialects, which are names anywhere else.
+OTHER_JOINS = {
+    "anti": NO_PARTNER, "semi": ONE_PARTNER, "any": ONE_PARTNER, "all": ONE_PARTNER,
+    "asof": "write ON with the columns that have to be equal, and let a script take the last row before each",
+    "hash": HOW, "merge": HOW, "loop": HOW, "broadcast": HOW, "shuffle": HOW, "lookup": HOW, "remote": HOW,
+    "global": HOW, "paste": HOW, "positional": "join by a column that numbers the rows",
+    "lateral": "there are no subqueries: ask in two statements, and give the second the first one's value",
+    "array": "there are no arrays: a table of their elements, and a join",
+}
 OR = "write x = 1 OR x = 2; for many values a table of them and a join"
 AGGREGATE_WORDS = ("count", "sum", "min", "max")
 UNION = "one SELECT for each case, with UNION ALL between them"

@@ -92,15 +92,17 @@ def add_run(graph: Graph, run: Run, names: List[str], made: int) -> int:
     process = graph.node("process", names[event.process])
     if act.has_path:
         path = graph.node("path", event.path)
+        for place in range(run.times if event.act == SPAWNED else 0):
+            # In the order in which the program names them.
+            child, step = graph.node("process", names[made]), event.step + place * run.stride
+            graph.edge(path, child, step, step)
+            graph.edge(path, process, step, step)
+            graph.edge(process, child, step, step)
+            made += 1
         if act.looks:
             graph.edge(path, process, first, last)
         if act.changes:
             graph.edge(process, path, first, last)
-        for place in range(run.times if event.act == SPAWNED else 0):
-            child, step = graph.node("process", names[made]), event.step + place * run.stride
-            graph.edge(path, child, step, step)
-            graph.edge(process, child, step, step)
-            made += 1
     elif event.act == WAITED:
         graph.edge(graph.node("process", names[event.number]), process, first, last)
     elif event.act == ASKED and event.asked is not None:
@@ -120,8 +122,11 @@ def add_asked(graph: Graph, asked: Asked, process: int, step: int) -> None:
         for each in versions:
             version = graph.node("row", table, each.row, each.version)
             graph.edge(ask, version, step, step)
+    for table, versions in asked.made:
+        for each in versions:
             if each.version > 0:
-                graph.edge(graph.node("row", table, each.row, each.version - 1), version, step, step)
+                graph.edge(graph.node("row", table, each.row, each.version - 1),
+                           graph.node("row", table, each.row, each.version), step, step)
 
 
 def event_line(event: Event, names: List[str]) -> str:

@@ -12,20 +12,30 @@ Row = List[Value]
 
 
 class Scaled(int):
-    """A number that is carried as a whole number of tenths, hundredths and so on, and shown as a decimal."""
+    """A number that is carried as a whole number of tenths, hundredths and so on, and shown as a decimal,
+    with `mark` before the decimals."""
 
     scale: int
+    mark: str
 
-    def __new__(cls, number: int, scale: int) -> Scaled:
+    def __new__(cls, number: int, scale: int, mark: str = ".") -> Scaled:
         found = super().__new__(cls, number)
-        found.scale = scale
+        found.scale, found.mark = scale, mark
         return found
+
+    def __eq__(self, other: object) -> bool:
+        return int(self) == other and (not isinstance(other, Scaled) or self.scale == other.scale)
+
+    def __ne__(self, other: object) -> bool:
+        return not self == other
+
+    __hash__ = int.__hash__
 
     def __str__(self) -> str:
         if self.scale == 0:
             return int.__repr__(self)
         digits = int.__repr__(abs(self)).rjust(self.scale + 1, "0")
-        return f"{'-' if self < 0 else ''}{digits[:-self.scale]}.{digits[-self.scale:]}"
+        return f"{'-' if self < 0 else ''}{digits[:-self.scale]}{self.mark}{digits[-self.scale:]}"
 
 
 class Reply(NamedTuple):
@@ -123,8 +133,10 @@ def csv_field(value: Value, null: str = "") -> str:
     """A field of CSV (RFC 4180): NULL is `null`, and a text stands in quotes where it has to."""
     if value is None:
         return null
+    if type(value) is int:
+        return str(value)
     text = str(value)
-    is_plain = isinstance(value, int) or (text not in ("", null) and not re.search('[",\r\n]', text))
+    is_plain = (isinstance(value, int) or text not in ("", null)) and not re.search('[",\r\n]', text)
     return text if is_plain else '"' + text.replace('"', '""') + '"'
 
 

@@ -30,6 +30,12 @@ without any of these becomes column; _ stands before a first digit, and after a 
 count_). A name that is there already in its table has _ and its place from 1 behind it: a second Count, in
 column 5, becomes count__5.
 
+A statement of --sql and --ask is put into the dialect where that is exactly the same, and is shown then:
+BETWEEN, IN with constants, ==, names in double quotes, an item's other name without AS, AVG as a sum and a
+count, COUNT in a join, LIKE 'ab%' where the case of letters is no matter, and a decimal beside a carried
+column. With --as-read each constant there is as the source has it; with --as-written nothing is put
+otherwise. With --script too, the script of the statements runs that one as its child, when it asked them.
+
 Scripts and statements are looked at as `tools/check.py` does. What they have wrong is a warning, and the
 world is made; a join of another dialect, such as LEFT JOIN, is refused. A statement asks for values as they
 are carried: 2024-02-01 and 09:05, and 1250 for 12.50 at --scale 2. A date, a clock time, a word for NULL or a
@@ -37,8 +43,15 @@ number with its unit that stands there as in the file is a warning, with what to
 column of --scale it is said what a number means, unless it is written as a product with what the column is
 carried times: 20 * 10. A script writes values as they are carried into its own files too.
 
---strict refuses where there is a note or a warning, but for those that have a text of --accept in them; what
-a number means, and what is said of a column, it lets pass.
+A world has a file for each table, ldv-columns/TABLE.json, that says what its columns are where they were
+read: the other tools show values by it as they were there. The script of --sql reads them at its end, so that
+each package has them, and makes an empty file whose name is the digest of the world, by which an outcome
+says of which world it is; docs/FORMATS.md has what a script of your own does. --no-columns leaves both out.
+The script is called as the file of -o without its ending, else main, or as --name says: two packages over the
+same data can be joined where their scripts have two names.
+
+--strict refuses where there is a note or a warning, or something is said of a file or a column, but for those
+that have a text of --accept in them; what a number means it lets pass.
 
 TABLE and COLUMN in an option are names in the world; OLD is a name in the file or database.
 
@@ -54,17 +67,22 @@ import random
 import sys
 from typing import Dict, Iterator, List, NamedTuple, Optional, Sequence, Tuple
 
-from .check import check_joins, findings_of, warning_lines
+from .findings import check_joins, findings_of, warning_lines
+from .columns import FOLDER, path_of, script_lines
 from .documents import document, table_json, write_file
 from .errors import Misused, Refused, command, words_of
 from .language import MAX_FILE, MAX_FILES, MAX_PATH, MAX_START_WORDS, MAX_TABLES, MAX_TEXT
 from .progress import Progress
-from .scripts_of_statements import Made, script_of
+from .proposal import accepted, proposal
+from .scripts_of_statements import Made, escaped, script_of
 from .sql_check import Schemas
+from .sql_rewrite import columns_by_table, rewritten_text
 from .world_carried import carried_findings
-from .world_columns import Table
-from .world_csv import named_file, read_csv, read_file
+from .world_columns import Remark, Table
+from .world_digest import NO_DIGEST, digest_line, digest_of
+from .world_csv import named_file, read_csv, read_file, reading_once
 from .world_foreign import settle_foreign
+from .world_known import known_column, known_files
 from .world_settings import Settings
 from .world_sqlite import note_types, read_database
 from .world_tables import rows_json, settle
@@ -165,20 +183,64 @@ def renamed_columns(tables: Sequence[Table]) -> Dict[str, str]:
             if column.old != column.name}
 
 
-def made_script(words: argparse.Namespace, tables: Sequence[Table]) -> Made:
-    """The script of --sql and --ask; one of no lines where there is another start script."""
-    return script_of(statement_texts(words), renamed_columns(tables)) if not words.script else Made(b"", [])
+def put_otherwise(text: str, name: str, tables: Sequence[Table], renamed: Dict[str, str],
+                  words: argparse.Namespace, hints: List[str]) -> str:
+    """A text of statements in the dialect, where it can be put so exactly. Each that is put otherwise is
+    shown."""
+    found, said = rewritten_text(text, columns_by_table(tables), renamed, words.as_read)
+    for line, statement, notes in said:
+        where = name if name.startswith("--ask") else f"{name} line {line}"
+        hints.append(Remark(f"{where} is asked as: {statement}"))
+        hints += [Remark(f"{where}: {note}") for note in notes]
+    return found
 
 
-def world_files(words: argparse.Namespace, made: Made) -> Dict[str, bytes]:
+def made_script(words: argparse.Namespace, tables: Sequence[Table], hints: List[str]) -> Made:
+    """The script of --sql and --ask; one of no lines where there is only another start script. At its end it
+    reads the files that say what columns are, so that each package of its run has them, and runs that script
+    where there is one."""
+    texts = statement_texts(words)
+    if words.script and not texts:
+        return Made(b"", [])
+    renamed = renamed_columns(tables)
+    if not words.as_written:
+        texts = [(put_otherwise(text, name, tables, renamed, words, hints), name) for text, name in texts]
+    made = script_of(texts, renamed)
+    lines = [] if words.no_columns else [*script_lines(table.name for table in tables),
+                                         digest_line(NO_DIGEST)]
+    if words.script:
+        name, path = named_file(words.script)
+        arguments = "".join(f" arg{place}" for place in range(1, len(words.arg) + 1))
+        lines += [f'spawn child "{escaped(name or os.path.basename(path))}"{arguments} else known',
+                  "wait ended child", "exit ended"]
+    lines += ["known:"] if lines else []
+    return Made(made.data + "".join(line + "\n" for line in lines).encode(),
+                made.places + ["the end of the script"] * len(lines))
+
+
+def script_name(words: argparse.Namespace) -> str:
+    """The path of the script that --sql and --ask make: that of the world's file without its ending, so that
+    two such worlds over the same data can be joined."""
+    if words.name is not None:
+        return str(words.name)
+    name = os.path.splitext(os.path.basename(words.output or ""))[0]
+    return name if name and not name.startswith(".") else MAIN
+
+
+def world_files(words: argparse.Namespace, made: Made, tables: Sequence[Table]) -> Dict[str, bytes]:
     """The files of the world by path, the start script first."""
-    files = {} if words.script else {MAIN: made.data}
+    files = {script_name(words): made.data} if words.sql or words.ask else {}
     for word in ([words.script] if words.script else []) + words.file:
         name, path = named_file(word)
         name = name or os.path.basename(path)
         if name in files:
             raise Refused(f"two files have the path {name}; give NAME=FILE")
         files[name] = without_mark(read_file(path)) if word == words.script else read_file(path)
+    for name, content in ({} if words.no_columns else known_files(tables)).items():
+        if name in files:
+            raise Refused(f"two files have the path {name}, which says what columns are; give NAME=FILE, or "
+                          "--no-columns")
+        files[name] = content
     for name, content in files.items():
         check_file(name, content)
     if len(files) > MAX_FILES:
@@ -247,6 +309,8 @@ def read_words(given: Optional[Sequence[str]]) -> argparse.Namespace:
     many("--script", "[PATH=]FILE", "the start script (docs/SCRIPTS.md)")
     many("--sql", "FILE", "statements, each ended by a semicolon: the start script asks them one by one")
     many("--ask", "STATEMENT", "one more statement for the start script")
+    parser.add_argument("--name", metavar="PATH", help="the path of the script that --sql and --ask make "
+                        "(default: the name of the file of -o without its ending, else main)")
     many("--file", "[PATH=]FILE", "one more file of the world")
     many("--arg", "WORD", "one more argument of the start script")
     parser.add_argument("--seed", type=int, default=0, help="the seed of the scheduler")
@@ -282,16 +346,34 @@ def read_words(given: Optional[Sequence[str]]) -> argparse.Namespace:
     many("--delimiter", "[TABLE=]CHARACTER", "of CSV files: one character, or tab (default ,)")
     many("--quotes", "[TABLE=]none", "in CSV files \" is a sign as any other, and a cell ends with its line, "
          "as cut and awk have it (default double, as in CSV)")
+    many("--header", "[TABLE=]none", "a CSV file has no header: its first line is a row, and its columns are "
+         "c1, c2 and so on")
+    parser.add_argument("--plain", action="store_true",
+                        help="texts in Unicode's form NFC, with one blank for blanks, line feeds and what "
+                             "looks like them, and without characters that don't show")
     parser.add_argument("--tsv", action="store_true",
                         help="the CSV files are as COPY of PostgreSQL and --batch of MySQL write "
                         "them: tabs between cells, no quotes, \\t, \\n and \\\\ as escapes, \\N for NULL")
-    many("--encoding", "[TABLE=]NAME", "of CSV files without a byte order mark (default utf-8)")
+    many("--encoding", "[TABLE=]NAME", "of CSV files without a byte order mark (default utf-8); mixed reads "
+         "each line by UTF-8 where it is that, and else by cp1252")
     parser.add_argument("-o", "--output", metavar="FILE", help="the document (default: standard output)")
     parser.add_argument("-q", "--quiet", action="store_true", help="say nothing but why it is refused")
     parser.add_argument("--strict", action="store_true", help="refuse where there is a note or a warning")
-    many("--accept", "TEXT", "with --strict: not where the note or the warning has this text in it")
+    many("--accept", "TEXT", "with --strict: not where the note or the warning has this text in it; without "
+         "--strict: run the proposal in this file")
+    parser.add_argument("--propose", action="store_true",
+                        help="write the whole command line for the files that are given, with a comment for "
+                             "each choice; --accept FILE runs it")
     parser.add_argument("--look", action="store_true",
                         help="make no document: only say what becomes of the tables, without a start script")
+    parser.add_argument("--as-read", action="store_true",
+                        help="in --sql and --ask constants beside a column that is carried in another form "
+                             "are "
+                             "as the source has them: 20 is 20.00, and '1.2.2024' is 2024-02-01")
+    parser.add_argument("--as-written", action="store_true",
+                        help="put no statement of --sql and --ask otherwise")
+    parser.add_argument("--no-columns", action="store_true",
+                        help="no files that say what columns are where they were read")
     parser.add_argument("--no-check", action="store_true", help="don't look into scripts and statements")
     words = parser.parse_args(given)
     if len(words.script) > 1:
@@ -305,15 +387,28 @@ def check_words(words: argparse.Namespace) -> None:
     has_script = bool(words.script), bool(words.sql or words.ask)
     if words.look and (any(has_script) or words.output):
         raise Misused("--look makes no document: it goes without --script, --sql, --ask and -o")
-    if not words.look and has_script[0] == has_script[1]:
-        raise Misused("give a start script: either --script, or --sql and --ask; --look says what becomes of "
-                      "the tables without one")
+    if not words.look and not any(has_script):
+        raise Misused("give a start script: --script, or --sql and --ask, or both; --look says what becomes "
+                      "of the tables without one")
     if words.accept and not words.strict:
         raise Misused("--accept goes with --strict")
     if not 0 <= words.seed < 2**64:
         raise Misused("--seed is from 0 to 18446744073709551615")
     if words.table and not words.sqlite:
         raise Misused("--table names a table of a database; give --sqlite")
+
+
+def unread_columns(files: Dict[str, bytes], tables: Sequence[Table]) -> Iterator[str]:
+    """That no script names the file which says of a table that its values are carried in another form."""
+    scripts = [content for path, content in files.items() if not path.startswith(FOLDER)]
+    for table in tables:
+        known = [known_column(column) for column in table.columns]
+        path = path_of(table.name)
+        if any(column.is_carried or column.unit for column in known) and not any(
+                path.encode() in content for content in scripts):
+            lines = "; ".join([*script_lines([table.name]), "known:"])
+            yield Remark(f"no script reads {path}, so that a package of the run won't say what the columns "
+                         f"of {table.name} are; at the end of the script: {lines}")
 
 
 def schemas_of(tables: Sequence[Table]) -> Schemas:
@@ -325,12 +420,12 @@ def check_scripts(files: Dict[str, bytes], tables: Sequence[Table], places: Sequ
     """What would go wrong in the scripts. What looks like something else to a reader is refused. What numbers
     mean beside columns of decimals is a hint."""
     start = next(iter(files))
-    found = [finding.placed(MAIN, places) for finding in findings_of(files, start, schemas_of(tables))]
+    found = [finding.placed(start, places) for finding in findings_of(files, start, schemas_of(tables))]
     check_joins(found)
     for finding, is_meaning in carried_findings(files, start, tables):
-        finding = finding.placed(MAIN, places)
+        finding = finding.placed(start, places)
         if is_meaning:
-            hints.append(finding.text)
+            hints.append(Remark(finding.text))
         else:
             found.append(finding)
     return warning_lines(found)
@@ -352,13 +447,17 @@ def made_world(words: argparse.Namespace) -> World:
     notes: List[str] = []
     hints: List[str] = []
     tables = world_tables(words, notes, hints, progress)
-    made = made_script(words, tables)
+    made = made_script(words, tables, hints)
     if words.look:
         return World(b"", notes, [], hints, [summary(table) for table in tables])
-    files = world_files(words, made)
+    files = world_files(words, made, tables)
     start = start_words(files, words)
     warnings = [] if words.no_check else check_scripts(files, tables, made.places, hints)
-    data = document(start, words.seed, files, list(map(table_of, tables)))
+    hints += [] if words.no_columns or words.no_check else unread_columns(files, tables)
+    written = list(map(table_of, tables))
+    digest = digest_of(start, words.seed, files, written)
+    files[start[0]] = files[start[0]].replace(digest_line(NO_DIGEST).encode(), digest_line(digest).encode())
+    data = document(start, words.seed, files, written)
     return World(data, notes, warnings, hints, [summary(table) for table in tables])
 
 
@@ -370,17 +469,55 @@ def document_of(given: Sequence[str]) -> bytes:
 def check_strict(words: argparse.Namespace, said: Sequence[str]) -> None:
     left = [each for each in said if not any(text in each for text in words.accept)]
     if left and words.strict:
-        raise Refused("a world hasn't all that the database has, or a script has a line that fails "
-                      f"(--strict; --accept TEXT lets one pass): {left[0]}")
+        raise Refused("a world hasn't all that the database has, a column isn't what it looks like, or a "
+                      f"script has a line that fails (--strict; --accept TEXT lets one pass): {left[0]}")
+
+
+def propose(given: Sequence[str], path: Optional[str]) -> int:
+    """Writes the command line that carries the files that are given."""
+    progress = Progress("world.py", True)
+
+    def make(each: Sequence[str], notes: List[str], hints: List[str]) -> List[Table]:
+        return world_tables(read_words(["--look", *plain_words(each)]), notes, hints, progress)
+
+    with reading_once():
+        write_file(proposal(given, make).encode(), path)
+    return 0
+
+
+# Options of a call that say nothing of tables, with their values.
+OF_CALLS = ("--sql", "--ask", "--script", "--file", "--arg", "--name", "--seed", "-o", "--output")
+
+
+def plain_words(words: Sequence[str]) -> List[str]:
+    """The words that say how tables are read."""
+    found: List[str] = []
+    place = 0
+    while place < len(words):
+        if words[place] in OF_CALLS:
+            place += 2
+            continue
+        found += [words[place]] if not words[place].startswith(tuple(f"{each}=" for each in OF_CALLS)) else []
+        place += 1
+    return found
 
 
 def work(given: Optional[Sequence[str]]) -> int:
+    given = list(sys.argv[1:] if given is None else given)
+    if "--propose" in given:
+        # The words are looked at as they will be; where the proposal goes is no matter of it.
+        return propose(given, None)
+    if "--accept" in given and "--strict" not in given:
+        at = given.index("--accept")
+        path = given[at + 1] if at + 1 < len(given) else ""
+        return work(accepted(read_file(path).decode(errors="replace"), path) + given[:at] + given[at + 2:])
     words = read_words(given)
     made = made_world(words)
     if not words.quiet:
         for note in made.notes:
             print(f"world.py: note: {note}", file=sys.stderr)
-    check_strict(words, made.notes + made.warnings)
+    check_strict(words, made.notes + made.warnings + [hint for hint in made.hints
+                                                      if not isinstance(hint, Remark)])
     if not words.look:
         write_file(made.data, words.output)
     if not words.quiet:

@@ -6,18 +6,20 @@ warning; of a number that meets a column of decimals it is said what it means, s
 """
 from __future__ import annotations
 
+import itertools
 from typing import Dict, Iterator, List, Mapping, NamedTuple, Optional, Sequence, Tuple, Union
 
-from .check import Finding, operands_known, scripts_of, text_of
+from .findings import Finding, operands_known, scripts_of, text_of
 from .errors import Unfit
 from .language import MAX_INT
 from .scripts import Instruction, Operand
 from .sql import Core, Expr, Insert, NoReading, Query, Source, Statement, Update, parse_statement
 from .sql_check import shown
-from .values import Scaled, Value
-from .world_cells import scaled_number, whole_number
+from .values import Scaled, Value, plain_count
+from .world_cells import DATE, scaled_number, shown as shown_cell, whole_number
 from .world_columns import Column, Table
-from .world_dates import said_of_date
+from .world_dates import SAMPLE, said_of_date
+from .world_texts import alike, alike_in_case, folded, plain_text
 
 Columns = Mapping[str, Mapping[str, Column]]
 
@@ -45,6 +47,8 @@ class Unwritten:
 
 
 UNWRITTEN = Unwritten()
+# A comparison with its sides changed.
+TURNED = {"<": ">", "<=": ">=", ">": "<", ">=": "<="}
 Written = Union[Value, Unwritten]
 # A column of an answer: what it is carried as, and its expression where it has one.
 AnswerColumn = Tuple[Optional[Carrier], Optional[Expr]]
@@ -87,7 +91,61 @@ def said_of_text(carrier: Carrier, text: str, compare: str) -> Optional[str]:
     if column.kind == "INT":
         number = number_of_text(column, text)
         return None if number is None else f"{name} is {times(carrier.scale)}: '{text}' is written {number}"
-    return said_of_date(name, column, text, compare) or said_of_escapes(name, column, text)
+    return (said_of_date(name, column, text, compare) or said_of_separators(name, column, text)
+            or said_of_escapes(name, column, text) or said_of_looks(name, column, text, compare))
+
+
+def said_of_separators(name: str, column: Column, text: str) -> Optional[str]:
+    """That dates of a column have other signs between their parts than one that it is compared with."""
+    given = DATE.match(text)
+    if given is None or column.date is not None:
+        return None
+    sample = [cell for cell in itertools.islice(column.cells, SAMPLE) if isinstance(cell, str)]
+    found = [match for match in map(DATE.match, sample) if match]
+    if 2 * len(found) <= len(sample) or any(match[2] == given[2] for match in found):
+        return None
+    written = text.replace(given[2], found[0][2]) if len(found[0][1]) == len(given[1]) else ""
+    what = f"'{text}' is written '{written}'" if written else f"'{text}' isn't, and compares as a text"
+    return f"{name} has texts such as '{found[0][0]}': {what}"
+
+
+def said_of_looks(name: str, column: Column, text: str, compare: str) -> Optional[str]:
+    """That a column has texts that look like one that it is compared with, and are other ones."""
+    if column.collation == "NOCASE":
+        others = [cell for cell in column.cells if isinstance(cell, str) and cell != text
+                  and folded(cell) == folded(text)]
+        if others:
+            return (f"{name} is COLLATE NOCASE in its database, and compares by its bytes here: "
+                    f"{plain_count(len(others), 'cell')} such as {shown_cell(others[0])} would be equal to "
+                    f"'{text}' there; write each, with OR between them")
+    if compare not in ("=", "<>"):
+        return None
+    look = plain_text(text)
+    others = [cell for cell in column.cells if isinstance(cell, str) and cell != text
+              and (plain_text(cell) == look)]
+    if not others:
+        return None
+    return (f"{plain_count(len(others), 'cell')} of {name} look like '{text}' and are other texts, such as "
+            f"{shown_cell(others[0])}; --plain makes them one")
+
+
+def said_of_groups(name: str, column: Column, what: str) -> Optional[str]:
+    """That a column which makes groups has texts that look alike, and are several groups."""
+    if column.kind != "TEXT":
+        return None
+    found = alike_in_case(column.cells) if column.collation == "NOCASE" else {}
+    if found:
+        first = next(iter(found.values()))
+        return (f"{name} is COLLATE NOCASE in its database, and here {shown_cell(first[0])} and "
+                f"{shown_cell(first[1])} are two in {what}; write them in one way in a copy of the database "
+                "first")
+    found = alike(column.cells)
+    if not found:
+        return None
+    first = next(iter(found.values()))
+    more = f", and {len(found) - 1} more such" if len(found) > 1 else ""
+    return (f"{ascii(first[0])} and {ascii(first[1])} of {name} look alike and are two in {what}{more}; "
+            "--plain makes them one")
 
 
 CONTROLS = {"\t": "a tab", "\n": "a line feed"}
@@ -162,9 +220,17 @@ class Scope:
         left, right = carriers
         if left and right:
             self.meet_scales(expr.at, left, right)
-        for carrier, other in ((left, expr.parts[1]), (right, expr.parts[0])):
+        word = expr.word if expr.form == "compare" else ""
+        for carrier, other, compare in ((left, expr.parts[1], word), (right, expr.parts[0],
+                                                                     TURNED.get(word, word))):
             if carrier:
-                self.meet(carrier, other, expr.word if expr.form == "compare" else "")
+                self.meet(carrier, other, compare)
+
+    def group(self, expr: Expr, what: str) -> None:
+        """Of a column whose texts are told apart."""
+        column = self.column(expr) if expr.form == "column" else None
+        if column is not None:
+            self.add(expr.at, said_of_groups(shown(expr), column, what), False)
 
     def raised(self, expr: Expr, carriers: Sequence[Optional[Carrier]]) -> Optional[Carrier]:
         """What is carried times a number more often: `price * 10`, where 10 is written."""
@@ -255,6 +321,10 @@ def scopes_of(statement: Statement, columns: Columns, parameters: Sequence[Writt
             found = answer_columns(core, scope)
             for expr in [*core.picks, *([core.having] if core.having else [])]:
                 scope.look(expr)
+            for expr in core.group:
+                scope.group(expr, "GROUP BY")
+            for item in core.items or [] if core.is_distinct else []:
+                scope.group(item.expr, "DISTINCT")
             for one, other in zip(first, found):
                 scope.join(core.at, one, other)
             first = first or found

@@ -10,6 +10,10 @@ Cell = Any
 NO_VALUE = "\\N"
 
 
+class Remark(str):
+    """What is said of a world and is nothing to be mended. What else is said is refused by --strict."""
+
+
 class BadText:
     """A text of a database whose bytes aren't UTF-8."""
 
@@ -35,10 +39,14 @@ class Column:
         self.kind, self.not_null = kind, not_null
         self.scale: Optional[int] = None
         self.date: Optional[str] = None
+        # How its dates or clock times were written, where all were written alike (date_forms).
+        self.date_form = ""
         self.form = PLAIN
         # The words of its cells that became NULL.
         self.nulls: Set[str] = set()
         self.default: Any = None
+        # By what its database compares its texts, where that isn't their bytes.
+        self.collation = ""
         self.cells: List[Cell] = []
         # The cells of an INT column as the document has them, where they were read so.
         self.spelled: Optional[List[str]] = None
@@ -64,8 +72,8 @@ class Foreign(NamedTuple):
 
 
 class Table:
-    """A table that is being read. `row_name` says how a message names one of its rows. One of a database has
-    its file, and its name and foreign keys there."""
+    """A table that is being read. `row_name` says how a message names one of its rows. It has its
+    file, and one of a database its name and foreign keys there."""
 
     def __init__(self, name: str, columns: List[Column], count: int, key: Sequence[str] = (),
                  row_name: Optional[Callable[[int], str]] = None, from_text: bool = False) -> None:
@@ -73,6 +81,8 @@ class Table:
         self.row_name = row_name or (lambda row: f"row {row} of {name}")
         self.from_text = from_text
         self.path, self.old = "", name
+        # The SHA-256 of its file.
+        self.digest = ""
         self.references: List[Reference] = []
         self.foreign: List[Foreign] = []
 

@@ -2,17 +2,21 @@
 from __future__ import annotations
 
 import codecs
+import contextlib
 import csv
+import hashlib
 import io
 import itertools
 import os
 import re
 import shlex
-from typing import Any, Iterator, List, Match, Optional, Sequence, Tuple
+from typing import Any, Dict, Iterator, List, Match, NoReturn, Optional, Sequence, Tuple
 
 from .errors import Misused, Refused
+from .language import MAX_DOCUMENT
 from .progress import Progress
 from .values import plain_count
+from .world_cells import DATE
 from .world_columns import NO_VALUE, Column, Table
 from .world_settings import Settings, tidy_name, tidy_names
 from .world_tables import keep_columns
@@ -24,6 +28,8 @@ OTHERS = ((b"PK\x03\x04", "a workbook, as Excel writes it: save it as CSV"),
           (b"SQLite format 3\0", "an SQLite database: give --sqlite"),
           (b"PAR1", "a Parquet file: docs/DUMPS.md says how it becomes CSV"),
           (b"\x1f\x8b", "compressed: unpack it first"))
+# No file that is longer is read.
+MAX_READ = 4 * MAX_DOCUMENT
 MANY = 100_000
 # So many cells of a column are looked at for blanks before them.
 MANY_BLANKS = 1000
@@ -35,10 +41,36 @@ def named_file(word: str) -> Tuple[Optional[str], str]:
     return (name, path) if equals and not os.path.exists(word) else (None, word)
 
 
+# The files that were read, where each is to be read once.
+KEPT: List[Dict[str, bytes]] = []
+
+
+@contextlib.contextmanager
+def reading_once() -> Iterator[None]:
+    """Within it a file is read once, and kept."""
+    KEPT.append({})
+    try:
+        yield
+    finally:
+        KEPT.pop()
+
+
 def read_file(path: str, size: int = -1) -> bytes:
+    """The bytes of a file, or so many at its beginning. One without end is refused at a limit."""
+    if size >= 0 or not KEPT:
+        return read_anew(path, size)
+    if path not in KEPT[-1]:
+        KEPT[-1][path] = read_anew(path, size)
+    return KEPT[-1][path]
+
+
+def read_anew(path: str, size: int) -> bytes:
     try:
         with open(path, "rb") as file:
-            return file.read(size)
+            data = file.read(size if size >= 0 else MAX_READ + 1)
+            if len(data) > MAX_READ:
+                raise Refused(f"{path} has more than {MAX_READ} bytes, four times what a world may have")
+            return data
     except OSError as fault:
         raise Refused(f"{path}: {fault.strerror}") from None
 
@@ -50,6 +82,7 @@ def read_csv(word: str, settings: Settings, hints: List[str], progress: Progress
     name = settings.new_name(name, tidy_name(name) if settings.tidy and not given else name)
     lines = lines_of(name, path, settings, hints)
     header, cells = columns_of(lines, progress)
+    hints += hints_of_header(lines, header, cells)
     hints += hints_of_quotes(lines, header, cells)
     hints += hints_of_blanks(lines, header, cells)
     if looks_like_title(header):
@@ -67,8 +100,11 @@ def read_csv(word: str, settings: Settings, hints: List[str], progress: Progress
                for place, (cell, own) in enumerate(zip(header, plain), 1)]
     for column, found in zip(columns, cells):
         column.cells = found
-    return Table(name, keep_columns(name, columns, settings), len(kept), from_text=True,
-                 row_name=lambda row: f"{path} line {lines.of(kept[row] + 1)} (row {row} of {name})")
+    table = Table(name, keep_columns(name, columns, settings), len(kept), from_text=True,
+                  row_name=lambda row: f"{path} line {lines.of(kept[row] + lines.first)} (row {row} of "
+                                       f"{name})")
+    table.path, table.digest = path, lines.digest
+    return table
 
 
 def lines_of(name: str, path: str, settings: Settings, hints: List[str]) -> Lines:
@@ -76,12 +112,17 @@ def lines_of(name: str, path: str, settings: Settings, hints: List[str]) -> Line
     delimiter = settings.of_table("--delimiter", name, ",")
     delimiter = "\t" if delimiter == "tab" or settings.is_tsv else delimiter
     has_quotes = settings.of_table("--quotes", name, "double") == "double" and not settings.is_tsv
-    text = text_of(path, settings.of_table("--encoding", name, "utf-8"), hints)
+    data = csv_bytes(path)
+    text = text_of(path, data, settings.of_table("--encoding", name, "utf-8"), hints)
     said = re.match(r"sep=(.)\r?\n", text)
     if said:
         # An empty line in its place leaves the numbers of the others.
         delimiter, text = said[1], "\n" + text[said.end():]
-    return Lines(path, text, delimiter, settings.is_tsv, has_quotes, settings.trims)
+    lines = Lines(path, text, delimiter, settings.is_tsv, has_quotes, settings.trims)
+    lines.digest = hashlib.sha256(data).hexdigest()
+    lines.first = 0 if settings.of_table("--header", name, "first") == "none" else 1
+    lines.table = name if settings.has_many else ""
+    return lines
 
 
 def check_header(lines: Lines, header: Sequence[str], cells: Sequence[str]) -> None:
@@ -90,9 +131,30 @@ def check_header(lines: Lines, header: Sequence[str], cells: Sequence[str]) -> N
         if other == lines.delimiter or other not in header[0]:
             continue
         if not cells or any(other in cell for cell in cells):
-            word = ("tab" if other == "\t" else f"'{other}'") + (", not --tsv" if lines.is_tsv else "")
+            sign = "tab" if other == "\t" else other
+            word = shlex.quote(f"{lines.table}={sign}" if lines.table else sign)
+            word = f"'{word}'" if word == sign != "tab" else word
+            word += ", not --tsv" if lines.is_tsv else ""
             raise Refused(f"{lines.path}: the first line has one name, {header[0]!r}; "
                           f"give --delimiter {word}")
+
+
+def hints_of_header(lines: Lines, header: Sequence[str], columns: Sequence[List[str]]) -> Iterator[str]:
+    """That a first line looks like a row: in each column of numbers or dates its cell is one too."""
+    if not lines.first or not columns or not columns[0]:
+        return
+    figures = [name for name, cells in zip(header, columns)
+               if 2 * sum(map(is_figure, cells[:MANY_BLANKS])) > len(cells[:MANY_BLANKS])]
+    if figures and all(map(is_figure, figures)):
+        how = "--header " + shlex.quote(f"{lines.table}=none" if lines.table else "none")
+        yield (f"{lines.path} line {lines.of(0)}: the header looks like a row, with {figures[0]!r} above a "
+               f"column of such cells; where it is one, {how} reads it so")
+
+
+def is_figure(cell: str) -> bool:
+    """Whether a cell is a number or a date."""
+    return any(char.isdigit() for char in cell) and (
+        DATE.match(cell) is not None or re.fullmatch(r"[+-]?[0-9][0-9.,' ]*\s?[%€$£]?", cell) is not None)
 
 
 def looks_like_title(header: Sequence[str]) -> bool:
@@ -167,27 +229,94 @@ def joined_cells(lines: Lines, columns: Sequence[List[str]]) -> List[Tuple[int, 
                   if "\n" in cell and lines.delimiter in cell)
 
 
-def text_of(path: str, encoding: str, hints: List[str]) -> str:
-    """The text of a CSV file, whose byte order mark says more than the encoding that is given."""
+def csv_bytes(path: str) -> bytes:
+    """The bytes of a file that isn't known to be something else than CSV."""
     data = read_file(path)
     for start, what in OTHERS:
         if data.startswith(start):
             raise Refused(f"{path} is no CSV file, but {what}")
+    return data
+
+
+def text_of(path: str, data: bytes, encoding: str, hints: List[str]) -> str:
+    """The text of a CSV file, whose byte order mark says more than the encoding that is given."""
     encoding = next((name for mark, name in MARKS if data.startswith(mark)), encoding)
+    check_wide(path, data, encoding)
+    if encoding == "mixed":
+        return mixed_text(path, data)
     try:
         text = data.decode(encoding)
         if codecs.lookup(encoding).name != "utf-8":
             # Some encodings have half surrogate pairs, which UTF-8 hasn't.
             text.encode()
     except UnicodeDecodeError as fault:
-        raise Refused(f"{path}: byte {fault.start} isn't {encoding}; give --encoding, such as "
-                      f"{likely_encoding(data)}") from None
+        refuse_encoding(path, data, encoding, fault.start)
     except UnicodeError as fault:
         raise Refused(f"{path} isn't {encoding}: {fault}") from None
     except LookupError:
         raise Misused(f"--encoding {encoding}: there is no such encoding") from None
     hints += hints_of_controls(path, text, encoding)
     return text.lstrip("\ufeff") if text[:1] == "\ufeff" else text
+
+
+def refuse_encoding(path: str, data: bytes, encoding: str, place: int) -> NoReturn:
+    """Refuses a file that isn't in its encoding. One of lines in several encodings has no single one."""
+    line = data.count(b"\n", 0, place) + 1
+    begin = f"{path} line {line}: byte {place} isn't {encoding}"
+    if is_binary(data):
+        raise Refused(f"{path} is no CSV file: byte {place} isn't {encoding}, and it has bytes that no "
+                      "text has")
+    ours, others = lines_by_encoding(data)
+    if ours and others and codecs.lookup(encoding).name == "utf-8":
+        raise Refused(f"{begin}: the lines {some(ours)} are UTF-8, and the lines {some(others)} aren't; "
+                      "--encoding mixed reads each so, and the others by cp1252 (of Windows)")
+    raise Refused(f"{begin}; give --encoding, such as {likely_encoding(data)}")
+
+
+def is_binary(data: bytes) -> bool:
+    """Whether a file has bytes that no text has."""
+    return any(byte < 9 or 13 < byte < 27 for byte in data[:4096])
+
+
+def lines_by_encoding(data: bytes) -> Tuple[List[int], List[int]]:
+    """The numbers of the lines that have letters beyond ASCII and are UTF-8, and of those that aren't."""
+    ours, others = [], []
+    for number, line in enumerate(data.split(b"\n"), 1):
+        try:
+            if not line.isascii():
+                line.decode()
+                ours.append(number)
+        except UnicodeDecodeError:
+            others.append(number)
+    return ours, others
+
+
+def some(numbers: Sequence[int]) -> str:
+    shown = ", ".join(map(str, numbers[:5]))
+    return f"{shown} and {len(numbers) - 5} more" if len(numbers) > 5 else shown
+
+
+def mixed_text(path: str, data: bytes) -> str:
+    """The text of a file whose lines are UTF-8 or of Windows."""
+    found = []
+    for number, line in enumerate(data.split(b"\n"), 1):
+        try:
+            found.append(line.decode())
+        except UnicodeDecodeError:
+            try:
+                found.append(line.decode("cp1252"))
+            except UnicodeDecodeError:
+                raise Refused(f"{path} line {number} is neither UTF-8 nor cp1252") from None
+    return "\n".join(found)
+
+
+def check_wide(path: str, data: bytes, encoding: str) -> None:
+    """Refuses UTF-16 without its mark: each second byte of plain letters is 0."""
+    start = data[:1000]
+    zeros = [start[place::2].count(0) * 2 for place in (0, 1)]
+    if len(start) > 3 and max(zeros) > 0.6 * len(start) > 4 * min(zeros) and "16" not in encoding:
+        name = "utf-16-be" if zeros[0] > zeros[1] else "utf-16-le"
+        raise Refused(f"{path} looks like UTF-16 without a byte order mark; give --encoding {name}")
 
 
 def likely_encoding(data: bytes) -> str:
@@ -224,7 +353,9 @@ class Lines:
     def __init__(self, path: str, text: str, delimiter: str, is_tsv: bool, has_quotes: bool,
                  trims: bool) -> None:
         self.path, self.text, self.delimiter, self.is_tsv = path, text, delimiter, is_tsv
-        self.has_quotes, self.trims = has_quotes, trims
+        self.has_quotes, self.trims, self.digest = has_quotes, trims, ""
+        # The record of the first row; the table where an option has to name it, since there are others.
+        self.first, self.table = 1, ""
         # Whether a cell may have a line feed in it: known when the records were read.
         self.has_joined = False
         self.found: List[int] = []
@@ -262,6 +393,8 @@ def columns_of(lines: Lines, progress: Progress) -> Tuple[List[str], List[List[s
     read = 0
     try:
         header = next((record for record in reader if record), [])
+        if header and not lines.first:
+            header, reader = [f"c{place}" for place in range(1, len(header) + 1)], lines.reader()
         columns = [[] for _ in header]
         before = reader.line_num
         while chunk := list(itertools.islice(reader, MANY)):
@@ -277,7 +410,7 @@ def columns_of(lines: Lines, progress: Progress) -> Tuple[List[str], List[List[s
         lines.count()
     if not header:
         raise Refused(f"{lines.path} is empty; its first line has to name the columns")
-    if len(header) == 1:
+    if len(header) == 1 and lines.first:
         check_header(lines, header, columns[0])
     lines.has_joined = reader.line_num - before > read or lines.is_tsv and "\\n" in lines.text
     if lines.is_tsv and "\\" in lines.text:
@@ -291,7 +424,7 @@ def columns_of(lines: Lines, progress: Progress) -> Tuple[List[str], List[List[s
 def refuse_width(lines: Lines, header: Sequence[str]) -> None:
     """Refuses the first row that has more or fewer cells than the header."""
     records = [record for record in lines.reader() if record]
-    if len(header) == 1:
+    if len(header) == 1 and lines.first:
         check_header(lines, header, [cell for record in records[1:] for cell in record])
     for place, row in enumerate(records):
         if len(row) != len(header):

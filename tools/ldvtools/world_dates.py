@@ -1,6 +1,7 @@
 """Columns of dates and clock times that compare as these do, and texts that statements compare with them."""
 from __future__ import annotations
 
+import datetime
 import itertools
 import re
 from typing import Dict, Iterable, Iterator, Optional
@@ -106,6 +107,12 @@ def said_of_shape(name: str, shapes: Dict[str, str], text: str, compare: str) ->
     """What to write in place of a date or a time that a column has in another form. The beginning of one has
     a place in the order, and is equal to none."""
     own, is_order = shape_of(text), compare not in ("=", "<>")
+    if compare in ("<=", ">") and CARRIED_DATE.match(text) and len(text) == 10 and any(
+            each.startswith(own) and len(each) > len(own) for each in shapes):
+        what = "<= leaves that day out" if compare == "<=" else "> takes that day in"
+        day = (datetime.date.fromisoformat(text) + datetime.timedelta(days=1)).isoformat()
+        return (f"{name} has times behind its days, such as {next(iter(shapes.values()))}, and each comes "
+                f"after '{text}': {what}; write {'<' if compare == '<=' else '>='} '{day}'")
     if not shapes or own in shapes or is_order and any(each.startswith(own) for each in shapes):
         return None
     like = f"{name} has texts such as {next(iter(shapes.values()))}"

@@ -5,12 +5,12 @@ import collections
 import itertools
 import re
 import shlex
-from typing import List, Match, NamedTuple, Optional, Pattern, Sequence, Tuple
+from typing import Collection, List, Match, NamedTuple, Optional, Pattern, Sequence, Tuple
 
 from .language import MAX_INT, MIN_INT
 from .world_cells import (DATE, DECIMAL, MAX_SCALE, OTHER_BLANKS, OTHER_MINUSES, TIME, decimal_text,
                           padded_date, padded_time, shown)
-from .world_columns import PLAIN, BadText, Cell, Column, Form, Table
+from .world_columns import PLAIN, BadText, Cell, Column, Form, Remark, Table
 
 MANY_DIGITS = 15
 SAMPLE = 1000
@@ -70,18 +70,55 @@ def hint_of_dates(table: Table, column: Column, cells: Sequence[str]) -> Optiona
     if are_most(months, sample):
         return f"{looks_like_dates(name, months[0])}; write them from the year down first, as 2019-01-31"
     found = dates_in(sample)
-    if not are_most(found, sample) or all(map(is_from_year, found)) and have_lengths_of(cells, sample):
+    if not are_most(found, sample):
+        return hint_of_periods(name, sample)
+    is_dashed = all(match[2] == "-" for match in found)
+    if all(map(is_from_year, found)) and have_lengths_of(cells, sample) and is_dashed:
         return None
     dates = dates_in(distinct(cells))
+    others = odd_cells(table, column, {match[0] for match in dates})
     if not are_most([match for match in found if len(match[1]) == 4], sample):
-        return hint_of_days(name, dates)
-    odd = next((match[0] for match in dates if not is_from_year(match)), None)
-    return None if odd is None else f"{looks_like_dates(name, odd)}; {date_words(name, odd, ['ymd'])}"
+        return hint_of_days(name, dates) + others
+    odd = next((match[0] for match in dates if not is_from_year(match) or match[2] != "-"), None)
+    if odd is None:
+        return None
+    return f"{looks_like_dates(name, odd)}; {all_date_words(name, odd, dates)}{others}"
+
+
+def all_date_words(name: str, odd: str, dates: Sequence[Match[str]]) -> str:
+    """What --date makes of dates of which some begin with the year: by a form that takes all of them."""
+    forms = [form for form in ("ymd", "dmy", "mdy")
+             if all(padded_date(match[0], form) is not None for match in dates)]
+    if not forms:
+        return "write them in one way, from the year down, in the file first"
+    return date_words(name, odd, forms[:1] if forms[0] == "ymd" else forms)
+
+
+PERIODS = (
+    (re.compile(r"[Qq][1-4][ /.-]?[0-9]{4}\Z"), "quarters", "2024-Q1"),
+    (re.compile(r"[1-4]\. ?Quartal [0-9]{4}\Z"), "quarters", "2024-Q1"),
+    (re.compile(r"[0-9]{1,2}[/.][0-9]{4}\Z"), "months or weeks", "2024-03"),
+    (re.compile(r"[^\W\d_]{3,9}\.? [0-9]{4}\Z"), "months", "2024-03"),
+)
+
+
+def hint_of_periods(name: str, sample: Sequence[str]) -> Optional[str]:
+    """That a column looks like quarters or months that don't compare as these do."""
+    for pattern, what, like in PERIODS:
+        found = [cell for cell in sample if pattern.match(cell)]
+        if are_most(found, sample):
+            return (f"{name} is TEXT, and looks like {what} such as {shown(found[0])}: these don't compare "
+                    f"as {what} do; write them from the year down, as {like}, in the file first")
+    return None
 
 
 def distinct(cells: Sequence[str]) -> List[str]:
     """The texts of some cells, each once, in the order in which they come up."""
     return list(dict.fromkeys(cells))
+
+
+# A month of ISO 8601 is no span of numbers, and compares as months do.
+ISO_MONTH = re.compile(r"[0-9]{4}-(?:0[1-9]|1[0-2])\Z")
 
 
 def dates_in(cells: Sequence[str]) -> List[Match[str]]:
@@ -350,19 +387,21 @@ def hint_of_text(table: Table, column: Column, hints: List[str]) -> None:
     """Says that a column of a CSV file is TEXT where most of its cells are numbers, or dates that don't
     compare as dates."""
     # A column of names needn't be looked at to its end.
-    sample: List[str] = list(itertools.islice(filter(None, column.cells), SAMPLE))
+    texts = (cell for cell in column.cells if cell and isinstance(cell, str))
+    sample: List[str] = list(itertools.islice(texts, SAMPLE))
     if not any(map(DIGIT.search, sample)):
         return
-    cells = [cell for cell in column.cells if cell is not None] if None in column.cells else column.cells
+    cells = [cell for cell in column.cells if isinstance(cell, str)]
     hint = (hint_of_dates(table, column, cells) or hint_of_numbers(table, column, cells)
             or hint_of_odd(table, column, sample))
     if hint is None and are_most([cell for cell in sample if DECIMAL.match(cell)], sample):
         hint = hint_of_decimals(table, column)
+    hint = hint or hint_of_mixed(table, column)
     if hint is not None:
         hints.append(hint)
 
 
-DIGIT = re.compile("[0-9]")
+DIGIT = re.compile(r"\d")
 
 
 def hint_of_decimals(table: Table, column: Column) -> Optional[str]:
@@ -372,7 +411,7 @@ def hint_of_decimals(table: Table, column: Column) -> Optional[str]:
     decimals = {cell: decimals_of(cell, PLAIN) for cell in times}
     numbers = [each for each in decimals.values() if each is not None]
     are_numbers = sum(times[cell] for cell, each in decimals.items() if each is not None)
-    if 2 * are_numbers <= count:
+    if 2 * are_numbers <= count or are_numbers < count and table.from_text:
         return None
     row, first = next((row, cell) for row, cell in enumerate(column.cells)
                       if cell is not None and not is_canonical(cell))
@@ -381,7 +420,69 @@ def hint_of_decimals(table: Table, column: Column) -> Optional[str]:
     if are_numbers == count and 0 < scale <= MAX_SCALE:
         found = written(list(times))
         how = carrying_words(name, found or Written(PLAIN, scale, False, False, []))
-    return f"{name} is TEXT, since {table.row_name(row)} has {shown(first)}; {how}"
+    hint = f"{name} is TEXT, since {table.row_name(row)} has {shown(first)}; {how}"
+    # Numbers that are names, as 0150, are texts.
+    return Remark(hint) if ZEROS.match(first) else hint
+
+
+# A number with a sign before it that says that it is none, with a mark behind it, or two with a line between.
+LESS = r"(?:<=?|>=?|[~≈≤≥±]|ca\.?|about|c\.)"
+FIGURE = r"[+-]?[0-9][0-9.,']*"
+QUALIFIED = re.compile(rf"(?:{LESS}\s?{FIGURE}\s?[^\W\d_]{{0,5}}|{FIGURE}\s?[*?!†a-z]|"
+                       rf"{FIGURE}\s?[-–—]\s?{FIGURE}|{FIGURE}\s?±\s?{FIGURE})\Z", re.IGNORECASE)
+UNITED = re.compile(rf"{FIGURE}\s?([^\W\d_]{{1,5}}(?:/[^\W\d_]{{1,3}})?|[{SYMBOLS}])\Z")
+FEW = 12
+
+
+def is_number(cell: str) -> bool:
+    match = NUMBER.match(cell.strip())
+    return match is not None and fits_any(match[4].strip()) or DECIMAL.match(cell) is not None
+
+
+def hint_of_mixed(table: Table, column: Column) -> Optional[str]:
+    """That most cells of a column are numbers, and which aren't; or that it looks like numbers in other
+    ways."""
+    times = collections.Counter(cell for cell in column.cells if isinstance(cell, str) and cell.strip())
+    count, name = sum(times.values()), table.full_name(column)
+    numbers = [cell for cell in times if is_number(cell)]
+    are_numbers = sum(times[cell] for cell in numbers)
+    units = {match[1] for match in map(UNITED.match, times) if match}
+    if len(units) > 1 and 2 * sum(times[cell] for cell in times if UNITED.match(cell)) > count:
+        return (f"{name} is TEXT, and has numbers of several units ({', '.join(sorted(units)[:4])})"
+                f"{odd_cells(table, column, ())}; write them in one unit in the file first")
+    if any(char.isdigit() and not char.isascii() for cell in numbers or times for char in cell) and 2 * sum(
+            times[cell] for cell in times if cell.strip().isdigit()) > count:
+        return (f"{name} is TEXT, and has digits of another script{odd_cells(table, column, numbers)}; write "
+                "0 to 9 in the file first")
+    qualified = sum(times[cell] for cell in times
+                    if QUALIFIED.match(cell.strip()) and not ISO_MONTH.match(cell.strip()))
+    if 2 * are_numbers <= count and 2 * (are_numbers + qualified) <= count or not (
+            set(times) - set(numbers)) or any(map(ZEROS.match, numbers)) and not qualified:
+        return None
+    return mixed_hint(name, table, column, numbers, [cell for cell in times if cell not in set(numbers)])
+
+
+def mixed_hint(name: str, table: Table, column: Column, numbers: Sequence[str], others: Sequence[str]) -> str:
+    """What is said of a column of which some cells are no numbers, and what carries the others."""
+    found = written(numbers) if numbers else None
+    hint = (f"{name} is TEXT, and compares as texts do, though {'most' if numbers else 'its'} cells "
+            f"{'are' if numbers else 'look like'} numbers{odd_cells(table, column, numbers)}")
+    if found is None or found.scale > MAX_SCALE or found.are_thousands or len(others) > FEW:
+        return f"{hint}; write them as numbers, or in a column of their own, in the file first"
+    words = number_words(name, found._replace(others=list(others)))
+    return f"{hint}; {words} carries the numbers, and these as NULL"
+
+
+def odd_cells(table: Table, column: Column, usual: Collection[str]) -> str:
+    """The first cells of a column that aren't as the others, with their rows."""
+    odd = [(row, cell) for row, cell in enumerate(column.cells)
+           if isinstance(cell, str) and cell.strip() and cell not in usual]
+    if not odd:
+        return ""
+    first = [(row, cell) for place, (row, cell) in enumerate(odd)
+             if cell not in [other for _, other in odd[:place]][:200]][:3] if len(odd) < 1000 else odd[:3]
+    more = f" and {len(odd) - len(first)} more" if len(odd) > len(first) else ""
+    return ": " + ", ".join(f"{table.row_name(row)} has {shown(cell)}" for row, cell in first) + more
 
 
 CANONICAL = re.compile(r"(?:0|-?[1-9][0-9]{0,18})\Z")

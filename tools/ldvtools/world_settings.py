@@ -13,8 +13,8 @@ from .language import KINDS, MAX_NAME, RESERVED
 OF_NAMES = ("--key", "--kind", "--scale", "--empty", "--rename", "--unit", "--date", "--foreign")
 OF_COLUMNS = ("--kind", "--scale", "--empty", "--unit", "--date")
 # Options that hold for all CSV files, or for what is named before an `=`.
-BROAD = ("--delimiter", "--encoding", "--quotes", "--decimal", "--thousands", "--null")
-OF_TABLES = ("--delimiter", "--encoding", "--quotes")
+BROAD = ("--delimiter", "--encoding", "--quotes", "--header", "--decimal", "--thousands", "--null")
+OF_TABLES = ("--delimiter", "--encoding", "--quotes", "--header")
 DATE_FORMS = ("dmy", "mdy", "ymd", "time")
 # What letters become that aren't an ASCII letter with a mark.
 LETTERS = str.maketrans({"ß": "ss", "æ": "ae", "Æ": "ae", "ø": "o", "Ø": "o"})
@@ -70,6 +70,9 @@ class Settings:
         self.rounds: bool = words.round
         self.skips_blank: bool = words.skip_blank
         self.trims: bool = words.trim
+        self.is_plain: bool = words.plain
+        # Whether an option that isn't given a table holds for more than one file.
+        self.has_many: bool = len(words.csv) > 1
         # As PostgreSQL's COPY and MySQL's --batch write tables: no quotes, and escapes by backslash.
         self.is_tsv: bool = words.tsv
         for (option, name), value in self.values.items():
@@ -182,6 +185,8 @@ def check_broad(option: str, name: str, value: str) -> None:
                       f"{name.partition('.')[0]}={value}")
     if option == "--delimiter" and value != "tab" and (len(value) != 1 or value in '"\r\n'):
         raise Misused("--delimiter is one character, or tab")
+    if option == "--header" and value not in ("none", "first"):
+        raise Misused(f"--header {value}: give none where the first line is a row, or first")
     if option == "--quotes" and value not in ("none", "double"):
         raise Misused(f"--quotes {value}: give none, or double for the quotes of CSV")
     if option == "--decimal" and (len(value) != 1 or value.isalnum() or value in "+-"):

@@ -13,6 +13,7 @@ from typing import Any, Dict, List, Optional, Sequence, Set, Tuple, Union
 from .errors import Refused
 from .world_columns import BadText, Column, Reference, Table
 from .world_csv import read_file
+from .world_known import digest_of
 from .world_settings import Settings, tidy_name, tidy_names
 from .world_tables import keep_columns
 
@@ -62,7 +63,7 @@ def tables_of(path: str, only: Sequence[str], settings: Settings, notes: List[st
                               "of the database makes it a table")
             if name not in there:
                 raise Refused(f"{path}: there is no table {name}; there are {', '.join(there) or 'none'}")
-        hidden = shadow_tables(base)
+        hidden, digest = shadow_tables(base), digest_of(path)
         found: List[Table] = []
         for kind, name, on, sql in entries:
             if only and on not in only or settings.is_left_out(name):
@@ -70,7 +71,7 @@ def tables_of(path: str, only: Sequence[str], settings: Settings, notes: List[st
             if kind == "table" and not name.startswith("sqlite_") and name not in hidden:
                 found += read_table(base, name, sql, settings, notes)
                 for table in found[-1:]:
-                    table.path = path
+                    table.path, table.digest = path, digest
             elif kind == "view":
                 notes.append(f"the view {name} isn't carried; CREATE TABLE .. AS SELECT .. makes it a table")
             elif kind == "trigger":
@@ -113,11 +114,13 @@ def read_table(base: sqlite3.Connection, name: str, sql: str, settings: Settings
     new = settings.new_name(name, tidy_name(name) if settings.tidy else name)
     shape: List[Shape] = [row for row in base.execute(f"PRAGMA table_xinfo({quoted(name)})") if row[6] != 1]
     columns = []
+    collations = collations_of(sql)
     plain = tidy_names([row[1] for row in shape]) if settings.tidy else [row[1] for row in shape]
     for place, ((_, old, declared, not_null, default, _, _), tidied) in enumerate(zip(shape, plain), 1):
         own = settings.new_name(f"{new}.{old}", tidied, f"{new}.#{place}")
         columns.append(Column(own, old, place, kind_of_type(declared), bool(not_null), declared))
         columns[-1].default = default
+        columns[-1].collation = collations.get(old.lower(), "")
     key = [columns[place].name for _, place in sorted((row[5], row[0]) for row in shape if row[5])]
     chosen = ", ".join(quoted(row[1]) for row in shape)
     order = row_order(base, name, shape)
@@ -129,6 +132,33 @@ def read_table(base: sqlite3.Connection, name: str, sql: str, settings: Settings
     note_columns(new, [row for row in shape if row[1] in {column.old for column in table.columns}], notes)
     note_constraints(base, name, new, sql, notes)
     return [table]
+
+
+NAME = r"(?:\"(?:[^\"]|\"\")*\"|`[^`]*`|\[[^]]*\]|\w+)"
+
+
+def collations_of(sql: str) -> Dict[str, str]:
+    """The collations of the columns of a CREATE TABLE, by their names in lower case, but BINARY."""
+    found: Dict[str, str] = {}
+    plain = re.sub(r"--[^\n]*|/\*.*?\*/", " ", sql, flags=re.DOTALL)
+    body = plain[plain.find("(") + 1:]
+    for part in split_at_commas(body):
+        name = re.match(rf"\s*({NAME})", part)
+        collation = re.search(rf"\bCOLLATE\s+({NAME})", part, re.IGNORECASE)
+        if name and collation and collation[1].strip('"`[]').upper() != "BINARY":
+            found[name[1].strip('"`[]').lower()] = collation[1].strip('"`[]').upper()
+    return found
+
+
+def split_at_commas(text: str) -> List[str]:
+    """The parts of a text between commas that stand in no quotes and no brackets."""
+    parts, depth, begun = [], 0, 0
+    for found in re.finditer(r"'(?:[^']|'')*'|\"(?:[^\"]|\"\")*\"|`[^`]*`|\[[^]]*\]|[(),]", text):
+        depth += {"(": 1, ")": -1}.get(found[0], 0)
+        if found[0] == "," and depth == 0:
+            parts.append(text[begun:found.start()])
+            begun = found.end()
+    return [*parts, text[begun:]]
 
 
 def kind_of_type(declared: str) -> Optional[str]:

@@ -7,16 +7,19 @@ from __future__ import annotations
 
 import json.encoder
 import re
+import shlex
 from typing import Callable, Dict, Iterator, List, Optional, Sequence, Tuple
 
+from .date_forms import form_of as form_of_dates
 from .documents import Rows, row_lines
 from .errors import Misused, Refused, Unfit
 from .language import MAX_COLUMNS, MAX_INT, MAX_NAME, MAX_ROWS, MAX_TEXT, MIN_INT, NAME, RESERVED
 from .world_cells import (MAX_SCALE, comparable, has_no_equal, scaled_number, shown, text_value,
                           whole_number)
-from .world_columns import NO_VALUE, Cell, Column, Form, Table
+from .world_columns import NO_VALUE, Cell, Column, Form, Remark, Table
 from .world_dates import hint_of_shapes
-from .world_hints import advice_of, hint_of_dates, hint_of_text, largest, scale_advised
+from .world_hints import advice_of, hint_of_text, largest, scale_advised
+from .world_texts import odd_texts, plain_text
 from .world_settings import Settings, fold, tidy_names
 
 # Written in C where that is built.
@@ -26,7 +29,7 @@ spelled_text: Callable[[str], str] = getattr(json.encoder, "encode_basestring")
 # ---- names
 
 def check_name(what: str, name: str, place: str = "", how: str = "") -> None:
-    how = how or (f"--rename \"{place}=NAME\"" if place else f"--rename \"{name}=NAME\"")
+    how = how or f"--rename {named_word(place or name, 'NAME')}"
     if name in RESERVED:
         raise Refused(f"{what} {name!r} is a reserved word; give {how}")
     # A word of the command line that isn't UTF-8 has half surrogate pairs.
@@ -38,6 +41,12 @@ def check_name(what: str, name: str, place: str = "", how: str = "") -> None:
         raise Refused(f"{what} {name!r}: names have no upper-case letters; give --lower or {how}")
     raise Refused(f"{what} {name!r} isn't a name: a letter a to z or _, then such letters, digits and _; "
                   f"give {how}")
+
+
+def named_word(name: str, value: str) -> str:
+    """NAME=VALUE as a word for a shell."""
+    word = f"{name}={value}"
+    return shlex.quote(word) if any(sign in word for sign in "\"$`\\!") else f'"{word}"'
 
 
 # ---- kinds
@@ -129,6 +138,9 @@ def is_filled_by_texts(table: Table, column: Column, is_given: bool, settings: S
         found = {text: fitting(table, column, text, is_given, settings) for text in set(column.cells)}
     except Unfit:
         return False
+    if column.date is not None:
+        texts = {text: str(value) for text, value in found.items() if text is not None}
+        column.date_form = form_of_dates(texts, column.date)
     column.cells = list(map(found.__getitem__, column.cells))
     return True
 
@@ -203,7 +215,7 @@ def check_columns(table: Table) -> None:
         by_place = table.place_name(column)
         check_name(f"{table.name}: column {column.place}", name, by_place)
         if name in names[:place]:
-            how = f"--rename \"{by_place}=NAME\" renames the column {column.place}"
+            how = f"--rename {named_word(by_place, 'NAME')} renames the column {column.place}"
             raise Refused(f"{table.name}: two columns have the name {name}; {how}")
     for place, name in enumerate(table.key):
         if name not in names:
@@ -221,7 +233,7 @@ def check_many(table: Table, names: Sequence[str]) -> None:
         return
     tidied = tidy_names([column.old for column in table.columns])
     pairs = [(table.columns[place], tidied[place]) for place in bad]
-    words = " ".join(f'--rename "{table.place_name(column)}={name}"' for column, name in pairs)
+    words = " ".join(f"--rename {named_word(table.place_name(column), name)}" for column, name in pairs)
     shown_names = ", ".join(f"{column.place} {column.name!r}" for column, _ in pairs)
     title = "; where the first line is a title, take it off first" if not any(names[1:]) else ""
     raise Refused(f"{table.name}: {len(bad)} columns need another name, column {shown_names}: a letter a to "
@@ -250,8 +262,13 @@ def settle_kind(table: Table, column: Column, settings: Settings) -> bool:
     if table.from_text:
         words = nulls | (set() if is_text else {""}) | ({NO_VALUE} if settings.is_tsv else set())
         column.nulls = {word for word in words if word in column.cells}
-        if column.nulls:
-            column.cells = [None if cell in words else cell for cell in column.cells]
+    else:
+        words = nulls
+        column.nulls = {word for word in words if word in column.cells}
+    if column.nulls:
+        column.cells = [None if isinstance(cell, str) and cell in words else cell for cell in column.cells]
+    if settings.is_plain:
+        column.cells = [plain_text(cell) if isinstance(cell, str) else cell for cell in column.cells]
     return kind is not None or bool(column.form.unit)
 
 
@@ -313,14 +330,13 @@ def settle_cells(table: Table, column: Column, is_given: bool, settings: Setting
         hint_of_unit(table, column, hints)
     fill_column(table, column, is_given, settings)
     if not table.from_text and column.kind == "TEXT" and column.date is None and not is_given:
-        hint = hint_of_dates(table, column, [cell for cell in column.cells if cell is not None])
-        hints += [hint] if hint else []
+        hint_of_text(table, column, hints)
+    hints += odd_texts(table, column)
     hint = hint_of_shapes(table, column)
     hints += [hint] if hint else []
     if column.scale is not None and sum(map(abs, filter(None, column.cells))) > MAX_INT:
-        hints.append(f"{table.full_name(column)}: the sum of its rows may leave 64 bits at --scale "
-                     f"{column.scale}, and "
-                     "SUM is NULL there")
+        hints.append(Remark(f"{table.full_name(column)}: the sum of its rows may leave 64 bits at --scale "
+                            f"{column.scale}, and SUM is NULL there"))
 
 
 def hint_of_unit(table: Table, column: Column, hints: List[str]) -> None:

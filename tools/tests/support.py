@@ -90,3 +90,13 @@ class InFolder(unittest.TestCase):
 
     def csv_refused(self, message, content, *words, status=1):
         self.refused(message, "--csv", self.put("t.csv", content), *ASK, *words, status=status)
+
+
+def python_with(*modules):
+    """A Python that has these modules, this one or that of the system; None where there is none."""
+    for python in (sys.executable, "/usr/bin/python3"):
+        words = [python, "-c", "import " + ", ".join(modules)]
+        with contextlib.suppress(OSError):
+            if subprocess.run(words, stderr=subprocess.DEVNULL, check=False).returncode == 0:
+                return python
+    return None

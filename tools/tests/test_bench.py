@@ -1,5 +1,6 @@
 """The benches, with answers and programs that are given to them."""
 import collections
+import json
 import os
 import random
 import shutil
@@ -23,6 +24,7 @@ from .test_documents import INSTRUCTIONS
 
 sys.path.append(os.path.join(ROOT, "bench"))
 import aims                                                                  # noqa: E402
+import hard_worlds                                                           # noqa: E402
 import hostile                                                               # noqa: E402
 import hostile_documents                                                     # noqa: E402
 import hostile_joins                                                         # noqa: E402
@@ -228,6 +230,29 @@ class Aims(InFolder):
         status, _, err = command([*words, "--cases", "order"])
         self.assertEqual(status, 1)
         self.assertIn(b"hard: a statement is refused", err)
+
+
+    def test_hard_worlds(self):
+        """Each pair of hard_worlds.py is two worlds; that a program fails or tells them apart is said."""
+        program = self.put("program", "#!/bin/sh\ncat > /dev/null\n")
+        os.chmod(program, 0o755)
+        words = [sys.executable, os.path.join(ROOT, "bench/hard_worlds.py"), program, self.folder,
+                 "--scale", "0.001", "--runs", "1"]
+        status, out, err = command(words)
+        self.assertEqual((status, set(err.decode().splitlines()) - {WITHHELD}), (0, set()))
+        self.assertEqual([line.split()[0] for line in out.decode().splitlines()],
+                         ["world", *hard_worlds.PAIRS, "aims"])
+        for name, (make, _, _) in hard_worlds.PAIRS.items():
+            hard, usual = make(4)
+            self.assertTrue(hard != usual, name)
+            for text in (hard, usual):
+                self.assertTrue("main" in json.loads(text)["files"], name)
+        self.put("program", "#!/bin/sh\ncat > /dev/null\nexit 7\n")
+        self.assertEqual(command([*words, "--worlds", "cut"])[0], 1)
+        self.put("program", "#!/bin/sh\ngrep -q 'ab\\\\\"' && exit 6\nexit 0\n")
+        status, _, err = command([*words, "--worlds", "cut"])
+        self.assertEqual(status, 1)
+        self.assertIn(b"hard_worlds: cut ended with 6, and the usual one with 0", err)
 
 
 class FakeCalls:

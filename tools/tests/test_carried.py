@@ -156,7 +156,7 @@ class Carried(InFolder):
                                       'FROM log '
                          'WHERE temp > ?" arg1\nlet x = "SELECT id FROM log WHERE time = " ++ arg1\nsql c '
                          'x\n')
-        lines, _ = self.said("--script", script, "--file", child)
+        lines, _ = self.said("--script", script, "--file", child, "--no-columns")
         self.assertEqual([line.partition(": ")[0] if line[:4] == "main" else line[9:].partition(": ")[0]
                           for line in lines],
                          ["main.ldv line 3", "main.ldv line 4", "child.ldv line 1", "main.ldv line 3"])

@@ -27,7 +27,7 @@ def bytes_of(text):
 
 def cases():
     """The cases of the program: the words, the input, the status, the output and the line."""
-    for path in sorted(glob.glob(os.path.join(ROOT, "crates/conformance/data/*.json"))):
+    for path in sorted(glob.glob(os.path.join(ROOT, "crates/conformance/data/*/*.json"))):
         with open(path, encoding="utf-8") as file:
             for case in json.load(file):
                 yield (case["words"], bytes_of(case["input"]), case["status"], bytes_of(case["output"]),

@@ -10,6 +10,9 @@ from .support import EXAMPLES, InFolder, read, tool
 BEFORE = (b"outcome 1 1\nprocess 0 0 4 2\na\nb\n\nrows 2\nrow 1\nint 1\nrow 1\nint 2\nchanged 1\n"
           b"file 1 2\nf\nx\n\n")
 
+NOTE = ("diff.py: nothing says what the columns are where they were read: numbers are shown as they are "
+        "carried\n")
+
 
 class Differences(InFolder):
     def compared(self, before, after, *words):
@@ -70,7 +73,7 @@ class Differences(InFolder):
                 (dict(trace=[spelling.started(), spelling.asked(0, tables=["t"]), spelling.ended()]),
                  b"process 0 statement 0: needs 1 row, and 0\n  - t 0 version 0 rule L\n")):
             status, out, err = self.compared(before, spelling.encode(spelling.package(**{**base, **change})))
-            self.assertEqual((status, err), (1, ""))
+            self.assertEqual((status, err), (1, NOTE))
             self.assertIn(said, out)
 
     def test_traces(self):

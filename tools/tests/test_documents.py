@@ -3,10 +3,13 @@ import contextlib
 import io
 import json
 import os
+import re
 import shutil
+import sys
 import unittest
 
 import check_docs
+import crate_map
 import check_page
 import check_scripts
 
@@ -204,6 +207,7 @@ class Documents(InFolder):
             check_docs.README: "# a\n\nThis is version 1.2.0.\n",
             check_docs.MANUAL: ".Dt LDV 1\n.Sh HISTORY\nVersion 1.2.0.\n",
             check_docs.PROJECT: '[project]\nversion = "1.2.0"\n',
+            check_docs.CITATION: "cff-version: 1.2.0\nversion: 1.2.0\n",
         }
         for name, text in texts.items():
             self.put(name, text)
@@ -214,12 +218,52 @@ class Documents(InFolder):
                                           "tools/pyproject.toml:1: there is no version\n")
         self.put(check_docs.CHANGELOG, "# Changes\n\n## 1.1.3\n")
         self.assertEqual(self.versions(), "docs/ldv.1:3: version 1.2.0, and 1.1.3 in CHANGELOG.md\n"
-                                          "tools/pyproject.toml:1: there is no version\n")
+                                          "tools/pyproject.toml:1: there is no version\n"
+                                          "CITATION.cff:2: version 1.2.0, and 1.1.3 in CHANGELOG.md\n")
 
     def versions(self):
         with contextlib.redirect_stdout(io.StringIO()) as printed:
             check_docs.check_version(self.folder, check_docs.Differences())
         return printed.getvalue()
+
+
+class Citation(InFolder):
+    def test_citation(self):
+        """CITATION.cff has what version 1.2.0 of its format asks for, and the papers that README names."""
+        text = read(os.path.join(ROOT, check_docs.CITATION)).decode()
+        known = dict(re.findall(r'(?m)^([a-z-]+): (?:"(.*)"|.*)$', text))
+        self.assertLessEqual({"cff-version", "message", "title", "type", "version", "date-released",
+                              "abstract"}, set(known))
+        self.assertRegex(text, r"(?m)^cff-version: 1\.2\.0$")
+        self.assertRegex(text, r"(?m)^date-released: \d{4}-\d\d-\d\d$")
+        self.assertRegex(text, r"(?m)^authors:\n  - name: ")
+        readme = read(os.path.join(ROOT, check_docs.README)).decode()
+        papers = readme.partition("## Version, licence, citation, contact")[2]
+        papers = " ".join(papers.split())
+        titles = re.findall(r'(?m)^    title: "(.*)"$', text)
+        self.assertEqual(len(titles), 2)
+        for title in titles:
+            self.assertIn(title, papers)
+        people = re.findall(r'family-names: (\w+)\n +given-names: "?([\w. ]+)', text)
+        self.assertEqual(len(people), 7)
+        for family, given in people:
+            self.assertIn(f"{given} {family}", papers)
+        self.assertNotIn("licen", text.lower())
+
+    def test_format(self):
+        """It is a document of YAML, where a Python with the package yaml is there to read it."""
+        for program in (sys.executable, "/usr/bin/python3"):
+            if os.access(program, os.X_OK) and command([program, "-I", "-c", "import yaml"])[0] == 0:
+                break
+        else:
+            self.skipTest("python3-yaml isn't installed")
+        asked = "import json, sys, yaml; print(json.dumps(yaml.safe_load(sys.stdin), default=str))"
+        status, out, err = command([program, "-I", "-c", asked],
+                                   read(os.path.join(ROOT, check_docs.CITATION)))
+        self.assertEqual(status, 0, err)
+        found = json.loads(out)
+        self.assertEqual([each["type"] for each in found["references"]], ["conference-paper", "article"])
+        self.assertEqual([len(each["authors"]) for each in found["references"]], [4, 3])
 
 
 class Layout(InFolder):
@@ -270,7 +314,7 @@ class Layout(InFolder):
 
     def test_meanings(self):
         """A file of specs that another crate's sources or specs cite is named in the row of its crate."""
-        os.makedirs(os.path.join(self.folder, "docs"))
+        os.makedirs(os.path.join(self.folder, "docs", "internals"))
         self.put("crates/low/specs/Adding.antt", "use Rattle.low.specs.Digits.{digits}\n")
         self.put("crates/low/specs/Digits.antt", "")
         self.put("crates/high/proofs/f/Answers.antt", "use Rattle.low.specs.Digits.{digits}\n")
@@ -281,11 +325,38 @@ class Layout(InFolder):
                                      ("all but `Digits`", "", ""), ("", "", f"{high} cites Adding of low\n"),
                                      ("all but `Adding`", "", f"{high} cites Adding of low\n"),
                                      ("`Adding` `Sums`", "", "there is no crates/low/specs/Sums.antt\n")):
-            self.put(check_docs.ARCHITECTURE, "| Specs of | Meaning | Made of |\n|---|---|---|\n"
+            self.put(check_docs.DEFINITIONS, "| Specs of | Meaning | Made of |\n|---|---|---|\n"
                                               f"| `low` | {meaning} | {made} |\n")
             differences = self.differences(
                 lambda root, differ: check_docs.check_meanings(root, check_docs.crates_in(root), differ))
-            self.assertEqual(differences, found and "docs/ARCHITECTURE.md:3: " + found, meaning)
+            self.assertEqual(differences, found and "docs/internals/DEFINITIONS.md:3: " + found, meaning)
+
+    def test_map(self):
+        """The map is made from crates.txt and the heads, and what these name is there."""
+        os.makedirs(os.path.join(self.folder, "docs", "internals"))
+        self.put(check_docs.ARCHITECTURE, f"# Map\n\n{crate_map.BEGIN}\nold\n{crate_map.END}\n\nMore.\n")
+        self.put("crates/low/specs/Adding.antt", "")
+        self.put("crates/low/src/lib.rt",
+                 "//! Adds numbers: small ones. Others it refuses.\n//!\n"
+                 "//! Entry: `add` in `src/lib.rt`. Read first:\n//! `specs/Adding.antt`.\n"
+                 "pub fn add() {}\n")
+        self.put("crates/high/src/lib.rt",
+                 "//! SQL sums.\n//!\n//! Read first: `specs/Adding.antt` of `low`.\n")
+        stale = "docs/internals/ARCHITECTURE.md:1: the map of crates is stale: tools/check_docs.py --fill\n"
+        self.assertEqual(self.differences(check_docs.check_map), stale)
+        check_docs.fill(self.folder)
+        self.assertEqual(self.differences(check_docs.check_map), "")
+        made = check_docs.read(self.folder, check_docs.ARCHITECTURE)
+        self.assertTrue(made.startswith("# Map\n\n") and made.endswith("\n\nMore.\n"))
+        self.assertIn("| `low` | adds numbers: small ones | `add` in `src/lib.rt` "
+                      "| `specs/Adding.antt` |  |\n"
+                      "| `high` | SQL sums |  | `specs/Adding.antt` of `low` | low |\n", made)
+        self.put("crates/low/src/lib.rt",
+                 "//! Adds numbers: small ones.\n//!\n"
+                 "//! Entry: `sum` in `src/lib.rt`. Read first: `specs/Sums.antt`.\n")
+        self.assertEqual(self.differences(check_docs.check_map),
+                         "crates/low/src/lib.rt:1: crates/low/src/lib.rt has no function sum\n"
+                         "crates/low/src/lib.rt:1: there is no crates/low/specs/Sums.antt\n" + stale)
 
     def test_lines(self):
         """Lines of sources and specs have at most 110 columns, but for imports and attributes."""

@@ -13,7 +13,7 @@ class Guarantees(InFolder):
 
     def setUp(self):
         super().setUp()
-        for folder in ("docs", "crates/low/src", "crates/low/specs"):
+        for folder in ("docs/internals", "crates/low/src", "crates/low/specs"):
             os.makedirs(os.path.join(self.folder, folder))
         self.put("crates.txt", "# Part\nlow:\n")
         self.put("crates/low/src/lib.rt",
@@ -42,8 +42,8 @@ class Guarantees(InFolder):
                             ("`add` (`ok`, `err`)", "the contract of add has no err"),
                             ("`add` (`lost`)", "the contract of add has no lost"),
                             ("`law` (`two`)", "the contract of law has no two")):
-            self.assertEqual(self.differences(cell), f"docs/GUARANTEES.md:5: {found}\n", cell)
+            self.assertEqual(self.differences(cell), f"docs/internals/GUARANTEES.md:5: {found}\n", cell)
 
     def test_crates(self):
         self.put("crates.txt", "# Part\nlow:\nhigh: low\n")
-        self.assertEqual(self.differences("`add`"), "docs/GUARANTEES.md:1: high is missing\n")
+        self.assertEqual(self.differences("`add`"), "docs/internals/GUARANTEES.md:1: high is missing\n")

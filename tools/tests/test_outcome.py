@@ -14,6 +14,8 @@ FAMILY = (b"outcome 3 2\nprocess 0 240 8 2\ntotal 3\n\nchanged 1\nrefused 6 orde
           b"file 1 3\na\nx\ny\nremoved 2\nbb\n")
 
 
+NOTE = ("outcome.py: nothing says what the columns are where they were read: numbers are shown as they are "
+        "carried\n")
 ENDS = "outcome.py: 1 of 3 statements was refused\noutcome.py: 1 process ended by misuse\n"
 
 
@@ -94,7 +96,7 @@ file bb was removed
         path = self.put("w", json.dumps({"start": ["m"], "files": {"m": 'sql q "SELECT k, 1 FROM t"\n'},
                                          "tables": {"t": {"columns": [["k", "INT"]]}}}))
         self.assertEqual(tool(outcome, "--csv", "--reply", "1", "--world", path, given=given),
-                         (0, b"k,2\n", ""))
+                         (0, b"k,2\n", NOTE))
 
     def test_malformed(self):
         for old, new, message in (
@@ -213,11 +215,12 @@ file bb was removed
         for words in (["--world", f"{EXAMPLES}/orders.json"], ["--package", self.put("p", orders())],
                       ["--package", self.put("q", orders(2))]):
             status, out, err = tool(outcome, *words, path)
-            self.assertEqual((status, err), (0, ""))
+            self.assertEqual((status, err), (0, NOTE))
             self.assertIn(b"  > INSERT INTO orders VALUES (?, ?, ?, 1)\n  > with 10, 2, pen\n", out)
             self.assertIn(b"    name | 2\n    -----+---\n    Ada  | 14\n", out)
         world = f"{EXAMPLES}/orders.json"
         status, out, _ = tool(outcome, "--csv", "--process", "0.0", "--reply", "1", "--world", world, path)
         self.assertEqual((status, out), (0, b"name,2\nAda,14\n"))
         self.assertIn("isn't of this world", tool(outcome, "--world", f"{EXAMPLES}/hello.json", path)[2])
-        self.assertIn("isn't JSON", tool(outcome, "--world", path, path)[2])
+        self.assertIn(f"{path}: no world document: not json: it is an outcome",
+                      tool(outcome, "--world", path, path)[2])

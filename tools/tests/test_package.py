@@ -18,6 +18,10 @@ from .support import ROOT, InFolder, read, tool
 from .test_check import cases
 
 
+NOTE = ("package.py: note: nothing says what the columns are where they were read: numbers are shown as they "
+        "are carried\n")
+
+
 class Packages(InFolder):
     """tools/package.py, over packages that spelling.py spells."""
 
@@ -41,16 +45,16 @@ table t (k INT NOT NULL, g TEXT, v INT, key k): 2 rows, next row 5
 
     def test_csv(self):
         folder = os.path.join(self.folder, "tables")
-        self.assertEqual(tool(package, "--csv", folder, self.path), (0, b"", ""))
+        self.assertEqual(tool(package, "--csv", folder, self.path), (0, b"", NOTE))
         self.assertEqual(read(f"{folder}/t.csv"), b'k,g,v\r\n1,"a ""x"", y",\r\n3,"",-5\r\n')
-        self.assertEqual(tool(package, "--csv", folder, "--reasons", self.path), (0, b"", ""))
+        self.assertEqual(tool(package, "--csv", folder, "--reasons", "--raw", self.path), (0, b"", ""))
         self.assertEqual(read(f"{folder}/t.csv"),
                          b'ldv_row,ldv_statement,ldv_rule,k,g,v\r\n0,0,L,1,"a ""x"", y",\r\n'
                                                   b'2,1,K,3,"",-5\r\n')
 
     def test_sqlite(self):
         path = os.path.join(self.folder, "t.db")
-        self.assertEqual(tool(package, "--sqlite", path, self.path), (0, b"", ""))
+        self.assertEqual(tool(package, "--sqlite", path, self.path), (0, b"", NOTE))
         base = sqlite3.connect(path)
         self.assertEqual(base.execute("SELECT * FROM t ORDER BY k").fetchall(),
                          [(1, 'a "x", y', None), (3, "", -5)])
@@ -58,7 +62,7 @@ table t (k INT NOT NULL, g TEXT, v INT, key k): 2 rows, next row 5
             base.execute("INSERT INTO t VALUES (3, 'b', 1)")
         base.close()
         self.assertEqual(tool(package, "--sqlite", path, self.path),
-                         (1, b"", f"package.py: {path} is there already\n"))
+                         (1, b"", NOTE + f"package.py: {path} is there already\n"))
 
     def test_no_rows(self):
         """Recorded replies make no tables, and nothing is written."""
@@ -98,7 +102,7 @@ table t (k INT NOT NULL, g TEXT, v INT, key k): 2 rows, next row 5
         trace = [spelling.started(), spelling.ended()]
         for names in (["sqlite_t"], ["a", "sqlite_t"]):
             tables = [spelling.table(name, [spelling.column("k")], next=0) for name in names]
-            status, _, err = tool(package, "--sqlite", os.path.join(self.folder, "t.db"),
+            status, _, err = tool(package, "--raw", "--sqlite", os.path.join(self.folder, "t.db"),
                                   given=spelling.encode(spelling.package(tables=tables, trace=trace)))
             self.assertEqual((status, err),
                              (1, "package.py: object name reserved for internal use: sqlite_t\n"))
@@ -222,7 +226,7 @@ table t (k INT NOT NULL, g TEXT, v INT, key k): 2 rows, next row 5
 
     def test_rows(self):
         """Each row with why it is there; of a joined package, for which of its runs."""
-        self.assertEqual(tool(package, "--rows", self.path), (0, b"""t: 2 rows
+        self.assertEqual(tool(package, "--rows", "--raw", self.path), (0, b"""t: 2 rows
   row | why | k | g        | v
   ----+-----+---+----------+-----
     0 | 0 L | 1 | a "x", y | NULL
@@ -232,7 +236,8 @@ table t (k INT NOT NULL, g TEXT, v INT, key k): 2 rows, next row 5
         rows = [first.tables[0].rows[0]._replace(statement=1, rule="H")]
         path = self.put("j", version2.joined(first._replace(steps=9), first._replace(
             tables=[first.tables[0]._replace(rows=rows)])))
-        self.assertEqual(tool(package, "--rows", path), (0, b"""t: 2 rows, 1 of them needed by both runs
+        said = tool(package, "--rows", "--raw", path)
+        self.assertEqual(said, (0, b"""t: 2 rows, 1 of them needed by both runs
   row | run 1 | run 2 | k | g        | v
   ----+-------+-------+---+----------+-----
     0 | 0 L   | 1 H   | 1 | a "x", y | NULL
@@ -254,7 +259,7 @@ table t (k INT NOT NULL, g TEXT, v INT, key k): 2 rows, next row 5
             reads=[spelling.group("t", spelling.read(0), spelling.read(2, 1, "H"), spelling.read(9))],
             made=[spelling.group("t", spelling.made(2))]), spelling.ended(4)]
         data = spelling.encode(spelling.package(steps=4, tables=tables, trace=trace))
-        self.assertEqual(tool(package, "--statement", "1", given=data), (0, b"""\
+        self.assertEqual(tool(package, "--raw", "--statement", "1", given=data), (0, b"""\
 statement 1: process 0 at step 3, tables t
 it needed 3 rows of t:
   row | version | rule | k | g
@@ -268,7 +273,7 @@ where rows stand for several
 it made 1 version of rows of t
 """, ""))
         self.assertIn(b"it needed no row", tool(package, "--statement", "0", given=data)[1])
-        self.assertEqual(tool(package, "--statement", "2", given=data),
+        self.assertEqual(tool(package, "--raw", "--statement", "2", given=data),
                          (1, b"", "package.py: there is no statement 2; the run asked 2, counted from 0\n"))
 
     def test_given_away(self):

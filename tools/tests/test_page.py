@@ -1,4 +1,5 @@
 """page.py: what is in the page, and in Chromium, where it is installed, what it shows."""
+import hashlib
 import json
 import os
 import re
@@ -257,3 +258,88 @@ class Browsers(PageMaker):
         self.assertEqual(browser.named("tr.needed[data-row]", "data-row")[0], "t 100")
         self.assertLess(time.monotonic() - start, 20)
         self.assertEqual(browser.problems(), [])
+
+
+@unittest.skipUnless(chromium.program(), "chromium isn't installed")
+class Looks(PageMaker):
+    """How a page looks: a package that says what its columns are, with its replies, at three widths."""
+
+    # Which cells have numbers or short texts over several lines; which lie beyond their picture or the page.
+    BROKEN = """[...document.querySelectorAll('td.number, td.short')].filter(cell => {
+      const range = document.createRange(); range.selectNodeContents(cell);
+      const tops = new Set([...range.getClientRects()].filter(r => r.width > 0).map(r => Math.round(r.top)));
+      return tops.size > 1; }).map(cell => cell.textContent)"""
+    CUT = """[...document.querySelectorAll('svg#time text.axis')].filter(text => {
+      const box = text.getBoundingClientRect(), all = text.ownerSVGElement.getBoundingClientRect();
+      return box.right > all.right + 1 || box.left < all.left - 1; }).map(text => text.textContent)"""
+    NAMELESS = """[...document.querySelectorAll('button, a[href], input, select, svg[role=img]')]
+      .filter(each =>
+      !(each.textContent.trim() && each.tagName !== 'SELECT' && each.tagName !== 'svg')
+      && !each.getAttribute('aria-label') && !each.closest('label'))
+      .map(each => each.outerHTML.slice(0, 80))"""
+
+    def page_at(self, width):
+        path = self.made(self.data, outcome=self.outcome)
+        browser = chromium.Browser(path, width=width)
+        self.addCleanup(browser.close)
+        return browser
+
+    def setUp(self):
+        from .test_as_read import OUTCOME, ROWS, SCRIPT, packed
+        super().setUp()
+        self.data, self.outcome = packed(ROWS, script=SCRIPT), OUTCOME.encode()
+
+    def test_widths(self):
+        """No number or date is broken over two lines, and no number of the axis is cut."""
+        for width in (480, 900, 1600):
+            browser = self.page_at(width)
+            browser.click('tr[data-statement="0"]')
+            self.assertGreater(len(browser.texts("td.number")), 10)
+            self.assertIn("1890,75", browser.texts("td.number"))
+            self.assertIn("27.7.2024", browser.texts("td.short"))
+            self.assertEqual(browser.value(self.BROKEN), [], width)
+            self.assertEqual(browser.value(self.CUT), [], width)
+            self.assertEqual(browser.texts("svg#time text.axis")[-1], "2")
+            self.assertEqual(browser.problems(), [])
+
+    def test_without_clicks(self):
+        """Replies with their units are there at once, and both digests under their names."""
+        browser = self.page_at(1280)
+        self.assertEqual(browser.texts("tr[data-statement] table.preview th")[:2], ["s (€)", "n"])
+        self.assertEqual(browser.texts("tr[data-statement] table.preview td")[:2], ["1903,25", "3"])
+        text = " ".join(browser.texts("header"))
+        self.assertIn("SHA-256 of the file, as sha256sum writes it " + hashlib.sha256(self.data).hexdigest(),
+                      text)
+        self.assertIn("digest within it, of the bytes before its end " + self.data[-32:].hex(), text)
+        self.assertEqual(browser.texts("#came-path option")[0], "reply 0: SELECT SUM(cost) AS s, COUNT(*) AS "
+                                                                "n FROM t")
+        self.assertIn("3 rows", browser.texts("#came-count")[0])
+
+    def test_keyboard(self):
+        """A statement is chosen by the keyboard alone, and each control has a name that can be read out."""
+        browser = self.page_at(1280)
+        browser.value("document.querySelector('tr[data-statement=\"0\"]').focus()")
+        browser.send("Input.dispatchKeyEvent", type="keyDown", key="Enter", code="Enter",
+                     windowsVirtualKeyCode=13,
+                     text="\r")
+        self.assertEqual(browser.named("tr[aria-expanded=true]", "data-statement"), ["0"])
+        self.assertEqual(len(browser.texts("#detail")), 1)
+        self.assertEqual(browser.value(self.NAMELESS), [])
+        self.assertEqual(browser.value("document.documentElement.lang"), "en")
+
+
+class WithoutProgram(PageMaker):
+    def test_texts(self):
+        """Without a replay, the statements of a script that asks one after the other have their texts."""
+        from .test_as_read import ROWS, packed
+        path = self.made(packed(ROWS, script='sql q "SELECT cost FROM t WHERE id > ?" 1\nopen f r "x" else '
+                                             'a\na:\n'))
+        shown = self.data_of(path)
+        self.assertEqual([(each["text"], each["params"]) for each in shown["statements"]],
+                         [("SELECT cost FROM t WHERE id > ?", ["1"])])
+        self.assertEqual(shown["tables"][0]["columns"][2], ["cost (€)", "INT"])
+        self.assertEqual(shown["tables"][0]["rows"][1][3:6], [2, "3.12.2024", {"i": "12,50"}])
+        path = self.made(packed(ROWS, script='let x = 1\nif x = 2 goto a\nsql q "SELECT cost FROM t"\na:\n'))
+        self.assertEqual([each["text"] for each in self.data_of(path)["statements"]], [None])
+        shown = self.data_of(self.made(packed(ROWS), "--raw"))
+        self.assertEqual(shown["tables"][0]["rows"][1][3:6], [2, "2024-12-03", 1250])

@@ -75,7 +75,7 @@ class Script(InFolder):
     def run_script(self, *words, root=None, cwd=None):
         done = subprocess.run([os.path.join(root or self.root, "ldv"), *words], stdin=subprocess.DEVNULL,
                               stdout=subprocess.PIPE, stderr=subprocess.PIPE, env=self.env, check=False,
-                              cwd=cwd)
+                              cwd=cwd or self.folder)
         return done.returncode, done.stdout, done.stderr.decode()
 
     def builds(self):
@@ -83,8 +83,9 @@ class Script(InFolder):
 
     def test_words_first(self):
         """Words that are no command are refused before anything is built, and those of COMMANDS aren't."""
-        for words in ([], ["help"], ["--help"], ["walk", "world.json"], ["run", "world.json"], ["inspect"],
-                      ["inspect", "all"], ["gen"], ["record", "-x", "-y", "-z", "1"]):
+        for words in ([], ["help"], ["--help", "run"], ["--version", "x"], ["walk", "world.json"],
+                      ["run", "world.json"], ["inspect"], ["inspect", "all"], ["gen"],
+                      ["record", "-x", "-y", "-z", "1"]):
             self.assertEqual(self.run_script(*words), (2, b"", "ldv: usage\n"), words)
             self.assertEqual(self.on_terminal(*words).partition("\n")[0], "ldv: usage", words)
         self.assertEqual(self.builds(), 0)
@@ -97,6 +98,45 @@ class Script(InFolder):
             if words[0] in ("run", "record", "replay", "audit", "table"):
                 self.assertEqual(self.run_script(*words, "--steps", "9")[0], 126, words)
         self.assertGreaterEqual(self.builds(), len(commands))
+
+    def test_own_words(self):
+        """--version, --help and -h are answered by the script, which builds nothing for them."""
+        self.put_folder("checkout/docs")
+        for name in ("ldv.1", "COMMANDS.md"):
+            shutil.copy(os.path.join(ROOT, "docs", name), os.path.join(self.root, "docs"))
+        self.put("bin/rt", "#!/bin/sh\n[ $1 = version ] && echo kit-1 logic 0 || echo x >> \"$RT_CALLS\"\n")
+        version = re.search(r"(?m)^Version (.*)\.$", read(os.path.join(ROOT, check_docs.MANUAL)).decode())[1]
+        self.assertEqual(self.run_script("--version"), (
+            0, f"ldv {version}\ncommit unknown\nkit kit-1 logic 0\nprogram not built\n".encode(), ""))
+        text = read(os.path.join(ROOT, check_docs.COMMANDS)).decode()
+        for word in ("--help", "-h"):
+            status, out, err = self.run_script(word)
+            self.assertEqual((status, err), (0, ""))
+            lines = [line[2:].split("  ", 1) for line in out.decode().splitlines() if line.startswith("  ")]
+            self.assertEqual([words for words, _ in lines], list(check_docs.listed_commands(text)[0]))
+            self.assertIn("  a world document -> the outcome of its run\n", out.decode())
+        self.assertEqual(self.builds(), 0)
+
+    def test_version_of_commit(self):
+        """--version has the commit, whether files were changed since, and the sum of the program."""
+        if shutil.which("git") is None:
+            self.skipTest("git isn't installed")
+        git = ["git", "-C", self.root, "-c", "user.name=A", "-c", "user.email=a@b.example"]
+        for words in (["init", "-q"], ["add", "-A"], ["commit", "-q", "-m", "All"]):
+            self.assertEqual(command([*git, *words])[0], 0)
+        commit = command([*git, "rev-parse", "HEAD"])[1].decode().strip()
+        self.run_script("migrate")
+        digest = hashlib.sha256(read(os.path.join(self.root, "crates/ldv/out/ldv"))).hexdigest()
+        lines = self.run_script("--version")[1].decode().splitlines()
+        self.assertEqual([lines[1], lines[-1]], [f"commit {commit}", f"program {digest}"])
+        self.put("checkout/crates/other/src/lib.rt", "two\n")
+        lines = self.run_script("--version")[1].decode().splitlines()
+        self.assertEqual(lines[1], f"commit {commit}, with changes")
+        self.put("checkout/crates/ldv/src/main.rt", "two\n")
+        self.assertEqual(self.run_script("--version")[1].decode().splitlines()[-1], "program not built")
+        # A checkout that lies in another one has none of its commits.
+        inner = shutil.copytree(self.root, os.path.join(self.root, "inner"), ignore=lambda *_: [".git"])
+        self.assertIn(b"commit unknown\n", self.run_script("--version", root=inner)[1])
 
     def test_ended_build(self):
         """A build that is ended from outside leaves nothing but its logs."""
@@ -232,7 +272,7 @@ class Script(InFolder):
         rows = table.partition("There are no")[0]
         words = list(dict.fromkeys(re.findall(r"(?m)^\| `([a-z]+)[^`|]*` \| ", rows)))
         self.assertEqual(words[:3], ["run", "record", "replay"])
-        for given in (["walk"], ["--help"], []):
+        for given in (["walk"], []):
             first, second, *rest = self.on_terminal(*given).split("\n")
             self.assertEqual((first, rest), ("ldv: usage", [""]))
             found = re.fullmatch("ldv: the first word is one of (.*); the words are in the manual page: "
@@ -296,7 +336,7 @@ class Program(InFolder):
         path = os.path.join(self.folder, "library.db")
         make_database(path, read(TUTORIAL + "/library.sql").decode())
         for words, name in ((WEATHER, "weather"), (["--sqlite", path] + LIBRARY, "library")):
-            document = tool(world, *words)[1]
+            document = tool(world, "--no-columns", *words)[1]
             package = self.check_run(document, read(f"{TUTORIAL}/{name}.outcome"))
             self.assertLess(len(package), len(document))
         self.assertNotIn(b"Middlemarch", package)
@@ -339,7 +379,10 @@ class Program(InFolder):
         for line in lines:
             done = subprocess.run(["sh", "-c", line], cwd=self.folder, stdout=subprocess.PIPE,
                                   stderr=subprocess.PIPE, env={**os.environ, "PATH": path}, check=False)
-            self.assertEqual((done.returncode, done.stderr), (0, b""), line)
+            # Of a package that says nothing of its columns, or has refusals, that is said.
+            said = [each for each in done.stderr.splitlines()
+                    if not re.search(rb": nothing says what the c|\d of \d+ statements was refused$", each)]
+            self.assertEqual((done.returncode, said), (0, []), line)
 
     def test_packages_page(self):
         status, out, err = tool(check_page, "--program", support.PROGRAM)
@@ -375,7 +418,7 @@ class Program(InFolder):
 
     def test_rows_by_hand(self):
         path = self.put("t.csv", 'id,name\n2,"Ada, x"\n1,\n-3,Bo\n')
-        document = tool(world, "--csv", path, "--ask", "SELECT * FROM t WHERE id < 2",
+        document = tool(world, "--no-columns", "--csv", path, "--ask", "SELECT * FROM t WHERE id < 2",
                         "--ask", "SELECT * FROM t WHERE nome = 1")[1]
         self.check_run(document, b"outcome 1 0\nprocess 0 0 0 2\n\nrows 2\nrow 2\nint 1\nnull\n"
                                  b"row 2\nint -3\ntext 2\nBo\nrefused 3\n")

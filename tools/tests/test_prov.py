@@ -9,10 +9,13 @@ import sys
 import unittest
 from urllib.parse import unquote
 
+import spelling
+
 from ldvtools import prov
 from ldvtools.errors import Malformed, Refused
 from ldvtools.packages import read_package
-from ldvtools.provenance import GROUP, RELATIONS, Node, document_text, node_of, read_provenance
+from ldvtools.provenance import (GROUP, RELATIONS, Edge, Node, Provenance, document_text, node_of,
+                                 read_provenance)
 from ldvtools.trace import graph_of
 
 from . import version2
@@ -63,7 +66,7 @@ def octets(value):
 def cases():
     """The cases of `prov`: their words, their input, their status and their output."""
     found = []
-    for name in ("prov.json", "whole_prov.json"):
+    for name in ("provenance/documents.json", "provenance/whole.json"):
         found += json.loads(read(os.path.join(CASES, name)))
     return [(each["name"], each["words"], octets(each["input"]), each["status"], octets(each["output"]))
             for each in found]
@@ -254,9 +257,9 @@ class Pictures(InFolder):
                 document = read_provenance(given)
                 if status == 10:
                     with self.assertRaises(Refused, msg=name):
-                        prov.ancestry(document, words[2])
+                        prov.place_of(document, words[2], None)
                     continue
-                place, found, edges = prov.ancestry(document, words[2])
+                place, found, edges = prov.ancestry(document, prov.place_of(document, words[2], None))
                 self.assertEqual(sorted(document.nodes[each].told for each in found),
                                  sorted(output.decode().splitlines()), name)
                 self.assertEqual({edge.source for edge in edges}, set(found), name)
@@ -301,3 +304,63 @@ class Pictures(InFolder):
             self.assertIn(message, err)
         self.assertEqual(tool(prov, os.path.join(self.folder, "none"))[0], 1)
         self.assertEqual(set(GROUP), set(prov.SHAPES))
+
+
+class Replies(InFolder):
+    """What replies came from, over a package of many rows."""
+
+    def setUp(self):
+        super().setUp()
+        columns = [spelling.column("k", "INT NOT NULL")]
+        rows = [spelling.row(number, number, statement=int(number >= 50)) for number in range(1000)]
+        trace = [spelling.started(), spelling.asked(0, 1, tables=["pubs"], reads=[
+            spelling.group("pubs", *(spelling.read(number) for number in range(50)))]),
+            spelling.asked(1, 2, tables=["pubs"], reads=[
+                spelling.group("pubs", *(spelling.read(number) for number in range(1000)))]),
+                 spelling.ended(3)]
+        script = 'sql q "SELECT * FROM pubs WHERE k < 50"\nsql q "SELECT * FROM pubs"\n'
+        self.data = spelling.encode(spelling.package(
+            steps=3, files=[spelling.file("main", script)], trace=trace,
+            tables=[spelling.table("pubs", columns, [0], 1000, rows)]))
+        graph = graph_of(read_package(self.data))
+        numbers = {"0": "0"}
+        nodes = [Node(str(node[0]), numbers[node[1]] if node[0] == "process" else
+                      "/".join(map(str, node[1:]))) for node in graph.nodes]
+        edges = [Edge(*ends, *times) for ends, times in graph.edges.items()]
+        self.document = self.put("d.prov", document_text(Provenance(nodes, edges)))
+        self.package = self.put("p.package", self.data)
+        rows = "".join(f"row 1\nint {number}\n" for number in range(50))
+        more = "".join(f"row 1\nint {number}\n" for number in range(1000))
+        self.outcome = self.put("o", f"outcome 1 0\nprocess 0 0 0 2\n\nrows 50\n{rows}rows 1000\n{more}")
+
+    def test_replies(self):
+        self.assertEqual(tool(prov, "--replies", self.document), (
+            0, b"reply 0 came from 50 rows of pubs; files main\n"
+               b"reply 1 came from 1,000 rows of pubs; files main; replies 0\n", ""))
+        words = ["--names", self.package, "--replayed", self.outcome]
+        self.assertIn(b"reply 0: SELECT * FROM pubs WHERE k < 50 came from 50 rows of pubs; files main\n",
+                      tool(prov, "--replies", *words, self.document)[1])
+
+    def test_folded(self):
+        """A picture of 1,000 rows has a node for those with the same arrows, and few arrows."""
+        status, out, err = tool(prov, "--reply", "1", self.document)
+        self.assertEqual((status, err), (0, ""))
+        self.assertEqual(re.findall(rb'label="([0-9,]+ rows of pubs)"', out), [b"50 rows of pubs",
+                                                                               b"950 rows of pubs"])
+        self.assertLess(out.count(b"->"), 12)
+        self.assertIn(b"reply 1: SELECT * FROM pubs", tool(
+            prov, "--reply", "1", "--names", self.package, "--replayed", self.outcome, self.document)[1])
+        self.assertIn("no node is the reply 7", tool(prov, "--reply", "7", self.document)[2])
+
+    def test_other_package(self):
+        """Names of another package aren't taken, though it has as many processes."""
+        other = self.put("other", spelling.encode(spelling.package(
+            steps=1, trace=[spelling.started(), spelling.asked(0), spelling.ended(1)])))
+        self.assertEqual(tool(prov, "--names", other, self.document)[::2],
+                         (1, "prov.py: the document isn't of the trace of this package: its graph is another "
+                             "one\n"))
+        self.assertEqual(tool(prov, "--names", self.package, self.document)[0], 0)
+        self.assertIn("--names: no package: ", tool(prov, "--names", self.document, self.document)[2])
+        self.assertIn("no provenance document: it is a package", tool(prov, self.package)[2])
+        self.assertIn("--replayed goes with --names",
+                      tool(prov, "--replayed", self.outcome, self.document)[2])

@@ -122,7 +122,7 @@ class Numbers(Forms):
         """The mark that Windows puts before a script is taken off, and named in a child's script."""
         data = self.put("t.csv", "a\n1\n")
         script = self.put("m.ldv", "\ufefflet x = 1\n")
-        status, out, err = tool(world, "--csv", data, "--script", script)
+        status, out, err = tool(world, "--csv", data, "--script", script, "--no-columns")
         self.assertEqual((status, json.loads(out)["files"]), (0, {"m.ldv": "let x = 1\n"}), err)
         start = self.put("s.ldv", 'spawn c "m.ldv" else e\ne:\n')
         err = tool(world, "--csv", data, "--script", start, "--file", script)[2]
@@ -338,7 +338,8 @@ class Texts(Forms):
         self.refused("t: UNIQUE (c) isn't carried", *words, "--accept", "UNIQUE (b)")
         for accepted in (["--accept", "UNIQUE"], ["--accept", "UNIQUE (b)", "--accept", "UNIQUE (c)"]):
             self.assertEqual(tool(world, *words, *accepted)[0], 0)
-        self.refused("--accept goes with --strict", *words[:-1], "--accept", "UNIQUE", status=2)
+        # Without --strict it names a proposal.
+        self.refused("UNIQUE: No such file or directory", *words[:-1], "--accept", "UNIQUE")
 
 
 class Scales(InFolder):
@@ -454,7 +455,7 @@ class OtherWorlds(InFolder):
         path = self.put("w", json.dumps({"start": ["m"], "files": {"m": f'sql q "{text}"\n'},
                                          "tables": {"t": {"columns": columns}}}))
         replies = self.put("o", b"outcome 1 0\nprocess 0 0 0 1\n\n" + given)
-        shown = tool(outcome, "--world", path, replies)
+        shown = tool(outcome, "--raw", "--world", path, replies)
         checked = tool(check, "--outcome", replies, path)
         self.assertEqual(shown[2].replace("outcome.py: no outcome", "check.py: no world"), checked[2])
         return shown[0], shown[2]
@@ -513,5 +514,5 @@ class Documents(InFolder):
             tool(outcome, "--help")[1].decode().split()))
         text = " ".join(tool(world, "--help")[1].decode().split())
         for words in ("A script writes values as they are carried into its own files too.",
-                      "what a number means, and what is said of a column, it lets pass"):
+                      "what a number means it lets pass"):
             self.assertIn(words, text)

@@ -11,7 +11,8 @@ import ldvtools
 
 from .support import ROOT, TOOLS, InFolder, command, read
 
-COMMANDS = ("world", "outcome", "package", "picture", "check", "page", "diff", "join", "orders", "prov")
+COMMANDS = ("world", "outcome", "package", "picture", "check", "page", "diff", "join", "orders", "prov",
+            "bundle", "capture", "playback")
 
 
 def called(words):
@@ -32,7 +33,8 @@ class Style(unittest.TestCase):
 
     def test_lines(self):
         """No line is longer than 110 columns, and no file than 800 lines."""
-        for folder in ("tools", "tools/ldvtools", "tools/tests", "bench", "bench/python"):
+        for folder in ("tools", "tools/ldvtools", "tools/ldvtools/inside", "tools/tests", "bench",
+                       "bench/python"):
             for name in sorted(os.listdir(os.path.join(ROOT, folder))):
                 if name.endswith((".py", ".js", ".css")):
                     text = read(os.path.join(ROOT, folder, name)).decode()
@@ -71,7 +73,7 @@ class Package(InFolder):
         done = subprocess.run([script], env=env, stdout=subprocess.PIPE, stderr=subprocess.PIPE, check=False)
         self.assertEqual(done.returncode, 0, done.stderr)
         for name in ("python3:", "dot (graphviz):", "chromium:", "sqlite3:", "groff:", "mandoc:", "cc:",
-                     "mypy:", "ruff:"):
+                     "mypy:", "ruff:", "make:", "git:", "dpkg-deb:", "unshare:", "unzip:", "zsh:", "fish:"):
             self.assertIn(f"  {name}".encode(), done.stdout)
 
     @unittest.skipUnless(shutil.which("sqlite3"), "sqlite3 isn't installed")
@@ -85,4 +87,5 @@ class Package(InFolder):
             os.makedirs(os.path.dirname(each))
         self.assertEqual(command(["sqlite3", path], read(TUTORIAL + "/library.sql")), (0, b"", b""))
         make_database(other, read(TUTORIAL + "/library.sql").decode())
-        self.assertEqual(tool(world, "--sqlite", path, *LIBRARY), tool(world, "--sqlite", other, *LIBRARY))
+        words = [*LIBRARY, "--no-columns"]
+        self.assertEqual(tool(world, "--sqlite", path, *words), tool(world, "--sqlite", other, *words))

@@ -13,7 +13,8 @@ from .support import ASK, InFolder, make_database, read, tool
 class CsvFiles(InFolder):
     def test_document(self):
         path = self.put("t.csv", 'id,name,born\n1,"Ada, the first",1815\n2,"says ""hi""",\n\n3,,-7\n')
-        status, out, err = tool(world, "--csv", path, "--key", "t=id", "--ask", "SELECT * FROM t")
+        status, out, err = tool(world, "--csv", path, "--key", "t=id", "--ask", "SELECT * FROM t",
+                                "--no-columns")
         self.assertEqual(status, 0, err)
         self.assertEqual(out.decode(), """{
   "start": ["main"],
@@ -279,7 +280,7 @@ class CsvFiles(InFolder):
                 "--key", "t=a,b")
         refused("t.csv line 2 (row 0 of t), column a: a text of 65537 bytes", "a\n" + "é" * 32768 + "x\n")
         self.assertEqual(len(self.table("a\n" + "é" * 32768 + "\n")["rows"][0][0]), 32768)
-        refused("t.csv: byte 3 isn't utf-8", b"a\nx\xff\n")
+        refused("t.csv line 2: byte 3 isn't utf-8", b"a\nx\xff\n")
         refused("t.csv isn't utf-7: 'utf-8' codec can't encode", "a\n+2AA-\n", "--encoding", "utf-7")
         refused("t.csv line 3", 'a\n1\n"x" y\n')
         refused("is empty", "")
@@ -306,7 +307,7 @@ class CsvFiles(InFolder):
 
 class ScriptsAndFiles(InFolder):
     def script(self, text):
-        status, out, err = tool(world, "--sql", self.put("q.sql", text))
+        status, out, err = tool(world, "--no-columns", "--sql", self.put("q.sql", text))
         self.assertEqual(status, 0, err)
         return json.loads(out)["files"]["main"]
 
@@ -338,7 +339,7 @@ class ScriptsAndFiles(InFolder):
         made, with the statement."""
         table = self.put("t.csv", "k;Größe (cm);Öffnet\n1;2;9\n")
         text = "-- all\nSELECT k FROM t;\n\n-- the mean\nSELECT AVG(k)\nFROM t;\nSELECT h FROM t;\n"
-        words = ["--csv", table, "--delimiter", ";", "--tidy"]
+        words = ["--csv", table, "--delimiter", ";", "--tidy", "--as-written"]
         status, _, err = tool(world, *words, "--sql", self.put("m.sql", text), "--ask", "SELECT g FROM t",
                               "--ask", "SELECT k\nFROM u")
         self.assertEqual(status, 0, err)
@@ -406,7 +407,7 @@ class ScriptsAndFiles(InFolder):
 
     def test_misuse(self):
         script, path = self.put("s", ""), self.put("t.csv", "a\n1\n")
-        for words in ([], ["--csv", path], ["--script", script, *ASK], ["--script", script, "--seed", "-1"],
+        for words in ([], ["--csv", path], ["--script", script, "--seed", "-1"],
                       ["--script", script, "--table", "t"], ["--csv", path, *ASK, "--kind", "t.a=REAL"],
                       ["--csv", path, *ASK, "--kind", "t.b=INT"], ["--csv", path, *ASK, "--key", "u=a"],
                       ["--csv", path, *ASK, "--scale", "t.a=x"], ["--csv", path, *ASK, "--delimiter", "ab"],

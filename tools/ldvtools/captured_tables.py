@@ -1,0 +1,98 @@
+"""The tables of a world as a program saw them before its first statement: from a copy of a database
+file."""
+from __future__ import annotations
+
+import contextlib
+import os
+import re
+import sqlite3
+from typing import Dict, List, NamedTuple, Sequence, Tuple
+
+from . import world
+from .dialect_rules import Shape
+from .errors import Refused
+from .progress import Progress
+from .world_columns import Table
+
+SECONDS = 30
+COLLATED = r"(?:^|[(,])\s*[\"`\[]?{0}[\"`\]]?\s[^,]*?\bCOLLATE\s+(\w+)"
+
+
+class Taken(NamedTuple):
+    """The tables of a world, their shapes by the names of the database in lower case, and what is said of
+    them."""
+
+    tables: List[Table]
+    shapes: Dict[str, Shape]
+    notes: List[str]
+    hints: List[str]
+
+
+def copy_database(path: str, copy: str) -> None:
+    """Copies a database file as it is now, with what a write-ahead log has."""
+    if not os.path.isfile(path):
+        raise Refused(
+            f"{path}: there is no such file; a world has the tables as they are before the first statement")
+    try:
+        with contextlib.closing(sqlite3.connect(path, timeout=SECONDS)) as base, \
+                contextlib.closing(sqlite3.connect(copy)) as other:
+            base.execute("SELECT COUNT(*) FROM sqlite_master").fetchone()
+            base.backup(other)
+    except sqlite3.Error as fault:
+        raise Refused(f"{path}: {fault}") from None
+
+
+def names_there(copy: str) -> Tuple[List[str], List[str]]:
+    """The tables and the views of a database."""
+    with contextlib.closing(sqlite3.connect(copy)) as base:
+        rows = base.execute(
+            "SELECT name, type FROM sqlite_master WHERE name NOT LIKE 'sqlite\\_%' ESCAPE '\\'")
+        found = rows.fetchall()
+    return ([name for name, kind in found if kind == "table"],
+            [name for name, kind in found if kind == "view"])
+
+
+def related(copy: str, names: Sequence[str]) -> List[str]:
+    """The tables that are named, and those that are their parents or children, again and again."""
+    tables, _ = names_there(copy)
+    by_name = {table.lower(): table for table in tables}
+    with contextlib.closing(sqlite3.connect(copy)) as base:
+        pairs = [(table.lower(), str(row[2]).lower()) for table in tables
+                 for row in base.execute(f'PRAGMA foreign_key_list("{table}")')]
+    found = {name.lower() for name in names if name.lower() in by_name}
+    while True:
+        more = {each for pair in pairs if found & set(pair) for each in pair if each in by_name} - found
+        if not more:
+            return [table for table in tables if table.lower() in found]
+        found |= more
+
+
+def tables_taken(copy: str, names: Sequence[str], options: Sequence[str], collation: str = "") -> Taken:
+    """The tables of these names, by the options of world.py."""
+    if not names:
+        return Taken([], {}, [], [])
+    words = ["--look", "--tidy", "--sqlite", copy, *options]
+    for name in names:
+        words += ["--table", name]
+    notes: List[str] = []
+    hints: List[str] = []
+    tables = world.world_tables(world.read_words(words), notes, hints, Progress("capture.py", True))
+    shapes = {}
+    with contextlib.closing(sqlite3.connect(copy)) as base:
+        for table in tables:
+            shapes[table.old.lower()] = shape_of(base, table, collation)
+    return Taken(tables, shapes, notes, hints)
+
+
+def shape_of(base: sqlite3.Connection, table: Table, collation: str) -> Shape:
+    quoted = '"' + table.old.replace('"', '""') + '"'
+    rows = base.execute(f"PRAGMA table_xinfo({quoted})").fetchall()
+    names = [str(row[1]) for row in rows if row[6] != 1]
+    sql = str(base.execute("SELECT sql FROM sqlite_master WHERE type = 'table' AND name = ?",
+                           (table.old,)).fetchone()[0])
+    collated = {}
+    for name in names:
+        match = re.search(COLLATED.format(re.escape(name)), sql, re.IGNORECASE)
+        if match and match[1].upper() != "BINARY":
+            collated[name.lower()] = match[1].upper()
+    return Shape(table, names, collation, collated)

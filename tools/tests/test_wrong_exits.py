@@ -1,0 +1,88 @@
+"""The wrong exits that are planted, and how the verdicts on them are judged."""
+import contextlib
+import io
+import unittest
+
+import wrong_exits
+
+SOURCE = """fn write_response<K: Sink>(sink: &mut K, response: Response) -> Exit
+    ensures { Responds }
+{
+    match response {
+        Response::Written(bytes) => write_output(sink, bytes.as_slice()),
+        Response::NoSuch => Exit::NoSuch,
+    }
+}
+"""
+
+
+def all_refused():
+    """The verdicts where each wrong body is refused, and the one without a change is proved."""
+    return {**{wrong_exits.name_of(each): "not proved" for each in wrong_exits.WRONG},
+            "write_response_unchanged": "proved"}
+
+
+def judged(verdicts):
+    """Whether these verdicts are well, and what is printed of them."""
+    with contextlib.redirect_stdout(io.StringIO()) as told:
+        well = wrong_exits.judge(verdicts)
+    return well, told.getvalue()
+
+
+class Planted(unittest.TestCase):
+    def test_each_exit(self):
+        self.assertEqual(set(wrong_exits.exits()), {*wrong_exits.WRONG, "NoMemory"})
+
+    def test_of_the_program(self):
+        planted = wrong_exits.planted(wrong_exits.read("src", "top.rt"))
+        for each in wrong_exits.WRONG:
+            self.assertEqual(planted.count(f"fn {wrong_exits.name_of(each)}<"), 1)
+
+    def test_one_line_each(self):
+        unchanged, *wrong = wrong_exits.planted(SOURCE)[len(SOURCE):].split("\nfn ")[1:]
+        self.assertEqual(len(wrong), len(wrong_exits.WRONG))
+        for body in wrong:
+            pairs = zip(body.splitlines()[1:], unchanged.splitlines()[1:])
+            differ = [one for one, other in pairs if one != other]
+            self.assertEqual(len(differ), 1)
+            self.assertIn("Response::Written(bytes) => { let _ = &bytes; ", differ[0])
+
+    def test_another_form(self):
+        with self.assertRaises(SystemExit):
+            wrong_exits.planted(SOURCE.replace("bytes.as_slice()", "&bytes"))
+
+
+class Judged(unittest.TestCase):
+    def test_all_refused(self):
+        well, told = judged(all_refused())
+        self.assertTrue(well)
+        self.assertEqual(told.count(": refused\n"), len(wrong_exits.WRONG))
+
+    def test_open_goals(self):
+        """An open goal of its own clause is a refusal, one of something else isn't."""
+        name = wrong_exits.name_of("Damaged")
+        said = "no proof: expected answers in ./proofs/top/%s/Answers.antt; `search` did not prove `%s`"
+        self.assertTrue(judged({**all_refused(), name: said % (name, "returns-in-Written")})[0])
+        for other in (said % (name, "overflow_1"), "no proof: it calls `top::ldv`, which is not proved"):
+            self.assertFalse(judged({**all_refused(), name: other})[0], other)
+
+    def test_one_proved(self):
+        well, told = judged({**all_refused(), wrong_exits.name_of("Damaged"): "proved"})
+        self.assertFalse(well)
+        self.assertIn("Damaged always: PROVED\n", told)
+
+    def test_one_not_judged(self):
+        verdicts = all_refused()
+        del verdicts[wrong_exits.name_of("Clash")]
+        well, told = judged(verdicts)
+        self.assertFalse(well)
+        self.assertIn("Clash always: NOT JUDGED\n", told)
+
+    def test_nothing_proved(self):
+        self.assertFalse(judged({**all_refused(), "write_response_unchanged": "not proved"})[0])
+
+    def test_verdicts(self):
+        said = ("fn top::write_response_clash: not proved\nfn top::ldv: proved\n"
+                "fn top::write_response_unchanged: proved\n")
+        self.assertEqual(wrong_exits.verdicts(said), {
+            "write_response_clash": "not proved", "write_response_unchanged": "proved"})
