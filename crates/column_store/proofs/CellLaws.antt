@@ -1,4 +1,4 @@
--- Cells of a column of numbers as values.
+-- The cells of a column of numbers, read as values.
 use Rattle.std.proofs.Common.{◌≡◌, ℕ, zero, suc, List, [], ◌∷◌, ◌++◌, length, map, get_or, set, refl, ap}
 use Rattle.std.specs.Prelude.{ℤ, Option, Some, None}
 use Rattle.column_store.specs.Types.{Value, Null}

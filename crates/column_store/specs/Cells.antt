@@ -1,4 +1,4 @@
--- The cells of a column, of numbers or of texts.
+-- The cells of a column of numbers or of texts.
 use Rattle.std.specs.Prelude.{ℕ, ◌-◌, Bool, true, false, not, List, map, vec_len, vec_capacity}
 use Rattle.ldv_value.specs.Cells.{int_value}
 use Rattle.column_store.specs.Types.{Value, Null, Int, Text}

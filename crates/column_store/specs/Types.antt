@@ -1,3 +1,3 @@
--- The types of the crate below, under one name each.
+-- The types of the crate below, each under one name.
 pub use Rattle.ldv_value.specs.declared.value.Value.{Value}
 pub use Rattle.ldv_value.specs.declared.value.Value.TheVariants.{Null, Int, Text}

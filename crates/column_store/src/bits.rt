@@ -8,8 +8,8 @@ ghost use Rattle.column_store.specs.Flags.{flag_in};
 use std::alloc::{AllocError, Global};
 use std::marker::Model;
 
-/// A bit for each slot. Contracts see them as a list, and `spare`, the number of bits for which there is
-/// room.
+/// A bit for each slot. Contracts see a list of bits, and `spare`, the number of bits that can be added
+/// without more memory.
 #[derive(Drop)]
 pub struct Bits {
     words: Vec<u64>,
@@ -39,7 +39,7 @@ impl Bits {
         }
     }
 
-    /// The words: a bit for each slot, and no further bit is set.
+    /// The words: bit i of word j belongs to slot 64 * j + i, and no bit past the last slot is set.
     #[tactic(auto, using(crate::proofs::FlagLaws::flag_rules))]
     pub fn words(&self) -> &[u64]
         ensures count { length result.now ≡ (length self.now.items + 63) / 64 }
@@ -59,7 +59,7 @@ impl Bits {
         has_flag(&self.words, slot)
     }
 
-    /// Makes room for more bits. On `AllocError` nothing has changed.
+    /// Reserves memory for `more` bits, fewer than 2^32. On `AllocError` nothing has changed.
     #[tactic(auto, using(crate::proofs::FlagLaws::flag_rules))]
     pub fn reserve(&mut self, more: usize) -> Result<(), AllocError>
         requires { more < 2 ^ 32 }
@@ -71,7 +71,8 @@ impl Bits {
         self.words.reserve(more / 64 + 1)
     }
 
-    /// Adds a bit. It never fails where `spare` is at least 1, and on `AllocError` nothing has changed.
+    /// Adds a bit to fewer than 2^32. It never fails if `spare` is at least 1. On `AllocError` nothing has
+    /// changed.
     #[tactic(auto, using(crate::proofs::FlagLaws::flag_rules))]
     pub fn push(&mut self, bit: bool) -> Result<(), AllocError>
         requires few { length self.old.items < 2 ^ 32 }
@@ -150,7 +151,7 @@ fn clear_bit(words: &mut Vec<u64>, slot: usize)
     words[slot / 64] &= !(1 << (slot % 64));
 }
 
-/// Clears the bit of a slot in words.
+/// Clears the bit of a slot in words that have one for it.
 #[tactic(auto, using(crate::proofs::FlagLaws::bit_cleared_at))]
 pub fn drop_bit(words: &mut [u64], slot: usize)
     requires { slot / 64 < length words.old }

@@ -21,7 +21,8 @@ enum Held {
 }
 
 /// A cell for each slot. A column of numbers holds words, and one of texts the values themselves. Contracts
-/// see its kind, the values of its cells, and `spare`, the number of cells for which there is room.
+/// see its kind, the values of its cells, and `spare`, the number of cells that can be added without more
+/// memory.
 #[derive(Drop)]
 pub struct Column {
     held: Held,
@@ -38,7 +39,7 @@ impl Model for Column {
 }
 
 impl Column {
-    /// A column with no cells, of texts or of numbers.
+    /// A column with no cells, of texts if `text` is true, and else of numbers.
     pub fn new(alloc: Global, text: bool) -> Column
         ensures items { result.items ≡ [] }
         ensures kind { result.text ≡ text }
@@ -87,7 +88,8 @@ impl Column {
         }
     }
 
-    /// Makes room for more cells. On `AllocError` the cells are as they were, and there is no less room.
+    /// Reserves memory for `more` cells, fewer than 2^32. On `AllocError` the cells are as they were, and
+    /// `spare` is no smaller.
     #[tactic(auto, using(crate::proofs::CellLaws::cell_rules))]
     pub fn reserve(&mut self, more: usize) -> Result<(), AllocError>
         requires { more < 2 ^ 32 }
@@ -102,7 +104,8 @@ impl Column {
         }
     }
 
-    /// Adds a cell, for which there is room.
+    /// Adds a cell. The column has fewer than 2^32 cells, `spare` is at least 1, and the value has the
+    /// column's kind or is NULL.
     #[tactic(auto, using(crate::proofs::CellLaws::cell_rules))]
     pub fn push(&mut self, value: Value) -> Result<(), AllocError>
         requires few { length self.old.items < 2 ^ 32 }
@@ -122,7 +125,7 @@ impl Column {
         }
     }
 
-    /// Replaces a cell.
+    /// Replaces the cell of a slot by a value of the column's kind or NULL.
     #[tactic(auto, using(crate::proofs::CellLaws::cell_rules))]
     pub fn set(&mut self, slot: usize, value: Value)
         requires within { slot < length self.old.items }

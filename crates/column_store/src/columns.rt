@@ -15,8 +15,8 @@ use std::alloc::{AllocError, Global};
 use std::cmp::Ordering;
 use std::mem;
 
-/// Makes room for more cells in each column. On `AllocError` the cells are as they were, and there is no less
-/// room in any column.
+/// Reserves memory for `more` cells, fewer than 2^32, in each column. On `AllocError` the cells are as they
+/// were, and `spare` is no smaller in any column.
 pub fn reserve_cells(columns: &mut Vec<Column>, more: usize) -> Result<(), AllocError>
     requires { more < 2 ^ 32 }
     ensures count { length columns.new.items ≡ length columns.old.items }
@@ -39,7 +39,7 @@ pub fn reserve_cells(columns: &mut Vec<Column>, more: usize) -> Result<(), Alloc
     Ok(())
 }
 
-/// Adds a cell to each column, for which there is room.
+/// Adds a cell to each column, one value for each. What `Column::push` asks holds for each column.
 pub fn push_cells(columns: &mut Vec<Column>, values: Values) -> Result<(), AllocError>
     requires count { length values ≡ length columns.old.items }
     requires few { (k : ℕ) → k < length columns.old.items
@@ -63,7 +63,8 @@ pub fn push_cells(columns: &mut Vec<Column>, values: Values) -> Result<(), Alloc
     Ok(())
 }
 
-/// Replaces a cell of each column.
+/// Replaces the cell of a slot in each column, by one value for each. What `Column::set` asks holds for each
+/// column.
 pub fn set_cells(columns: &mut Vec<Column>, slot: usize, values: Values)
     requires count { length values ≡ length columns.old.items }
     requires within { (k : ℕ) → k < length columns.old.items
@@ -91,7 +92,7 @@ fn take_value(values: &mut Vec<Value>, place: usize) -> Value
     mem::replace(&mut values[place], Value::Null)
 }
 
-/// A copy of the cell of each column.
+/// A copy of the cell of a slot in each column.
 pub fn copy_cells(alloc: Global, columns: &Vec<Column>, slot: usize) -> Result<Values, AllocError>
     requires { (k : ℕ) → k < length columns.now.items
         → slot < length (slice_index_or columns.now.items k no_cells).items }
@@ -105,7 +106,8 @@ pub fn copy_cells(alloc: Global, columns: &Vec<Column>, slot: usize) -> Result<V
     Ok(List::of_vec(values))
 }
 
-/// How the cells at some places compare to values, one after the other. Past the last column there is NULL.
+/// How the cells of a slot in the columns at `places`, from 0, compare to values, one after the other. A
+/// place past the last column has NULL.
 pub fn compare_cells(
     columns: &Vec<Column>,
     slot: usize,
@@ -162,7 +164,7 @@ fn compare_at(columns: &Vec<Column>, slot: usize, place: usize, value: &Value) -
     column.compare_cell(slot, value)
 }
 
-/// Columns with no cells, one for each item of `texts`: of texts where it is true, and else of numbers.
+/// Columns with no cells, one for each item of `texts`: of texts if the item is true, and else of numbers.
 pub fn empty_columns(alloc: Global, texts: &[bool]) -> Result<Vec<Column>, AllocError>
     ensures kinds { IfOk result (λ columns. kinds_of columns.items ≡ texts.now) }
     ensures empty { IfOk result (λ columns. AreLong 0 columns.items) }

@@ -4,8 +4,8 @@ ghost use Rattle.std.specs.Prelude.{◌≡◌, ◌+◌, ◌^◌, ◌<◌, ◌≤
 
 use std::alloc::AllocError;
 
-/// Makes room for more items. A list that grows item by item gets room for an eighth of it at once, where
-/// `reserve` would double it.
+/// Reserves memory for `more` items, fewer than 2^32. A full list gets memory for at least an eighth of its
+/// length, while `reserve` would double it. On `AllocError` the items are as they were.
 pub fn reserve_eighth<X>(list: &mut Vec<X>, more: usize) -> Result<(), AllocError>
     requires { more < 2 ^ 32 }
     ensures items { list.new.items ≡ list.old.items }

@@ -10,8 +10,8 @@ use crate::grow::reserve_eighth;
 use std::alloc::{AllocError, Global};
 use std::marker::Model;
 
-/// A cell for each slot, a number or NULL. Contracts see them as a list, and `spare`, the number of cells for
-/// which there is room.
+/// A cell for each slot, a number or NULL. Contracts see a list of cells, and `spare`, the number of cells
+/// that can be added without more memory.
 #[derive(Drop)]
 pub struct IntColumn {
     values: Vec<i64>,
@@ -41,7 +41,7 @@ impl IntColumn {
         }
     }
 
-    /// A cell; `None` is NULL.
+    /// The cell of a slot; `None` is NULL.
     #[tactic(auto, using(crate::proofs::IntCellLaws::cell_rules))]
     pub fn get(&self, slot: usize) -> Option<i64>
         requires { slot < length self.now.items }
@@ -54,7 +54,8 @@ impl IntColumn {
         }
     }
 
-    /// Makes room for more cells. On `AllocError` the cells are as they were, and there is no less room.
+    /// Reserves memory for `more` cells, fewer than 2^32. On `AllocError` the cells are as they were, and
+    /// `spare` is no smaller.
     #[tactic(auto, using(crate::proofs::IntCellLaws::cell_rules))]
     pub fn reserve(&mut self, more: usize) -> Result<(), AllocError>
         requires { more < 2 ^ 32 }
@@ -67,7 +68,7 @@ impl IntColumn {
         Ok(())
     }
 
-    /// Adds a cell, for which there is room.
+    /// Adds a cell. The column has fewer than 2^32 cells, and `spare` is at least 1.
     #[tactic(auto, using(crate::proofs::IntCellLaws::cell_rules))]
     pub fn push(&mut self, cell: Option<i64>) -> Result<(), AllocError>
         requires few { length self.old.items < 2 ^ 32 }
@@ -81,7 +82,7 @@ impl IntColumn {
         Ok(())
     }
 
-    /// Replaces a cell.
+    /// Replaces the cell of a slot.
     #[tactic(auto, using(crate::proofs::IntCellLaws::cell_rules))]
     pub fn set(&mut self, slot: usize, cell: Option<i64>)
         requires { slot < length self.old.items }
@@ -92,7 +93,7 @@ impl IntColumn {
         self.nulls.set(slot, cell.is_none());
     }
 
-    /// A word for each cell, which means nothing where it is NULL.
+    /// A word for each cell. The word of a NULL cell means nothing.
     #[tactic(auto, using(crate::proofs::IntCellLaws::cell_rules))]
     pub fn values(&self) -> &[i64]
         ensures long { length result.now ≡ length self.now.items }
@@ -102,7 +103,8 @@ impl IntColumn {
         self.values.as_slice()
     }
 
-    /// A bit for each cell, set where it is NULL, in words; no further bit is set.
+    /// A bit for each cell, 64 in a word, which is set exactly if the cell is NULL. No bit past the last cell
+    /// is set.
     #[tactic(auto, using(crate::proofs::IntCellLaws::cell_rules))]
     pub fn nulls(&self) -> &[u64]
         ensures long { length result.now ≡ (length self.now.items + 63) / 64 }

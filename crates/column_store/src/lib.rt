@@ -1,4 +1,4 @@
-//! Columns of values in memory: integers as an array with their NULLs as bits, and texts. Rows are appended,
+//! Columns of values in memory: integers as an array with a bit for each NULL, and texts. Rows are appended,
 //! replaced and copied by slot.
 //!
 //! Entry: `push_cells` in `src/columns.rt`. Read first: `specs/Cells.antt`.

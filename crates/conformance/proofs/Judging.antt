@@ -1,4 +1,4 @@
--- A case that adds no difference was run, and came out as it is wanted.
+-- A case that adds no difference was run, and ended as expected.
 use Rattle.std.proofs.Common.{◌≡◌, ℕ, ◌+◌, ◌-◌, ◌^◌, Bool, true, false, ◌&&◌, Ok, Err, Result, IfOk, refl, arith, if◌then◌else◌, min, is_none}
 use Rattle.ldv_value.proofs.Booleans.{and-parts}
 use Rattle.ldv_value.proofs.Options.{is_none-true}

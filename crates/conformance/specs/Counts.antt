@@ -1,4 +1,4 @@
--- What is counted.
+-- The counts of cases and of differences.
 use Rattle.std.specs.Prelude.{◌≡◌, ◌<◌, ℕ, ◌+◌, ◌^◌}
 use Rattle.conformance.specs.declared.tally.Tally.{Tally}
 

@@ -1,4 +1,5 @@
 pub mod Counts
+pub mod Files
 pub mod Place
 pub mod Runs
 pub mod Same

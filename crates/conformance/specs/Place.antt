@@ -1,4 +1,4 @@
--- Where bytes differ first.
+-- The first place where bytes differ.
 use Rattle.std.specs.Prelude.{◌≡◌, ◌≢◌, ℕ, List, take, slice_get}
 use Rattle.conformance.specs.declared.compare.Place.{Place}
 

@@ -1,4 +1,4 @@
--- What a run of the program over streams in memory may end with, and how a case is judged by it.
+-- The possible ends of a run of the program over streams in memory, and the judgement of a case by them.
 use Rattle.std.specs.Prelude.{◌≡◌, ◌≢◌, ◌↔◌, ◌⊎◌, ℕ, List, [], Some, None, map, string_bytes}
 use Rattle.std.specs.Io.KnownBytes.{Appends}
 use Rattle.conformance.specs.declared.case.Case.{Case}

@@ -1,4 +1,4 @@
--- When a case came out as it is wanted.
+-- When a case ends as expected.
 use Rattle.std.specs.Prelude.{Bool, false, ◌&&◌, Result, Ok, Err}
 use Rattle.std.specs.Option.{is_none}
 use Rattle.conformance.specs.declared.compare.Differences.{Differences}

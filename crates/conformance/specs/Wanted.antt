@@ -1,4 +1,4 @@
--- The cases that are wanted.
+-- The cases to run.
 use Rattle.std.specs.Prelude.{ℕ, List, Bool, true, Option, Some, None, length, filter}
 use Rattle.std.specs.Prelude.{bytes_eq, string_bytes}
 use Rattle.conformance.specs.declared.case.Case.{Case}

@@ -14,11 +14,11 @@ use std::alloc::{AllocError, Global};
 const INPUT_PIECE: usize = 10_000;
 /// The most bytes that a write of the output or the error stream takes.
 const OUTPUT_PIECE: usize = 1_000;
-/// The room of a sink beyond what is wanted, so that more than that is taken too.
+/// The capacity of a sink beyond the expected bytes, so it takes more than these too.
 const SPARE: usize = 65_536;
 
-/// Calls the program with the words and the input of a case. Of what the case wants it takes the lengths
-/// alone, for the room of the sinks.
+/// Calls the program with the words and the input of a case. It takes only the lengths of the expected bytes,
+/// for the capacity of the sinks.
 pub(crate) fn call(alloc: Global, case: &Case) -> Result<Ended, AllocError>
     ensures { IfOk result (λ ended. IsRunOf case.now ended) }
 {

@@ -1,4 +1,4 @@
-//! A case: the words and the input of a call of the program, and what it is to end with.
+//! A case: the words and the input of a call of the program, and its expected end.
 
 use hex::FromHexError;
 use ldv_value::Bytes;
@@ -6,7 +6,7 @@ use serde_json::{Map, Value};
 use std::alloc::{AllocError, Global};
 use std::fmt;
 
-/// A case. Its status, output and error are what is wanted, never what a run gave.
+/// A case. Its status, output and error are the expected ones, never those of a run.
 #[derive(Drop)]
 pub(crate) struct Case {
     pub name: String,
@@ -50,7 +50,7 @@ pub(crate) enum CaseFault {
     Missing(Member),
     /// This member has another type or range, or its hexadecimal digits are no bytes.
     Bad(Member),
-    /// It has another member than those of a case.
+    /// It has a member that a case doesn't have.
     Unknown,
     /// Out of memory.
     NoMemory,
@@ -80,7 +80,7 @@ impl fmt::Display for CaseFault {
     }
 }
 
-/// The case that a value is: an object with exactly the members of a case.
+/// The case of a value: an object with exactly the members of a case.
 pub(crate) fn read_case(alloc: Global, value: Value) -> Result<Case, CaseFault> {
     match value {
         Value::Object(mut members) => {

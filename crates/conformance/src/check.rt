@@ -1,7 +1,8 @@
 //! Files of cases, checked one after another.
 
-ghost use Rattle.std.specs.Prelude.{◌≡◌, ◌≢◌, ◌<◌, ◌≤◌, ◌↔◌, ◌-◌, ◌^◌, ◌+◌, if◌then◌else◌, min, []};
+ghost use Rattle.std.specs.Prelude.{◌≡◌, ◌≢◌, ◌<◌, ◌≤◌, ◌↔◌, ◌-◌, ◌^◌, ◌+◌, if◌then◌else◌, min, [], ◌∷◌};
 ghost use Rattle.std.specs.Prelude.{option_map, IsErr, IfOk, OnOk};
+ghost use Rattle.conformance.specs.Files.{AreAsWanted, AreFilesAsWanted, ComesOut, IsFileAsWanted};
 ghost use Rattle.conformance.specs.Runs.{IsAsWanted, IsJudged};
 ghost use Rattle.conformance.specs.Same.{is_same};
 ghost use Rattle.conformance.specs.Wanted.{is_wanted, wanted_count};
@@ -10,42 +11,58 @@ ghost use Rattle.conformance.specs.Counts.{CountsCases};
 use crate::call::call;
 use crate::case::Case;
 use crate::compare::{Differences, compare};
-use crate::file::{FileFault, cases_of};
+use crate::file::ReadFile;
 use crate::tally::Tally;
 use std::alloc::{AllocError, Global};
 use std::collections::BTreeSet;
-use std::rt::Files;
-use std::{fs, io};
+use std::io;
 
-/// The files to check, and the name of the only cases that are wanted.
-#[derive(Clone, Copy)]
-pub(crate) struct Request<'a> {
-    pub files: &'a [String],
-    pub only: Option<&'a str>,
+/// Runs the cases of files that were read, or those of one name alone, prints a line for each file, one for
+/// each difference and the counts, and gives the exit status. A file without cases is a difference.
+pub(crate) fn check_files<R: Print + AllocGlobal>(
+    rt: &R,
+    files: &[ReadFile],
+    only: Option<&str>,
+) -> io::Result<u8>
+    // Status 0 says that there is a file, and that each wanted case of each file came out as it wants.
+    ensures { IfOk result (λ status. status ≡ 0 → (files.now ≢ [])
+        × AreFilesAsWanted (option_map (λ name. name.now) only.entry) files.now) }
+{
+    let mut tally = Tally::new();
+    check_each(rt, files, only, &mut tally)?;
+    finish(rt, files, only, tally)
 }
 
-/// Checks the files, prints the counts, and gives the exit status.
-pub(crate) fn check_files<R: Files + Print + AllocGlobal>(
+fn check_each<R: Print + AllocGlobal>(
     rt: &R,
-    request: &Request<'_>,
-) -> io::Result<u8> {
-    let mut tally = Tally::new();
-    for path in request.files {
-        let found = cases_of(rt.alloc(), fs::read(rt, path.as_str()));
-        check_file(rt, path.as_str(), found, request.only, &mut tally)?;
+    files: &[ReadFile],
+    only: Option<&str>,
+    tally: &mut Tally,
+) -> io::Result<()>
+    ensures kept { tally.old.differences ≤ tally.new.differences }
+    ensures same { OnOk result (tally.new.differences ≡ 0
+        → AreFilesAsWanted (option_map (λ name. name.now) only.entry) files.now) }
+{
+    for file in files {
+        check_file(rt, file, only, tally)?;
     }
-    finish(rt, request, tally)
+    Ok(())
 }
 
 // Where no file is named, or no case of the wanted name, that is a difference too.
-fn finish(rt: &impl Print, request: &Request<'_>, mut tally: Tally) -> io::Result<u8>
+fn finish(
+    rt: &impl Print,
+    files: &[ReadFile],
+    only: Option<&str>,
+    mut tally: Tally,
+) -> io::Result<u8>
     ensures { IfOk result (λ status. (status ≡ 0)
-        ↔ ((request.now.files.now ≢ []) × (0 < tally.cases) × (tally.differences ≡ 0))) }
+        ↔ ((files.now ≢ []) × (0 < tally.cases) × (tally.differences ≡ 0))) }
 {
-    if request.files.is_empty() {
+    if files.is_empty() {
         rt.println("no file named")?;
         tally.count_difference();
-    } else if let Some(name) = request.only
+    } else if let Some(name) = only
         && tally.cases == 0
     {
         println!(rt; "no case named {name}")?;
@@ -60,17 +77,20 @@ fn finish(rt: &impl Print, request: &Request<'_>, mut tally: Tally) -> io::Resul
 // A file that has no cases is a difference.
 fn check_file<R: Print + AllocGlobal>(
     rt: &R,
-    path: &str,
-    found: Result<Vec<Case>, FileFault>,
+    file: &ReadFile,
     only: Option<&str>,
     tally: &mut Tally,
 ) -> io::Result<()>
-    ensures fault { IsErr found → tally.new.differences ≡ min (tally.old.differences + 1) (2 ^ 64 - 1) }
-    ensures cases { OnOk result (IfOk found (λ cases. CountsCases tally.old tally.new
+    ensures fault { IsErr file.now.found
+        → tally.new.differences ≡ min (tally.old.differences + 1) (2 ^ 64 - 1) }
+    ensures cases { OnOk result (IfOk file.now.found (λ cases. CountsCases tally.old tally.new
         (wanted_count (option_map (λ name. name.now) only.entry) cases.items))) }
     ensures kept { tally.old.differences ≤ tally.new.differences }
+    ensures same { OnOk result (tally.new.differences ≡ 0
+        → IsFileAsWanted (option_map (λ name. name.now) only.entry) file.now) }
 {
-    match found {
+    let path = file.path.as_str();
+    match &file.found {
         Ok(cases) => {
             let count = cases.iter().filter(|case| is_wanted(case, only)).count();
             println!(rt; "{path}: {count} cases")?;
@@ -102,15 +122,35 @@ fn check_cases<R: Print + AllocGlobal>(
     ensures cases { OnOk result (CountsCases tally.old tally.new
         (wanted_count (option_map (λ name. name.now) only.entry) cases.now)) }
     ensures kept { tally.old.differences ≤ tally.new.differences }
+    ensures same { OnOk result (tally.new.differences ≡ 0
+        → AreAsWanted (option_map (λ name. name.now) only.entry) cases.now) }
 {
     let mut names = BTreeSet::new(rt.alloc());
     for case in cases {
         check_name(rt, &mut names, case, tally)?;
-        if is_wanted(case, only) {
-            check_case(rt, case, tally)?;
-        }
+        check_wanted(rt, case, only, tally)?;
     }
     Ok(())
+}
+
+// Runs a case where it is wanted.
+fn check_wanted<R: Print + AllocGlobal>(
+    rt: &R,
+    case: &Case,
+    only: Option<&str>,
+    tally: &mut Tally,
+) -> io::Result<()>
+    ensures cases { CountsCases tally.old tally.new
+        (wanted_count (option_map (λ name. name.now) only.entry) (case.now ∷ [])) }
+    ensures kept { tally.old.differences ≤ tally.new.differences }
+    ensures same { tally.new.differences ≡ 0
+        → ComesOut (option_map (λ name. name.now) only.entry) case.now }
+{
+    if is_wanted(case, only) {
+        check_case(rt, case, tally)
+    } else {
+        Ok(())
+    }
 }
 
 // Notes the name of a case. Where it is noted already, that is a difference.

@@ -1,4 +1,4 @@
-//! What a call of the program ended with, against what a case wants.
+//! The end of a call of the program, compared with the expected end of a case.
 
 ghost use Rattle.std.specs.Prelude.{◌≡◌, ◌≢◌, ◌↔◌, take, slice_get, IfSome, IsTrue, None};
 ghost use Rattle.conformance.specs.Place.{IsFirstPlace};
@@ -7,7 +7,7 @@ use crate::case::Case;
 use ldv_value::Bytes;
 use std::fmt;
 
-/// What a call of the program ended with.
+/// The end of a call of the program.
 #[derive(Drop)]
 pub(crate) struct Ended {
     pub status: u8,
@@ -17,14 +17,14 @@ pub(crate) struct Ended {
     pub error: Bytes,
 }
 
-/// A status where another is wanted.
+/// A status that differs from the expected one.
 #[derive(Clone, Copy, Debug, PartialEq, Eq)]
 pub(crate) struct Statuses {
     pub got: u8,
     pub wanted: u8,
 }
 
-/// The first index at which bytes differ, with the byte there, or none where they end.
+/// The first index at which bytes differ, with the byte there, or `None` if they end.
 #[derive(Clone, Copy, Debug, PartialEq, Eq)]
 pub(crate) struct Place {
     pub index: usize,
@@ -32,7 +32,7 @@ pub(crate) struct Place {
     pub wanted: Option<u8>,
 }
 
-/// Where each of the four differs from what a case wants; none where it is the same.
+/// The places where each of the four differs from the expected one; `None` if it is the same.
 #[derive(Clone, Copy, Debug, PartialEq, Eq)]
 pub(crate) struct Differences {
     pub status: Option<Statuses>,
@@ -42,7 +42,7 @@ pub(crate) struct Differences {
 }
 
 impl Differences {
-    /// Whether all four are as wanted.
+    /// Whether all four are as expected.
     pub(crate) fn is_none(&self) -> bool
         ensures { IsTrue result
             ↔ ((self.now.status ≡ None) × (self.now.steady_status ≡ None)
@@ -55,7 +55,8 @@ impl Differences {
     }
 }
 
-/// The first index at which two lists of bytes differ, or one of them ends. None where they are equal.
+/// The first index, from 0, at which two lists of bytes differ, or one of them ends. `None` if they are
+/// equal.
 pub(crate) fn first_difference(got: &[u8], wanted: &[u8]) -> Option<usize>
     ensures equal { (result ≡ None) ↔ (got.now ≡ wanted.now) }
     ensures before { IfSome result (λ i. take i got.now ≡ take i wanted.now) }

@@ -1,13 +1,14 @@
 //! A file of cases: a JSON array of objects, each a case.
 
-ghost use Rattle.std.specs.Prelude.{◌≢◌, [], IsErr, IfOk};
+ghost use Rattle.std.specs.Prelude.{◌≡◌, ◌≢◌, [], IsErr, IfOk, map, string_bytes};
 
 use crate::case::{Case, CaseFault, read_case};
 use json_bytes::{JsonStop, read_json};
 use serde_json::Value;
 use std::alloc::{AllocError, Global};
 use std::io::ErrorKind;
-use std::{fmt, io};
+use std::rt::Files;
+use std::{fmt, fs, io};
 
 /// Why a file has no cases.
 #[derive(Clone, Copy, Debug, PartialEq, Eq)]
@@ -52,8 +53,39 @@ impl fmt::Display for FileFault {
     }
 }
 
-/// The cases of a file, at least one, from what reading it gave.
-pub(crate) fn cases_of(alloc: Global, read: io::Result<Vec<u8>>) -> Result<Vec<Case>, FileFault>
+/// What was read of a file.
+#[derive(Drop)]
+pub(crate) struct ReadFile {
+    pub path: String,
+    pub found: Result<Vec<Case>, FileFault>,
+}
+
+/// Reads the files with these paths.
+pub(crate) fn read_files<R: Files + AllocGlobal>(
+    rt: &R,
+    paths: &[String],
+) -> io::Result<Vec<ReadFile>>
+    ensures { IfOk result (λ files. map (λ file. string_bytes file.path) files.items
+        ≡ map string_bytes paths.now) }
+{
+    let mut files = Vec::new(rt.alloc());
+    for path in paths {
+        files.push(read_file(rt, path.as_str())?)?;
+    }
+    Ok(files)
+}
+
+fn read_file<R: Files + AllocGlobal>(rt: &R, path: &str) -> io::Result<ReadFile>
+    ensures { IfOk result (λ file. string_bytes file.path ≡ path.now) }
+{
+    Ok(ReadFile {
+        path: String::from_str(rt.alloc(), path)?,
+        found: cases_of(rt.alloc(), fs::read(rt, path)),
+    })
+}
+
+/// The cases of a file, at least one, from the result of reading it.
+fn cases_of(alloc: Global, read: io::Result<Vec<u8>>) -> Result<Vec<Case>, FileFault>
     ensures unread { IsErr read → IsErr result }
     ensures some { IfOk result (λ cases. cases.items ≢ []) }
 {

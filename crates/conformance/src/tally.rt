@@ -1,6 +1,6 @@
 //! The count of cases and of differences.
 
-/// How many cases were run, and how many differences there were. Counts end at 2^64 - 1.
+/// The numbers of cases run and of differences. Counts end at 2^64 - 1.
 #[derive(Clone, Copy, Debug, PartialEq, Eq)]
 pub(crate) struct Tally {
     pub cases: u64,
@@ -21,7 +21,7 @@ impl Tally {
         }
     }
 
-    /// Counts a case, which is a difference too where it isn't the same.
+    /// Counts a case, and a difference too if the case isn't `same`.
     pub(crate) fn count_case(&mut self, same: bool)
         ensures cases { self.new.cases ≡ min (self.old.cases + 1) (2 ^ 64 - 1) }
         ensures differences { self.new.differences
@@ -44,7 +44,7 @@ impl Tally {
         self.differences = self.differences.saturating_add(1);
     }
 
-    /// The exit status: 0 where a case was run and nothing differed.
+    /// The exit status: 0 if a case was run and nothing differed.
     pub(crate) fn status(&self) -> u8
         ensures { (result ≡ 0) ↔ ((0 < self.now.cases) × (self.now.differences ≡ 0)) }
     {

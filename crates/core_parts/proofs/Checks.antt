@@ -1,4 +1,4 @@
--- What a check of a query says.
+-- Consequences of a query's check.
 use Rattle.std.proofs.Common.{◌≡◌, refl, sym, Bool, true, false, Option, Some, None}
 use Rattle.std.specs.Prelude.{Ok, if◌then◌else◌}
 use Rattle.core_parts.specs.Checking.{IsChecked, WasChecked}

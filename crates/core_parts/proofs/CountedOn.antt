@@ -1,4 +1,4 @@
--- A number that is there or not, counted on by one.
+-- An optional number, increased by one.
 use Rattle.std.proofs.Common.{◌≡◌, ap, refl, ℕ, zero, suc, Option, Some, None, arith}
 use Rattle.std.specs.Option.{option_map}
 

@@ -1,4 +1,4 @@
--- Items under keys, and one item more.
+-- Items under keys, and the addition of one item.
 use Rattle.std.proofs.Common.{◌≡◌, ◌∙◌, sym, ap, refl, Bool, true, false, cond, List, [], ◌∷◌, ◌++◌, append_assoc, inl, inr}
 use Rattle.std.specs.Prelude.{filter, unwrap_or, Option, Some}
 use Rattle.std.proofs.lemmas.Bool.{cases_Bool}

@@ -1,4 +1,4 @@
--- The places that expressions take of a list, form by form.
+-- The places of expressions' column names in a list, form by form.
 use Rattle.std.proofs.Common.{◌≡◌, ℕ, zero, suc, ◌+◌, ◌-◌, ◌≤◌, List, [], ◌∷◌, ◌++◌, length, take, drop, refl, sym, ap, ◌∙◌, append-nil, inl, inr, arith}
 use Rattle.std.specs.Prelude.{Some, None, Bool}
 use Rattle.ldv_value.specs.declared.value.Value.{Value}

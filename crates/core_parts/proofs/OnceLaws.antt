@@ -1,4 +1,4 @@
--- Needs that are sorted, and of those of one row the first, are what they are when put one by one.
+-- Sorting needs and keeping the first of each row gives the same list as inserting them one by one.
 use Rattle.std.proofs.Common.{◌≡◌, ◌∙◌, sym, ap, refl, ◌+◌, List, [], ◌∷◌, ◌++◌, length, Bool, false, Option, Some, inl, inr, arith, append_assoc}
 use Rattle.std.specs.Prelude.{slice_get, ◌-◌, if◌then◌else◌}
 use Rattle.std.specs.Option.{option_map_or}

@@ -1,4 +1,5 @@
--- Lists of needed rows, sorted, each row once with its first rule: two as one, and one in any order.
+-- Sorted lists of needed rows, each once with its first rule: the union of two, and the list of rows in any
+-- order.
 use Rattle.std.proofs.Common.{◌≡◌, ◌∙◌, sym, ap, refl, subst, List, [], ◌∷◌, ◌++◌, map}
 use Rattle.std.specs.Prelude.{if◌then◌else◌, ◌&&◌}
 use Rattle.std.specs.List.{AllByRecursion}

@@ -1,4 +1,4 @@
--- Tests of single columns of a source that hold where conditions are True.
+-- Tests of single columns of a source that hold if conditions are True.
 use Rattle.std.specs.Prelude.{◌≡◌, ◌+◌, ℕ, List, [], ◌∷◌, Bool, true}
 use Rattle.std.specs.List.{list_all, AllByRecursion}
 use Rattle.core_parts.specs.Conditions.{meets}

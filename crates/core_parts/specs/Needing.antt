@@ -1,4 +1,4 @@
--- Lists of needed rows, sorted by table and number, as one.
+-- The union of lists of needed rows that are sorted by table and number.
 use Rattle.std.specs.Prelude.{◌≡◌, ◌+◌, ◌-◌, ◌<◌, List, [], ◌∷◌, ◌++◌, length, Bool, false, slice_get}
 use Rattle.std.specs.Prelude.{if◌then◌else◌}
 use Rattle.std.specs.Option.{option_map_or}

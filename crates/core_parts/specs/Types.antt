@@ -1,4 +1,4 @@
--- The types of the crates below, under one name each.
+-- The types of the crates below, each under one name.
 pub use Rattle.ldv_value.specs.declared.value.Truth.{Truth}
 pub use Rattle.ldv_value.specs.declared.value.Truth.TheVariants.{True, False, Unknown}
 pub use Rattle.ldv_value.specs.declared.value.Value.{Value}

@@ -11,7 +11,8 @@ use ldv_value::{List, Places};
 use sql_model::{Expr, Operator};
 use std::alloc::{AllocError, Global};
 
-/// The conjuncts of conditions, whose places are those from `from` on.
+/// The conjuncts of conditions, with the places of their columns, which are those in `places` from index
+/// `from` on.
 pub fn conjuncts(
     alloc: Global,
     picks: &[Expr],
@@ -30,7 +31,7 @@ pub fn conjuncts(
     Ok(conds)
 }
 
-/// The conjuncts of one condition, of which the places are given.
+/// The conjuncts of one condition, with the places of its columns, which are those in `places`.
 pub fn conjuncts_of(
     alloc: Global,
     pick: &Expr,

@@ -25,8 +25,8 @@ fn is_nameless(expr: &Expr) -> bool
     }
 }
 
-/// The value of an expression over a row without a value. Of one that names no column this is its value over
-/// every row; of another nothing is said.
+/// The value of an expression over an empty row. If the expression names no column, this is its value over
+/// every row.
 pub fn constant_value(alloc: Global, expr: &Expr) -> Result<Value, AllocError>
     ensures { IfOk result (IsValue expr.now [] []) }
 {
@@ -36,8 +36,8 @@ pub fn constant_value(alloc: Global, expr: &Expr) -> Result<Value, AllocError>
     Ok(value)
 }
 
-/// The value that an expression has over every row: that of one that names no column, as a number, a text,
-/// `-5` or `2 * 3`; NULL where it leaves 64 bits. `None` where it names a column.
+/// The value that an expression without columns, such as a number, a text, `-5` or `2 * 3`, has over every
+/// row. It is NULL if it is outside 64 bits. `None` if the expression names a column.
 pub(crate) fn constant_of(alloc: Global, expr: &Expr) -> Result<Option<Value>, AllocError>
     ensures found { IfOk result (λ found. is_some found ≡ is_nameless expr.now) }
     ensures value { IfOk result (λ found. IfSome found (IsConstant expr.now)) }

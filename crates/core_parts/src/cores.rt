@@ -36,8 +36,8 @@ pub fn query_of(checked: &Checked) -> &Query
     }
 }
 
-/// The places of the column names of the core at a place, or a given empty list where there is no such
-/// core. After the places of the last core come those of ORDER BY.
+/// The places of the column names of the core at a place, from 0. At the place after the last core they are
+/// those of ORDER BY, and past it they are `none`, an empty list that the caller gives.
 pub fn column_indexes<'a>(checked: &'a Checked, place: usize, none: &'a Places) -> &'a Places
     requires { none.now ≡ [] }
     ensures { result.now ≡ places_at checked.now place }

@@ -1,4 +1,4 @@
-//! The constants to which conditions fix the columns of a key.
+//! The constants that conditions fix the columns of a key to.
 
 ghost use Rattle.std.specs.Prelude.{◌≡◌, length, IfOk, IfSome};
 ghost use Rattle.ldv_value.specs.declared.value.Cmp.TheVariants.{Eq};
@@ -14,9 +14,9 @@ use ldv_value::{Cmp, List, Value, Values};
 use sql_model::{Expr, Operator, Schema};
 use std::alloc::{AllocError, Global};
 
-/// The values that the key columns of a source have in each joined row for which the conditions are True, if
-/// these compare each of them by `=` with a constant. The columns of the source come after `before` values of
-/// the joined row. `None` where its table has no key, too.
+/// The values that the key columns of a source have in each joined row that meets the conditions, if these
+/// compare each key column by `=` with a constant. Otherwise, or if the table has no key, `None`. The columns
+/// of the source come after `before` values of the joined row.
 pub fn fixed_key(
     alloc: Global,
     conds: &[BoundExpr],

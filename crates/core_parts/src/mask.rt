@@ -1,4 +1,4 @@
-//! Tests of single columns, by which the rows of a source can be chosen before conditions are evaluated.
+//! Tests of single columns, which choose rows of a source before conditions are evaluated.
 
 ghost use Rattle.std.specs.Prelude.{◌≡◌, ◌++◌, option_to_list, IfOk, IfSome, OnOk, true};
 ghost use Rattle.core_parts.specs.Constants.{IsConstant};
@@ -15,9 +15,9 @@ use ldv_value::{Cmp, Value};
 use sql_model::{CellTest, Column, ColumnTest, Columns, Expr, Operator};
 use std::alloc::{AllocError, Global};
 
-/// The masks of a source: tests of single columns that hold in each joined row for which the conditions are
-/// True. The columns of the source come after `before` values of the joined row. A comparison is of a column
-/// of numbers.
+/// The masks of a source: tests of single columns that hold in each joined row that meets the conditions. The
+/// columns of the source come after `before` values of the joined row. The tests compare only columns of
+/// numbers.
 pub fn masks_of(
     alloc: Global,
     conds: &[BoundExpr],
@@ -34,8 +34,8 @@ pub fn masks_of(
     Ok(masks)
 }
 
-/// The masks of a source that say all that the conditions say, if each condition is one: a joined row meets
-/// the conditions just where it passes the masks.
+/// The masks of a source that are equivalent to the conditions: a joined row meets the conditions exactly if
+/// it passes the masks. `None` if some condition isn't a mask.
 pub fn exact_masks(
     alloc: Global,
     conds: &[BoundExpr],

@@ -19,7 +19,7 @@ fn member_order(a: &Member, b: &Member) -> Ordering
     tables.then(a.row.cmp(&b.row))
 }
 
-/// Rows that are needed by a rule.
+/// Needs of some rows, each by the same rule.
 pub fn needed_by(rule: Rule, members: Members) -> Result<Needs, AllocError>
     ensures { IfOk result (λ needs. needs ≡ map (need_by rule) members) }
 {
@@ -30,8 +30,8 @@ pub fn needed_by(rule: Rule, members: Members) -> Result<Needs, AllocError>
     Ok(needs)
 }
 
-/// Needs in any order, sorted by table and number, each row once; of a row that is there several times, the
-/// first need.
+/// Needs in any order, sorted by table and number, each row once. If a row occurs several times, its first
+/// need stays.
 pub fn needs_in_order(alloc: Global, needs: Needs) -> Result<Needs, AllocError>
     ensures { IfOk result (λ made. made ≡ needs_in_order needs) }
 {
@@ -165,7 +165,8 @@ fn next_of<'a>(needs: &'a [Need], others: &'a [Need]) -> Option<Next<'a>>
     }
 }
 
-/// Two lists that are sorted by table and number as one; of a row that is in both, the first need.
+/// The union of two lists that are sorted by table and number. If a row is in both, its need in `needs`
+/// stays.
 pub fn union_of_needs(alloc: Global, needs: &[Need], others: &[Need]) -> Result<Needs, AllocError>
     ensures { IfOk result (λ made. made ≡ union_of_needs needs.now others.now) }
 {

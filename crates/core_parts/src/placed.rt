@@ -16,8 +16,8 @@ pub struct BoundExpr {
     pub places: Places,
 }
 
-/// Appends the places that an expression takes of those from `at` on; afterwards `at` is after them. On
-/// `AllocError` both are as they were.
+/// Appends to `own` the places of an expression's column names, which are the next in `places` from index
+/// `at` on, and moves `at` behind them. On `AllocError` `own` and `at` are as they were.
 pub fn take_places(
     expr: &Expr,
     places: &Places,
@@ -34,7 +34,8 @@ pub fn take_places(
     Ok(())
 }
 
-/// The index after the places that an expression takes of those from an index on.
+/// The index behind the places of an expression's column names, which are the next in `places` from index
+/// `at` on.
 #[tactic(auto, using(crate::proofs::Names::own_forms))]
 pub fn skip_places(expr: &Expr, places: &Places, at: usize) -> usize
     ensures onward { at ≤ result }
@@ -87,7 +88,8 @@ fn add_between(places: &Places, from: usize, to: usize, own: &mut Places) -> Res
     added
 }
 
-/// Appends the next place, where there is one. On `AllocError` the list and `at` are as they were.
+/// Appends to `own` the place at index `at`, if there is one, and moves `at` behind it. On `AllocError` `own`
+/// and `at` are as they were.
 #[tactic(auto, using(crate::proofs::Names::next_forms))]
 pub fn take_place(places: &Places, at: &mut usize, own: &mut Places) -> Result<(), AllocError>
     ensures own { OnOk result (own.new ≡ own.old ++ take 1 (drop at.old places.now)) }
@@ -104,8 +106,8 @@ pub fn take_place(places: &Places, at: &mut usize, own: &mut Places) -> Result<(
     }
 }
 
-/// A place of the joined row as that of a column of the source that comes after `before` values; `None` where
-/// it is one of these.
+/// The column, from 0, at a place of the joined row, in the source whose columns come after `before` values.
+/// `None` if the place is among these values.
 pub fn column_of_source(before: u128, place: usize) -> Option<usize>
     ensures none { is_none result ≡ nat_lt place before }
     ensures at { IfSome result (λ column. before + column ≡ place) }
@@ -118,8 +120,8 @@ pub fn column_of_source(before: u128, place: usize) -> Option<usize>
     }
 }
 
-/// An expression with the places that it takes of those from `at` on; afterwards `at` is after them. On
-/// `AllocError` it is as it was.
+/// An expression with the places of its column names, which are the next in `places` from index `at` on.
+/// Moves `at` behind them. On `AllocError` `at` is as it was.
 pub fn placed_at(
     alloc: Global,
     expr: &Expr,
@@ -140,8 +142,8 @@ pub fn placed_at(
     })
 }
 
-/// Items with the places that they take of those from `at` on; afterwards `at` is after them. On `AllocError`
-/// it is as it was.
+/// Items with the places of their column names, which are the next in `places` from index `at` on. Moves `at`
+/// behind them. On `AllocError` `at` is as it was.
 pub fn placed_items(
     alloc: Global,
     items: &[Item],

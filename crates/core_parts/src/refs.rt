@@ -1,11 +1,11 @@
-//! A list of references, which contracts see as the list of what they refer to.
+//! A list of references, which contracts see as the list of the items.
 
 ghost use Rattle.std.specs.Prelude.{◌≡◌, ◌++◌, ◌∷◌, [], map, take, length, IfOk, OnErr, OnOk};
 
 use std::alloc::{AllocError, Global};
 use std::marker::Model;
 
-/// References to items that lie elsewhere, in order.
+/// References to items that are stored elsewhere, in order.
 #[derive(Drop)]
 pub struct Refs<'a, X> {
     held: Vec<&'a X>,
@@ -55,7 +55,7 @@ impl<'a, X> Refs<'a, X> {
         Ok(())
     }
 
-    /// A copy, with one reference more at the end.
+    /// A copy with one more reference at the end.
     pub fn with_item(&self, item: &'a X) -> Result<Refs<'a, X>, AllocError>
         ensures { IfOk result (λ made. made ≡ self.now ++ item.now ∷ []) }
     {

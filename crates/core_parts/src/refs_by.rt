@@ -9,7 +9,8 @@ use std::alloc::{AllocError, Global};
 use std::cmp::Ord;
 use std::collections::BTreeMap;
 
-/// References to items that lie elsewhere, each under a key; those of a key in the order in which they came.
+/// References to items that are stored elsewhere, each under a key. Those of one key are in the order of
+/// their addition.
 #[derive(Drop)]
 pub struct RefsBy<'a, K: Ord, X> {
     alloc: Global,
@@ -27,14 +28,15 @@ impl<'a, K: Ord + Drop, X> RefsBy<'a, K, X> {
         }
     }
 
-    /// The references under a key, in the order in which they came; `None` where there are none.
+    /// The references under a key, in the order of their addition; `None` if there are none.
     pub fn get(&self, key: &K) -> Option<&Refs<'a, X>>
         ensures { unwrap_or (option_map (λ r. r.now) result) [] ≡ listed K.cmp self.now key.now }
     {
         self.map.get(key)
     }
 
-    /// Appends a reference to those under a key. On `AllocError` each key has those that it had.
+    /// Appends a reference to those under a key. On `AllocError` the references under each key are as they
+    /// were.
     pub fn add(&mut self, key: K, item: &'a X) -> Result<(), AllocError>
         ensures ok { OnOk result ((other : K) → listed K.cmp self.new other
             ≡ item_added K.cmp key item.now other (listed K.cmp self.old other)) }

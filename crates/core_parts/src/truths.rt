@@ -1,4 +1,4 @@
-//! Conditions hold where they are True.
+//! The test whether a condition holds.
 
 ghost use Rattle.std.specs.Prelude.{◌≡◌};
 ghost use Rattle.sql_model.specs.Meaning.{is_true};

@@ -1,4 +1,4 @@
--- What a change of a store returns and leaves, by what refuses it.
+-- The result of a change of a store and the store after it, by its refusal.
 use Rattle.std.proofs.Common.{◌≡◌, ℕ, ◌<◌, ◌≤◌, List, ◌++◌, map, refl, ap, sym, ◌∙◌, subst, arith, Option, Some, None}
 use Rattle.sql_model.proofs.Equations.{reply_is, need_is, made_is, updated_is, after_is}
 use Rattle.sql_model.specs.Changes.{or_else, change_refusal}

@@ -1,4 +1,4 @@
--- What a check of a statement against tables says.
+-- Consequences of a statement's check against tables.
 use Rattle.std.proofs.Common.{◌≡◌, ℕ, List, [], ◌∷◌, ◌++◌, refl, ap, sym, ◌∙◌, Bool, true, false, ◌&&◌, ◌||◌, not, Option, Some, None}
 use Rattle.std.specs.Prelude.{Ok, IsSome, unwrap_or, is_none}
 use Rattle.std.specs.List.{list_all, flat_map, AllByRecursion}

@@ -1,4 +1,4 @@
--- What a DELETE returns and leaves, from the rows that were found.
+-- The result of a DELETE and the store after it, from the rows that it matches.
 use Rattle.std.proofs.Common.{◌≡◌, ℕ, ◌<◌, ◌≤◌, List, [], ◌++◌, map, refl, ap, sym, ◌∙◌, subst, arith, Option, Some, None, Bool, true, false, not, append-nil}
 use Rattle.std.specs.Prelude.{filter, Err}
 use Rattle.std.specs.List.{flat_map, AllByRecursion}

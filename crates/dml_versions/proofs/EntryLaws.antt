@@ -1,4 +1,4 @@
--- What a checked statement has of the store that it was checked against: its table and its places.
+-- The table of a checked statement and the places of its columns, in the store that it was checked against.
 use Rattle.std.proofs.Common.{◌≡◌, ℕ, ◌+◌, ◌<◌, ◌≤◌, ◌^◌, List, [], ◌∷◌, map, ap, sym, ◌∙◌, arith, Some, None, is_some, cond, Bool, true, false, suc, ◌==◌}
 use Rattle.std.specs.Prelude.{unwrap_or, slice_get, find, IsSome}
 use Rattle.std.specs.List.{AllByRecursion}

@@ -1,4 +1,4 @@
--- What an INSERT returns and leaves.
+-- The result of an INSERT and the store after it.
 use Rattle.std.proofs.Common.{◌≡◌, ◌==◌, ℕ, ◌+◌, ◌<◌, ◌≤◌, List, [], ◌∷◌, ◌++◌, map, length, refl, ap, sym, ◌∙◌, subst, arith, Option, Some, None, true, false}
 use Rattle.std.specs.Prelude.{unwrap_or, nat_lt, Err, is_none, IfSome}
 use Rattle.std.specs.List.{list_all}

@@ -1,4 +1,4 @@
--- What a change returns where its lists are kept, and where they aren't.
+-- The result of a change with and without its lists.
 use Rattle.std.proofs.Common.{◌≡◌, ℕ, List, [], refl, ap, sym, ◌∙◌, Some, Bool, true, false, IsTrue}
 use Rattle.ldv_value.proofs.Booleans.{true≢false}
 use Rattle.sql_model.specs.Needs.{Versions}

@@ -1,4 +1,4 @@
--- The rows that WHERE matches, where all of them have one key.
+-- The rows that WHERE matches if all of them have one key.
 use Rattle.std.proofs.Common.{◌≡◌, ℕ, ◌<◌, Bool, true, List, [], ◌∷◌, map, length, ap, sym, ◌∙◌, Option, Some, None}
 use Rattle.std.specs.Prelude.{filter, find}
 use Rattle.std.specs.List.{AllByRecursion}

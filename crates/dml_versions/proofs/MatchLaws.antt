@@ -1,4 +1,4 @@
--- Matched rows: their versions, and what is needed and made of them.
+-- Matched rows: their versions, their needs, and the versions that a change of them makes.
 use Rattle.std.proofs.Common.{◌≡◌, ℕ, ◌+◌, List, [], ◌∷◌, map, refl, ap, sym, ◌∙◌, Some, Bool, true, false, inl, inr}
 use Rattle.std.specs.Prelude.{filter, find, nat_lt}
 use Rattle.std.specs.List.{list_all, AllByRecursion}

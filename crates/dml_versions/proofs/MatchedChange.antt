@@ -1,4 +1,4 @@
--- What a statement returns that matches rows, where nothing refuses it.
+-- The result of an accepted statement that matches rows.
 use Rattle.std.proofs.Common.{◌≡◌, ◌∙◌, ap, sym, ℕ, List, map, length, Option, Some, None}
 use Rattle.std.specs.List.{AllByRecursion}
 use Rattle.ldv_value.proofs.Lists.{length-map}

@@ -1,4 +1,4 @@
--- Rows in the order of their numbers: what is found and tested by a number.
+-- Rows in the order of their numbers: searches and tests by a number.
 use Rattle.std.proofs.Common.{◌≡◌, ◌==◌, ◌≢◌, ℕ, inl, inr, Bool, true, false, ◌||◌, not, cond, List, [], ◌∷◌, map, refl, ap, sym, ◌∙◌, subst, arith, Option, Some, None, eq-eqb}
 use Rattle.std.specs.Prelude.{filter, find, nat_lt, unwrap_or, if◌then◌else◌}
 use Rattle.std.specs.List.{list_any, list_all, AllByRecursion}

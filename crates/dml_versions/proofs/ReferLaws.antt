@@ -1,5 +1,5 @@
--- What references refuse of a change, as the store says it and as the statement does, and the rows that are
--- needed for them.
+-- The refusals of a change by references, which are the same for the store and for the statement, and the
+-- rows that they need.
 use Rattle.std.proofs.Common.{◌≡◌, ◌==◌, ℕ, ◌+◌, ◌<◌, ◌≤◌, List, [], ◌∷◌, ◌++◌, map, refl, ap, sym, ◌∙◌, subst, Option, Some, None, Bool, true, false, inl, inr, ◌⊎◌, cond, arith, append-nil, eq-eqb}
 use Rattle.std.specs.Prelude.{filter, find, not, ◌&&◌, ◌||◌, nat_lt, if◌then◌else◌, unwrap_or, IfSome, IsSome}
 use Rattle.std.specs.List.{flat_map, filter_map, cons_option, list_any, list_all, AllByRecursion}

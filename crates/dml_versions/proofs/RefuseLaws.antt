@@ -1,4 +1,4 @@
--- What a change returns that the store refuses.
+-- The result of a change that the store refuses.
 use Rattle.std.proofs.Common.{◌≡◌, ◌≢◌, ℕ, ◌<◌, List, [], ◌∷◌, ◌++◌, map, refl, ap, sym, ◌∙◌, subst, Option, Some, None, Bool, true, false, inl, inr, append_assoc}
 use Rattle.std.specs.Prelude.{filter, Err, if◌then◌else◌}
 use Rattle.std.specs.Option.{option_map, option_or, option_to_list}

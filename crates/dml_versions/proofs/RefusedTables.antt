@@ -1,4 +1,4 @@
--- What a refused change returns, where the store is as it was before.
+-- The result of a refused change, which leaves the store as it was.
 use Rattle.std.proofs.Common.{◌≡◌, ℕ, List, subst, Option, Some}
 use Rattle.std.specs.Prelude.{IfSome}
 use Rattle.table_store.specs.Histories.{StoreHistory, TableHistory, tables_now, history_at}

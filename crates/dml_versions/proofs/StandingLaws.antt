@@ -1,4 +1,4 @@
--- Rows that stand, by their numbers.
+-- Live rows, by their numbers.
 use Rattle.std.proofs.Common.{◌≡◌, ◌==◌, ℕ, ◌<◌, inl, inr, Bool, true, false, List, [], ◌∷◌, length, get_or, refl, ap, sym, ◌∙◌, subst, Option, Some, None, is_some}
 use Rattle.std.specs.Prelude.{unwrap_or, ◌-◌, if◌then◌else◌}
 use Rattle.std.specs.List.{list_any, AllByRecursion}

@@ -1,4 +1,4 @@
--- The tests of single columns that WHERE makes, and the slots that they leave.
+-- The tests of single columns from WHERE, and the slots that pass them.
 use Rattle.std.proofs.Common.{◌≡◌, ◌∙◌, ap, sym, refl, ℕ, zero, suc, ◌+◌, ◌-◌, ◌<◌, ◌≤◌, arith, Bool, true, false, ◌&&◌, List, [], ◌∷◌, ◌++◌, map, length, get_or, drop, append_assoc, append-nil, inl, inr, Option, Some, None}
 use Rattle.std.specs.Prelude.{filter, IfSome}
 use Rattle.std.specs.Option.{option_map_or, option_to_list}

@@ -1,4 +1,4 @@
--- What an UPDATE returns and leaves, from the rows that were found.
+-- The result of an UPDATE and the store after it, from the rows that it matches.
 use Rattle.std.proofs.Common.{◌≡◌, ◌==◌, ℕ, ◌+◌, ◌<◌, ◌≤◌, List, [], ◌∷◌, inl, map, length, refl, ap, sym, ◌∙◌, subst, arith, Option, Some, None, Bool, true, false}
 use Rattle.std.specs.Prelude.{filter, zip, Err, if◌then◌else◌, ◌&&◌, is_none, IfSome}
 use Rattle.std.specs.List.{flat_map, list_any, list_all, AllByRecursion}

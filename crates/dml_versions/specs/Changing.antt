@@ -1,4 +1,4 @@
--- What INSERT, UPDATE and DELETE return over a store, and what they make of it.
+-- The results of INSERT, UPDATE and DELETE over a store, and the store after them.
 use Rattle.std.specs.Prelude.{◌≡◌, ℕ, ◌≤◌, List, [], map, length, Bool, true, false, IsTrue, Option, Some, None}
 use Rattle.std.specs.Prelude.{Result, Ok, IfOk, OnOk, OnErr}
 use Rattle.sql_model.specs.Changes.{numbered_rows, new_values, updated_row}

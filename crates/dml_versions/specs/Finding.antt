@@ -1,4 +1,4 @@
--- The rows that a statement matches, as they are found in the slots of a table.
+-- The rows that a statement matches, found in the slots of a table.
 use Rattle.std.specs.Prelude.{◌≡◌, ℕ, List, [], map, filter, drop, Bool, false, Option, Some, None}
 use Rattle.std.specs.Prelude.{unwrap_or, slice_index_or, true, IfSome}
 use Rattle.std.specs.List.{flat_map}

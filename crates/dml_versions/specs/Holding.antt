@@ -1,4 +1,4 @@
--- What is known of a table that a store holds.
+-- Properties of each table of a store.
 use Rattle.std.specs.Prelude.{ℕ}
 use Rattle.table_store.specs.Histories.{last_next_number}
 use Rattle.table_store.specs.RowOrder.{AreInOrder}

@@ -1,4 +1,4 @@
--- The rows that a change needs and the versions that it makes, from the rows that were found.
+-- The rows that a change needs and the versions that it makes, computed from the rows that it matches.
 use Rattle.std.specs.Prelude.{◌≡◌, ℕ, ◌+◌, ◌==◌, map, nat_lt, List, [], ◌∷◌, true, Option, Some, None, IfSome}
 use Rattle.std.specs.Prelude.{if◌then◌else◌}
 use Rattle.std.specs.Option.{option_map}

@@ -1,4 +1,5 @@
--- The versions of a store's rows, as statements speak of them: how many accepted UPDATEs matched a row.
+-- The versions of a store's rows, as the meaning of statements has them: the number of accepted UPDATEs that
+-- matched a row.
 use Rattle.std.specs.Prelude.{ℕ, ◌-◌, List, Option, Some, None, if◌then◌else◌, is_some}
 use Rattle.row_version.specs.History.{Change, current_values, version}
 use Rattle.sql_model.specs.Needs.{Versions}

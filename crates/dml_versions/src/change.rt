@@ -1,4 +1,4 @@
-//! What a change returns.
+//! The results of changes.
 
 ghost use Rattle.std.specs.Prelude.{◌≡◌, ◌+◌, ◌<◌, ◌^◌, Some, IfOk, IfSome, IsSome, length, map};
 ghost use Rattle.std.specs.Prelude.{nat_lt, false};
@@ -19,8 +19,8 @@ use sql_model::{Members, Needs, Reply, SqlRefusal};
 use std::alloc::{AllocError, Global};
 use table_store::{Store, StoreStop, TableStore};
 
-/// The reply to a statement, the versions that it made, and the rows that it needed at their versions, both
-/// lists sorted by table and row number. Where they aren't kept, the lists may be anything.
+/// The reply to a statement, the versions that it made, and the rows that it needed, at their versions. Both
+/// lists are sorted by table and row number. If the caller keeps no lists, they may be anything.
 #[derive(Drop)]
 pub struct Change {
     pub reply: Reply,
@@ -56,8 +56,8 @@ fn matched_lists(
     })
 }
 
-/// What a change of matched rows returns where nothing refuses it, with its lists where they are kept.
-/// `needs` are the matched rows and the parents of their new values.
+/// The result of an accepted change of matched rows, with its lists if `keep` is true. `needs` has the
+/// matched rows and the parents of their new values.
 pub(crate) fn matched_change(
     alloc: Global,
     name: &Utf8,
@@ -94,8 +94,8 @@ fn inserted_lists(
     })
 }
 
-/// What an INSERT returns where nothing refuses it, with its lists where they are kept: its rows are numbered
-/// from `next` on, and `needs` are their parents.
+/// The result of an accepted INSERT, with its lists if `keep` is true. Its rows are numbered from `next` on,
+/// and `needs` has their parents.
 pub(crate) fn inserted_change(
     alloc: Global,
     name: &Utf8,
@@ -125,8 +125,8 @@ fn made_within(alloc: Global, name: &Utf8, next: u32, rows: &RowList) -> Result<
     inserted_members(alloc, name, next, rows)
 }
 
-/// What a change returns that the store refuses, in place of what it would return else. `needs` are the rows
-/// that it matches.
+/// The result of a change that the store refused. `needs` has the rows that the change matches, and `change`
+/// is the result that it would have if it were accepted.
 pub(crate) fn refused_by_store(
     store: &Store,
     name: &Utf8,

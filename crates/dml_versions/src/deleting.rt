@@ -19,10 +19,10 @@ use sql_model::{Checked, Delete};
 use std::alloc::AllocError;
 use table_store::Store;
 
-/// Drops the rows for which WHERE is True, or all where it is missing, at a time. The statement is a DELETE
-/// that was checked against the store's tables, and the time is later than that of the store's last change.
-/// The lists are made where `keep` is true. On `AllocError`, and where the statement is refused, the store is
-/// as it was.
+/// Deletes the rows for which WHERE is True, or all rows if there is no WHERE, at a time. The statement is a
+/// DELETE that was checked against the store's tables, and the time is later than that of the store's last
+/// change. The lists are made if `keep` is true. On `AllocError`, or if the statement is refused, the store
+/// is as it was.
 pub fn delete(
     checked: &Checked,
     store: &mut Store,

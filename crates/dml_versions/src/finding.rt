@@ -23,8 +23,8 @@ use sql_model::{ColumnTest, Expr, RowKey, truth_of};
 use std::alloc::{AllocError, Global};
 use table_store::TableStore;
 
-/// The rows of a table for which WHERE is True, or missing, in the order of their numbers. `places` are those
-/// of WHERE's columns.
+/// The rows of a table for which WHERE is True, or all rows if there is no WHERE, in the order of their
+/// numbers. `places` has the places of WHERE's columns, from 0.
 pub(crate) fn found_rows(
     alloc: Global,
     table: &TableStore,

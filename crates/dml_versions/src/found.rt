@@ -1,4 +1,4 @@
-//! Rows that were found.
+//! The rows that a statement matches.
 
 use ldv_value::{List, Values};
 

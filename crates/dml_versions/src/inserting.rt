@@ -23,8 +23,8 @@ use table_store::Store;
 
 /// Adds the rows of VALUES at a time, numbered from the number of the table's next row on. The statement is
 /// an INSERT that was checked against the store's tables, and the time is later than that of the store's last
-/// change. The lists are made where `keep` is true. On `AllocError`, and where the statement is refused, the
-/// store is as it was.
+/// change. The lists are made if `keep` is true. On `AllocError`, or if the statement is refused, the store
+/// is as it was.
 pub fn insert(
     checked: &Checked,
     store: &mut Store,

@@ -9,7 +9,7 @@ use sql_model::{Expr, Schema};
 use std::alloc::{AllocError, Global};
 
 /// The key of all rows for which WHERE is True, if WHERE compares each of the key's columns by `=` with a
-/// constant. `places` are those of WHERE's columns.
+/// constant; otherwise `None`. `places` has the places of WHERE's columns, from 0.
 pub(crate) fn picked_key(
     alloc: Global,
     schema: &Schema,

@@ -23,7 +23,7 @@ use sql_model::{Member, Members, Need, Needs, Rule, TableRow, TableRows};
 use std::alloc::{AllocError, Global};
 use table_store::{Store, TableStore};
 
-/// The needs of matched rows, where lists are kept; else none.
+/// The needs of matched rows if `keep` is true, and otherwise none.
 pub(crate) fn needs_of(
     alloc: Global,
     name: &Utf8,
@@ -112,7 +112,8 @@ pub(crate) fn inserted_members(
     Ok(made)
 }
 
-/// The needs with the two rows of a refused key, as far as they stood in the table before.
+/// The needs with the two rows of a refused key. `earlier` and `later` are their numbers, `None` for a new
+/// row.
 pub(crate) fn with_key_rows(
     name: &Utf8,
     table: &TableStore,
@@ -151,7 +152,7 @@ fn with_key_row(
     }
 }
 
-/// The version of the row of a number; 0 where it doesn't stand.
+/// The version of the row with a number; 0 if it isn't live.
 pub(crate) fn version_of(table: &TableStore, number: u32) -> u32
     ensures { result ≡ version_of table.now.slots number }
 {
@@ -197,7 +198,8 @@ fn has_row_at(needs: &[Need], place: usize, row: u32) -> bool
     }
 }
 
-/// Needs, and those of the parents of rows of a table, once these are put, where lists are kept; else none.
+/// The given needs and the parents of rows that a change puts into a table, if `keep` is true; otherwise
+/// none.
 pub(crate) fn parent_needs_if(
     store: &Store,
     name: &Utf8,
@@ -236,7 +238,7 @@ fn parent_needs(
     Ok(all)
 }
 
-/// Needs, and those of the parents of rows of a table by its foreign keys, once these rows are put.
+/// The given needs and the parents, by a table's foreign keys, of rows that a change puts into it.
 pub(crate) fn needs_by_references(
     store: &Store,
     name: &Utf8,
@@ -263,7 +265,7 @@ fn with_parent_rows(needs: &Needs, parents: Members) -> Result<Needs, AllocError
     Ok(all)
 }
 
-/// Needs with the child row that is needed beside them.
+/// The given needs and the child row that a refused change needs.
 pub(crate) fn with_child_row(
     store: &Store,
     table: &Utf8,

@@ -13,7 +13,7 @@ use ldv_value::{List, PlaceLists, Places};
 use sql_model::{Expr, Set, Update};
 use std::alloc::{AllocError, Global};
 
-/// The places of the columns of each SET, and of those of WHERE.
+/// The places of the columns in each SET and in WHERE, from 0.
 #[derive(Drop)]
 pub(crate) struct UpdatePlaces {
     pub sets: PlaceLists,
@@ -56,7 +56,7 @@ fn set_places(
     Ok(lists)
 }
 
-/// The places of the columns of WHERE, which are those from `from` on.
+/// The places of WHERE's columns, which are those in `places` from index `from` on.
 pub(crate) fn pick_places(
     alloc: Global,
     pick: &Option<Expr>,

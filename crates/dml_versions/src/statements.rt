@@ -1,4 +1,4 @@
-//! The statement in what a check gives.
+//! The statement in the result of a check.
 
 ghost use Rattle.std.specs.Prelude.{◌≡◌};
 ghost use Rattle.dml_versions.specs.Changing.{IsInsert, IsUpdate, IsDelete};

@@ -1,4 +1,4 @@
-//! Tests of single columns that WHERE makes, by which a table chooses rows before WHERE is evaluated.
+//! Tests of single columns from WHERE, which choose rows of a table before WHERE is evaluated.
 
 ghost use Rattle.std.specs.Prelude.{◌≡◌, Some, IfOk, true, false};
 ghost use Rattle.core_parts.specs.Masking.{AreMasks, AreExact};
@@ -9,15 +9,16 @@ use ldv_value::{List, Places};
 use sql_model::{ColumnTest, Columns, Expr};
 use std::alloc::{AllocError, Global};
 
-/// Tests of columns that each row passes for which WHERE is True. Where they are exact, WHERE is True for
-/// each row that passes them.
+/// Tests of columns. Each row for which WHERE is True passes them. If they are exact, WHERE is True for each
+/// row that passes them.
 #[derive(Drop)]
 pub(crate) struct WhereTests {
     pub tests: Vec<ColumnTest>,
     pub exact: bool,
 }
 
-/// The tests of columns that WHERE makes; none where it is missing. `places` are those of WHERE's columns.
+/// The tests of columns from WHERE; none if there is no WHERE. `places` has the places of WHERE's columns,
+/// from 0.
 pub(crate) fn picked_tests(
     alloc: Global,
     columns: &Columns,

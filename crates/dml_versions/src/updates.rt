@@ -11,7 +11,8 @@ use ldv_value::{CopyItem, List, PlaceLists, Value, Values};
 use sql_model::{Column, Set, Sets, TableRow, TableRows, Update, value_of};
 use std::alloc::{AllocError, Global};
 
-/// The rows that an UPDATE makes of matched rows. `placed` are the places of the columns of each SET.
+/// The matched rows with the new values that an UPDATE gives them. `placed` has the places of the columns in
+/// each SET.
 pub(crate) fn updated_rows(
     alloc: Global,
     columns: &[Column],

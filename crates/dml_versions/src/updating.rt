@@ -20,10 +20,10 @@ use sql_model::{Checked, TableRows, Update};
 use std::alloc::AllocError;
 use table_store::Store;
 
-/// Gives the rows for which WHERE is True, or all where it is missing, their new values at a time, each
+/// Gives the rows for which WHERE is True, or all rows if there is no WHERE, their new values at a time, each
 /// computed from the old row. The statement is an UPDATE that was checked against the store's tables, and the
-/// time is later than that of the store's last change. The lists are made where `keep` is true. On
-/// `AllocError`, and where the statement is refused, the store is as it was.
+/// time is later than that of the store's last change. The lists are made if `keep` is true. On `AllocError`,
+/// or if the statement is refused, the store is as it was.
 pub fn update(
     checked: &Checked,
     store: &mut Store,

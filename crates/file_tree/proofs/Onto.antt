@@ -1,4 +1,4 @@
--- Files that are put in one after another.
+-- Files that are inserted one after another.
 use Rattle.std.proofs.Common.{◌≡◌, ap, refl, List, [], ◌∷◌, ◌++◌}
 use Rattle.ldv_value.specs.declared.file.File.{File}
 use Rattle.ldv_value.specs.FileState.{put_file}

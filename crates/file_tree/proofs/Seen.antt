@@ -1,4 +1,4 @@
--- What calls of std's maps and sets do to the sorted lists that they are seen as.
+-- The effect of calls of std's maps and sets on their views as sorted lists.
 use Rattle.std.proofs.Common.{◌≡◌, ◌∙◌, sym, ap, subst, refl, ℕ, suc, ◌≤◌, Bool, true, false, cond, not, ◌||◌, List, [], ◌∷◌, map, length, Option, Some, None, String, string_bytes, is_some, IfSome, All, T, arith}
 use Rattle.std.specs.Prelude.{bytes_eq}
 use Rattle.std.specs.declared.alloc.Global.{Global}

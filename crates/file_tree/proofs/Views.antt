@@ -1,4 +1,4 @@
--- What calls of std's maps and sets do to the finite maps that they mean.
+-- The effect of calls of std's maps and sets on the finite maps that they mean.
 use Rattle.std.proofs.Common.{◌≡◌, ◌∙◌, sym, ap, subst, refl, ℕ, Bool, true, false, cond, ◌||◌, List, [], ◌∷◌, map, Option, Some, None, String, string_bytes, is_some, T}
 use Rattle.std.specs.declared.alloc.Global.{Global}
 use Rattle.std.specs.declared.cmp.Ordering.{Ordering}

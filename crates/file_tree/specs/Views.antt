@@ -1,4 +1,4 @@
--- What maps and sets by `String` mean: files sorted by path, and paths, sorted.
+-- The meaning of maps and sets by `String`: files sorted by path, and sorted paths.
 use Rattle.std.specs.Prelude.{◌≡◌, ℕ, List, [], ◌∷◌, map, String, string_bytes}
 use Rattle.std.proofs.Common.{refl, ap}
 use Rattle.std.specs.declared.alloc.Global.{Global}

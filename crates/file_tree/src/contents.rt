@@ -39,7 +39,7 @@ impl Contents {
         }
     }
 
-    /// The bytes at a path.
+    /// The bytes of the file at a path; `None` if there is none.
     pub(crate) fn get(&self, path: &str) -> Option<&[u8]>
         ensures { option_map (λ bytes. bytes.now) result ≡ content_in self.now path.now }
     {
@@ -56,7 +56,7 @@ impl Contents {
         self.files.contains_key(path)
     }
 
-    /// Puts bytes at a path, in place of those that are there.
+    /// Writes bytes at a path, and replaces the bytes that are there.
     pub(crate) fn put(&mut self, path: &str, bytes: Bytes) -> Result<(), AllocError>
         ensures ok { OnOk result (self.new ≡ put_file path.now bytes self.old) }
         ensures err { OnErr result (self.new ≡ self.old) }
@@ -65,7 +65,7 @@ impl Contents {
         self.insert(key, bytes)
     }
 
-    /// Puts bytes at a path, which is given itself, in place of those that are there.
+    /// Like `put`, but takes the path itself, so that it makes no copy of it.
     pub(crate) fn insert(&mut self, path: String, bytes: Bytes) -> Result<(), AllocError>
         ensures ok { OnOk result (self.new ≡ put_file (string_bytes path) bytes self.old) }
         ensures err { OnErr result (self.new ≡ self.old) }
@@ -81,7 +81,7 @@ impl Contents {
         self.files.remove(path);
     }
 
-    /// Appends bytes to the file at a path, and makes it where it is absent.
+    /// Appends bytes to the file at a path, and makes the file if it is absent.
     pub(crate) fn append(&mut self, path: &str, more: &[u8]) -> Result<(), AllocError>
         ensures ok { OnOk result (self.new
             ≡ put_file path.now (unwrap_or (content_in self.old path.now) [] ++ more.now) self.old) }

@@ -6,7 +6,7 @@ ghost use Rattle.file_tree.specs.declared.error.AppendStop.TheVariants as append
 
 use std::alloc::AllocError;
 
-/// Why a file isn't opened or removed.
+/// Why a file wasn't opened or removed.
 #[derive(Clone, Copy, Debug, PartialEq, Eq)]
 pub enum TreeStop {
     /// No file exists at the path.
@@ -17,7 +17,7 @@ pub enum TreeStop {
     NoMemory,
 }
 
-/// Why nothing is appended to a file.
+/// Why nothing was appended to a file.
 #[derive(Clone, Copy, Debug, PartialEq, Eq)]
 pub enum AppendStop {
     /// The file would be longer than `FILE_LIMIT`.

@@ -7,7 +7,7 @@ ghost use Rattle.ldv_value.specs.FileState.{is_line_feed, line_length, text_read
 use ldv_value::{LineRead, TEXT_LIMIT, Utf8};
 use std::alloc::{AllocError, Global};
 
-/// Reads the line at a place of a file.
+/// Reads the line at a place in a file's bytes, from 0.
 pub(crate) fn read_at(alloc: Global, bytes: &[u8], at: u32) -> Result<LineRead, AllocError>
     requires { length bytes.now ≤ file_limit }
     ensures { IfOk result (λ read. read ≡ line_read at (drop at bytes.now)) }

@@ -39,7 +39,7 @@ impl Marks {
         }
     }
 
-    /// Adds a path, and says whether it is new.
+    /// Adds a path, and returns whether it is new. On `AllocError` the set is as it was.
     pub(crate) fn add(&mut self, path: &str) -> Result<bool, AllocError>
         ensures ok { OnOk result (self.new ≡ add_path path.now self.old) }
         ensures added { IfOk result (λ added. added ≡ not (list_any (bytes_eq path.now) self.old)) }
@@ -50,7 +50,7 @@ impl Marks {
         Ok(added)
     }
 
-    /// Undoes an `add` of a path, which returned `added`.
+    /// Undoes the last `add`, which added the path and returned `added`.
     pub(crate) fn take_back(&mut self, path: &str, added: bool)
         ensures { (before : Items (Items ℕ)) → is_strictly_sorted text_precedes before ≡ true
             → self.old ≡ add_path path.now before

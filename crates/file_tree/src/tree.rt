@@ -44,8 +44,8 @@ impl Model for Tree {
 }
 
 impl Tree {
-    /// The tree of these files, with no path touched. The paths are valid, and each file has at most
-    /// `FILE_LIMIT` bytes. Of two files at one path the first is kept.
+    /// The tree of these files, with no path touched. The caller gives valid paths and at most `FILE_LIMIT`
+    /// bytes for each file. If two files have one path, the tree keeps the first.
     #[tactic(auto, using(crate::proofs::Seen::files_as_given))]
     pub fn of_files(alloc: Global, files: Files) -> Result<Tree, AllocError>
         requires { All (λ f. IsFile f.path f.content) files }
@@ -60,9 +60,9 @@ impl Tree {
         })
     }
 
-    /// Opens a path: `Read` needs the file, `New` needs it absent, `Write` empties or makes it, `Append`
-    /// keeps or makes it. Each but `Read` touches the path. `Absent` comes exactly where `Read` finds no
-    /// file, `Taken` exactly where `New` finds one. After an `Err` the tree is as it was.
+    /// Opens a valid path (`is_path`): `Read` needs the file, `New` needs it absent, `Write` empties or makes
+    /// it, `Append` keeps or makes it. Each but `Read` touches the path. `Absent` comes exactly if `Read`
+    /// finds no file, and `Taken` exactly if `New` finds one. After an `Err` the tree is as it was.
     pub fn open_path(&mut self, mode: OpenMode, path: &str) -> Result<(), TreeStop>
         requires { IsTrue (path_test path.now) }
         ensures ok { OnOk result (self.new ≡ after_open mode self.old path.now) }
@@ -82,8 +82,8 @@ impl Tree {
         }
     }
 
-    /// Reads the line at a place of a file, in bytes from 0: up to the next LF or to the end, without the
-    /// LF. The place may be anywhere.
+    /// Reads the line at a place in a file, in bytes from 0: up to the next LF or to the end, without the LF.
+    /// The place may lie within a line or past the end.
     pub fn read_line(&self, path: &str, at: u32) -> Result<LineRead, AllocError>
         ensures { IfOk result (λ read. read ≡ read_line self.now path.now at) }
     {
@@ -93,8 +93,9 @@ impl Tree {
         }
     }
 
-    /// Appends bytes to a file, and makes it where it is absent. It touches no path. `TooLong` comes
-    /// exactly where the file would be longer than `FILE_LIMIT`. After an `Err` the tree is as it was.
+    /// Appends bytes to the file at a valid path, and makes the file if it is absent. It touches no path.
+    /// `TooLong` comes exactly if the file would be longer than `FILE_LIMIT`. After an `Err` the tree is as
+    /// it was.
     pub fn append(&mut self, path: &str, bytes: &[u8]) -> Result<(), AppendStop>
         requires { IsTrue (path_test path.now) }
         ensures ok { OnOk result (self.new ≡ after_append self.old path.now bytes.now) }
@@ -111,9 +112,9 @@ impl Tree {
         Ok(())
     }
 
-    /// Appends the bytes of a file from a place on to another or the same file, and returns the place
-    /// after what was copied. An absent file has no bytes, and there are none past the end; an absent
-    /// target is made. It touches no path. Errors are as for `append`.
+    /// Appends the bytes of a file from a place on to another or the same file, and returns the place after
+    /// the copied bytes. An absent file counts as empty, a place past the end has no bytes, and an absent
+    /// target, whose path is valid, is made. It touches no path. Errors are as for `append`.
     pub fn copy_rest(&mut self, from: &str, at: u32, to: &str) -> Result<u32, AppendStop>
         requires { IsTrue (path_test to.now) }
         ensures ok { OnOk result (self.new ≡ after_copy self.old from.now at to.now) }
@@ -133,8 +134,8 @@ impl Tree {
         Ok(at + size as u32)
     }
 
-    /// Removes a file and touches its path. `Absent` comes exactly where there is no file; `NoMemory` may
-    /// come, since the touched path is kept. After an `Err` the tree is as it was. It never returns `Taken`.
+    /// Removes a file and touches its path. `Absent` comes exactly if there is no file, `NoMemory` if the
+    /// touched path can't be stored, and `Taken` never. After an `Err` the tree is as it was.
     pub fn remove(&mut self, path: &str) -> Result<(), TreeStop>
         ensures ok { OnOk result (self.new ≡ after_remove self.old path.now) }
         ensures there { OnOk result (IsTrue (is_there self.old path.now)) }
@@ -158,8 +159,8 @@ impl Tree {
         self.files.has(path)
     }
 
-    /// The bytes of a file, at most `FILE_LIMIT`; `None` exactly where there is no file at the path. It
-    /// takes no memory.
+    /// The bytes of a file, at most `FILE_LIMIT`; `None` exactly if there is no file at the path. It takes no
+    /// memory.
     pub fn state(&self, path: &str) -> Option<&[u8]>
         ensures content { option_map (λ bytes. bytes.now) result ≡ content_at self.now path.now }
         ensures within { IfSome result (λ bytes. length bytes.now ≤ file_limit) }

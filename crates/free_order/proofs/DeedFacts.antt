@@ -1,5 +1,5 @@
--- What every step leaves of its process: its name, the count of its children but for a child that it makes, and that its
--- open files are at paths which it named.
+-- Facts about its process that every step keeps: its name; the count of its children, except for a child that
+-- the step makes; its open files are at paths that it named.
 use Rattle.std.proofs.Common.{◌≡◌, ℕ, suc, ◌+◌, List, [], ◌∷◌, length, refl, ap, Bool, true, false, arith, inl, inr}
 use Rattle.std.specs.Prelude.{Option, Some, None, is_some}
 use Rattle.std.proofs.lemmas.Bool.{cases_Bool}

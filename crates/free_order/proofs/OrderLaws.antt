@@ -1,5 +1,5 @@
--- The law of orders, of what the parts say: the recorded replies run as the world did; that run is private; so every order
--- comes to its end.
+-- The law of orders, from its parts: the recorded replies run as the world did, and that run is private, so
+-- every order comes to its end.
 use Rattle.std.proofs.Common.{◌≡◌, ◌≢◌, ℕ, zero, suc, ◌+◌, ◌<◌, ◌≤◌, List, [], ◌∷◌, ◌++◌, length, refl, sym, ap, ◌∙◌, subst, Bool, true, false, arith, le_refl, inl, inr}
 use Rattle.std.specs.Prelude.{Option, Some, None, is_some, slice_get, nat_lt, bytes_eq, if◌then◌else◌, ◌||◌, ◌&&◌, option_map}
 use Rattle.std.specs.List.{list_all, AllByRecursion}

@@ -1,4 +1,4 @@
--- A run over recorded replies, whatever chooses its steps, is a run of its processes taken by name.
+-- A run over recorded replies, whatever chooses its steps, is a run of its processes by name.
 use Rattle.std.proofs.Common.{◌≡◌, ℕ, zero, suc, ◌+◌, List, [], ◌∷◌, ◌++◌, length, refl, sym, ap, ◌∙◌, subst, true, false, arith, inl, inr}
 use Rattle.std.specs.Prelude.{Option, Some, None, is_some, map, slice_get, slice_set}
 use Rattle.std.specs.List.{AllByRecursion}

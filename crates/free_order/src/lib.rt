@@ -1,8 +1,8 @@
-//! Replay in another order of steps, of runs whose processes share no path that one of them changes.
+//! Replay in another order of steps, for runs whose processes share no path that one of them changes.
 //!
-//! States are taken by name, without the numbers of processes and the scheduler (`proofs/Boards.antt`). Then
-//! two neighbouring steps of different processes may be exchanged (`proofs/Exchange.antt`), and each step
-//! brings the end one step nearer (`proofs/Descent.antt`).
+//! Proofs see a state by the names of its processes, without their numbers and the scheduler
+//! (`proofs/Boards.antt`). Then two neighbouring steps of different processes may be exchanged
+//! (`proofs/Exchange.antt`), and each step brings the end one step nearer (`proofs/Descent.antt`).
 //!
 //! Entry: `replay_other_seed` in `src/other_seed.rt`. Read first: `specs/Orders.antt`.
 #![tactic(auto)]

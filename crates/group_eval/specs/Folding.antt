@@ -1,4 +1,4 @@
--- What expressions mean over a group of picks.
+-- The meaning of expressions over a group of picks.
 use Rattle.std.specs.Prelude.{List, [], ◌∷◌, map}
 use Rattle.lineage.specs.declared.answer.Pick.{Pick}
 use Rattle.group_eval.specs.Types.{Expr, Value}

@@ -1,4 +1,4 @@
--- Picked combinations by the values that they have at some places.
+-- Picked combinations by their values at some places.
 use Rattle.std.specs.Prelude.{◌≡◌, ℕ, suc, List, [], ◌∷◌, ◌++◌, map, filter, length, ◌==◌, Bool}
 use Rattle.std.specs.Prelude.{if◌then◌else◌, Option, Some, None}
 use Rattle.std.specs.BTreeMap as tree

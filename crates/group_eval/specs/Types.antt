@@ -1,4 +1,4 @@
--- The types of the crates below, under one name each.
+-- The types of the crates below, each under one name.
 pub use Rattle.ldv_value.specs.declared.value.Value.{Value}
 pub use Rattle.ldv_value.specs.declared.value.Value.TheVariants.{Null, Int, Text}
 pub use Rattle.sql_model.specs.declared.catalog.Catalog.{Catalog}

@@ -12,8 +12,8 @@ use lineage::Pick;
 use sql_model::{Expr, value_or};
 use std::alloc::{AllocError, Global};
 
-/// The values that a column, by its place, has over a group, without NULL, as they were gathered last. So the
-/// aggregates of one column take one walk over the group.
+/// The values of one column, by its place, over a group, without NULLs, from the last call of `gather`. So
+/// several aggregates of one column take one walk over the group.
 #[derive(Drop)]
 pub(crate) struct KnownColumn {
     place: Option<usize>,
@@ -21,7 +21,7 @@ pub(crate) struct KnownColumn {
 }
 
 impl KnownColumn {
-    /// Nothing gathered yet. It takes no memory.
+    /// No column yet. It takes no memory.
     pub(crate) fn none(alloc: Global) -> KnownColumn
         ensures { (picks : Items Given) → IsKnown picks result }
     {
@@ -31,7 +31,8 @@ impl KnownColumn {
         }
     }
 
-    /// Gathers the values of a column over a group, unless they are there.
+    /// Gathers the values of a column over a group, unless the last call did. The group is the same at each
+    /// call. On `AllocError` the gathered values are as they were.
     pub(crate) fn gather(
         &mut self,
         alloc: Global,
@@ -98,7 +99,8 @@ fn column_values(alloc: Global, place: usize, group: &[&Pick]) -> Result<Values,
     Ok(values)
 }
 
-/// The place of a column, where an expression is one. `places` are those of its columns.
+/// The place of the column if an expression is a column, and otherwise `None`. `places` has the places of the
+/// expression's column names.
 pub(crate) fn column_place(expr: &Expr, places: &Places) -> Option<usize>
     ensures { IfSome result (IsValueAt expr.now places.now) }
 {

@@ -15,7 +15,7 @@ use lineage::Pick;
 use sql_model::{Expr, Fold, value_of};
 use std::alloc::{AllocError, Global};
 
-/// A count as a value; NULL where it is no signed number of 64 bits.
+/// A count as a value; NULL if it is above 2^63 - 1.
 pub(crate) fn count_value(count: usize) -> Value
     ensures { result ≡ number_value (pos count) }
 {
@@ -122,7 +122,7 @@ fn greatest_of(alloc: Global, values: &[Value]) -> Result<Value, AllocError>
     }
 }
 
-/// An aggregate of values that aren't NULL.
+/// An aggregate of values, none of which is NULL.
 pub(crate) fn fold_known(alloc: Global, fold: Fold, values: &[Value]) -> Result<Value, AllocError>
     ensures { IfOk result (λ value. value ≡ aggregate_of fold values.now) }
 {
@@ -163,8 +163,8 @@ fn values_over(
     Ok(values)
 }
 
-/// An aggregate of an expression over the picks of a group, where `places` gives the place in the joined
-/// row of each column that the expression names, left to right, from 0. NULLs are left out.
+/// An aggregate of an expression over the picks of a group. `places` has the place in the joined row, from 0,
+/// of each column that the expression names, from left to right. NULLs are left out.
 pub(crate) fn aggregate(
     alloc: Global,
     fold: Fold,

@@ -1,7 +1,8 @@
 //! Expressions over a group.
 //!
-//! Over a group a column outside an aggregate has its value in the first row. So an expression whose
-//! aggregates are constants means over the first row what the expression means over the group.
+//! Over a group a column outside an aggregate has its value in the first row. So an expression with its
+//! aggregates replaced by constants has the same meaning over the first row as the expression has over the
+//! group.
 
 ghost use Rattle.std.specs.Prelude.{◌≡◌, List as Items, ℕ, map, drop, IfOk, OnOk, Some};
 ghost use Rattle.sql_model.specs.declared.expr.Expr.TheVariants.{Aggregate};
@@ -197,8 +198,8 @@ fn bound_value(
     value_of(alloc, &bound.expr, first, &bound.places)
 }
 
-/// The value of an expression over a group. `first` are the values of its first pick. An expression that is a
-/// column or an aggregate isn't copied.
+/// The value of an expression over a group. `first` has the values of the group's first pick. If the
+/// expression is a column or an aggregate, it isn't copied.
 pub(crate) fn group_value(
     alloc: Global,
     placed: &BoundExpr,
@@ -224,7 +225,7 @@ pub(crate) fn group_value(
     }
 }
 
-/// The truth of an expression over a group. `first` are the values of its first pick.
+/// The truth of an expression over a group. `first` has the values of the group's first pick.
 pub(crate) fn group_truth(
     alloc: Global,
     placed: &BoundExpr,

@@ -233,9 +233,9 @@ fn grouped_picks(alloc: Global, plan: &Plan, picks: &[Pick]) -> Result<Grouped, 
     }
 }
 
-/// The answer rows of a core that groups, whose picked combinations these are. `core` is the core's place,
-/// from 0. A group has the rows of the same values in the GROUP BY columns, NULL being the same as NULL, and
-/// the groups come in order of first appearance. Without GROUP BY there is one group, also of no row.
+/// The answer rows of a core that groups, from its picked combinations. `core` is the core's place, from 0. A
+/// group has the rows with the same values in the GROUP BY columns, and NULL equals NULL. The groups are in
+/// order of first appearance. Without GROUP BY there is one group, even if it has no row.
 pub fn group(checked: &Checked, core: usize, picks: Picks) -> Result<Grouped, AllocError>
     requires { HasCore checked.now core }
     ensures { IfOk result (IsGrouped checked.now core picks) }

@@ -1,4 +1,4 @@
-//! Picked combinations of the same values, found by a map from these to the number of their group.
+//! Groups of picked combinations, found by a map from their values to the number of the group.
 
 ghost use Rattle.std.specs.Prelude.{◌≡◌, ◌++◌, ◌∷◌, [], List as Items, map};
 ghost use Rattle.std.specs.Prelude.{IfOk, OnOk, Some, None};
@@ -15,7 +15,7 @@ use sql_model::KeyOf;
 use std::alloc::{AllocError, Global};
 use std::collections::BTreeMap;
 
-/// Picks of the same values.
+/// Picks with the same values, which are the key of the group.
 #[derive(Drop)]
 pub(crate) struct KeyedGroup<'a> {
     pub(crate) key: KeyOf<'a>,

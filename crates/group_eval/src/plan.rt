@@ -1,4 +1,4 @@
-//! What is evaluated over the groups of a core.
+//! The expressions that are evaluated over the groups of a core.
 
 ghost use Rattle.std.specs.Prelude.{◌≡◌, ◌++◌, [], List as Items, ℕ, drop, IfOk};
 ghost use Rattle.std.specs.Prelude.{option_to_list, unwrap_or};
@@ -16,9 +16,9 @@ use std::alloc::{AllocError, Global};
 /// The expressions of a core that groups, and the places of its GROUP BY columns.
 #[derive(Drop)]
 pub(crate) struct Plan {
-    /// The items; `None` is `*`.
+    /// The items; `None` means `*`.
     pub items: Option<List<BoundExpr>>,
-    /// The places of the GROUP BY columns in the joined row.
+    /// The places of the GROUP BY columns in the joined row, from 0.
     pub group: Places,
     pub having: Option<BoundExpr>,
 }
@@ -87,7 +87,7 @@ fn plan_having(
     }
 }
 
-/// The plan of a core, whose columns have these places, in the order of its fields.
+/// The plan of a core. `places` has the places of its column names, in the order of the core's fields.
 pub(crate) fn plan_of(alloc: Global, core: &Core, places: &Places) -> Result<Plan, AllocError>
     ensures { IfOk result (λ plan. (scope : Items InScope)
         → places.now ≡ places_in scope (core_names core.now) → IsPlan scope core.now plan) }

@@ -1,4 +1,4 @@
--- The processes of a trace have room for the children that are still to be made.
+-- The counts of children stay within their type until all processes of a trace are made.
 use Rattle.std.proofs.Common.{◌≡◌, ℕ, ◌+◌, ◌<◌, ◌≤◌, ◌^◌, List, [], ◌∷◌, true, false, refl, subst, arith, Option, inl, inr}
 use Rattle.std.specs.Prelude.{if◌then◌else◌, Bool, Some, None, nat_le, slice_get, slice_set, slice_index_or}
 use Rattle.std.proofs.lemmas.Bool.{leb-true}

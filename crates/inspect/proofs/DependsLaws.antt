@@ -1,4 +1,4 @@
--- The report on what a path depends on is of the nodes from which paths of edges lead to it.
+-- The report on a path lists the nodes from which chains of edges lead to it.
 use Rattle.std.proofs.Common.{◌≡◌, ℕ, ◌<◌, List, length, refl, sym, ap, ◌∙◌, subst, inl, inr}
 use Rattle.std.specs.Prelude.{Some, None, option_map}
 use Rattle.std.proofs.lemmas.List.Quantifiers.{position-Some}

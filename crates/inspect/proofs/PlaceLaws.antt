@@ -1,4 +1,4 @@
--- What lies in memory gives the names that the definitions have.
+-- The processes in memory give the names of the definitions.
 use Rattle.std.proofs.Common.{◌≡◌, ◌∙◌, sym, ap, subst, refl, inl, inr, arith, ℕ, zero, suc, ◌+◌, ◌<◌, ◌≤◌}
 use Rattle.std.proofs.Common.{◌⊎◌, List, [], ◌∷◌, ◌++◌, length, get_or, set, reverse, append_assoc, Option, Some, None}
 use Rattle.std.specs.Prelude.{slice_get}

@@ -1,4 +1,4 @@
--- `inspect depends`: what the content of a path came from.
+-- `inspect depends`: the nodes that the content of a path came from.
 use Rattle.std.specs.Prelude.{ℕ, List, Option, option_map}
 use Rattle.std.specs.List.{flat_map}
 use Rattle.inspect.specs.Types.{Event, Node, NamedProcess}

@@ -1,4 +1,4 @@
--- What `inspect depends` says of a path: from which nodes information may have got to it.
+-- The meaning of `inspect depends`: information may have got from these nodes to the path.
 use Rattle.std.specs.Prelude.{◌≡◌, ℕ, List, Some}
 use Rattle.inspect.specs.Types.{Event, Node}
 use Rattle.trace_graph.specs.Graph.{graph_of, place_of}

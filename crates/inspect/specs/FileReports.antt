@@ -1,4 +1,4 @@
--- `inspect files`: the files of a package. Those of which only their being there was needed are present.
+-- `inspect files`: the files of a package, whole, or present if the run only needed them to be there.
 use Rattle.std.specs.Prelude.{ℕ, List, ◌++◌, length, codes, Option, Some, None}
 use Rattle.std.specs.List.{flat_map}
 use Rattle.std.specs.Fmt.{decimal}

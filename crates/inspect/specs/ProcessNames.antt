@@ -1,5 +1,5 @@
--- The names of the processes of a trace, made from its Spawned events in order. That of a run's processes is
--- made in the same way as they are (run_model's `child_of`), so a trace has the names of its run.
+-- The names of the processes of a trace, made from its Spawned events in order. A run names its processes in
+-- the same way (`child_of` of `run_model`), so a trace has the names of its run.
 use Rattle.std.specs.Prelude.{ℕ, ◌+◌, List, [], ◌∷◌, ◌++◌, if◌then◌else◌, Option}
 use Rattle.std.specs.Prelude.{Some, None, slice_get, slice_set}
 use Rattle.inspect.specs.Types.{Event, NamedProcess}

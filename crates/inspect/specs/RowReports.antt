@@ -1,5 +1,4 @@
--- `inspect rows`: the rows of a package, each with the first statement that needed it and the rule by which
--- it did.
+-- `inspect rows`: the rows of a package, each with the first statement that needed it, and the rule.
 use Rattle.std.specs.Prelude.{ℕ, List, ◌++◌, codes}
 use Rattle.std.specs.List.{flat_map}
 use Rattle.std.specs.Fmt.{decimal}

@@ -1,4 +1,4 @@
--- Why there is no report on an item: there is no such item, or memory ran out.
+-- The reasons why there is no report on an item: there is no such item, or memory ran out.
 use Rattle.std.specs.Prelude.{◌≡◌, ℕ, List, Option, None}
 use Rattle.inspect.specs.declared.error.InspectStop.{InspectStop}
 use Rattle.inspect.specs.declared.error.InspectStop.TheVariants.{NoSuch, NoMemory}

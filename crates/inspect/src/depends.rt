@@ -1,4 +1,4 @@
-//! The report on what a path depends on.
+//! The report on the nodes that a path depends on.
 
 ghost use Rattle.std.specs.Prelude.{◌≡◌, ◌<◌, ◌++◌, codes, length, map, IfOk, IsTrue, OnOk};
 ghost use Rattle.std.specs.List.{flat_map};
@@ -25,8 +25,9 @@ use trace_graph::{LentGraph, NodeKey, NodeTexts};
 
 /// A line for each node from which information may have got to a path by the end of the recorded run: paths
 /// sorted by bytes, then processes by creation number, rows by table, row and version, and statements and
-/// then replies by number. `NoSuch` exactly where the path is no node of the graph of the package's events.
-/// The events are dropped on the way, so that their memory serves the graph.
+/// then replies by number. `NoSuch` if and only if the path is no node of the graph of the package's events;
+/// `NoMemory` may come in place of either answer. The events are dropped on the way, and the graph reuses
+/// their memory.
 pub fn depends_text(alloc: Global, package: Package, path: &str) -> Result<Bytes, InspectStop>
     requires { IsTrace «package».events }
     ensures { Gives Stops result (depends_report «package».events «package».steps path.now) }

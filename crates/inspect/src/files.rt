@@ -10,8 +10,8 @@ use reach::append_numbered;
 use run_model::{Package, PackedFile};
 use std::alloc::{AllocError, Global};
 
-/// A line for each file of a package, by path: `whole LENGTH PATH` with the length in bytes, or
-/// `present PATH` where only its being there was needed.
+/// A line for each file of a package, by path: `whole LENGTH PATH` with the length in bytes, or `present
+/// PATH` if the run only needed the file to be there.
 pub fn files_text(alloc: Global, package: &Package) -> Result<Bytes, AllocError>
     ensures { IfOk result (λ text. text ≡ files_report «package».now.files) }
 {

@@ -1,7 +1,7 @@
-//! Reports on a package: why it has what it has, and what happened in the recorded run.
+//! Reports on a package: the reason for each of its parts, and the events of the recorded run.
 //!
-//! The name of a process is made only if a report has it, so that memory is linear in the package and the
-//! report. `depends_text` takes the package by value, and has dropped its events before it searches.
+//! The name of a process is made only if a report has it, so memory is linear in the package and the report.
+//! `depends_text` takes the package by value, and has dropped its events before it searches.
 //!
 //! Entry: `why_text` in `src/why.rt`. Read first: `specs/WhyReports.antt`.
 #![tactic(auto)]

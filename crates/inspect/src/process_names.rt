@@ -26,7 +26,7 @@ pub(crate) struct Made {
 }
 
 /// The processes of a trace, by creation number. Contracts see the name of each and how many children it
-/// made. A name is made only where it is written, since those of processes far down would take much memory.
+/// made. A name is made only when it is written, since the names of deep processes would take much memory.
 #[derive(Drop)]
 pub(crate) struct Processes {
     made: Vec<Made>,
@@ -151,7 +151,7 @@ fn next_child(place: usize, parent: &mut Made) -> Made
     child
 }
 
-/// Appends the name of the process of a creation number, where there is one.
+/// Appends the name of the process with a creation number, if there is one.
 pub(crate) fn append_process(
     to: &mut Bytes,
     processes: &Processes,

@@ -16,8 +16,8 @@ use run_model::{Act, Event, Package, PackedRow, PackedTable};
 use std::alloc::{AllocError, Global};
 
 /// A line `statement S process NAME step T rule R` for a row of a package: the first statement that needed
-/// it, the process and the step that asked it, and the rule. `NoSuch` exactly where the package's tables
-/// don't hold that row.
+/// it, the process and the step that asked it, and the rule. `NoSuch` if and only if the package's tables
+/// don't have that row; `NoMemory` may come in place of either answer.
 pub fn why_text(
     alloc: Global,
     package: &Package,

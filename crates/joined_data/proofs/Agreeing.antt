@@ -1,4 +1,4 @@
--- Where two sorted lists have no clash, two items of one key agree; and what agrees is equal.
+-- If two sorted lists have no clash, two items with the same key agree; and items that agree are equal.
 use Rattle.std.proofs.Common.{◌≡◌, ℕ, List, [], ◌∷◌, refl, sym, ap, ◌∙◌, Bool, true, false, inl, inr}
 use Rattle.std.specs.Prelude.{Option, Some, None, not, bytes_eq, nat_eq, ◌&&◌, ◌==◌}
 use Rattle.std.specs.Option.{option_or}

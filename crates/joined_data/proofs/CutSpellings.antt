@@ -1,4 +1,4 @@
--- A joined package whose traces are kept as runs is spelled as the one with their events.
+-- A joined package whose traces are kept as runs has the spelling of the same package with its events.
 use Rattle.std.proofs.Common.{◌≡◌, ◌++◌}
 use Rattle.std.specs.Int.{w32}
 use Rattle.package_codec.specs.Fields.{list_spelling}

@@ -1,4 +1,4 @@
--- What is merged from two lists that were cut from one sorted list is what is left of it for either.
+-- Two lists cut from one sorted list merge to the items that either of them has.
 use Rattle.std.proofs.Common.{◌≡◌, List, [], ◌∷◌, refl, ap, ◌∙◌, Bool, true, inl, inr}
 use Rattle.std.specs.Prelude.{Option, Some, None}
 use Rattle.std.specs.List.{filter_map, cons_option}

@@ -1,4 +1,5 @@
--- What is merged of two lists that rise, rises; and each of its items is of one of them, or made of one of each.
+-- Two lists that rise merge to one that rises; each of its items is from one of them, or made from one of
+-- each.
 use Rattle.std.proofs.Common.{◌≡◌, List, [], ◌∷◌, refl, ap, ◌∙◌, inl, inr}
 use Rattle.std.specs.Prelude.{◌⊎◌}
 use Rattle.std.specs.Cmp.{IsTotalOrder}

@@ -1,5 +1,5 @@
--- Where the foreign keys of two lists of tables have their parents there, they have them in what both are merged
--- to: of one name both have one schema.
+-- If the foreign keys of two lists of tables have their parents there, they have them in the merged list too,
+-- since tables with the same name have the same schema.
 use Rattle.std.proofs.Common.{◌≡◌, ℕ, List, [], ◌∷◌, refl, sym, ap, ◌∙◌, true, false, inl, inr}
 use Rattle.std.specs.Prelude.{Option, Some, None, option_map}
 use Rattle.std.specs.Ordering.{nat_cmp, match_ordering}

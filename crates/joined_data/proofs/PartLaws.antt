@@ -1,4 +1,4 @@
--- Packages that are taken apart are joined as they are.
+-- Joining packages that are taken apart gives the same as joining them whole.
 use Rattle.std.proofs.Common.{◌≡◌, ◌∙◌, refl, subst, Option, Some, None}
 use Rattle.std.specs.Prelude.{Result, Err}
 use Rattle.std.specs.Option.{option_or}

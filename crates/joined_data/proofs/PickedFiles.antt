@@ -1,4 +1,4 @@
--- The files of a package are picked again out of what it is joined to.
+-- The files of a package are picked again out of its joined package.
 use Rattle.std.proofs.Common.{◌≡◌, ℕ, List, [], ◌∷◌, refl, sym, ap, ◌∙◌, true, false, inl, inr}
 use Rattle.std.specs.Prelude.{Some, None, bytes_eq, map, option_map}
 use Rattle.std.specs.List.{filter_map}

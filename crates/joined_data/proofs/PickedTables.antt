@@ -1,4 +1,4 @@
--- The tables of a package, with their rows and reasons, are picked again out of what it is joined to.
+-- The tables of a package, with their rows and reasons, are picked again out of its joined package.
 use Rattle.std.proofs.Common.{◌≡◌, ℕ, List, [], ◌∷◌, refl, sym, ap, ◌∙◌, Bool, true, false, cond, inl, inr}
 use Rattle.std.specs.Prelude.{Option, Some, None, bytes_eq, map, filter, find, option_map, ◌&&◌, ◌==◌}
 use Rattle.std.specs.List.{filter_map, flat_map, cons_option}

@@ -1,4 +1,4 @@
--- What one of two merged lists had is picked out again.
+-- The items of one of two merged lists are picked out again.
 use Rattle.std.proofs.Common.{◌≡◌, List, [], ◌∷◌, refl, sym, ap, ◌∙◌, inl, inr}
 use Rattle.std.specs.Prelude.{Option, Some, None, map}
 use Rattle.std.specs.List.{filter_map, cons_option}

@@ -1,4 +1,4 @@
--- The row that is found by the keys that were seen is the later one of the clash of keys.
+-- The search by seen keys finds the later row of the clash of keys.
 use Rattle.std.proofs.Common.{◌≡◌, ℕ, List, [], ◌∷◌, ◌++◌, Bool, true, false, cond, ◌||◌, refl, ap, ◌∙◌, sym, arith, length, Option, Some, None}
 use Rattle.std.specs.Prelude.{find, not, ◌==◌, option_map}
 use Rattle.std.specs.List.{list_any}

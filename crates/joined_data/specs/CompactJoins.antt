@@ -1,5 +1,5 @@
--- Joined packages whose traces are kept as runs, how they are spelled and read, and what two packages are
--- joined to: no list of events is made.
+-- Joined packages whose traces are kept as runs: joining two packages, spelling and reading, without a list
+-- of events.
 use Rattle.std.specs.Prelude.{◌≡◌, ℕ, List, ◌++◌, length, ◌==◌, Option, Some, None, Result, Ok, Err}
 use Rattle.std.specs.Prelude.{if◌then◌else◌}
 use Rattle.std.specs.Int.{w32}

@@ -1,4 +1,4 @@
--- Two included packages, joined to one: the files and tables of both, and of each run what it needs of them.
+-- Two included packages, joined to one: the files and tables of both, and the needs of each run.
 use Rattle.std.specs.Prelude.{ℕ, List, [], map, filter, find, Bool, ◌&&◌, not, ◌==◌, bytes_eq, if◌then◌else◌}
 use Rattle.std.specs.Prelude.{Option, Some, None, option_map, Result, Ok, Err}
 use Rattle.std.specs.List.{filter_map, flat_map, list_any}

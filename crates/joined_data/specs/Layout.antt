@@ -1,5 +1,5 @@
--- The bytes of a joined package between its magic and its digest, and how they are read: files and tables as
--- in a package, but a row has no reason; then the two runs.
+-- The bytes of a joined package between its magic and its digest, and how they are read: files, tables as in
+-- a package but without reasons of rows, and the two runs.
 use Rattle.std.specs.Prelude.{ℕ, List, [], ◌++◌, length, Option, Some, None, ◌==◌, if◌then◌else◌}
 use Rattle.std.specs.Int.{w16, w32, w64, to_be_bytes}
 pub use Rattle.package_codec.specs.CommonTables.{common_row_spelling, common_rows_spelling}

@@ -1,4 +1,4 @@
--- Two sorted lists, item beside item of the same key.
+-- Two sorted lists, merged by the keys of their items.
 use Rattle.std.specs.Prelude.{List, [], ◌∷◌, Option, Some, None}
 use Rattle.std.specs.Option.{option_or}
 use Rattle.std.specs.Ordering.{match_ordering}

@@ -1,4 +1,4 @@
--- The parts of a package, and what two of them are joined to; and what a call that joins two returns.
+-- The parts of a package, the joined parts of two, and the result of a call that joins two.
 use Rattle.std.specs.Prelude.{◌≡◌, Option, Some, None, Result, Ok, Err}
 use Rattle.std.specs.Option.{option_or}
 use Rattle.ldv_value.specs.Options.{first_some}

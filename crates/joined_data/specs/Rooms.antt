@@ -1,5 +1,5 @@
--- What every joined package in memory meets, what the layout has room for, and whose counts of four bytes fit
--- their fields.
+-- Facts about every joined package in memory, the limits of the layout's fields, and joined packages whose
+-- counts of four bytes fit their fields.
 use Rattle.std.specs.Prelude.{ℕ, ◌<◌, ◌^◌, List, length, Bool, ◌&&◌, ◌==◌}
 use Rattle.std.specs.List.{list_all, AllByRecursion}
 use Rattle.std.specs.Str.{IsUtf8}

@@ -1,4 +1,4 @@
-//! In what two packages differ.
+//! The differences between two packages.
 
 ghost use Rattle.std.specs.Prelude.{◌≡◌, IfOk, Option};
 ghost use Rattle.ldv_value.specs.Options.{first_some as first_of};
@@ -165,7 +165,7 @@ pub(crate) fn values_clash(first: &[Table], second: &[Table]) -> Result<Option<C
     first_clash(&Rows, first, second)
 }
 
-/// The first table in which a row has the key of an earlier one.
+/// The first table in which a row has the key of an earlier row.
 pub(crate) fn taken_key(alloc: Global, tables: &[Table]) -> Result<Option<Clash>, AllocError>
     ensures { IfOk result (λ clash. clash ≡ first_of keys_clash tables.now) }
 {

@@ -9,7 +9,7 @@ use run_model::PackedFiles;
 use script_parse::Script;
 use sql_model::Tables;
 
-/// One of the two runs of a joined package, whose trace is kept as runs of events: a few bytes can stand for
+/// One of the two runs of a joined package, with its trace kept as runs of events: a few bytes can represent
 /// millions of events.
 #[derive(Drop)]
 pub struct CompactRun {
@@ -28,8 +28,8 @@ pub struct CompactJoined {
     pub second: CompactRun,
 }
 
-/// A joined package whose traces are kept as runs, with the scripts that the worlds of its two runs start
-/// with: the packages of both were judged, and their scripts aren't parsed again.
+/// A joined package whose traces are kept as runs, with the first scripts of its two runs. Both were parsed
+/// while the packages were checked, so they needn't be parsed again.
 #[derive(Drop)]
 pub struct ParsedJoined {
     pub cut: CompactJoined,

@@ -77,7 +77,8 @@ fn decode_cut_joined(alloc: Global, cursor: &mut Cursor) -> Result<CompactJoined
     })
 }
 
-/// Reads all between the magic and the digest, which are all of the bytes, with the traces as runs.
+/// Reads a joined package from all bytes between its magic and its digest, with the traces as runs.
+/// `Malformed`: the bytes aren't those of a joined package.
 pub fn decode_all(alloc: Global, bytes: &[u8]) -> Result<CompactJoined, DecodeError>
     ensures { Makes result (compact_joined_of bytes.now) }
 {

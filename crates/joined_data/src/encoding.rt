@@ -76,7 +76,7 @@ fn encode_both_runs(joined: &Joined, to: &mut Bytes) -> Result<(), AllocError>
     encode_run(&joined.second, to)
 }
 
-/// Appends all of a joined package between its magic and its digest.
+/// Appends all bytes of a joined package between its magic and its digest.
 pub fn encode_joined(joined: &Joined, to: &mut Bytes) -> Result<(), AllocError>
     ensures bytes { OnOk result (to.new ≡ to.old ++ joined_sections joined.now) }
     ensures typed { OnOk result (IsTypedJoined joined.now) }
@@ -109,8 +109,8 @@ fn encode_compact_sections(joined: &CompactJoined, to: &mut Bytes) -> Result<(),
     encode_both_compact(joined, to)
 }
 
-/// Appends all of a joined package whose traces are kept as runs between its magic and its digest. Where the
-/// runs are those of their events, the bytes are those of the joined package with its events.
+/// Appends all bytes, between its magic and its digest, of a joined package whose traces are kept as runs. If
+/// the runs are those of their events, the bytes are those of the joined package with its events.
 pub fn encode_compact_joined(joined: &CompactJoined, to: &mut Bytes) -> Result<(), AllocError>
     ensures bytes { OnOk result (to.new ≡ to.old ++ compact_sections joined.now) }
     ensures typed { OnOk result (AllByRecursion TypedCommonTable joined.now.tables) }

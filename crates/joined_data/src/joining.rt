@@ -1,4 +1,4 @@
-//! Two packages, joined in their own memory: both are taken apart, and their parts are merged.
+//! Joins two packages in their own memory: both are taken apart, and their parts are merged.
 
 ghost use Rattle.std.specs.Prelude.{◌≡◌, IfOk};
 ghost use Rattle.joined_data.specs.CompactJoins.{JoinsWithRuns};
@@ -17,7 +17,7 @@ use std::alloc::{AllocError, Global};
 /// Why two packages aren't joined.
 #[derive(Drop)]
 pub enum JoinStop {
-    /// They differ in this.
+    /// The packages differ: their first clash.
     Clash(Clash),
     /// Out of memory.
     NoMemory,
@@ -34,8 +34,8 @@ impl From<AllocError> for JoinStop {
     }
 }
 
-/// What two valid included packages are joined to, in their own memory: values and events are moved. A clash
-/// is the first by `clash_of` of `specs/Joined.antt`.
+/// Joins two valid included packages in their own memory: values and events are moved. `Clash`: they differ,
+/// and the clash is the first one by `clash_of` of `specs/Joined.antt`.
 #[tactic(auto, using(crate::proofs::PartLaws::parts_joined))]
 pub fn join_owned(alloc: Global, a: Package, b: Package) -> Result<Joined, JoinStop>
     ensures { JoinsAs result (joined_of a b) }
@@ -45,7 +45,7 @@ pub fn join_owned(alloc: Global, a: Package, b: Package) -> Result<Joined, JoinS
     join_parts(alloc, first, second)
 }
 
-/// What the packages without their traces are joined to, with the runs of both.
+/// Joins two packages without their traces, and adds the runs of both. The errors are those of `join_owned`.
 pub fn join_with_runs(
     alloc: Global,
     a: CompactPackage,

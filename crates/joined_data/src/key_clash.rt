@@ -1,4 +1,4 @@
-//! The first row of a table that has the key of an earlier one. No key is copied.
+//! The first row of a table with the key of an earlier row. No key is copied.
 
 ghost use Rattle.std.specs.Prelude.{◌≡◌, IfOk};
 ghost use Rattle.std.specs.Option.{option_map};

@@ -1,5 +1,5 @@
-//! Joined packages as data: their types, the parts of a package, how the lists of two are merged and where
-//! they differ, and the bytes of a joined package between its magic and its digest.
+//! Joined packages as data: their types, the parts of a package, merging and comparing the lists of two
+//! packages, and the bytes of a joined package between its magic and its digest.
 //!
 //! Entry: `join_owned` in `src/joining.rt`. Read first: `specs/Joined.antt`.
 #![tactic(auto)]

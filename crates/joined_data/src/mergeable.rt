@@ -1,4 +1,4 @@
-//! Files, tables and rows as items to be merged: compared by path, by name and by number.
+//! Files, tables and rows as items of merged lists: compared by path, by name and by number.
 
 ghost use Rattle.std.specs.Prelude.{◌≡◌};
 ghost use Rattle.std.specs.Option.{option_or};

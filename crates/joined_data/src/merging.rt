@@ -15,14 +15,14 @@ pub(crate) trait Mergeable: Drop {
     /// By the key.
     ghost key_cmp: { Self → Self → Order };
 
-    /// What is made of two items of one key.
+    /// The item made from two items with the same key.
     ghost both: { Self → Self → Self };
 
     /// Compares the keys of two items.
     fn compare(&self, other: &Self) -> Ordering
         ensures { result ≡ key_cmp self.now other.now };
 
-    /// Makes one item of two that have one key.
+    /// Makes one item from two with the same key.
     fn join(self, other: Self, alloc: Global) -> Result<Self, AllocError>
         ensures { IfOk result (λ made. made ≡ both self other) };
 }

@@ -1,5 +1,5 @@
-//! A package, taken apart: what its run needs, and the files and tables themselves. No value is copied; of
-//! names and paths a copy stays with the run.
+//! A package, taken apart: the list of its run's needs, and the files and tables themselves. No value is
+//! copied; the run keeps copies of names and paths.
 
 ghost use Rattle.std.specs.Prelude.{◌≡◌, ◌++◌, map, IfOk, OnOk};
 ghost use Rattle.std.specs.List.{flat_map};

@@ -1,4 +1,4 @@
-//! A list whose items are taken from the front, each moved and none copied.
+//! A list that gives its items from the front, each moved and none copied.
 
 ghost use Rattle.std.specs.Prelude.{◌≡◌};
 ghost use Rattle.joined_data.specs.Merging.{queue_with};
@@ -7,7 +7,7 @@ use ldv_value::List;
 use std::collections::VecDeque;
 use std::marker::Model;
 
-/// The items of a list that weren't taken yet.
+/// The items of a list that aren't taken yet.
 #[derive(Drop)]
 pub(crate) struct Queue<X> {
     left: VecDeque<X>,
@@ -34,7 +34,7 @@ impl<X: Drop> Queue<X> {
         }
     }
 
-    /// The first item that is left; `None` where none is.
+    /// The first item that is left, or `None` if none is.
     pub(crate) fn take(&mut self) -> Option<X>
         ensures { self.old ≡ queue_with result self.new }
     {

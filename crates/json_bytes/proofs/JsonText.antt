@@ -1,4 +1,4 @@
--- What bytes are as JSON.
+-- The JSON value of bytes that are a text, and of those that aren't.
 use Rattle.std.proofs.Common.{◌≡◌, ℕ, List, Some, None, refl, inl, inr}
 use Rattle.std.proofs.lemmas.Bool.{cases_Bool}
 use Rattle.std.proofs.lemmas.Str.{IsUtf8-from_is_utf8, is_utf8-from_IsUtf8}

@@ -1,4 +1,4 @@
--- What bytes are as JSON.
+-- The JSON value of bytes.
 use Rattle.std.specs.Prelude.{ℕ, List, if◌then◌else◌, Option, None}
 use Rattle.std.specs.Str.{is_utf8}
 use Rattle.serde_json.specs.Data.{Data}

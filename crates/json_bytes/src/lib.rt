@@ -1,4 +1,4 @@
-//! Bytes as JSON: the value that they are the text of.
+//! The JSON value that some bytes spell.
 //!
 //! Entry: `read_json` in `src/reading.rt`. Read first: `specs/Reading.antt`.
 #![tactic(auto)]

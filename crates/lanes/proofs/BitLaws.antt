@@ -1,4 +1,4 @@
--- Sets of which one number is put in or taken out, by one bit of one word.
+-- Sets after one number is added or removed, by one bit of one word.
 use Rattle.std.proofs.Common.{◌≡◌, ◌==◌, ◌≢◌, ℕ, ◌*◌, ◌/◌, ◌%◌, ◌^◌, ◌<◌, inl, inr, Bool, true, false, ◌&&◌, ◌||◌, not, List, length, get_or, set, refl, ap, sym, ◌∙◌, arith, bit_and, bit_or, w64, get_or-set_same, get_or-set_other, eq-eqb}
 use Rattle.std.specs.Int.{bit_at, bit_not}
 use Rattle.std.proofs.lemmas.Bool.{cases_eq, ne_eqb}

@@ -1,4 +1,4 @@
--- The members of a set are the ones of its words.
+-- The number of a set's members is the number of one bits in its words.
 use Rattle.std.proofs.Common.{◌≡◌, ◌==◌, ℕ, zero, suc, ◌+◌, ◌*◌, ◌/◌, ◌%◌, ◌^◌, ◌<◌, ◌≤◌, inl, inr, Bool, true, false, cond, List, [], ◌∷◌, length, get_or, refl, ap, sym, subst, ◌∙◌, arith, add-one, add-zero, zero-add, add_assoc, take, Fits, w64}
 use Rattle.std.specs.Prelude.{count_by, sum_by, count_ones, slice_index}
 use Rattle.std.specs.List.{range_with_len}

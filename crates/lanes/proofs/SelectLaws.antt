@@ -1,4 +1,4 @@
--- What lanes make of a comparison.
+-- Comparisons by lanes.
 use Rattle.std.proofs.Common.{◌≡◌, ℕ, suc, ◌+◌, ◌-◌, ◌*◌, ◌%◌, ◌^◌, ◌<◌, ◌≤◌, Bool, true, false, not, cond, List, [], ◌∷◌, map, length, get_or, refl, ap, sym, ◌∙◌, arith, w64, eqb, rules, drop-cons, add-one}
 use Rattle.std.specs.Prelude.{ℤ, pos, int_lt, int_le}
 use Rattle.std.specs.Ordering.{int_eq}

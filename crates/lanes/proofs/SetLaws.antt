@@ -1,4 +1,4 @@
--- What merged words make of the members of two sets.
+-- The members of a set whose words are merged from two sets.
 use Rattle.std.proofs.Common.{◌≡◌, ◌==◌, ℕ, zero, suc, ◌-◌, ◌*◌, ◌/◌, ◌%◌, ◌^◌, ◌<◌, ◌≤◌, ◌⊎◌, inl, inr, Bool, true, false, not, ◌&&◌, ◌||◌, List, length, get_or, min, max, refl, ap, sym, ◌∙◌, arith, bit_and, bit_or, Fits, w64}
 use Rattle.std.specs.Int.{bit_at, bit_not}
 use Rattle.std.proofs.lemmas.Bool.{cases_lt}

@@ -1,7 +1,8 @@
-//! Kernels over sets of numbers and over columns, eight words or numbers at a time. Bit i of word j is the
-//! number 64 * j + i.
+//! Kernels over sets of numbers and over columns, eight words or numbers at a time. A set is a list of words,
+//! and bit i of word j stands for the number 64 * j + i.
 //!
-//! No call takes memory or fails.
+//! No call takes memory or fails. A set has fewer than 2^57 words, the two sets of a call have the same
+//! number of words, and a mask has a word for each 64 cells of its column, rounded up.
 //!
 //! Entry: `select_i64` in `src/select.rt`. Read first: `specs/Sets.antt`.
 #![tactic(auto)]

@@ -44,7 +44,7 @@ fn count_rest(a: &[u64], from: usize) -> u64
     total
 }
 
-/// The least member of at least `from`; `None` where there is none.
+/// The least member that is at least `from`; `None` if there is none.
 pub fn next_one(a: &[u64], from: u64) -> Option<u64>
     requires { length a.now < 2 ^ 57 }
     ensures { IsNext a.now from result }

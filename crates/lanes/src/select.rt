@@ -1,4 +1,4 @@
-//! The indexes of a column at which a comparison holds.
+//! The selection of a column's indexes by a comparison.
 
 ghost use Rattle.std.specs.Prelude.{◌≡◌, ℕ, ◌+◌, ◌-◌, ◌*◌, ◌/◌, ◌^◌, ◌<◌, ◌≤◌, length, map, drop};
 ghost use Rattle.std.specs.Simd.Lanes.{chunk, mask_l};

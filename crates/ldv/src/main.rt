@@ -1,7 +1,7 @@
 //! The program: it makes the streams of the process and calls `ldv_main`.
 //!
-//! Its few lines and the streams of `ldv_io` are the trusted edge: what standard input gave and what the
-//! system took is no clause.
+//! Its few lines and the streams of `ldv_io` are the trusted edge: no clause says which bytes standard input
+//! gave and which bytes the system took.
 //!
 //! Entry: `main` in `src/main.rt`. Read first: `specs/Ends.antt` of `ldv_top`.
 #![tactic(auto)]
@@ -13,7 +13,7 @@ use std::env;
 use std::io::ErrorKind;
 use std::process::ExitCode;
 
-/// The status where the system didn't give the words of the command line.
+/// The status if the system didn't give the words of the command line.
 const NO_WORDS: u8 = 17;
 
 fn main(rt: HostRuntime) -> ExitCode {

@@ -1,4 +1,4 @@
--- Parts of lists, as reads and writes of pieces make them.
+-- Parts of lists, as reads and writes of pieces produce them.
 use Rattle.std.proofs.Common.{◌≡◌, ℕ, ◌+◌, ◌-◌, ◌≤◌, List, [], ◌++◌, length, take, drop, ap, sym, subst, ◌∙◌, arith, take_all, length-drop, take-append-drop, drop-drop}
 use Rattle.std.proofs.lemmas.List.{drop_all, take-take, length-take-le, take_at}
 use Rattle.std.proofs.Math.Seq.{take-add}

@@ -1,4 +1,4 @@
--- What a binary search in numbers that rise finds.
+-- The result of a binary search in sorted numbers.
 use Rattle.std.proofs.Common.{◌≡◌, ◌↔◌, ℕ, ◌<◌, ◌≤◌, List, length, get_or, Result, Ok, Err, IsTrue, refl, ◌∙◌, arith}
 use Rattle.std.specs.Prelude.{Contains, is_ok}
 use Rattle.std.specs.Ordering.{nat_cmp}

@@ -1,4 +1,4 @@
--- What reading a whole input returns, where no read failed.
+-- The result of reading a whole input if no read failed.
 use Rattle.std.specs.Prelude.{◌≡◌, ℕ, ◌<◌, ◌≤◌, List, length, Result, Ok, Err}
 use Rattle.ldv_io.specs.declared.whole.ReadStop.{ReadStop}
 use Rattle.ldv_io.specs.declared.whole.ReadStop.TheVariants.{Fault, TooLong, NoMemory}

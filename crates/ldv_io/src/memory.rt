@@ -1,4 +1,4 @@
-//! A source and a sink in memory, whose calls fail where a list says so.
+//! A source and a sink in memory, whose calls fail as a list says.
 
 ghost use Rattle.std.specs.Prelude.{◌≡◌, ◌↔◌, ◌+◌, ◌<◌, ◌≤◌, ◌^◌, min, length, drop, take, [], ◌++◌};
 ghost use Rattle.std.specs.Prelude.{IsErr, IsTrue, IfOk, MatchResult, IsPermutation, Contains, Some};
@@ -16,7 +16,7 @@ use ldv_value::{Bytes, Calls};
 use std::alloc::{AllocError, Global};
 use std::marker::Model;
 
-/// A source of bytes in memory. Each read returns at most a piece, and fails exactly where its number is
+/// A source of bytes in memory. Each read returns at most `piece` bytes, and fails exactly if its number is
 /// listed. Reads are numbered from 1 to 2^64 - 1, and a later read has no number.
 #[derive(Drop)]
 pub struct MemorySource {
@@ -48,7 +48,8 @@ impl Model for MemorySource {
 }
 
 impl MemorySource {
-    /// A source of these bytes, with at least one byte a piece, whose reads with these numbers fail.
+    /// A source of these bytes. A read returns at most `piece` bytes, at least 1, and the reads with the
+    /// numbers in `failing` fail.
     pub fn new(bytes: Bytes, piece: usize, failing: Calls) -> Self
         requires { 0 < piece }
         ensures left { result.left ≡ bytes }
@@ -144,9 +145,9 @@ fn has_number(failing: &[u64], number: u64) -> bool
     failing.binary_search(&number).is_ok()
 }
 
-/// A sink in memory with room for a number of bytes. Each write takes at most a piece, and fails exactly
-/// where its number is listed, or where there are bytes to write and no room is left. Writes are numbered
-/// from 1 to 2^64 - 1, and a later write has no number.
+/// A sink in memory for a limited number of bytes. Each write takes at most `piece` bytes. It fails exactly
+/// if its number is listed, or if there are bytes to write and the sink is full. Writes are numbered from 1
+/// to 2^64 - 1, and a later write has no number.
 #[derive(Drop)]
 pub struct MemorySink {
     // It has the room from the start, so that a write takes no memory.
@@ -180,8 +181,8 @@ impl Model for MemorySink {
 }
 
 impl MemorySink {
-    /// A sink with room for `room` bytes and at least one byte a piece, whose writes with these numbers
-    /// fail.
+    /// A sink for at most `room` bytes, with the memory for them. A write takes at most `piece` bytes, at
+    /// least 1, and the writes with the numbers in `failing` fail.
     pub fn new(alloc: Global, room: usize, piece: usize, failing: Calls) -> Result<Self, AllocError>
         requires { 0 < piece }
         ensures taken { IfOk result (λ sink. sink.taken ≡ []) }

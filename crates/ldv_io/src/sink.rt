@@ -10,14 +10,14 @@ use crate::source::Failed;
 
 /// Where bytes go.
 pub trait Sink {
-    /// The bytes that were taken, where they are reported.
+    /// The bytes that were taken, if the sink reports them.
     ghost taken: { Self → Option (List ℕ) };
 
     /// How often a write has failed, up to 2^64 - 1. It never decreases.
     ghost faults: { Self → ℕ };
 
-    /// Takes bytes from the front of `bytes`, and returns how many: at least one where there is one.
-    /// `Failed` took none, and comes only where the count of faults increased.
+    /// Takes bytes from the front of `bytes`, and returns how many: at least one if `bytes` has one. On
+    /// `Failed` it took none and the count of faults increased.
     fn write(&mut self, bytes: &[u8]) -> Result<usize, Failed>
         ensures bound { WritesAtMost result bytes.now }
         ensures bytes { WriteAppends (taken self.old) (taken self.new) result bytes.now }

@@ -12,15 +12,15 @@ pub struct Failed;
 
 /// Where bytes come from.
 pub trait Source {
-    /// The bytes that are left, where they are reported.
+    /// The bytes that are left, if the source reports them.
     ghost left: { Self → Option (List ℕ) };
 
     /// How often a read has failed, up to 2^64 - 1. It never decreases.
     ghost faults: { Self → ℕ };
 
-    /// Reads the next bytes into the front of `buf`, and returns how many they are. 0 for a buffer that
-    /// isn't empty is the end of input, and comes only where no bytes are left. `Failed` leaves all
-    /// bytes, and comes only where the count of faults increased.
+    /// Reads the next bytes into the front of `buf`, and returns how many they are. It returns 0 for a buffer
+    /// that isn't empty only at the end of input. On `Failed` no byte was consumed and the count of faults
+    /// increased.
     fn read(&mut self, buf: &mut [u8]) -> Result<usize, Failed>
         ensures bound { ReadsAtMost result buf.new }
         ensures bytes { ReadConsumes (left self.old) (left self.new) result buf.new }

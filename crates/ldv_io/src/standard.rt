@@ -54,9 +54,9 @@ impl<R: Read + Drop> Source for StdSource<R> {
     }
 }
 
-/// A writer of std as a sink, flushed after each write. It reports no bytes. Each failure increases its
-/// count by one, up to 2^64 - 1. A writer that takes no byte where there is one has failed, and so has one
-/// that couldn't be flushed.
+/// A writer of std as a sink, flushed after each write. It reports no bytes. Each failure increases its count
+/// by one, up to 2^64 - 1. A write fails if the writer takes none of the bytes that it got, or can't be
+/// flushed.
 #[derive(Drop)]
 pub struct StdSink<W: Write + Drop> {
     writer: W,

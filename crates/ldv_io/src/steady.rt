@@ -11,7 +11,7 @@ use crate::source::{Failed, Source};
 use ldv_value::Bytes;
 use std::marker::Model;
 
-/// A source of bytes in memory that never fails. Each read returns at most a piece.
+/// A source of bytes in memory that never fails. Each read returns at most `piece` bytes.
 #[derive(Drop)]
 pub struct SteadySource {
     bytes: Bytes,
@@ -31,7 +31,7 @@ impl Model for SteadySource {
 }
 
 impl SteadySource {
-    /// A source of these bytes, with at least one byte a piece.
+    /// A source of these bytes. A read returns at most `piece` bytes, at least 1.
     pub fn new(bytes: Bytes, piece: usize) -> Self
         requires { 0 < piece }
         ensures left { result.left ≡ bytes }

@@ -37,10 +37,10 @@ pub enum WriteStop {
     Fault,
 }
 
-/// Reads to the end of input, at most `limit` bytes. Each turn reads at least a byte or is the last.
+/// Reads to the end of input, at most `limit` bytes. Each read but the last returns at least one byte.
 ///
-/// `Fault` comes where a read failed, `TooLong` where more than `limit` bytes were left. On `Err` some
-/// bytes may have been consumed.
+/// `Fault` comes if a read failed, `TooLong` if more than `limit` bytes were left, and `NoMemory` only if
+/// memory ran out. On `Err` some bytes may have been consumed.
 pub fn read_all<S: Source>(alloc: Global, source: &mut S, limit: u64) -> Result<Bytes, ReadStop>
     ensures whole { IfOk result (λ bytes. Consumes (S.left source.old) (S.left source.new) bytes) }
     ensures end { OnOk result (IsAtEnd (S.left source.new)) }
@@ -86,7 +86,7 @@ fn buffer(alloc: Global) -> Result<Vec<u8>, ReadStop>
 
 /// Writes all the bytes, by writes that each take at least one.
 ///
-/// `Fault` comes where a write failed, and then the sink took a proper prefix of the bytes.
+/// `Fault` comes if a write failed; the sink then took a proper prefix of the bytes.
 pub fn write_all<K: Sink>(sink: &mut K, bytes: &[u8]) -> Result<(), WriteStop>
     ensures whole { OnOk result (Appends (K.taken sink.old) (K.taken sink.new) bytes.now) }
     ensures part { OnErr result ((n : ℕ) × (n < length bytes.now)

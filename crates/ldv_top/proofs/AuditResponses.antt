@@ -1,4 +1,4 @@
--- What an audit comes to is what is due.
+-- The result of an audit is the due one.
 use Rattle.std.proofs.Common.{◌≡◌, ℕ, ◌<◌, List, length, refl, sym, ap, ◌∙◌, subst, true, false}
 use Rattle.std.specs.Prelude.{Option, Some, None, Result, Ok, Err, IsSome, IsTrue, is_some}
 use Rattle.ldv_value.specs.Limits.{input_limit}

@@ -1,4 +1,5 @@
--- What makes no list of a package's events: its replay, its tables after steps, its audit and its migration.
+-- Calls that make no list of a package's events: its replay, its tables after steps, its audit, its
+-- migration.
 use Rattle.std.proofs.Common.{◌≡◌, ℕ, ◌≤◌, List, [], length, refl, sym, ap, ◌∙◌}
 use Rattle.std.specs.Prelude.{Option, Some, None, Ok}
 use Rattle.ldv_value.specs.Limits.{input_limit}

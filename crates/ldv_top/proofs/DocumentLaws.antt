@@ -1,4 +1,4 @@
--- What a document says of a path is what the report on its package says.
+-- A document gives the same nodes for a path as the report on its package.
 use Rattle.std.proofs.Common.{◌≡◌, ◌∙◌, refl, sym, ap, subst, ℕ, ◌≤◌, List, length, Bool}
 use Rattle.std.specs.Prelude.{nat_le, if◌then◌else◌, Option, Some, None, Ok, option_map}
 use Rattle.std.proofs.lemmas.Bool.{leb-true}

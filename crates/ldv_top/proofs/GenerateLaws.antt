@@ -1,4 +1,4 @@
--- What is due for the record and the replay of a generated world.
+-- The due output for the record and the replay of a generated world.
 use Rattle.std.proofs.Common.{◌≡◌, ℕ, ◌≤◌, ◌<◌, List, ◌++◌, length, refl, sym, ap, ◌∙◌, subst, true, arith, inl, inr}
 use Rattle.std.specs.Prelude.{Bool, Some, None, if◌then◌else◌}
 use Rattle.std.proofs.lemmas.Bool.{cases_Bool}

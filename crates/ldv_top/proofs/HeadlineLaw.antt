@@ -1,4 +1,4 @@
--- A package that was recorded is replayed as its world is run.
+-- Replaying a recorded package gives the outcome of its world's run.
 use Rattle.std.proofs.Common.{◌≡◌, ℕ, ◌≤◌, List, [], length, refl, sym, ap, ◌∙◌, subst, true}
 use Rattle.std.specs.Prelude.{Some, Ok, IsTrue, codes}
 use Rattle.ldv_value.specs.Limits.{input_limit, max_steps}

@@ -1,4 +1,4 @@
--- What two packages are joined to is replayed, run by run, as the worlds of both are run.
+-- Replaying each run of a joined package gives the outcome of its world's run.
 use Rattle.std.proofs.Common.{◌≡◌, ℕ, ◌≤◌, List, [], ◌++◌, length, refl, sym, ap, ◌∙◌, subst, true, arith, append-nil}
 use Rattle.std.specs.Prelude.{Some, Ok}
 use Rattle.ldv_value.specs.Limits.{input_limit, max_steps}

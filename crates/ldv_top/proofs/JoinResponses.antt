@@ -1,4 +1,4 @@
--- What is due for two packages and for a joined one, by what was read.
+-- The due output for two packages and for a joined one, by the result of reading.
 use Rattle.std.proofs.Common.{◌≡◌, ℕ, ◌≤◌, Bool, true, false, cond, List, length, sym, ap, ◌∙◌}
 use Rattle.std.specs.Prelude.{◌==◌, Option, Some, None, Ok, Err}
 use Rattle.std.specs.Int.{w32}

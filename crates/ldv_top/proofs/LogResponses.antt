@@ -1,5 +1,5 @@
--- What is due for the run of a package over its recorded replies: where it has ended, where it hasn't, and where a
--- question wasn't the recorded one.
+-- The due output for the run of a package over its recorded replies: if it has ended, if it hasn't, and if a
+-- statement wasn't the recorded one.
 use Rattle.std.proofs.Common.{◌≡◌, ℕ, [], sym, ap, ◌∙◌}
 use Rattle.std.specs.Prelude.{Option, Some, None}
 use Rattle.run_model.specs.Core.{Divergence as DivergedAt}

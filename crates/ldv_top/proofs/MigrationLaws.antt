@@ -1,4 +1,4 @@
--- What is migrated is the same package.
+-- Migrating gives the same package.
 use Rattle.std.proofs.Common.{◌≡◌, ℕ, ◌≤◌, List, length, refl, sym, ap, ◌∙◌, subst}
 use Rattle.std.specs.Prelude.{Some, Ok, IsTrue}
 use Rattle.ldv_value.specs.Limits.{input_limit, max_steps}

@@ -1,4 +1,4 @@
--- What is spelled of the package of a valid world's run is read back as that package, in each version.
+-- The spelling of the package of a valid world's run is read back as that package, in each version.
 use Rattle.std.proofs.Common.{◌≡◌, ℕ, ◌≤◌, length, true}
 use Rattle.std.specs.Prelude.{Ok, IsTrue}
 use Rattle.ldv_value.specs.Limits.{input_limit, max_steps}

@@ -1,4 +1,4 @@
--- What a report says, and that on what a path depends on.
+-- The bytes of a report, and the report on the nodes that a path depends on.
 use Rattle.std.proofs.Common.{◌≡◌, ℕ, ◌≤◌, List, length, refl, sym, ap, ◌∙◌, inl, inr}
 use Rattle.std.specs.Prelude.{Option, Some, None, Result, Ok, Err}
 use Rattle.std.proofs.lemmas.Bool.{cases_Bool}

@@ -1,4 +1,4 @@
--- What is due for the run of a world, where it has ended and where it hasn't.
+-- The due output for the run of a world, if it has ended and if it hasn't.
 use Rattle.std.proofs.Common.{◌≡◌, ℕ, sym, ap}
 use Rattle.std.specs.Prelude.{Some, None}
 use Rattle.run_model.specs.declared.outcome.Outcome.{Outcome}

@@ -1,4 +1,4 @@
--- The package of recorded replies of a private world comes to that world's outcome under every seed.
+-- The excluded package of a private world replays to that world's outcome under every seed.
 use Rattle.std.proofs.Common.{◌≡◌, ℕ, ◌≤◌, List, [], length, sym, ap, ◌∙◌, subst, Bool, true, false}
 use Rattle.std.specs.Prelude.{Some, None, Ok, nat_lt, if◌then◌else◌}
 use Rattle.ldv_value.specs.Limits.{input_limit}

@@ -1,5 +1,5 @@
--- What is due for the run of a package under another seed: where it has ended, where it hasn't, where a question wasn't
--- the recorded one, and where it isn't run.
+-- The due output for the run of a package under another seed: if it has ended, if it hasn't, if a statement
+-- wasn't the recorded one, and if it isn't run.
 use Rattle.std.proofs.Common.{◌≡◌, ℕ, Bool, true, false, refl}
 use Rattle.std.specs.Prelude.{if◌then◌else◌, Ok, Err}
 use Rattle.run_model.specs.OutcomeText.{outcome_text_of}

@@ -1,4 +1,4 @@
--- What the clauses of the parts of the top call say together.
+-- The clauses of the parts of the top call, taken together.
 use Rattle.std.proofs.Common.{◌≡◌, ◌≢◌, ◌<◌, ◌≤◌, ℕ, List, [], ◌++◌, length, refl, sym, ap, ◌∙◌, subst, append-nil, inl, inr}
 use Rattle.std.specs.Prelude.{Option, Some, None, is_some, IfSome, ◌⊎◌, true, false}
 use Rattle.std.specs.Io.KnownBytes.{Consumes, IsAtEnd}

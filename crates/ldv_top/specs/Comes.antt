@@ -1,4 +1,4 @@
--- How an exit stands to what is due, with what the sink took.
+-- Which exits, with which bytes written, are allowed for a given due output.
 use Rattle.std.specs.Prelude.{◌≡◌, ◌≢◌, ◌⊎◌, ℕ, List, Bool, IsTrue, Option, Some}
 use Rattle.std.specs.Io.KnownBytes.{Appends}
 use Rattle.ldv_io.specs.Causes.{Rose}

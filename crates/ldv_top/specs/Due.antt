@@ -1,4 +1,4 @@
--- What is due for words and an input: an exit, and the bytes that are written where it is Done.
+-- The due output for words and an input: an exit, and the bytes that are written if it is Done.
 use Rattle.std.specs.Prelude.{ℕ, List, [], if◌then◌else◌, Option, Some, None, Result, Ok, Err}
 use Rattle.run_model.specs.declared.outcome.Outcome.{Outcome}
 use Rattle.run_model.specs.declared.package.Mode.{Mode}

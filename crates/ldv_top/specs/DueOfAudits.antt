@@ -1,4 +1,4 @@
--- What is due for `audit`: whether the input is the included package of its own world's run, in its own
+-- The due output of `audit`: whether the input is the included package of its own world's run, in its own
 -- version.
 use Rattle.std.specs.Prelude.{ℕ, List, ◌++◌, codes, if◌then◌else◌, Option, Some, None}
 use Rattle.std.specs.Fmt.{decimal}

@@ -1,4 +1,4 @@
--- What is due for `gen`: the record and the replay of a generated world, summed up. Nothing is read.
+-- The due output of `gen`: the record and the replay of a generated world, summed up. Nothing is read.
 use Rattle.std.specs.Prelude.{ℕ, ◌+◌, ◌-◌, List, ◌++◌, length, drop, fold, codes, if◌then◌else◌}
 use Rattle.std.specs.Fmt.{decimal}
 use Rattle.hex.specs.Hex.{encode_lower}

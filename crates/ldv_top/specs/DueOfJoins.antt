@@ -1,4 +1,4 @@
--- What is due for `join`: the package that two included packages are joined to.
+-- The due output of `join`: the joined package of two included packages.
 use Rattle.std.specs.Prelude.{◌≡◌, ℕ, List, length, ◌==◌, if◌then◌else◌, Option, Some, None, Result, Ok, Err}
 use Rattle.run_model.specs.declared.package.Mode.{Mode}
 use Rattle.run_model.specs.declared.package.Mode.TheVariants.{Included, Excluded}

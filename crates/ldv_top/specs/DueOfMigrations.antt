@@ -1,4 +1,4 @@
--- What is due for `migrate`: the package in the version that is written.
+-- The due output of `migrate`: the package in the second version.
 use Rattle.std.specs.Prelude.{ℕ, List}
 use Rattle.run_model.specs.declared.package.Package.{Package}
 use Rattle.package_layout.specs.Whole.{spelling}

@@ -1,4 +1,5 @@
--- What is due for `prov`: the document of a package's graph, and what a document says that a path depends on.
+-- The due output of `prov`: the document of a package's graph, and the nodes that a path depends on by a
+-- document.
 use Rattle.std.specs.Prelude.{ℕ, List, Option, Some, None, if◌then◌else◌}
 use Rattle.run_model.specs.declared.package.Package.{Package}
 use Rattle.trace_graph.specs.Graph.{Parts, graph_of}

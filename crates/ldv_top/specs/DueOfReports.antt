@@ -1,4 +1,4 @@
--- What is due for `inspect`: a report on a package.
+-- The due output of `inspect`: a report on a package.
 use Rattle.std.specs.Prelude.{ℕ, List, Option, Some, None}
 use Rattle.run_model.specs.declared.package.Package.{Package}
 use Rattle.inspect.specs.DependsReports.{depends_report}

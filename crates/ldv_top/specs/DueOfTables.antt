@@ -1,4 +1,4 @@
--- What is due for `table`: a table of a package's own world after a step.
+-- The due output of `table`: a table of a package's own world after a step.
 use Rattle.std.specs.Prelude.{ℕ, List, Result, Ok, Err}
 use Rattle.run_model.specs.declared.package.Package.{Package}
 use Rattle.run_model.specs.TableText.{table_text_of}

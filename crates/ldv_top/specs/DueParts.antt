@@ -1,4 +1,4 @@
--- What is due: an exit, and the bytes that are written where it is Done. The parts that commands share.
+-- The due output: an exit, and the bytes that are written if it is Done. The parts that commands share.
 use Rattle.std.specs.Prelude.{ℕ, List, [], length, Bool, nat_lt, if◌then◌else◌, Option}
 use Rattle.std.specs.Prelude.{Some, None, Result, Ok, Err}
 use Rattle.ldv_value.specs.Limits.{input_limit}

@@ -1,7 +1,7 @@
--- What the program promises of its exit, for its words and for what the source and the sink had.
+-- The promises of the program for each exit, by its words, its source and its sink.
 --
--- Of a stream these are known: the bytes that are left in a source, or that a sink has taken, where they are
--- reported, and the count of its faults.
+-- These facts are known about a stream: the bytes left in a source or taken by a sink, if they are reported,
+-- and the count of its faults.
 use Rattle.std.specs.Prelude.{◌≡◌, ◌≢◌, ◌⊎◌, ◌↔◌, ◌≤◌, ℕ, List, [], true, false, Option, Some, None}
 use Rattle.std.specs.Io.KnownBytes.{IsAtEnd}
 use Rattle.ldv_io.specs.Causes.{Rose}

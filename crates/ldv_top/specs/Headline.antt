@@ -1,4 +1,4 @@
--- What record and replay promise of each other.
+-- The law of `record` and `replay`.
 use Rattle.std.specs.Prelude.{◌≡◌, ◌≤◌, ℕ, List, [], length, true, Ok, IsTrue, codes}
 use Rattle.ldv_value.specs.Limits.{input_limit, max_steps}
 use Rattle.run_model.specs.declared.package.Mode.{Mode}

@@ -1,4 +1,4 @@
--- What `migrate` promises of what it writes.
+-- The law of `migrate`.
 use Rattle.std.specs.Prelude.{◌≡◌, ◌↔◌, ◌≤◌, ℕ, List, Some, Ok, codes}
 use Rattle.ldv_value.specs.Limits.{max_steps}
 use Rattle.run_model.specs.declared.package.Package.{Package}

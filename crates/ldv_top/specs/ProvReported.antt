@@ -1,4 +1,4 @@
--- What `prov depends` promises of what `prov` writes.
+-- The law of `prov depends` on documents of `prov`.
 use Rattle.std.specs.Prelude.{◌≡◌, ◌≤◌, ℕ, List, length, Option, option_map}
 use Rattle.ldv_value.specs.Limits.{input_limit}
 use Rattle.run_model.specs.declared.package.Package.{Package}

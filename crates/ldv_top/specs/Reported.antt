@@ -1,4 +1,4 @@
--- What `inspect depends` promises of what it writes.
+-- The law of `inspect depends`.
 use Rattle.std.specs.Prelude.{◌≡◌, ℕ, List, Ok}
 use Rattle.run_model.specs.declared.package.Package.{Package}
 use Rattle.package_layout.specs.Valid.{reading}

@@ -1,4 +1,4 @@
--- What `join` and `replay --run` promise of each other.
+-- The law of `join` and `replay --run`.
 use Rattle.std.specs.Prelude.{◌≡◌, ◌≤◌, ℕ, List, [], ◌++◌, length, true, IsTrue}
 use Rattle.ldv_value.specs.Limits.{input_limit, max_steps}
 use Rattle.run_model.specs.declared.package.Mode.TheVariants.{Included}

@@ -1,4 +1,4 @@
--- Why words aren't read as a command: they are none, or memory ran out.
+-- The reasons why words aren't read as a command: they are none, or memory ran out.
 use Rattle.std.specs.Prelude.{◌≡◌, true, Option, None, is_some}
 use Rattle.ldv_top.specs.declared.word_stop.WordStop.{WordStop}
 use Rattle.ldv_top.specs.declared.word_stop.WordStop.TheVariants.{Usage, NoMemory}

@@ -1,4 +1,4 @@
--- What a sink took by a call that writes some bytes and may fail.
+-- The bytes that a sink took from a call that writes some bytes and may fail.
 use Rattle.std.specs.Prelude.{ℕ, ◌<◌, ◌≤◌, List, length, take, Option, Result, Ok, Err, ⊤, OnErr}
 use Rattle.std.specs.Io.KnownBytes.{Appends}
 use Rattle.ldv_io.specs.Causes.{Rose}

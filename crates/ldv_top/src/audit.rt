@@ -1,4 +1,4 @@
-//! `audit`: from a package to what is found of it.
+//! `audit`: from a package to its verdict.
 
 ghost use Rattle.std.specs.Prelude.{◌≡◌, ◌≤◌, Some, length, IfOk, IsSome};
 ghost use Rattle.ldv_value.specs.Limits.{input_limit, max_steps};
@@ -21,8 +21,8 @@ use run_model::{Mode, Package, ParsedWorld};
 use script_parse::Script;
 use std::alloc::{AllocError, Global};
 
-/// The response of `audit` to an input. The trace isn't looked at but by its bytes, and no list of its events
-/// is made.
+/// The response of `audit` to an input. The trace is only compared byte by byte, and no list of its events is
+/// made.
 pub(crate) fn audit_response(
     alloc: Global,
     budget: u32,

@@ -25,22 +25,23 @@ use std::alloc::Global;
 // The largest seed.
 const MAX_SEED: u64 = 18_446_744_073_709_551_615;
 
-/// What `inspect` reports of a package.
+/// A report of `inspect` on a package.
 #[derive(Drop)]
 pub enum Report {
-    /// Its rows, each with the statement and the rule by which it was needed.
+    /// Its rows, each with the first statement that needed it, and the rule.
     Rows,
     /// Its files.
     Files,
     /// Its events.
     Trace,
-    /// Why a row of a table is in it.
+    /// The reason why a row of a table is in it.
     Why { table: Utf8, row: u32 },
-    /// What the content of a path came from.
+    /// The nodes that the content of a path came from.
     Depends { path: Utf8 },
 }
 
-/// A command, with what its words say. A budget is the number of steps that a run may take.
+/// A command, with the values in its words. A budget is the greatest number of steps that a run may take, 1
+/// to 10,000,000.
 #[derive(Drop)]
 pub enum Command {
     /// `run`: the input is a world document, the output its outcome.
@@ -55,28 +56,29 @@ pub enum Command {
     /// `replay --run 1` and `replay --run 2`: the input is a joined package, the output the outcome of the
     /// world of this run.
     ReplayRun { which: Which, budget: u32 },
-    /// `join`: the input is two included packages, each with its length before it, the output the package
-    /// that they are joined to.
+    /// `join`: the input is two included packages, each with its length before it, the output their joined
+    /// package.
     Join,
-    /// `audit`: the input is a package, the output whether it is that of its own world's run.
+    /// `audit`: the input is a package, the output whether it is the package of its own world's run.
     Audit { budget: u32 },
     /// `table`: the input is a package, the output a table of the world in it after a step.
     Table { name: Utf8, step: u32, budget: u32 },
     /// `inspect`: the input is a package, the output a report on it.
     Inspect { report: Report },
-    /// `gen`: nothing is read, and the output sums up the record and the replay of a world of this number of
-    /// orders.
+    /// `gen`: nothing is read, and the output sums up the record and the replay of a world with this number
+    /// of orders, 1 to 100,000.
     Generate { orders: u32 },
-    /// `migrate`: the input is a package of either version, the output the same package in the version that
-    /// is written.
+    /// `migrate`: the input is a package of either version, the output the same package in the second
+    /// version.
     Migrate,
     /// `prov`: the input is a package, the output the provenance document of its graph.
     Prov,
-    /// `prov depends`: the input is a provenance document, the output what it says that a path depends on.
+    /// `prov depends`: the input is a provenance document, the output the nodes that a path depends on by it.
     ProvDepends { path: Utf8 },
 }
 
-/// The command that the words are. `Usage` exactly where they are none.
+/// The command of these words. `Usage` if and only if they are no command. `NoMemory`: they are a command,
+/// and memory ran out.
 pub fn read_words(alloc: Global, words: &[String]) -> Result<Command, WordStop>
     ensures command { Gives Stops result (command_of (map string_bytes words.now)) }
     ensures bounded { IfOk result (λ command. IsBounded command) }
@@ -235,7 +237,7 @@ fn command_seeded(word: &str, budget: u32, seed: u64) -> Option<Command>
     }
 }
 
-/// The budget that `--steps N` gives.
+/// The budget of `--steps N`.
 pub(crate) fn budget_in(option: &str, number: &str) -> Option<u32>
     ensures budget { result ≡ budget_in option.now number.now }
     ensures bounded { IfSome result (λ budget. budget ≤ max_steps) }

@@ -1,11 +1,11 @@
-//! What `prov depends` promises of what `prov` writes.
+//! The law of `prov depends` on documents of `prov`.
 
 ghost use Rattle.ldv_top.specs.ProvReported.{DocumentLaw};
 
 use prov_export::prov_law;
 
-/// The document of a valid package says of each path what the report on the package says. It says so of every
-/// such document, and does nothing.
+/// For each path, the document of a valid package gives the same nodes as the report on the package. The
+/// function does nothing: its contract is the theorem.
 pub fn document_law()
     ensures { DocumentLaw }
 {

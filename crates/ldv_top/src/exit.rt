@@ -1,4 +1,4 @@
-//! How the program ends.
+//! The exits of the program.
 
 ghost use Rattle.std.specs.Prelude.{◌≡◌};
 ghost use Rattle.ldv_top.specs.Exits.{status_of};
@@ -8,7 +8,7 @@ use package_layout::DamageKind;
 use run_model::ProcName;
 use world_json::WorldFault;
 
-/// How the program ends. Each exit comes in the order of `docs/COMMANDS.md`.
+/// An exit of the program. `docs/COMMANDS.md` has the order of the tests.
 #[derive(Drop)]
 pub enum Exit {
     /// All was written.
@@ -23,17 +23,17 @@ pub enum Exit {
     TooLong,
     /// The input is no world document.
     NotWorld(WorldFault),
-    /// The run hadn't ended after the steps of its budget.
+    /// The run hasn't ended after `steps` steps, its budget.
     NotEnded { steps: u32 },
-    /// The input isn't a package, or not what `join` or `replay --run` reads.
+    /// The input isn't a package, or isn't the input of `join` or `replay --run`.
     Damaged(DamageKind),
-    /// A process asks, as its statement of this number from 0, what isn't the recorded one, or when none is
-    /// left.
+    /// A process asks another statement than the recorded one, or none is left. The index, from 0, is that of
+    /// the statement among those of the process.
     Diverged { process: ProcName, index: u32 },
-    /// There is no such table, row, step or path, or the package is of the wrong kind: an excluded one where
-    /// an included one is wanted.
+    /// There is no such table, row, step or path, or the command needs an included package and this one is
+    /// excluded.
     NoSuch,
-    /// Two packages that have to be joined differ.
+    /// The two packages of `join` differ.
     Clash(Clash),
     /// Memory ran out.
     NoMemory,
@@ -45,7 +45,7 @@ pub enum Exit {
     NotProv,
 }
 
-/// The status with which the program ends.
+/// The exit status of the program, 0 to 255.
 pub fn status(exit: &Exit) -> u8
     ensures { result ≡ status_of exit.now }
 {

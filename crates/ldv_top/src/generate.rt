@@ -37,7 +37,7 @@ use world_json::generate;
 // The largest number of orders of a generated world.
 const MAX_ORDERS: u32 = 100_000;
 
-/// The command that the words after `gen` are.
+/// The command of the words after `gen`.
 pub(crate) fn generate_of(words: &[String]) -> Option<Command>
     ensures command { result ≡ generate_of (map string_bytes words.now) }
     ensures bounded { IfSome result (λ command. IsBounded command) }

@@ -1,4 +1,4 @@
-//! What `record` and `replay` promise of each other.
+//! The law of `record` and `replay`.
 
 ghost use Rattle.std.specs.Prelude.{◌≡◌, ◌≤◌, ℕ, List, [], length, Ok};
 ghost use Rattle.ldv_value.specs.Limits.{input_limit, max_steps};
@@ -15,9 +15,9 @@ use package_layout::round_trip_law;
 use replay_db::{audit_law, package_law};
 use run_laws::{between_law, log_law};
 
-/// The package of a valid world's run, with the needed rows or with the recorded replies, is replayed, within
-/// any budget of at least the steps of that run, as the world is run; and what is recorded of a world
-/// document is such a package. It says so of every world, and does nothing.
+/// Replaying the package of a valid world's run, included or excluded, gives the outcome of that run, within
+/// any budget of at least the steps of the run. Recording a world document gives such a package. The function
+/// does nothing: its contract is the theorem.
 pub fn headline_law()
     ensures replayed { (mode : Mode) (n budget : ℕ) (w : World) (input : List ℕ)
         → IsPackageOf mode n w input → steps_by n [] w ≤ budget

@@ -28,7 +28,7 @@ use std::alloc::{AllocError, Global};
 // The largest number of a row.
 const MAX_ROW: u32 = 4_294_967_294;
 
-/// The report that the words after `inspect` ask for.
+/// The report of the words after `inspect`.
 pub(crate) fn report_of(alloc: Global, words: &[String]) -> Result<Report, WordStop>
     ensures { Gives Stops result (report_of (map string_bytes words.now)) }
 {
@@ -111,7 +111,7 @@ fn why_row(alloc: Global, table: &str, row: u32) -> Result<Report, WordStop>
     }
 }
 
-/// The response of `inspect` to an input. Only a report that is about events makes the list of them.
+/// The response of `inspect` to an input. Only reports on events make the list of them.
 pub(crate) fn inspect_response(
     alloc: Global,
     report: &Report,

@@ -1,4 +1,4 @@
-//! `join`: from two packages to what they are joined to. No list of their events is made.
+//! `join`: from two packages to their joined package. No list of their events is made.
 
 ghost use Rattle.std.specs.Prelude.{◌≡◌, ◌≤◌, length, map, string_bytes, IfOk, IfSome, MatchOption, None, Ok, Some};
 ghost use Rattle.std.specs.Int.{w32};
@@ -28,7 +28,7 @@ use package_layout::{DamageKind, PackageStop, SpellStop, read_compact};
 use run_model::Mode;
 use std::alloc::{AllocError, Global};
 
-/// The command that the words after `join` are.
+/// The command of the words after `join`.
 pub(crate) fn join_of(words: &[String]) -> Option<Command>
     ensures command { result ≡ join_of (map string_bytes words.now) }
     ensures bounded { IfSome result (λ command. IsBounded command) }
@@ -76,7 +76,7 @@ fn pair_in<'a>(input: &'a [u8]) -> Option<(&'a [u8], &'a [u8])>
     }
 }
 
-/// The response of `join` to an input, which isn't kept while the packages are joined.
+/// The response of `join` to an input. The input isn't kept while the packages are joined.
 pub(crate) fn join_response(alloc: Global, input: Bytes) -> Result<Response, AllocError>
     requires short { length input ≤ input_limit }
     ensures { IfOk result (λ response. response_due response ≡ due_join input) }

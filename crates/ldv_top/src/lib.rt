@@ -1,5 +1,5 @@
-//! The program without its streams: `ldv` reads a source, and writes what its words ask for to a sink.
-//! `Ends` of `specs/Ends.antt` is what it promises of its exit.
+//! The program without its streams: `ldv` reads a source, and writes the output of its command to a sink.
+//! `Ends` of `specs/Ends.antt` is its promise for each exit.
 //!
 //! Entry: `ldv` and `ldv_main` in `src/top.rt`. Read first: `specs/Due.antt`.
 #![tactic(auto)]

@@ -240,8 +240,8 @@ fn write_with_number<K: Sink>(sink: &mut K, exit: &Exit) -> Result<(), WriteStop
     }
 }
 
-/// Writes the line of an exit, and nothing where all was written. It takes no memory. `Fault` comes only
-/// where a write failed, and then a proper prefix of the line was taken.
+/// Writes the line of an exit, and nothing for `Done`. It takes no memory. `Fault` comes only if a write
+/// failed, and then the sink took a proper prefix of the line.
 pub fn exit_line<K: Sink>(exit: &Exit, sink: &mut K) -> Result<(), WriteStop>
     ensures { Writes K.taken K.faults sink.old sink.new (line_of exit.now) result }
 {

@@ -1,4 +1,4 @@
-//! `migrate`: from a package of either version to the same package in the version that is written.
+//! `migrate`: from a package of either version to the same package in the second version.
 
 ghost use Rattle.std.specs.Prelude.{◌≡◌, ◌≤◌, length, map, string_bytes, IfOk, IfSome, OnOk};
 ghost use Rattle.ldv_value.specs.Limits.{input_limit};
@@ -21,7 +21,7 @@ use package_codec::CompactPackage;
 use package_layout::{PackageStop, SpellStop, spell_compact};
 use std::alloc::{AllocError, Global};
 
-/// The command that the words after `migrate` are.
+/// The command of the words after `migrate`.
 pub(crate) fn migrate_of(words: &[String]) -> Option<Command>
     ensures command { result ≡ migrate_of (map string_bytes words.now) }
     ensures bounded { IfSome result (λ command. IsBounded command) }

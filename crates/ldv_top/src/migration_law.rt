@@ -1,4 +1,4 @@
-//! What `migrate` promises of what it writes.
+//! The law of `migrate`.
 
 ghost use Rattle.std.specs.Prelude.{◌≡◌, ◌≤◌, ℕ, List as Items, Ok, length};
 ghost use Rattle.ldv_value.specs.Limits.{input_limit};
@@ -12,9 +12,9 @@ ghost use Rattle.ldv_top.specs.declared.exit.Exit.{Exit};
 use package_layout::round_trip_law;
 use replay_db::audit_law;
 
-/// The package of an input, of either version and either kind, in the version that is written: it is read as
-/// the same package, so that replays, tables and reports are the same, and the audit of both finds them sound
-/// or of neither. It says so of every input, and does nothing.
+/// The migrated package of an input, of either version and either kind, is read as the same package. So
+/// replays, tables and reports are the same, and the audit finds both sound or neither. The function does
+/// nothing: its contract is the theorem.
 pub fn migration_law()
     ensures { (input : Items ℕ) («package» : Package) → length input ≤ input_limit
         → IsTyped «package» → IsValidPackage «package» → IsSpelled input «package»

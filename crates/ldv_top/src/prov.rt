@@ -24,7 +24,7 @@ use run_model::Package;
 use std::alloc::{AllocError, Global};
 use trace_graph::Graph;
 
-/// The command that the words after `prov` are.
+/// The command of the words after `prov`.
 pub(crate) fn prov_of(alloc: Global, words: &[String]) -> Result<Command, WordStop>
     ensures command { Gives Stops result (prov_of (map string_bytes words.now)) }
     ensures bounded { IfOk result (λ command. IsBounded command) }
@@ -79,7 +79,7 @@ fn written_response(alloc: Global, package: &Package) -> Result<Response, AllocE
     Ok(Response::Written(write_prov(alloc, &graph)?))
 }
 
-/// The response of `prov depends` to an input. The path is looked for only in the graph of a document.
+/// The response of `prov depends` to an input. The path is looked up in the graph of the document only.
 pub(crate) fn prov_depends_response(
     alloc: Global,
     path: &str,

@@ -23,7 +23,7 @@ use std::alloc::Global;
 use trace_graph::Graph;
 use world_json::{WorldStop, parsed_world_of};
 
-/// The world that the input is a document of, with the script that it starts with. The input isn't kept.
+/// The world of the input, a world document, with its first script. The input isn't kept.
 pub(crate) fn read_world(alloc: Global, input: Bytes) -> Result<ParsedWorld, WorldStop>
     ensures world { IfOk result (λ p. world_reading input ≡ Ok p.world) }
     ensures fault { IfErr result (IsFaultOf (world_reading input)) }
@@ -34,7 +34,7 @@ pub(crate) fn read_world(alloc: Global, input: Bytes) -> Result<ParsedWorld, Wor
     parsed_world_of(alloc, input.as_slice())
 }
 
-/// The package that the input is. The input isn't kept.
+/// The package of the input. The input isn't kept.
 pub(crate) fn read_package_of(alloc: Global, input: Bytes) -> Result<Package, PackageStop>
     ensures found { IfOk result (λ p. IsTyped p × IsValidPackage p × IsSpelled input p) }
     ensures reading { ReadsAs result (reading input) }
@@ -42,8 +42,8 @@ pub(crate) fn read_package_of(alloc: Global, input: Bytes) -> Result<Package, Pa
     read_package(alloc, input.as_slice())
 }
 
-/// The package that the input is, with its trace kept as runs: no list of its events is made, which may be
-/// far larger than the input. The input isn't kept.
+/// The package of the input, with its trace kept as runs: the list of its events may be far larger than the
+/// input, and isn't made. The input isn't kept.
 pub(crate) fn read_compact_of(alloc: Global, input: Bytes) -> Result<CompactPackage, PackageStop>
     ensures found { IfOk result (λ r. IsTyped (expanded_package r) × IsValidPackage (expanded_package r)
         × IsSpelled input (expanded_package r)) }
@@ -53,8 +53,7 @@ pub(crate) fn read_compact_of(alloc: Global, input: Bytes) -> Result<CompactPack
     read_compact(alloc, input.as_slice())
 }
 
-/// The package that the input is, as of `read_compact_of`, with the script that it starts with. The input
-/// isn't kept.
+/// The same as `read_compact_of`, with the first script. The input isn't kept.
 pub(crate) fn read_parsed_of(alloc: Global, input: Bytes) -> Result<ParsedPackage, PackageStop>
     ensures found { IfOk result (λ p. IsTyped (expanded_package p.cut)
         × IsValidPackage (expanded_package p.cut) × IsSpelled input (expanded_package p.cut)) }

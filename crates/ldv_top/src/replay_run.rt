@@ -34,7 +34,7 @@ fn which_of(number: &str) -> Option<Which>
     }
 }
 
-/// `replay --run K`, with the steps that the run may take.
+/// The command `replay --run K`, with the budget of the run.
 pub(crate) fn replay_of_run(word: &str, number: &str, budget: u32) -> Option<Command>
     requires { budget ≤ max_steps }
     ensures command { result ≡ replay_of_run word.now number.now budget }

@@ -59,7 +59,7 @@ fn parsed_response(
     reseeded_response(alloc, budget, ended)
 }
 
-/// The response of `replay --seed` to an input. The events of its trace say whether its processes share a
+/// The response of `replay --seed` to an input. The events of its trace show whether its processes share a
 /// path that one of them changes.
 pub(crate) fn replay_seed_response(
     alloc: Global,

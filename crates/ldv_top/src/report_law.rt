@@ -1,4 +1,4 @@
-//! What `inspect` promises of what it writes.
+//! The law of `inspect depends`.
 
 ghost use Rattle.std.specs.Prelude.{◌≡◌, ℕ, List as Items};
 ghost use Rattle.ldv_top.specs.DueOfReports.{due_inspect};
@@ -8,8 +8,8 @@ ghost use Rattle.ldv_top.specs.declared.exit.Exit.{Exit};
 
 use inspect::depends_law;
 
-/// A report on what a path depends on lists the nodes of the trace's graph from which a path of edges leads
-/// to it by the end of the recorded run, and no others. It says so of every input, and does nothing.
+/// The report of `inspect depends` lists exactly the nodes of the trace's graph from which a chain of edges
+/// leads to the path by the end of the recorded run. The function does nothing: its contract is the theorem.
 pub fn report_law()
     ensures { (path input : Items ℕ) → (due_inspect (DependsOn path) input).exit ≡ Exit.Done
         → Depends path input (due_inspect (DependsOn path) input).bytes }

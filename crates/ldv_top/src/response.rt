@@ -1,4 +1,4 @@
-//! What a command gives before anything is written, and that of the run of a world.
+//! The response of a command before anything is written, and the response to the run of a world.
 
 ghost use Rattle.std.specs.Prelude.{◌≡◌, ◌≤◌, IfOk};
 ghost use Rattle.ldv_value.specs.Gives.{Gives};
@@ -20,21 +20,21 @@ use world_json::WorldFault;
 /// The response of a command, before anything is written: the bytes to write, or another exit.
 #[derive(Drop)]
 pub enum Response {
-    /// These bytes are to be written.
+    /// The bytes of the output.
     Written(Bytes),
     /// The input is no world.
     NotWorld(WorldFault),
     /// The run hasn't ended after the steps of this budget.
     NotEnded(u32),
-    /// The replay of a package of recorded replies: this process asks, as its statement of this number from
-    /// 0, what isn't the recorded one, or when none is left.
+    /// In the replay of an excluded package, this process asks another statement than the recorded one, or
+    /// none is left. The number, from 0, is that of the statement among those of the process.
     Diverged(ProcName, u32),
-    /// The input isn't a package, or not what `join` or `replay --run` reads.
+    /// The input isn't a package, or isn't the input of `join` or `replay --run`.
     Damaged(DamageKind),
-    /// Two packages that have to be joined differ.
+    /// The two packages of `join` differ.
     Clash(Clash),
-    /// The package or the document has no such item, or the package is an excluded one where an included
-    /// one is wanted.
+    /// The package or the document has no such item, or the command needs an included package and this one is
+    /// excluded.
     NoSuch,
     /// The package would have more than 67,108,864 bytes.
     PackageTooLong,
@@ -44,7 +44,7 @@ pub enum Response {
     NotProv,
 }
 
-/// The response to what comes of the run of a world within a budget.
+/// The response to the result of the run of a world within a budget.
 #[tactic(auto, using(crate::proofs::ResponseLaws::world_ends))]
 pub(crate) fn ended_response(
     alloc: Global,
@@ -61,7 +61,7 @@ pub(crate) fn ended_response(
     }
 }
 
-/// The response of the run of a world whose script was parsed.
+/// The response to the run of a world whose script was parsed before.
 pub(crate) fn parsed_response(
     alloc: Global,
     budget: u32,

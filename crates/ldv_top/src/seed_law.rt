@@ -1,4 +1,4 @@
-//! What `replay --seed` promises.
+//! The law of `replay --seed`.
 
 ghost use Rattle.std.specs.Prelude.{◌≡◌, ◌≤◌, ℕ, List, [], true};
 ghost use Rattle.run_model.specs.declared.package.Mode.TheVariants.{Excluded};
@@ -12,9 +12,9 @@ use free_order::order_law;
 use package_layout::round_trip_law;
 use replay_db::package_law;
 
-/// The package of the recorded replies of a valid world whose processes share no path that one of them
-/// changes is replayed, under every seed and within any budget of at least the steps of the world's run, as
-/// the world is run. It says so of every world, and does nothing.
+/// If no process of a valid world names a path that another one changes, replaying its excluded package under
+/// every seed gives the outcome of the world's run, within any budget of at least the steps of that run. The
+/// function does nothing: its contract is the theorem.
 pub fn seed_law()
     ensures { (n seed budget : ℕ) (w : World) (input : List ℕ) → IsPackageOf Excluded n w input
         → private_test (events_within n w) ≡ true → steps_by n [] w ≤ budget

@@ -27,7 +27,7 @@ use run_model::table_text;
 use sql_model::is_sql_name;
 use std::alloc::{AllocError, Global};
 
-/// The command that the words after `table` are.
+/// The command of the words after `table`.
 pub(crate) fn table_of(alloc: Global, words: &[String]) -> Result<Command, WordStop>
     ensures command { Gives Stops result (table_of (map string_bytes words.now)) }
     ensures bounded { IfOk result (λ command. IsBounded command) }

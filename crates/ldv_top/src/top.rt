@@ -1,4 +1,4 @@
-//! The top call, and what `main` makes of it.
+//! The top call of the program, and the call of `main`.
 
 ghost use Rattle.std.specs.Prelude.{◌≡◌, ◌≢◌, ◌⊎◌, ◌≤◌, ℕ, List, Some, true, false, length, map};
 ghost use Rattle.std.specs.Prelude.{string_bytes, IfOk, OnOk};
@@ -186,11 +186,11 @@ fn run_command<S: Source, K: Sink>(
     }
 }
 
-/// The program without its streams: what the words ask for, from a source to a sink.
+/// The program without its streams: it does the command of the words, from a source to a sink.
 ///
-/// The words are judged first, and where they are no command nothing is read. All bytes are made before
-/// the first is written. `NoMemory` says that memory ran out, and no clause says when it comes. What holds
-/// for each exit is `Ends` of `specs/Ends.antt`.
+/// The words are read first, and if they are no command, no input is read. All bytes are made before the
+/// first is written. `NoMemory` means that memory ran out, and no clause says when it comes. `Ends` of
+/// `specs/Ends.antt` has the facts for each exit.
 pub fn ldv<S: Source, K: Sink>(
     alloc: Global,
     words: &[String],
@@ -218,8 +218,8 @@ pub fn ldv<S: Source, K: Sink>(
     }
 }
 
-/// What `main` calls: `ldv`, and then the line of its exit on `errors`, whose fault is ignored. It returns
-/// the status of the exit.
+/// The call of `main`: `ldv`, and then the line of its exit on `errors`; a fault of `errors` is ignored. It
+/// returns the status of the exit.
 pub fn ldv_main<S: Source, K: Sink, E: Sink>(
     alloc: Global,
     words: &[String],

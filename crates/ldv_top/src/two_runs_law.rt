@@ -1,4 +1,4 @@
-//! What `join` and `replay --run` promise of each other.
+//! The law of `join` and `replay --run`.
 
 ghost use Rattle.ldv_top.specs.TwoRuns.{AnyJoinedLaw, PairLaw, TwoRunsLaw};
 
@@ -7,9 +7,9 @@ use package_layout::round_trip_law;
 use replay_db::package_law;
 use run_laws::between_law;
 
-/// The packages of two valid worlds with the same files and tables are joined, and what they are joined to
-/// is replayed, run by run and within any budget of at least the steps of that run, as the world is run.
-/// It says so of every two such worlds, and does nothing.
+/// The packages of two valid worlds with the same files and tables are joined. Replaying either run of the
+/// joined package gives the outcome of its world's run, within any budget of at least the steps of that run.
+/// The function does nothing: its contract is the theorem.
 pub fn two_runs_law()
     ensures pair { PairLaw }
     ensures replayed { TwoRunsLaw }

@@ -1,4 +1,4 @@
--- Tests put together. Each is named by its left side, or else by what it takes apart.
+-- Lemmas on tests that are combined. Each is named after its left side, or after the test that it splits.
 use Rattle.std.proofs.Common.{◌≡◌, ◌∙◌, sym, refl, Bool, true, false, ◌&&◌, ◌||◌, T, IsTrue}
 pub use Rattle.std.proofs.lemmas.Bool.{and_parts as and-parts, and_from as and-from, and_cases as and-cases, or_cases as or-cases, or_parts as or-parts, or_from as or-from, or_left as or-left, or_right as or-right, not-true, not-false, false≢true, true≢false, false_from_ne_true as not-so}
 

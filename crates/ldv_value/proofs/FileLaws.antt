@@ -1,5 +1,5 @@
--- Laws of the states of files: what is at a path after each call, which paths are touched, and that a state
--- stays one.
+-- Laws of the states of files: which file is at a path after each call, which paths are touched, and that
+-- each call keeps a valid state valid.
 use Rattle.std.proofs.Common.{◌≡◌, ◌≢◌, ◌∙◌, sym, ap, refl, ℕ, ◌≤◌, Bool, true, false, cond, ◌||◌, List, [], ◌∷◌, ◌++◌, length, Option, Some, None, is_some, unwrap_or, append_assoc, arith}
 use Rattle.std.specs.Prelude.{bytes_eq, nat_le, option_map}
 use Rattle.std.specs.declared.cmp.Ordering.{Ordering}

@@ -1,6 +1,7 @@
--- Lists of files and of paths after each change: what is found in them, and that they stay sorted and valid.
+-- Lists of files and of paths after each change: which items are found in them, and that they stay sorted and
+-- valid.
 --
--- They are std's sorted lists of entries, so its lemmas serve.
+-- They are std's sorted lists of entries, so std's lemmas apply.
 use Rattle.std.proofs.Common.{◌≡◌, ◌∙◌, sym, ap, subst, refl, ℕ, Bool, true, false, cond, not, ◌||◌, List, [], ◌∷◌, map, Option, Some, None, T}
 use Rattle.std.specs.Prelude.{option_map, bytes_eq}
 use Rattle.std.specs.declared.cmp.Ordering.{Ordering}

@@ -1,4 +1,4 @@
--- The first item of a list, and the rest, as a loop takes them.
+-- The first item of a list and the rest, as a loop splits them.
 use Rattle.std.proofs.Common.{◌≡◌, ℕ, ◌≤◌, ◌-◌, List, [], ◌∷◌, length, get_or, take, drop, sym, ap, ◌∙◌, arith}
 use Rattle.std.proofs.Math.Seq.{take-length}
 

@@ -1,4 +1,4 @@
--- What holds of each item of a list.
+-- Properties that hold for each item of a list.
 use Rattle.std.proofs.Common.{◌≡◌, ℕ, zero, suc, List, [], ◌∷◌, ◌++◌, take, drop, subst, Bool, true, inl, inr}
 use Rattle.std.specs.Prelude.{Some, map, filter, find}
 use Rattle.std.specs.List.{flat_map, AllByRecursion}

@@ -1,4 +1,4 @@
--- Lists: tests over them, what is found in them, and their fronts.
+-- Lists: tests over them, searches in them, and their fronts.
 use Rattle.std.proofs.Common.{◌≡◌, suc, zero, ℕ, List, [], ◌∷◌, ◌++◌, length, take, drop, get_or, map, Bool, true, false, ◌&&◌, ◌||◌, cond, refl, ap, subst, inl, inr, Some, IsTrue}
 use Rattle.std.specs.Prelude.{find}
 use Rattle.std.specs.List.{list_any, list_all, filter, AllByRecursion}

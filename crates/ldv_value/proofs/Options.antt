@@ -1,4 +1,4 @@
--- What an option that is known to be there, or not to be, came from.
+-- Options that are known to be `Some` or `None`, and the parts that they come from.
 use Rattle.std.proofs.Common.{◌≡◌, Bool, true, false, refl, subst, Some, None, inl, inr, ◌⊎◌, is_some}
 use Rattle.std.specs.Prelude.{Option, is_none, if◌then◌else◌}
 use Rattle.std.specs.Option.{option_or}

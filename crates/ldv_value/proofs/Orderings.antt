@@ -1,4 +1,4 @@
--- What an order is of which it is known that it's less, or equal.
+-- Orderings that are known to be `Less` or `Equal`.
 use Rattle.std.proofs.Common.{◌≡◌, ◌&&◌, refl, true, T}
 use Rattle.std.specs.declared.cmp.Ordering.{Ordering}
 use Rattle.std.specs.declared.cmp.Ordering.TheVariants.{Less, Equal, Greater}

@@ -1,4 +1,4 @@
--- A finite map of sorted entries has just these, in this order.
+-- A finite map of sorted entries has exactly these entries, in this order.
 use Rattle.std.proofs.Common.{◌≡◌, ◌∙◌, sym, ap, refl, List, [], ◌∷◌, T}
 use Rattle.std.specs.declared.cmp.Ordering.{Ordering}
 use Rattle.std.specs.declared.cmp.Ordering.TheVariants.{Less}

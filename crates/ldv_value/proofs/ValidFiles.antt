@@ -1,4 +1,4 @@
--- Files that the test of a list of files has passed.
+-- Files in a list that passed the test for valid files.
 use Rattle.std.proofs.Common.{◌≡◌, List, [], ◌∷◌, length, true}
 use Rattle.std.specs.List.{All, list_all}
 use Rattle.std.proofs.lemmas.Bool.{leb-true}

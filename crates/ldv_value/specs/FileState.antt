@@ -1,5 +1,5 @@
--- The files of a run and the paths that it touched: what opening, reading, appending, copying and removing
--- mean. Both lists are sorted by path.
+-- The files of a run and the paths that it touched, and how opening, reading, appending, copying and removing
+-- change them. Both lists are sorted by path.
 use Rattle.std.specs.Prelude.{ℕ, ◌+◌, ◌≤◌, min, List, [], ◌∷◌, ◌++◌, length, drop, find, Bool, true, false}
 use Rattle.std.specs.Prelude.{not, ◌&&◌, ◌==◌, nat_le, nat_lt, IsTrue, if◌then◌else◌, Option, Some, None}
 use Rattle.std.specs.Prelude.{is_some, option_map, unwrap_or, bytes_eq}

@@ -1,4 +1,4 @@
--- How a call that may run out of memory gives what a definition gives.
+-- Results of calls that may run out of memory, compared with a definition.
 use Rattle.std.specs.Prelude.{◌≡◌, Option, Some, Result, Ok, Err}
 
 -- The result is the value that the definition gives. `Fails` says what follows from an error: mostly that

@@ -1,4 +1,5 @@
--- Limits, in bytes where nothing else is said. `src/limits.rt` has constants of the same names.
+-- Limits. Those of inputs, files, texts, paths and names are in bytes. `src/limits.rt` has constants of the
+-- same names.
 use Rattle.std.specs.Prelude.{ℕ}
 
 -- an input, and a written package

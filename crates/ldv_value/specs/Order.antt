@@ -1,4 +1,4 @@
--- The total order of values, with its law, and comparisons in three-valued logic (as SQL has it).
+-- The total order of values, with its law, and comparisons in SQL's three-valued logic.
 use Rattle.std.specs.Prelude.{◌≡◌, List, Bool, true, false, not, refl}
 use Rattle.std.specs.declared.cmp.Ordering.{Ordering}
 use Rattle.std.specs.declared.cmp.Ordering.TheVariants.{Less, Equal, Greater}

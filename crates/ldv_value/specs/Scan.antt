@@ -1,4 +1,4 @@
--- Scanners: from bytes to tokens by a state, which a byte takes to the next state and perhaps to a token that
+-- Scanners, which turn bytes into tokens by a state. Each byte gives the next state, and perhaps a token that
 -- ends before the byte.
 use Rattle.std.specs.Prelude.{ℕ, List, [], ◌∷◌, ◌++◌, Option, Some, option_to_list}
 use Rattle.ldv_value.specs.Options.{◌>>=◌}

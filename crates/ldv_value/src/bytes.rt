@@ -1,4 +1,4 @@
-//! The calls of lists of bytes, beside those of every list.
+//! Calls that only lists of bytes have.
 
 ghost use Rattle.std.specs.Prelude.{◌≡◌, ◌++◌, OnOk, OnErr, IfOk};
 

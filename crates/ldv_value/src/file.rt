@@ -16,11 +16,11 @@ pub struct File {
     pub content: Bytes,
 }
 
-/// Files, sorted by path where a clause says so.
+/// Files. They are sorted by path if a clause says so.
 pub type Files = List<File>;
 
 impl Files {
-    /// The first file at a path.
+    /// The first file at a path; `None` if there is none.
     pub fn find(&self, path: &Utf8) -> Option<&File>
         ensures { option_map (λ file. file.now) result ≡ file_at path.now self.now }
     {

@@ -1,4 +1,4 @@
-//! References to items, as keys of sets and maps, without a copy.
+//! References to items, which serve as keys of sets and maps without a copy.
 
 ghost use Rattle.std.specs.Prelude.{◌≡◌, Some, refl};
 ghost use Rattle.std.specs.Cmp.{eq_by_cmp_equiv, partial_order_from_agreeing_total, partial_equiv_from_equiv};

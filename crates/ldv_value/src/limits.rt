@@ -1,5 +1,5 @@
-//! Limits that several crates share, in bytes where nothing else is said. Clauses cite those of the same
-//! names in `specs/Limits.antt`.
+//! Limits that several crates share. Those of inputs, files, texts, paths and names are in bytes. Clauses
+//! cite the definitions of the same names in `specs/Limits.antt`.
 
 /// An input, and a written package.
 pub const INPUT_LIMIT: usize = 67_108_864;
@@ -15,7 +15,7 @@ pub const PATH_LIMIT: usize = 255;
 pub const NAME_LIMIT: usize = 63;
 /// Steps of a run.
 pub const MAX_STEPS: u32 = 10_000_000;
-/// Steps of a run where no number is given.
+/// Steps of a run, if the caller gives no number.
 pub const DEFAULT_STEPS: u32 = 1_000_000;
 /// Processes of a run.
 pub const MAX_PROCESSES: usize = 65_535;

@@ -5,12 +5,13 @@ use crate::utf8::Utf8;
 /// What a read of a line returns.
 #[derive(Drop)]
 pub enum LineRead {
-    /// Nothing is left at the place, or there is no file.
+    /// The file has no byte at the place, or there is no file.
     End,
-    /// The line without its LF, and the place after the LF, or at the end where the line has none.
+    /// The line without its LF, and the place after the LF. If the line has no LF, the place is the file's
+    /// end.
     Line { text: Utf8, next: u32 },
     /// The line is longer than `TEXT_LIMIT`.
     TooLong,
-    /// The line isn't longer, and isn't UTF-8.
+    /// The line has at most `TEXT_LIMIT` bytes, but isn't UTF-8.
     NotText,
 }

@@ -101,7 +101,7 @@ impl<X> List<X> {
 }
 
 impl<X: Drop> List<X> {
-    /// The empty list, with room for a number of items: up to it `push` takes no memory.
+    /// The empty list, with memory for `count` items: `push` takes no more memory until it has that many.
     pub fn with_capacity(alloc: Global, count: usize) -> Result<Self, AllocError>
         ensures { IfOk result (λ made. made ≡ []) }
     {
@@ -119,7 +119,7 @@ impl<X: Drop> List<X> {
         Ok(())
     }
 
-    /// Appends the item, where there is one. On `AllocError` the list is as it was.
+    /// Appends the item, if there is one. On `AllocError` the list is as it was.
     pub fn push_some(&mut self, item: Option<X>) -> Result<(), AllocError>
         ensures ok { OnOk result (self.new ≡ self.old ++ option_to_list item) }
         ensures err { OnErr result (self.new ≡ self.old) }
@@ -130,7 +130,7 @@ impl<X: Drop> List<X> {
         Ok(())
     }
 
-    /// Replaces the item at an index.
+    /// Replaces the item at an index below the list's length, from 0.
     pub fn replace(&mut self, place: usize, item: X)
         requires { place < length self.old }
         ensures { self.new ≡ slice_set self.old place item }

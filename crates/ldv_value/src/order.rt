@@ -66,7 +66,7 @@ pub fn compare(a: &Value, b: &Value) -> Ordering
     a.cmp(b)
 }
 
-/// Whether two values are equal in the total order. NULL is the same as NULL.
+/// Whether two values are equal in the total order. NULL equals NULL.
 pub fn same(a: &Value, b: &Value) -> bool
     ensures same { IsTrue result ↔ (order a.now b.now ≡ Ordering.Equal) }
     ensures test { result ≡ is_eq (order a.now b.now) }
@@ -89,7 +89,7 @@ pub fn holds(op: Cmp, a: &Value, b: &Value) -> bool
     }
 }
 
-/// The truth of a comparison: unknown where a side is NULL. The sides aren't one number and one text.
+/// The truth of a comparison: unknown if a side is NULL. The caller never compares a number with a text.
 pub fn test(op: Cmp, a: &Value, b: &Value) -> Truth
     requires { IsTestable a.now b.now }
     ensures { result ≡ test_of op a.now b.now }

@@ -6,7 +6,7 @@ ghost use Rattle.ldv_value.specs.Names.{path_test, word_test, is_path_byte, is_w
 
 use crate::limits::{NAME_LIMIT, PATH_LIMIT};
 
-/// Whether a text is a path: 1 to `PATH_LIMIT` bytes, none below 32 and none 127.
+/// Whether a text is a path: 1 to `PATH_LIMIT` bytes, none of them below 32 or equal to 127.
 pub fn is_path(text: &str) -> bool
     ensures { result ≡ path_test text.now }
 {
@@ -25,8 +25,8 @@ fn path_byte(b: u8) -> bool
     32 <= b && b != 127
 }
 
-/// Whether a text is a lower-case word: 1 to `NAME_LIMIT` bytes, a letter from `a` to `z` or `_`, and then
-/// such letters, digits and `_`.
+/// Whether a text is a lower-case word of 1 to `NAME_LIMIT` bytes. The first is a letter from `a` to `z` or
+/// `_`, and the others are such letters, digits or `_`.
 pub fn is_word(text: &str) -> bool
     ensures { result ≡ word_test text.now }
 {

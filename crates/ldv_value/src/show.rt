@@ -19,7 +19,7 @@ pub fn append_number(number: u64, to: &mut Bytes) -> Result<(), AllocError>
     to.extend(buffer.format(number).as_bytes())
 }
 
-/// Appends a number in decimal, with `-` before one below 0. On `AllocError` nothing is appended.
+/// Appends a number in decimal, with `-` first if it is below 0. On `AllocError` nothing is appended.
 pub fn append_signed(number: i64, to: &mut Bytes) -> Result<(), AllocError>
     ensures ok { OnOk result (to.new ≡ to.old ++ signed_decimal number) }
     ensures err { OnErr result (to.new ≡ to.old) }

@@ -58,7 +58,7 @@ impl Utf8 {
         Utf8 { text }
     }
 
-    /// Bytes as a text, in their own memory; `None` where they aren't UTF-8.
+    /// Bytes as a text, in their own memory; `None` if they aren't UTF-8.
     #[tactic(auto, using(crate::proofs::Utf8Parts::text_rules))]
     pub fn of_utf8(bytes: Bytes) -> Option<Utf8>
         ensures { MatchOption result (text_of bytes ≡ None) (λ text. text_of bytes ≡ Some text) }
@@ -118,7 +118,7 @@ impl Utf8 {
         Utf8::of(*self.text.allocator(), self.text.as_str())
     }
 
-    /// Whether the text is the other one.
+    /// Whether the text is equal to another.
     pub fn is_text(&self, other: &str) -> bool
         ensures same { IsTrue result ↔ (self.now ≡ other.now) }
         ensures test { result ≡ pointwise nat_eq self.now other.now }

@@ -8,8 +8,7 @@ use crate::list::CopyItem;
 use crate::utf8::Utf8;
 use std::alloc::{AllocError, Global};
 
-/// A value of a table, a variable or a parameter. A text has at most `TEXT_LIMIT` bytes where a clause
-/// says so.
+/// A value of a table, a variable or a parameter. A text has at most `TEXT_LIMIT` bytes if a clause says so.
 #[derive(Drop)]
 pub enum Value {
     /// SQL's NULL: no value is known.
@@ -27,7 +26,7 @@ pub enum Truth {
     True,
     /// False.
     False,
-    /// Neither is known: a NULL was compared.
+    /// Unknown, since a NULL was compared.
     Unknown,
 }
 
@@ -49,7 +48,7 @@ pub enum Cmp {
 }
 
 impl Value {
-    /// A number, or NULL where there is none.
+    /// The number as a value, or NULL if there is none.
     pub fn of_number(number: Option<i64>) -> Value
         ensures { result ≡ int_value number }
     {
@@ -61,7 +60,7 @@ impl Value {
 }
 
 impl Truth {
-    /// True where a test holds, and else false.
+    /// True if a test holds, and false otherwise. It is never unknown.
     pub fn of_bool(test: bool) -> Truth
         ensures { result ≡ truth_of_bool test }
     {

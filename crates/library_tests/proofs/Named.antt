@@ -1,4 +1,4 @@
--- What is named stays named, whether memory runs out or not.
+-- Named things stay named, whether memory runs out or not.
 use Rattle.std.proofs.Common.{◌≡◌, sym, subst, ℕ, ◌<◌, List, length}
 use Rattle.std.specs.Prelude.{Result, Ok, Err, OnOk, OnErr}
 use Rattle.lineage.specs.Lineage.{Row, Lineage, with_version, IsUnion, IsNamed}

@@ -1,4 +1,4 @@
--- What is known of a store by the table that it lends.
+-- Facts about a store that the table that it lends shows.
 use Rattle.std.proofs.Common.{◌≡◌, ◌∙◌, ap, refl, sym, subst, ℕ, List, Option, Some, None, length}
 use Rattle.std.specs.Prelude.{IsSome, IfSome, ◌+◌, ◌/◌, unwrap_or}
 use Rattle.std.specs.Option.{option_map}

@@ -1,5 +1,5 @@
 //! The answer of a query with the rows of tables that each of its rows comes from, by the calls for the parts
-//! of a query. The engine tells no more than which rows all of them come from.
+//! of a query. The engine only tells the rows that all of them come from together.
 
 ghost use Rattle.std.specs.Prelude.{◌≡◌, IsTrue, is_some};
 ghost use Rattle.core_parts.specs.Checking.{HasCore, IsQuery, core_at};
@@ -271,9 +271,9 @@ fn answer_of(
     Ok(Some(query_answer(alloc, checked, store, keep, rejected)?))
 }
 
-/// The answer of a text over the tables of a store, and the rows of tables that LIMIT cuts; None where it is
-/// no query or a refused one. The rows in groups that HAVING rejects are added to a set. Where `keep` is
-/// false, no row of a table is told.
+/// The answer of a text over the tables of a store, and the rows of tables that LIMIT cuts; `None` if it is
+/// no query or a refused one. The rows in groups that HAVING rejects are added to a set. If `keep` is false,
+/// no row of a table is told.
 pub(crate) fn answer_to(
     alloc: Global,
     text: &str,

@@ -1,4 +1,4 @@
-//! Statements with what they are replied, one after the other.
+//! Statements with their replies, one after the other.
 
 ghost use Rattle.std.specs.Prelude.{◌≡◌, ◌<◌, ◌≤◌, IfOk, OnOk};
 
@@ -25,7 +25,7 @@ fn show_reply(alloc: Global, reply: &Reply) -> Result<String, AllocError> {
     }
 }
 
-/// Expects a text for what is named.
+/// Expects a text for the named thing.
 pub(crate) fn expect_text(rt: &impl Abort, name: &str, text: &str, want: &str) {
     assert!(rt; text == want, "{text} in place of {want} for {name}");
 }
@@ -75,7 +75,7 @@ fn expect_next<T: Tracer>(
     Ok(next)
 }
 
-/// Asks statements at the steps from 1, each of which has to get its reply.
+/// Asks statements at the steps from 1, and expects the reply of each.
 pub(crate) fn ask_all<T: Tracer>(
     rt: &impl Abort,
     alloc: Global,

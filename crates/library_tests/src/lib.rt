@@ -1,13 +1,13 @@
-//! Tests of the libraries up to the engine, of what neither a proof nor a case of bytes shows.
+//! Tests of the libraries up to the engine, for facts that neither a proof nor a case of bytes shows.
 //!
 //! They cover that calls succeed if memory is left, values from outside for definitions that no command
-//! reaches, streams that fail, which rows each row of an answer comes from, and tables through time. What
-//! bytes can show belongs into the cases of `conformance`. `run_tests` has the tests of runs, packages and
-//! the program. Neither crate has any code but tests, so that no library is proved twice for its tests; they
-//! are two so that this one is proved while the upper libraries are.
+//! reaches, streams that fail, the rows that each row of an answer comes from, and tables through time. Tests
+//! by bytes belong into the cases of `conformance`. `run_tests` has the tests of runs, packages and the
+//! program. Both crates have only tests, so no library is proved twice for its tests; they are two crates, so
+//! this one is proved while the upper libraries are.
 //!
 //! Statements are over one table t with the columns k INT NOT NULL, g TEXT and v INT, the key k and a few
-//! rows (`rows.rt`). What they give was worked out by hand.
+//! rows (`rows.rt`). Their results were worked out by hand.
 #![tactic(auto)]
 
 #[cfg(test)]

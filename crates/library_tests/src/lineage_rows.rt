@@ -1,5 +1,5 @@
-//! Lists of rows by hand: what `add` and `union` leave, and what a set has that takes a list in. In a run
-//! with `--fail-alloc` a list or a set that can't grow is as it was.
+//! Lists of rows by hand: the results of `add` and `union`, and a set that takes a list in. In a run with
+//! `--fail-alloc` a list or a set that can't grow is as it was.
 
 ghost use Rattle.std.specs.Prelude.{◌<◌, length, IfOk};
 ghost use Rattle.std.specs.List.Sorted.{IsStrictlySortedBy};

@@ -1,5 +1,5 @@
-//! Which rows of t each row of an answer comes from, and which are behind none. Bytes show them together
-//! alone, as what the statement needed. All was worked out by hand.
+//! The rows of t that each row of an answer comes from, and those that no row comes from. Bytes only show all
+//! of them together, as the needs of the statement. All was worked out by hand.
 
 ghost use Rattle.std.specs.Prelude.{◌≡◌};
 

@@ -1,4 +1,4 @@
-//! What statements over the table t need and make, as a tracer is told: rows at the versions that they have
+//! The rows that statements over the table t need and make, as a tracer gets them: rows at their versions
 //! after earlier changes. All was worked out by hand.
 
 ghost use Rattle.std.specs.Prelude.{◌≡◌};

@@ -1,5 +1,5 @@
-//! The set of processes that may run, by hand: what is in it, and which one comes next. In a run with
-//! `--fail-alloc` a set whose room can't grow is as it was.
+//! The set of processes that may run, by hand: its members, and the next one. In a run with `--fail-alloc` a
+//! set that can't grow is as it was.
 
 use ready_set::ReadySet;
 use std::alloc::{AllocError, Global};

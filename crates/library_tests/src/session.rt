@@ -1,4 +1,4 @@
-//! An engine that is asked statement by statement.
+//! An engine that answers statement by statement.
 
 ghost use Rattle.std.specs.Prelude.{◌≡◌, ◌<◌, ◌≤◌, IfOk, OnOk};
 
@@ -10,7 +10,7 @@ use sql_model::{Reply, Tables};
 use std::alloc::{AllocError, Global};
 use std::process::Abort;
 
-/// The engine over tables, of which no row was changed yet.
+/// The engine over tables before any change.
 pub(crate) fn engine_of(
     rt: &impl Abort,
     alloc: Global,

@@ -1,5 +1,5 @@
-//! Sets by hand: what `add` and `union` leave, as `members` lists it. In a run with `--fail-alloc` a set
-//! whose union fails is as it was.
+//! Sets by hand: the results of `add` and `union`, as `members` lists them. In a run with `--fail-alloc` a
+//! set whose union fails is as it was.
 
 ghost use Rattle.std.specs.Prelude.{◌≡◌, ◌<◌, length, IfOk};
 ghost use Rattle.std.specs.List.Sorted.{IsStrictlySortedBy};

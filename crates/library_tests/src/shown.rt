@@ -1,5 +1,5 @@
-//! Answers as texts, each of their rows with the rows of t that it comes from, and then those that are behind
-//! none of them: `'a' 30 from 0 1; NULL 5 from 2; rejected 3; cut 4`.
+//! Answers as texts: each row with the rows of t that it comes from, and then the rows of t that none comes
+//! from: `'a' 30 from 0 1; NULL 5 from 2; rejected 3; cut 4`.
 
 use ldv_value::{Utf8, Value, Values};
 use lineage::{Answer, LineageRows, LineageSet};

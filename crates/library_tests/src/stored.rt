@@ -41,7 +41,7 @@ pub(crate) fn tables(alloc: Global) -> Result<Tables, AllocError> {
     Ok(tables)
 }
 
-/// Ends the test where the tables are no database, or two columns of one have one name.
+/// Ends the test if the tables are no database, or two columns of one table have the same name.
 pub(crate) fn expect_database(
     rt: &impl Abort,
     alloc: Global,

@@ -1,5 +1,5 @@
-//! Versions, keys and slots of the tables of an engine after changes, by the calls of its store. What these
-//! give was worked out by hand.
+//! Versions, keys and slots of the tables of an engine after changes, by the calls of its store. The expected
+//! values were worked out by hand.
 
 ghost use Rattle.std.specs.Prelude.{◌≡◌, ◌+◌, ◌/◌, ◌<◌, IfOk, IfSome, IsSome, IsTrue, Some, false, length};
 ghost use Rattle.std.specs.Prelude.{slice_get};

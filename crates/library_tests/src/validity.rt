@@ -14,7 +14,7 @@ use sql_model::{
 };
 use std::alloc::{AllocError, Global};
 
-/// Whether there is one table, it is valid, and no foreign key is without its parent.
+/// Whether there is one table, it is valid, and each foreign key has its parent.
 #[tactic(auto, using(crate::proofs::OneTable::one_database))]
 pub(crate) fn is_one_table(alloc: Global, tables: &[Table]) -> Result<bool, AllocError>
     ensures { IfOk result (λ holds. IsTrue holds → is_database tables.now ≡ true) }
@@ -34,7 +34,7 @@ fn are_with_parents(tables: &[Table]) -> bool
     have_parents(tables)
 }
 
-/// Whether there is one table, and no two of its columns have one name.
+/// Whether there is one table, and no two of its columns have the same name.
 pub(crate) fn have_distinct_columns(alloc: Global, tables: &[Table]) -> Result<bool, AllocError>
     ensures { IfOk result (λ holds. IsTrue holds → have_distinct_columns tables.now ≡ true) }
 {

@@ -1,4 +1,4 @@
--- Laws of lineage, for layers that reason by its definitions.
+-- Laws of lineage, for the crates above that use its definitions.
 use Rattle.std.proofs.Common.{◌≡◌, ◌∙◌, sym, ap, refl, ℕ, ◌<◌, List, length, ◌||◌, Bool, true, false, cond, Option, Some, None, is_some, inl, inr}
 use Rattle.std.specs.Option.{option_or}
 use Rattle.std.specs.declared.cmp.Ordering.TheVariants.{Less, Equal, Greater}

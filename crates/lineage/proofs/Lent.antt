@@ -1,4 +1,4 @@
--- Words that a set lends.
+-- Words that are borrowed from a set.
 use Rattle.std.proofs.Common.{◌≡◌, ◌∙◌, sym, ap, subst, ℕ, ◌+◌, ◌*◌, ◌/◌, ◌%◌, ◌<◌, inl, inr, true, false, List, length, Option, Some, None, is_some, arith, Bor}
 use Rattle.std.specs.Prelude.{MatchOption, IfSome}
 use Rattle.std.specs.BTreeMap as tree

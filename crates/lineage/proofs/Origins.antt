@@ -1,5 +1,5 @@
--- Sets that stand for lineages: the empty one, an addition and a union; of one lineage there is one set, whatever the
--- order of its rows.
+-- Sets that stand for lineages: the empty one, an addition and a union. Each lineage has one set, whatever
+-- the order of its rows.
 use Rattle.std.proofs.Common.{◌≡◌, ◌≢◌, ◌∙◌, sym, ap, subst, refl, ℕ, ◌<◌, List, [], ◌∷◌, ◌++◌, length, ◌&&◌, ◌||◌, ◌==◌, Bool, true, false, cond, Option, Some, None, is_some, inl, inr, arith}
 use Rattle.std.specs.Prelude.{nat_lt, if◌then◌else◌, IsTrue}
 use Rattle.std.specs.Option.{option_or}

@@ -1,7 +1,7 @@
--- How picked combinations and answers stand for lists of answer rows.
+-- When picked combinations and answers stand for lists of answer rows.
 --
--- Values are equal, and a lineage stands for that of its row as a set. Where no lineage is kept, it stands
--- for that of no row.
+-- Their values are equal, and a lineage stands for the lineage of its row as a set. If no lineage is kept, it
+-- stands for the empty one.
 use Rattle.std.specs.Prelude.{◌≡◌, ℕ, List, [], ◌∷◌, Bool, true, false}
 use Rattle.ldv_value.specs.declared.value.Value.{Value}
 use Rattle.lineage.specs.Lineage.{Lineage, union_of}

@@ -1,4 +1,4 @@
--- How a set of rows at versions stands for a lineage, which is a list of rows of tables by their names.
+-- When a set of rows at versions stands for a lineage, which is a list of rows of tables by their names.
 use Rattle.std.specs.Prelude.{◌≡◌, ℕ, List, length, ◌&&◌, nat_lt, if◌then◌else◌, Option, Some, None}
 use Rattle.lineage.specs.Lineage.{Row, Lineage, version_at, name_at}
 use Rattle.sql_model.specs.QueryAnswer.{Origin}

@@ -8,7 +8,7 @@ use crate::lineage_rows::LineageRows;
 use ldv_value::{List, Values};
 use std::alloc::{AllocError, Global};
 
-/// A picked combination: the values of the joined row, in FROM order, and the rows that it joins. Where no
+/// A picked combination: the values of the joined row, in FROM order, and the rows that it joins. If no
 /// lineage is kept, the lineage is empty.
 #[derive(Drop)]
 pub struct Pick {
@@ -16,7 +16,7 @@ pub struct Pick {
     pub lineage: LineageRows,
 }
 
-/// A row of an answer: its values, and the rows that it comes from. Where no lineage is kept, the lineage is
+/// A row of an answer: its values, and the rows that it comes from. If no lineage is kept, the lineage is
 /// empty.
 #[derive(Drop)]
 pub struct Answer {
@@ -25,7 +25,7 @@ pub struct Answer {
 }
 
 impl Answer {
-    /// Adds the lineage of another answer of the same values. On `AllocError` the answer is as it was.
+    /// Adds the lineage of another answer with the same values. On `AllocError` the answer is as it was.
     pub fn unite(&mut self, other: &Answer) -> Result<(), AllocError>
         ensures ok { OnOk result (self.new ≡ with_more self.old other.now) }
         ensures err { OnErr result (self.new ≡ self.old) }

@@ -21,10 +21,10 @@ pub(crate) struct Block {
     pub(crate) versions: Versions,
 }
 
-/// Blocks by their table and their number.
+/// Blocks by the place of their table and by their number.
 pub(crate) type Blocks = BTreeMap<(u32, u32), Block>;
 
-/// The words of a block.
+/// The number of words of a block.
 const BLOCK_WORDS: usize = 1024;
 
 /// The table and the block of a row.
@@ -77,7 +77,7 @@ fn set_bit(words: &mut [u64], number: usize)
     words[number / 64] |= 1 << (number % 64);
 }
 
-/// Makes room for the version of a row. Version 0 takes none.
+/// Reserves memory for the version of a row. Version 0 takes none.
 #[tactic(auto, using(crate::proofs::BlockLaws::room_here))]
 pub(crate) fn make_room(
     alloc: Global,
@@ -95,7 +95,7 @@ pub(crate) fn make_room(
     make_places(alloc, &mut block.versions, n, n + 1)
 }
 
-/// Makes room for the versions of all rows of another block.
+/// Reserves memory for the versions of all rows of another block.
 #[tactic(auto, using(crate::proofs::BlockLaws::room_like, crate::proofs::BlockLaws::room_of_none))]
 pub(crate) fn make_room_like(
     alloc: Global,
@@ -192,7 +192,7 @@ pub(crate) fn unite_in(block: &mut Block, other: &Block)
     or_into(&mut block.words, &other.words);
 }
 
-/// The words themselves, where there is a member among them.
+/// The words, if they have a member; `None` if they have none.
 pub(crate) fn with_member(words: &[u64]) -> Option<&[u64]>
     requires { length words.now < 2 ^ 57 }
     ensures none { MatchOption result ((n : ℕ) → member words.now n ≡ false)

@@ -1,4 +1,4 @@
-//! Rows in a list, or as a set.
+//! Rows that are stored as a list or as a set.
 
 ghost use Rattle.std.specs.Prelude.{◌≡◌, ◌++◌, ◌∷◌, [], IfOk, OnOk, OnErr};
 ghost use Rattle.std.specs.FinMap as finmap;
@@ -9,15 +9,15 @@ use crate::blocks::Row;
 use crate::set::LineageSet;
 use std::alloc::{AllocError, Global};
 
-/// Rows with their versions: a few in a list, of which the first of a row tells its version, or many as a
-/// set.
+/// Rows with their versions: a few in a list, or many as a set. If a row is in the list several times, its
+/// first entry has its version.
 #[derive(Drop)]
 pub(crate) enum Held {
     Few(Vec<(Row, u32)>),
     Many(LineageSet),
 }
 
-/// The most rows of a list: 196,608 bytes, which is what the words of 1,572,864 rows take.
+/// The most entries of a list. They take 196,608 bytes, as many as the words for 1,572,864 rows.
 const MOST: usize = 16_384;
 
 fn push_row(rows: &mut Vec<(Row, u32)>, row: Row, version: u32) -> Result<(), AllocError>

@@ -1,7 +1,7 @@
 //! Lineage: the rows of tables that an answer row comes from, each at one version. The evaluators of queries
 //! pass each other `Picks` and `Answers`.
 //!
-//! A `LineageSet` is a bitmap in blocks (`blocks`, and those of all tables in `table_blocks`), with the
+//! A `LineageSet` is a bitmap in blocks (`blocks`, and `table_blocks` for those of all tables), with the
 //! versions above 0 beside it (`versions`). The `LineageRows` of one row are a list while they are few
 //! (`held`).
 //!

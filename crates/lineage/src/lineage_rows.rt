@@ -9,9 +9,9 @@ use crate::held::{Held, add_to, unite_with};
 use std::alloc::{AllocError, Global};
 use std::marker::Model;
 
-/// Rows of tables, each at one version, as in a `LineageSet`. A few take twelve bytes each, where a set takes
-/// a block of words for each 65,536 rows that it touches: so each of many picks or answer rows has its own.
-/// More than 16,384 that come together lie as in a set.
+/// Rows of tables, each at one version, as in a `LineageSet`. A few rows take twelve bytes each, while a set
+/// takes a block of words for each 65,536 rows that it touches. So many picks or answer rows can each have
+/// their own. If there are more than 16,384, they are stored as a set.
 #[derive(Drop)]
 pub struct LineageRows {
     alloc: Global,
@@ -40,8 +40,8 @@ impl LineageRows {
         }
     }
 
-    /// Adds a row of a table at a version. A row that is there keeps its version. On `AllocError` the rows
-    /// are as they were.
+    /// Adds a row of a table at a version. A row that is already in keeps its version. On `AllocError` the
+    /// rows are as they were.
     pub fn add(&mut self, table: u32, row: u32, version: u32) -> Result<(), AllocError>
         ensures ok { OnOk result (self.new ≡ with_version self.old (table, row) version) }
         ensures err { OnErr result (self.new ≡ self.old) }
@@ -58,7 +58,7 @@ impl LineageRows {
         unite_with(self.alloc, &mut self.held, &other.held)
     }
 
-    /// The rows, as they are held.
+    /// The rows, as they are stored.
     pub(crate) fn held_rows(&self) -> &Held
         ensures { self.now ≡ rows_held result.now }
     {

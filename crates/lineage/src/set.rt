@@ -25,8 +25,8 @@ use std::marker::Model;
 /// Rows of tables, each at one version. A table is given by its place, from 0, among the names of all
 /// tables.
 ///
-/// The rows lie as bits in blocks of words, with the versions above 0 beside them. A block without a row is
-/// kept only where memory was out before it was filled.
+/// The rows are bits in blocks of words, with the versions above 0 beside them. A block has no row only if
+/// memory ran out before it was filled.
 #[derive(Drop)]
 pub struct LineageSet {
     alloc: Global,
@@ -117,9 +117,9 @@ impl LineageSet {
         list_blocks(self.alloc, names, &self.blocks)
     }
 
-    /// The rows of a table from 65,536 * `block` on as 1,024 words: bit i of word j is set exactly where the
-    /// row 65,536 * `block` + 64 * j + i is in the set. `None` exactly where none of these rows is. It takes
-    /// no memory.
+    /// The rows of a table from 65,536 * `block` on as 1,024 words: bit i of word j is set exactly if the row
+    /// 65,536 * `block` + 64 * j + i is in the set. `None` exactly if none of these rows is. It takes no
+    /// memory.
     pub fn block(&self, table: u32, block: u32) -> Option<&[u64]>
         ensures none { MatchOption result (HasNone self.now table block)
             (λ _. ¬ HasNone self.now table block) }

@@ -61,7 +61,7 @@ fn make_room_there(
     }
 }
 
-/// Makes room for a row. No row changes, also on `AllocError`.
+/// Reserves memory for a row. No row changes, also on `AllocError`.
 #[tactic(auto, using(crate::proofs::RoomLaws::roomier_still))]
 pub(crate) fn make_row_room(
     alloc: Global,
@@ -78,7 +78,7 @@ pub(crate) fn make_row_room(
     }
 }
 
-/// Makes room for the rows of a list. No row changes, also on `AllocError`.
+/// Reserves memory for the rows of a list. No row changes, also on `AllocError`.
 pub(crate) fn make_rows_room(
     alloc: Global,
     blocks: &mut Blocks,
@@ -118,7 +118,7 @@ fn put_row(blocks: &mut Blocks, row: Row, version: u32)
     }
 }
 
-/// Adds a row for which there is room. One that is there keeps its version.
+/// Adds a row. `make_row_room` has reserved the memory. A row that is already in keeps its version.
 #[tactic(auto, using(crate::proofs::RoomLaws::all_stays))]
 pub(crate) fn add_row(blocks: &mut Blocks, row: Row, version: u32)
     requires kept { AreKept blocks.old }
@@ -134,7 +134,7 @@ pub(crate) fn add_row(blocks: &mut Blocks, row: Row, version: u32)
     put_row(blocks, row, version);
 }
 
-/// Adds the rows of a list, for all of which there is room.
+/// Adds the rows of a list. `make_rows_room` has reserved the memory.
 pub(crate) fn add_rows(blocks: &mut Blocks, rows: &[(Row, u32)])
     requires kept { AreKept blocks.old }
     requires room { AllRoom blocks.old rows.now }
@@ -205,7 +205,7 @@ fn make_room_at(
     }
 }
 
-/// Makes room for the rows of other blocks. No row changes, also on `AllocError`.
+/// Reserves memory for the rows of other blocks. No row changes, also on `AllocError`.
 pub(crate) fn make_blocks_room(
     alloc: Global,
     blocks: &mut Blocks,
@@ -262,8 +262,8 @@ fn unite_at(blocks: &mut Blocks, others: &Blocks, place: (u32, u32))
     }
 }
 
-/// Adds the rows of other blocks, for all of which there is room. A row that is in both keeps the version
-/// that it has here.
+/// Adds the rows of other blocks. `make_blocks_room` has reserved the memory. A row that is in both keeps the
+/// version that it has here.
 pub(crate) fn unite(blocks: &mut Blocks, others: &Blocks)
     requires kept { AreKept blocks.old }
     requires also_kept { AreKept others.now }

@@ -6,8 +6,7 @@ ghost use Rattle.lineage.specs.Blocks.{version_of, HasPlace};
 use ldv_value::List;
 use std::alloc::{AllocError, Global};
 
-/// The versions of rows from one on, up to the last that isn't 0: four bytes a row between these. All others
-/// are 0.
+/// The versions of rows from `first` on, four bytes each. All other rows have version 0.
 #[derive(Drop)]
 pub(crate) struct Versions {
     pub(crate) first: u32,
@@ -67,8 +66,8 @@ fn make_room_below(alloc: Global, versions: &mut Versions) -> Result<(), AllocEr
     Ok(())
 }
 
-/// Makes room for the versions of the rows up to one, from the first that is noted on. No version changes,
-/// also on `AllocError`.
+/// Reserves memory for the versions of the rows from `first` up to `end`. No version changes, also on
+/// `AllocError`.
 pub(crate) fn grow(versions: &mut Versions, end: usize) -> Result<(), AllocError>
     requires { versions.old.first ≤ end }
     ensures same { (m : ℕ) → version_of versions.new m ≡ version_of versions.old m }
@@ -109,7 +108,8 @@ fn reach(alloc: Global, versions: &mut Versions, n: usize) -> Result<(), AllocEr
     reach_down(alloc, versions, n)
 }
 
-/// Makes room for the versions of the rows from one up to another. No version changes, also on `AllocError`.
+/// Reserves memory for the versions of the rows from `from` up to `end`. No version changes, also on
+/// `AllocError`.
 pub(crate) fn make_places(
     alloc: Global,
     versions: &mut Versions,
@@ -128,7 +128,7 @@ pub(crate) fn make_places(
     }
 }
 
-/// Notes the version of a row.
+/// Stores the version of a row.
 #[tactic(auto, using(crate::proofs::VersionLaws::noted))]
 pub(crate) fn set_version(versions: &mut Versions, n: usize, version: u32)
     requires { HasPlace versions.old n }

@@ -1,4 +1,5 @@
--- What is spelled is read, whatever follows it, and what is read was spelled so: for each way in which a field is made of smaller ones.
+-- What is spelled is read, whatever follows it, and what is read was spelled so. Each way to make a field
+-- from smaller fields keeps this.
 use Rattle.std.proofs.Common.{◌≡◌, ℕ, suc, ◌+◌, ◌^◌, ◌<◌, Bool, true, false, cond, List, [], ◌∷◌, ◌++◌, length, get_or, take, drop, Option, Some, None, refl, sym, ap, subst, ◌∙◌, append_assoc, arith, inl, inr, ◌&&◌}
 use Rattle.std.specs.List.{list_all, AllByRecursion}
 use Rattle.std.proofs.lemmas.Bool.{cases_lt}

@@ -1,4 +1,4 @@
--- The events of runs are of their types and have room where the runs have, and the other way round: runs as a field of a package.
+-- Runs as a field of a package: their events fit their types and their fields if and only if the runs do.
 use Rattle.std.proofs.Common.{◌≡◌, ℕ, zero, suc, ◌+◌, ◌-◌, ◌*◌, ◌^◌, ◌<◌, ◌≤◌, Bool, true, false, cond, not, List, [], ◌∷◌, ◌++◌, length, map, Some, None, refl, sym, ap, subst, ◌∙◌, append_assoc, arith, inl, inr, ◌&&◌, suc-mul}
 use Rattle.std.specs.Prelude.{◌==◌, nat_le}
 use Rattle.std.specs.List.{flat_map, list_all, AllByRecursion}

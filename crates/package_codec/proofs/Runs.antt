@@ -1,4 +1,5 @@
--- Events are cut into runs in one way: the runs of events stand for these events, and the runs that stand for them are these, exactly where none could be longer.
+-- Events are cut into runs in one way: the runs of events represent these events, and no other runs do if
+-- none of them could be longer.
 use Rattle.std.proofs.Common.{◌≡◌, ℕ, zero, suc, ◌+◌, ◌-◌, ◌*◌, ◌^◌, ◌<◌, ◌≤◌, Bool, true, false, cond, not, List, [], ◌∷◌, ◌++◌, length, map, refl, sym, ap, ◌∙◌, append_assoc, arith, inl, inr, ◌⊎◌, ◌&&◌, ◌||◌, suc-mul, zero-mul}
 use Rattle.std.specs.Prelude.{◌==◌, nat_le, nat_lt, bytes_eq}
 use Rattle.std.specs.List.{list_all, AllByRecursion}

@@ -1,4 +1,4 @@
--- Tables that two packages share, whose rows have no reasons: what every one in memory meets, its bytes, and
+-- Tables that two packages share; their rows have no reasons. Facts about each one in memory, its bytes, and
 -- how it is read.
 use Rattle.std.specs.Prelude.{ℕ, List, ◌++◌, length, Some}
 use Rattle.std.specs.Int.{w32, to_be_bytes}

@@ -1,7 +1,7 @@
--- Counts of four bytes that fit their fields: the lengths of texts, and of lists that may be long. A package
--- in which one doesn't fit is too long to be written, and has no spelling. Whether a package is valid
--- (`package_layout/specs/Valid.antt`) doesn't rest on these counts, but on those of one and two bytes
--- (`specs/Room.antt`).
+-- Counts of four bytes that fit their fields: the lengths of texts, and of lists that may be long. If one
+-- doesn't fit, the package is too long to be written. The validity of a package
+-- (`package_layout/specs/Valid.antt`) depends on the counts of one and two bytes (`specs/Room.antt`), and
+-- never on these.
 use Rattle.std.specs.Prelude.{ℕ, ◌<◌, ◌^◌, List, length, Option, Some, None}
 use Rattle.std.specs.List.{AllByRecursion}
 use Rattle.ldv_value.specs.declared.value.Value.{Value}

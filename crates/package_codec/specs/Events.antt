@@ -1,4 +1,4 @@
--- The bytes of an event, what its values meet in memory, what the format has room for, and how it is read.
+-- The bytes of an event, facts about its values in memory, the limits of its fields, and how it is read.
 use Rattle.std.specs.Prelude.{ℕ, zero, suc, List, ◌∷◌, ◌++◌, Bool, true, false, ◌&&◌, Option, Some, None}
 use Rattle.std.specs.List.{list_all}
 use Rattle.std.specs.Int.{w8, w16, w32, to_be_bytes}

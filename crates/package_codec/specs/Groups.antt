@@ -1,4 +1,4 @@
--- Rows of a statement, grouped by their table: neighbours of one table make a group.
+-- Rows of a statement, grouped by their table: neighbouring rows of one table make a group.
 use Rattle.std.specs.Prelude.{ℕ, List, [], ◌∷◌, ◌++◌, length, map, Bool, true, not, ◌&&◌, ◌==◌, if◌then◌else◌}
 use Rattle.std.specs.Prelude.{Option, Some, None, bytes_eq}
 use Rattle.std.specs.List.{flat_map, AllByRecursion}

@@ -1,4 +1,4 @@
--- What an event writes of a row that a statement read, and of one that it made.
+-- The parts of read rows and of made rows that an event writes.
 use Rattle.std.specs.Prelude.{ℕ, List, ◌++◌, Some}
 use Rattle.std.specs.Int.{w8, w32, to_be_bytes}
 use Rattle.sql_model.specs.declared.need.Member.{Member}

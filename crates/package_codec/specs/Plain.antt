@@ -1,4 +1,4 @@
--- What version 1 has: no foreign key, and nothing that comes of one.
+-- Packages that version 1 can write: they have no foreign key, and no rule or refusal of one.
 use Rattle.std.specs.Prelude.{length, ◌==◌, Bool, true, false, ◌&&◌}
 use Rattle.std.specs.List.{list_all}
 use Rattle.sql_model.specs.declared.need.Need.{Need}

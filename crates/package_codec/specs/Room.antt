@@ -1,5 +1,5 @@
--- What the fields of the format have room for: counts of one and two bytes within their fields, and in each
--- row of a table one value for each column. Counts of four bytes are in `specs/Counts.antt`.
+-- The limits of the fields of the format: counts of one and two bytes fit their fields, and each row of a
+-- table has one value for each column. Counts of four bytes are in `specs/Counts.antt`.
 use Rattle.std.specs.Prelude.{ℕ, ◌^◌, List, length, Bool, true, ◌&&◌, ◌==◌, nat_lt}
 use Rattle.std.specs.List.{list_all}
 use Rattle.sql_model.specs.declared.reply.SqlRefusal.{SqlRefusal}

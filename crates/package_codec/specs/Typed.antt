@@ -1,4 +1,4 @@
--- What every value of the program's types meets: the definitions of run_model.
+-- Facts about every value of the program's types: the definitions of `run_model`.
 pub use Rattle.run_model.specs.TypedPackage.{IsU32, TypedValue, TypedValues, TypedFile, TypedColumn, TypedRow}
 pub use Rattle.run_model.specs.TypedPackage.{TypedForeign, TypedSchema}
 pub use Rattle.run_model.specs.TypedPackage.{TypedTable}

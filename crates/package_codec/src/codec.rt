@@ -17,10 +17,10 @@ pub trait Encode: Drop {
     /// The bytes of an item.
     ghost spelling: { Self → List ℕ };
 
-    /// What each item in memory meets: its numbers are those of their types, its texts are UTF-8.
+    /// A fact about each item in memory: its numbers fit their types, its texts are UTF-8.
     ghost typed: { Self → Type 0 };
 
-    /// Appends the bytes of the item.
+    /// Appends the bytes of the item. After an `AllocError` a part of them may be appended.
     fn encode(&self, to: &mut Bytes) -> Result<(), AllocError>
         ensures bytes { OnOk result (to.new ≡ to.old ++ spelling self.now) }
         ensures typed { OnOk result (typed self.now) };
@@ -28,10 +28,10 @@ pub trait Encode: Drop {
 
 /// An item that is read from the front of bytes.
 pub trait Decode: Drop {
-    /// The item at the front of bytes.
+    /// The item at the front of bytes, and the bytes after it.
     ghost reading: { List ℕ → DecodeResult Self };
 
-    /// Reads an item.
+    /// Reads an item, and moves the cursor behind it. `Malformed`: the bytes begin with no such item.
     fn decode(alloc: Global, cursor: &mut Cursor) -> Result<Self, DecodeError>
         ensures { Decodes result cursor.new (reading cursor.old) };
 }
@@ -47,7 +47,7 @@ pub(crate) fn encode_items<X: Encode>(items: &Listed<X>, to: &mut Bytes) -> Resu
     Ok(())
 }
 
-/// Appends a list: the number of its items and the items.
+/// Appends a list: the number of its items, in a field of this width, and the items.
 pub fn encode_list<X: Encode>(
     width: Width,
     items: &Listed<X>,
@@ -60,8 +60,8 @@ pub fn encode_list<X: Encode>(
     encode_items(items, to)
 }
 
-/// Reads a list with the number of its items before it. Beyond a few items the list grows with those that are
-/// read, so a false count can't make it allocate.
+/// Reads a list with the number of its items, of this width, before it. Beyond a few items the list grows as
+/// items are read, so a false count can't make it allocate. `Malformed`: the bytes begin with no such list.
 pub fn decode_list<X: Decode>(
     alloc: Global,
     width: Width,

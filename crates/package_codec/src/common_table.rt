@@ -1,4 +1,4 @@
-//! Tables that two packages share: as version 2 has them, but their rows have no reasons.
+//! Tables that two packages share: they are as in version 2, but their rows have no reasons.
 
 use crate::codec::{Decode, Encode, decode_items, encode_items, encode_list};
 use crate::cursor::Cursor;

@@ -30,14 +30,14 @@ impl<'a> Cursor<'a> {
         Cursor { bytes, at: 0 }
     }
 
-    /// Whether none is left.
+    /// Whether no byte is left.
     pub fn is_empty(&self) -> bool
         ensures { result ≡ (length self.now == 0) }
     {
         self.bytes.len() - self.at == 0
     }
 
-    /// The given number of next bytes, where so many are left.
+    /// The next `count` bytes, which the cursor passes. `None` if fewer are left; the cursor stays then.
     pub fn next(&mut self, count: usize) -> Option<&'a [u8]>
         ensures { MatchOption result (bytes_at count self.old ≡ None)
             (λ front. bytes_at count self.old ≡ Some (front.now, self.new)) }

@@ -1,4 +1,4 @@
-//! A trace that is written event by event, read as runs: its events are joined as they come.
+//! Reads a trace that is written event by event into runs, and joins its events as they come.
 
 ghost use Rattle.std.specs.Prelude.{◌≡◌, ◌+◌, ◌<◌, ◌≤◌, ◌^◌, ◌∷◌, [], List as Items, Some, IfOk};
 ghost use Rattle.run_model.specs.declared.event.Event.{Event};
@@ -18,14 +18,15 @@ use ldv_value::List;
 use run_model::Event;
 use std::alloc::{AllocError, Global};
 
-/// A trace that is being cut: the runs that are over, and the one that has begun.
+/// A trace that is being cut: the complete runs, and the run that has begun.
 #[derive(Drop)]
 pub(crate) struct Cut {
     done: EventRuns,
     begun: Option<Begun>,
 }
 
-/// Reads the events of a trace, as their runs.
+/// Reads a trace that is written event by event, as the runs of its events. `Malformed`: the bytes begin with
+/// no such trace.
 pub fn decode_cut(alloc: Global, cursor: &mut Cursor) -> Result<EventRuns, DecodeError>
     ensures { Decodes result cursor.new (cut_at One cursor.old) }
 {

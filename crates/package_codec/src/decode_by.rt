@@ -1,5 +1,5 @@
-//! Items that are read by more than their bytes: rows by the number of their table's columns, tables by the
-//! version.
+//! Items whose reading depends on more than their bytes: rows are read by the number of their table's
+//! columns, tables by the version.
 
 ghost use Rattle.std.specs.Prelude.{◌≡◌, ℕ, List, length};
 ghost use Rattle.std.specs.Int.{w32};
@@ -14,7 +14,7 @@ use ldv_value::List as Listed;
 use sql_model::Columns;
 use std::alloc::Global;
 
-/// An item that is read from the front of bytes, by something that is known before.
+/// An item that is read from the front of bytes, if `by` is known.
 pub(crate) trait DecodeBy<C>: Drop {
     /// The item at the front of bytes.
     ghost reading: { C → List ℕ → DecodeResult Self };

@@ -1,4 +1,4 @@
-//! What an event writes of a row, and rows that are grouped by their table.
+//! The part of a row that an event writes, and rows grouped by their table.
 
 use crate::codec::{Decode, Encode};
 use crate::cursor::Cursor;

@@ -16,9 +16,9 @@ use std::alloc::{AllocError, Global};
 #[derive(Drop)]
 pub struct EventRun {
     pub first: Event,
-    /// How many events it stands for, the first counted.
+    /// How many events it represents, the first one counted; at least 1.
     pub count: u32,
-    /// The steps from each event to the next; 0 where there is but one event.
+    /// The steps from each event to the next; 0 if it has only one event.
     pub stride: u32,
 }
 
@@ -63,7 +63,7 @@ impl Decode for EventRun {
     }
 }
 
-/// Whether an event goes on with a run that has begun, whose last event has the step `last`.
+/// Whether an event continues a run. The run has begun, and its last event has the step `last`.
 pub(crate) fn joins(first: &Event, count: usize, stride: u32, last: u32, event: &Event) -> bool
     ensures { result ≡ joins (record {
       run = record { first = first.now; count = count; stride = stride };

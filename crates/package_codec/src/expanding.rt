@@ -12,8 +12,8 @@ use ldv_value::{CopyItem, List};
 use run_model::{Event, Events, Package};
 use std::alloc::{AllocError, Global};
 
-/// The package with all events that its runs stand for, which may be far larger than the bytes that it was
-/// read from.
+/// The package with all events that its runs represent. It may be far larger than the bytes that it was read
+/// from. `AllocError` means out of memory only.
 #[tactic(auto, using(crate::proofs::Runs::are_all_runs))]
 pub fn expanded_package(alloc: Global, package: CompactPackage) -> Result<Package, AllocError>
     requires { are_runs «package».runs ≡ true }
@@ -25,8 +25,8 @@ pub fn expanded_package(alloc: Global, package: CompactPackage) -> Result<Packag
     Ok(whole)
 }
 
-/// All events that runs stand for. Room for them is made at once, where there are no more than a package may
-/// have.
+/// All events that runs represent. If a package may have so many, memory for them is taken at once.
+/// `AllocError` means out of memory only.
 pub fn events_in(alloc: Global, runs: EventRuns) -> Result<Events, AllocError>
     requires { list_all is_run runs ≡ true }
     ensures { IfOk result (λ events. events ≡ events_in runs) }

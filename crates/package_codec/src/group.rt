@@ -1,4 +1,4 @@
-//! Rows of a statement, which the format groups by their table.
+//! Rows of a statement, grouped by their table in the format.
 
 ghost use Rattle.std.specs.Prelude.{◌≡◌, ◌++◌, [], IfOk, OnOk, ℕ, List};
 ghost use Rattle.std.specs.List.{flat_map, AllByRecursion};
@@ -17,7 +17,7 @@ use ldv_value::{Bytes, List as Listed, Utf8};
 use sql_model::is_sql_name;
 use std::alloc::{AllocError, Global};
 
-/// A row that belongs to a table, and what the format writes of it after the table's name.
+/// A row of a table, with the part of it that the format writes after the table's name.
 pub(crate) trait GroupedRow<P>: Drop {
     ghost table_of: { Self → List ℕ };
 
@@ -29,11 +29,11 @@ pub(crate) trait GroupedRow<P>: Drop {
     fn table(&self) -> &Utf8
         ensures { result.now ≡ table_of self.now };
 
-    /// What the format writes of it after the table's name.
+    /// The part of it that the format writes after the table's name.
     fn payload(&self) -> P
         ensures { result ≡ part_of self.now };
 
-    /// The row of a table of which the format has this.
+    /// The row with this table and this part.
     fn of_group(table: Utf8, part: P) -> Self
         ensures { result ≡ place table part };
 }

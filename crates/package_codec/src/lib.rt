@@ -1,9 +1,9 @@
 //! The parts of a package as bytes: values, files, tables, logs, events and runs of events.
 //!
-//! Each part has three definitions: its bytes, what the format has room for, and how it is read from the
-//! front of bytes. `proofs/` shows that what was written is read back, whatever follows, and that what was
-//! read has these bytes. A trace of either version is read into runs of equal events, and judged by the
-//! first and the last event of each.
+//! Each part has three definitions: its bytes, the limits of its fields, and how it is read from the front of
+//! bytes. `proofs/` shows that a written part is read back, whatever follows it, and that a part that is read
+//! has the bytes of its spelling. A trace of either version is read into runs of equal events, and judged by
+//! the first and the last event of each run.
 //!
 //! Entry: `encode_list` and `decode_list` in `src/codec.rt`. Read first: `specs/Fields.antt`.
 #![tactic(auto)]

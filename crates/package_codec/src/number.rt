@@ -11,7 +11,7 @@ use crate::width::Width;
 use ldv_value::Bytes;
 use std::alloc::AllocError;
 
-/// A number of one byte.
+/// Reads a number of one byte. `Malformed`: no byte is left.
 pub fn decode_u8(cursor: &mut Cursor) -> Result<u8, DecodeError>
     ensures { Decodes result cursor.new (number_at w8 cursor.old) }
 {
@@ -21,7 +21,7 @@ pub fn decode_u8(cursor: &mut Cursor) -> Result<u8, DecodeError>
     }
 }
 
-/// A number of two bytes.
+/// Reads a number of two bytes.
 pub(crate) fn decode_u16(cursor: &mut Cursor) -> Result<u16, DecodeError>
     ensures { Decodes result cursor.new (number_at w16 cursor.old) }
 {
@@ -31,7 +31,7 @@ pub(crate) fn decode_u16(cursor: &mut Cursor) -> Result<u16, DecodeError>
     }
 }
 
-/// A number of four bytes.
+/// Reads a number of four bytes. `Malformed`: fewer are left.
 pub fn decode_u32(cursor: &mut Cursor) -> Result<u32, DecodeError>
     ensures { Decodes result cursor.new (number_at w32 cursor.old) }
 {
@@ -41,7 +41,7 @@ pub fn decode_u32(cursor: &mut Cursor) -> Result<u32, DecodeError>
     }
 }
 
-/// A number of eight bytes.
+/// Reads a number of eight bytes. `Malformed`: fewer are left.
 pub fn decode_u64(cursor: &mut Cursor) -> Result<u64, DecodeError>
     ensures { Decodes result cursor.new (number_at w64 cursor.old) }
 {
@@ -51,7 +51,7 @@ pub fn decode_u64(cursor: &mut Cursor) -> Result<u64, DecodeError>
     }
 }
 
-/// A signed number in two's complement.
+/// Reads a signed number in two's complement.
 pub(crate) fn decode_i64(cursor: &mut Cursor) -> Result<i64, DecodeError>
     ensures { Decodes result cursor.new (signed_at cursor.old) }
 {
@@ -86,7 +86,7 @@ pub(crate) fn encode_i64(number: i64, to: &mut Bytes) -> Result<(), AllocError>
     to.extend(&number.to_be_bytes())
 }
 
-/// A count of the given width.
+/// Reads a count of the given width.
 pub(crate) fn decode_count(width: Width, cursor: &mut Cursor) -> Result<u32, DecodeError>
     ensures { Decodes result cursor.new (number_at (of_count width) cursor.old) }
 {
@@ -97,8 +97,8 @@ pub(crate) fn decode_count(width: Width, cursor: &mut Cursor) -> Result<u32, Dec
     }
 }
 
-/// Appends a count in a field of the given width. Where it is too large for the field, its last bytes are
-/// written. In a valid package only one of four bytes can be, and such a package is too long.
+/// Appends a count in a field of the given width. If it is too large for the field, its last bytes are
+/// written. In a valid package only a count of four bytes can be too large, and then the package is too long.
 pub(crate) fn encode_count(width: Width, count: usize, to: &mut Bytes) -> Result<(), AllocError>
     ensures { OnOk result (to.new ≡ to.old ++ to_be_bytes (of_count width) count) }
 {

@@ -1,5 +1,4 @@
-//! Whether a version has all that is in a package. Version 1 has no foreign keys, and nothing that comes of
-//! them.
+//! Whether a version can write all of a package. Version 1 has no foreign keys, and no rules of them.
 
 ghost use Rattle.std.specs.Prelude.{◌≡◌, true};
 ghost use Rattle.std.specs.List.{list_all};
@@ -15,7 +14,7 @@ use crate::version::Version;
 use run_model::{Act, Entry, Log, PackedRow, PackedTable};
 use sql_model::{Need, Reply, Rule, SqlRefusal};
 
-/// Whether a version has all that is in a package. It takes no memory.
+/// Whether a version can write all of a package. It takes no memory.
 pub fn fits_version(version: Version, package: &CompactPackage) -> bool
     requires { are_runs «package».now.runs ≡ true }
     ensures { result ≡ fits_version version (expanded_package «package».now) }

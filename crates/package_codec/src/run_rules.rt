@@ -11,7 +11,7 @@ use crate::same_act::is_asked;
 // The most events of a run: its start, and two for each of at most 10,000,000 steps.
 const MAX_EVENTS: u32 = 20_000_001;
 
-/// Whether these are the longest runs of a trace, and of no more events than one may have.
+/// Whether these are the longest runs of a trace, with no more events than a trace may have.
 pub fn are_runs(runs: &[EventRun]) -> bool
     ensures { result ≡ are_runs runs.now }
 {
@@ -27,7 +27,7 @@ fn are_few(runs: &[EventRun]) -> bool
     }
 }
 
-/// How many events runs stand for, where they are no more than a trace may have.
+/// How many events runs represent; `None` if they are more than a trace may have.
 pub(crate) fn count_events(runs: &[EventRun]) -> Option<u32>
     ensures { result ≡ (if nat_le (total runs.now) max_events then Some (total runs.now) else None) }
 {

@@ -140,7 +140,8 @@ pub fn encode_reason(statement: u32, rule: Rule, to: &mut Bytes) -> Result<(), A
     encode_u8(number_of_rule(rule), to)
 }
 
-/// Reads why a row is there.
+/// Reads why a row is there: the first statement that needed it, and the rule. `Malformed`: the bytes begin
+/// with no such reason.
 pub fn decode_reason(cursor: &mut Cursor) -> Result<(u32, Rule), DecodeError>
     ensures { Decodes result cursor.new (reason_at cursor.old) }
 {
@@ -354,7 +355,8 @@ fn encode_each_table(
     Ok(())
 }
 
-/// Reads tables. The list grows with the tables that are read.
+/// Reads tables. The list grows with the tables that are read. `Malformed`: the bytes begin with no such
+/// list.
 pub fn decode_tables(
     alloc: Global,
     version: Version,

@@ -12,7 +12,7 @@ use crate::width::Width;
 use ldv_value::{Bytes, Utf8};
 use std::alloc::{AllocError, Global};
 
-/// Bytes with their length before them.
+/// Reads bytes with their length before them.
 pub(crate) fn decode_sized(alloc: Global, cursor: &mut Cursor) -> Result<Bytes, DecodeError>
     ensures { Decodes result cursor.new (sized_at cursor.old) }
 {
@@ -23,7 +23,8 @@ pub(crate) fn decode_sized(alloc: Global, cursor: &mut Cursor) -> Result<Bytes, 
     }
 }
 
-/// A text: the number of its bytes and the bytes, which have to be UTF-8.
+/// Reads a text: the number of its bytes and the bytes. `Malformed`: too few bytes are left, or they aren't
+/// UTF-8.
 pub fn decode_text(alloc: Global, cursor: &mut Cursor) -> Result<Utf8, DecodeError>
     ensures { Decodes result cursor.new (text_at cursor.old) }
 {

@@ -20,8 +20,8 @@ use ldv_value::{Names, Utf8, is_path, is_strictly_sorted};
 use run_model::{Act, Event};
 use sql_model::{Members, Needs, is_sql_name};
 
-/// How far the events have come: how many processes are made and how many statements were asked, and the
-/// step of the last event.
+/// How far the events have come: the numbers of processes made and of statements asked, and the step of the
+/// last event.
 #[derive(Clone, Copy, Drop)]
 pub(crate) struct Progress {
     made: u32,
@@ -29,8 +29,8 @@ pub(crate) struct Progress {
     step: u32,
 }
 
-/// Whether the events that these runs stand for are the trace of an execution that starts with a path and
-/// takes the given number of steps.
+/// Whether the events of these runs are a valid trace. Its run starts with the script at `path` and takes
+/// `steps` steps.
 pub fn is_trace(path: &Utf8, steps: u32, runs: &[EventRun]) -> bool
     requires { list_all is_run runs.now ≡ true }
     ensures { result ≡ trace_test path.now steps (events_in runs.now) }
@@ -206,7 +206,7 @@ fn asked_after(asked: u64, one_more: bool) -> u64
     if one_more { asked + 1 } else { asked }
 }
 
-/// How many statements were asked by the events that runs stand for.
+/// How many statements the events of these runs ask.
 pub fn asked_count(runs: &[EventRun]) -> u64
     requires { list_all is_run runs.now ≡ true }
     ensures { result ≡ asked_count (events_in runs.now) }

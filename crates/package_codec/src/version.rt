@@ -3,7 +3,7 @@
 ghost use Rattle.std.specs.Prelude.{◌≡◌, ◌↔◌, Some, None, take};
 ghost use Rattle.package_codec.specs.Version.{HasMagic, has_magic, magic, version_of};
 
-/// How many bytes a magic has.
+/// The number of bytes of a magic.
 pub const MAGIC_LENGTH: usize = 8;
 
 /// A version of the format. Both are read, and packages are written in the second.
@@ -15,8 +15,8 @@ pub enum Version {
     Two,
 }
 
-/// The version of a package, by its first eight bytes. `None` exactly where they are no version's magic,
-/// also where there are fewer. It takes no memory.
+/// The version of a package, by its first eight bytes. `None` if and only if they are no version's magic, or
+/// there are fewer. It takes no memory.
 pub fn version_of(bytes: &[u8]) -> Option<Version>
     ensures exact { (version : Version) → ((result ≡ Some version) ↔ HasMagic version bytes.now) }
     ensures none { (result ≡ None) ↔ ((version : Version) → ¬ HasMagic version bytes.now) }
@@ -38,7 +38,7 @@ fn version_in(bytes: &[u8]) -> Option<Version>
     }
 }
 
-/// What a package of a version begins with.
+/// The magic that begins a package of a version.
 pub fn magic(version: Version) -> &'static [u8]
     ensures { result.now ≡ magic version }
 {
@@ -54,7 +54,7 @@ fn has_magic(version: Version, bytes: &[u8]) -> bool
     first_eight(bytes) == magic(version)
 }
 
-/// The first eight bytes, the magic of a format, or all where there are fewer.
+/// The first eight bytes, the magic of a format, or all bytes if there are fewer.
 pub fn first_eight(bytes: &[u8]) -> &[u8]
     ensures { result.now ≡ take 8 bytes.now }
 {

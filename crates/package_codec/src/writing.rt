@@ -14,7 +14,7 @@ use ldv_value::Bytes;
 use run_model::Event;
 use std::alloc::AllocError;
 
-/// Appends the spelling of a trace: the number of its runs, and the runs. No event is copied.
+/// Appends the spelling of a trace in version 2: the number of its runs, and the runs. No event is copied.
 pub fn encode_trace(events: &[Event], to: &mut Bytes) -> Result<(), AllocError>
     ensures bytes { OnOk result (to.new ≡ to.old ++ runs_spelling events.now) }
     ensures typed { OnOk result (AllByRecursion TypedEvent events.now) }

@@ -1,4 +1,4 @@
--- What is read with traces as runs has no events beside them.
+-- A joined package that is read with its traces as runs has no events beside them.
 use Rattle.std.proofs.Common.{◌≡◌, ℕ, Bool, cond, List, [], length, Option, Some, None, refl, subst, ◌∙◌, ◌&&◌}
 use Rattle.std.specs.Prelude.{◌==◌, bytes_eq}
 use Rattle.std.specs.Int.{w32, w64}

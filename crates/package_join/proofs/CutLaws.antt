@@ -1,4 +1,4 @@
--- A joined package that is read with its traces as runs is the one that is read.
+-- Reading with the traces as runs gives the same joined package as reading with its events.
 use Rattle.std.proofs.Common.{◌≡◌, ℕ, Bool, true, false, cond, List, length, Option, Some, None, Result, Ok, Err, refl, sym, ap, subst, ◌∙◌, ◌&&◌}
 use Rattle.std.specs.Prelude.{◌==◌, bytes_eq, IfOk}
 use Rattle.std.specs.Option.{option_map}

@@ -1,4 +1,4 @@
--- The tables of a package, one rule after the other; and its own tables have the parents that it has.
+-- The rules for the tables of a package, one after the other; and the own tables have the same parents.
 use Rattle.std.proofs.Common.{◌≡◌, List, map, ap, ◌∙◌, Bool, true}
 use Rattle.std.specs.Prelude.{◌&&◌}
 use Rattle.std.specs.List.{list_all}

@@ -1,4 +1,4 @@
--- A run that needs a row of a table needs the table, where its world has it: no statement takes a table away, and
+-- A run that needs a row needs the row's table, if its world has it: no statement takes a table away, and
 -- each asks the tables of the rows that it needs.
 use Rattle.std.proofs.Common.{◌≡◌, ℕ, zero, suc, ◌+◌, List, [], ◌∷◌, ◌++◌, sym, ap, ◌∙◌, subst, Bool, true, false, inl, inr}
 use Rattle.std.specs.Prelude.{Option, Some, None, map, ◌==◌, is_some, slice_get}

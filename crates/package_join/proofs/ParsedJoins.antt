@@ -1,5 +1,5 @@
--- What is read with the scripts of its runs: it is the joined package that is read, and the worlds of its runs start
--- with them.
+-- Reading with the scripts of the runs gives the same joined package, and the worlds of its runs start with
+-- these scripts.
 use Rattle.std.proofs.Common.{◌≡◌, ℕ, Bool, true, false, List, Option, Some, None, is_some, Result, Ok, Err, refl, sym, ap, subst, ◌∙◌, ◌&&◌}
 use Rattle.std.specs.Prelude.{bytes_eq, if◌then◌else◌, option_map, IfOk}
 use Rattle.ldv_value.proofs.Options.{bind-some, same-some}

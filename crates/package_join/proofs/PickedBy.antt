@@ -1,4 +1,4 @@
--- What is picked by sets of names and a map of reasons is what the lists of a run pick out.
+-- Sets of names and a map of reasons pick the same as the lists of a run.
 use Rattle.std.proofs.Common.{◌≡◌, ℕ, List, [], ◌∷◌, refl, sym, ◌∙◌, Bool, true, false, inl, inr, ◌||◌}
 use Rattle.std.specs.Prelude.{Option, map, filter, find, bytes_eq, option_map}
 use Rattle.std.specs.List.{filter_map, cons_option, list_any}

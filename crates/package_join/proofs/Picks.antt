@@ -1,4 +1,4 @@
--- Both packages are picked again out of what they are joined to.
+-- Both packages are picked again out of their joined package.
 use Rattle.std.proofs.Common.{◌≡◌, ℕ, List, [], ◌∷◌, refl, sym, ap, ◌∙◌, subst, true, false, inl, inr}
 use Rattle.std.specs.Prelude.{Option, Some, None, Ok, map, nat_lt, not, ◌&&◌}
 use Rattle.std.specs.List.{list_all, filter_map}

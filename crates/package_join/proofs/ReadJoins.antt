@@ -1,4 +1,4 @@
--- What reading says of the bytes of a joined package.
+-- The results of reading the bytes of a joined package.
 use Rattle.std.proofs.Common.{◌≡◌, ℕ, ◌-◌, ◌≤◌, Bool, true, false, cond, List, ◌++◌, length, take, Option, Some, None, Result, Ok, Err, refl, sym, ap, subst, ◌∙◌, arith, ◌&&◌}
 use Rattle.std.specs.Prelude.{bytes_eq, IfOk, IfSome, ◌↔◌}
 use Rattle.std.specs.Option.{option_map}

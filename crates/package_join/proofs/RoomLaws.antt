@@ -1,4 +1,4 @@
--- The format has room for the package of a run where it has room for what was joined.
+-- The package of a run fits the fields of the format if the joined package does.
 use Rattle.std.proofs.Common.{◌≡◌, ℕ, suc, ◌≤◌, ◌^◌, Bool, true, false, cond, List, [], ◌∷◌, map, length, Option, Some, None, refl, arith, ◌&&◌}
 use Rattle.std.specs.Prelude.{filter, find, option_map}
 use Rattle.std.specs.List.{list_all, filter_map, cons_option}

@@ -1,4 +1,4 @@
--- What is joined of two packages in memory has numbers of their types and texts of UTF-8, as these have.
+-- If two packages have numbers that fit their types and texts of UTF-8, so has their joined package.
 use Rattle.std.proofs.Common.{ℕ, List, [], ◌∷◌, map, Option, Some, None, refl, sym, subst, inl, inr}
 use Rattle.std.specs.List.{flat_map, cons_option, AllByRecursion}
 use Rattle.std.specs.Ordering.{nat_cmp}

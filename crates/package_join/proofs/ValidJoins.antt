@@ -1,4 +1,4 @@
--- What two valid included packages are joined to is valid.
+-- Joining two valid included packages gives a valid joined package.
 use Rattle.std.proofs.Common.{◌≡◌, refl, sym, ap, ◌∙◌, subst, true, length, ◌&&◌}
 use Rattle.std.specs.Prelude.{Option, Some, None, Result, Ok, Err, IfOk, ◌==◌, nat_le}
 use Rattle.std.proofs.lemmas.Bool.{and_parts, eqb-true}

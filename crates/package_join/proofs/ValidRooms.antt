@@ -1,4 +1,4 @@
--- The format has room for each valid joined package: it is what two packages are joined to.
+-- Each valid joined package fits the fields of the format, since joining two packages gives it.
 use Rattle.std.proofs.Common.{◌≡◌, ℕ, suc, ◌+◌, ◌≤◌, ◌^◌, true, List, [], ◌∷◌, map, length, Option, Some, None, Ok, refl, sym, ap, ◌∙◌, arith, inl, inr, ◌&&◌}
 use Rattle.std.specs.Prelude.{nat_le, nat_lt}
 use Rattle.std.specs.List.{list_all}

@@ -1,4 +1,4 @@
--- Valid joined packages whose traces are kept as runs, and what a call that reads one returns: no list of
+-- Valid joined packages whose traces are kept as runs, and the result of a call that reads one: no list of
 -- events is made.
 use Rattle.std.specs.Prelude.{◌≡◌, ℕ, List, ◌&&◌, bytes_eq, Option, Some, None}
 use Rattle.std.specs.Prelude.{Result, Ok, Err, if◌then◌else◌}

@@ -1,4 +1,4 @@
--- All bytes of a joined package, of which the digest is the last part.
+-- All bytes of a joined package; the digest comes last.
 use Rattle.std.specs.Prelude.{ℕ, List, ◌++◌, codes}
 use Rattle.sha2.specs.Sha256.{sha256}
 use Rattle.joined_data.specs.declared.joined.Joined.{Joined}

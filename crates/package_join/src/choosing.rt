@@ -1,4 +1,4 @@
-//! The package of a run, picked out of what was joined.
+//! The package of a run, picked out of a joined package.
 
 ghost use Rattle.std.specs.Prelude.{◌≡◌, ◌++◌, ℕ, List as Items, [], IfOk, OnOk, map, filter};
 ghost use Rattle.std.specs.List.{filter_map};
@@ -17,7 +17,8 @@ use slicer::{
 use sql_model::Tables;
 use std::alloc::{AllocError, Global};
 
-/// The package of a run: the files, tables and rows that it needs, each row with its reason.
+/// The package of a run: the files, tables and rows that it needs, each row with its reason. `AllocError`
+/// means out of memory only.
 pub fn run_of(alloc: Global, joined: &Joined, which: Which) -> Result<Package, AllocError>
     ensures { IfOk result (λ p. p ≡ run_package which joined.now) }
 {
@@ -27,7 +28,7 @@ pub fn run_of(alloc: Global, joined: &Joined, which: Which) -> Result<Package, A
     }
 }
 
-/// What the lists of a run pick out of files and tables.
+/// The package that the lists of a run pick out of files and tables.
 pub(crate) fn picked_package(
     alloc: Global,
     run: &JoinedRun,

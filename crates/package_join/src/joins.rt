@@ -1,4 +1,4 @@
-//! Two packages, joined.
+//! Joining two packages.
 
 ghost use Rattle.std.specs.Prelude.{◌≡◌, IfOk};
 ghost use Rattle.package_codec.specs.CompactPackages.{expanded_package};
@@ -16,7 +16,7 @@ use package_codec::CompactPackage;
 use run_model::Package;
 use std::alloc::Global;
 
-/// What two valid included packages are joined to. A clash is the first by `clash_of` of
+/// Joins two valid included packages. `Clash`: they differ, and the clash is the first one by `clash_of` of
 /// `specs/Joined.antt` of `joined_data`. Both are copied: `join_owned` copies neither.
 pub fn join(alloc: Global, a: &Package, b: &Package) -> Result<Joined, JoinStop>
     requires first { IsValidPackage a.now }
@@ -31,8 +31,8 @@ pub fn join(alloc: Global, a: &Package, b: &Package) -> Result<Joined, JoinStop>
     join_owned(alloc, first, second)
 }
 
-/// The same of packages whose traces are kept as runs, which are those of their events. No list of events is
-/// made: it takes memory by the files, tables, rows and runs of both, and none by the number of events.
+/// The same for packages whose traces are kept as the runs of their events. No list of events is made: the
+/// memory grows with the files, tables, rows and runs of both, and never with the number of events.
 pub fn join_compact(
     alloc: Global,
     a: CompactPackage,

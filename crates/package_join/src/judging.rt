@@ -1,4 +1,5 @@
-//! Whether what was read is what the packages of its two runs are joined to. No list of events is made.
+//! Whether joining the packages of its two runs gives the joined package that was read. No list of events is
+//! made.
 
 ghost use Rattle.std.specs.Prelude.{◌≡◌, IfOk};
 ghost use Rattle.std.specs.List.{AllByRecursion};
@@ -136,8 +137,9 @@ fn joined_by_parts(alloc: Global, bytes: &[u8]) -> Result<ParsedJoined, DecodeEr
     if_spelling_is(alloc, bytes, anew)
 }
 
-/// The valid joined package whose sections these bytes are, with the scripts of its runs. What its runs pick
-/// out is joined anew, and has to be spelled by the same bytes: so no list of it has to be looked at.
+/// The valid joined package whose sections these bytes are, with the first scripts of its runs. The packages
+/// of its runs are joined anew, and must be spelled by the same bytes: so no list of it needs a test of its
+/// own.
 pub(crate) fn parsed_joined_in(alloc: Global, bytes: &[u8]) -> Result<ParsedJoined, DecodeError>
     ensures cuts { Makes (cut_of result) (compact_joined_in bytes.now) }
     ensures parsed { IfOk result StartRuns }

@@ -1,5 +1,5 @@
-//! Two runs in one package: the files and tables of two included packages, each stored once, and what each
-//! run needs of them.
+//! Two runs in one package: the files and tables of two included packages, each stored once, and the needs of
+//! each run.
 //!
 //! Entry: `join` in `src/joins.rt`. Read first: `specs/Joined.antt` of `joined_data`.
 #![tactic(auto)]

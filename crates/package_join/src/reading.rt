@@ -18,12 +18,12 @@ use package_codec::{DecodeError, events_in, first_eight};
 use package_layout::{DamageKind, PackageStop, has_digest, middle};
 use std::alloc::{AllocError, Global};
 
-/// The valid joined package that bytes spell. They are `Damaged` where there is none: by `Magic` where they
-/// begin otherwise, else by `Digest` where they are too short for a digest or end with another one, else by
-/// `Form`.
+/// The valid joined package that bytes spell. If there is none they are `Damaged`: by `Magic` if they begin
+/// with another magic, else by `Digest` if they are too short for a digest or end with another one, else by
+/// `Form`. `NoMemory` may come in place of any answer.
 ///
-/// Lists of its events are made last, once all else is judged. They may be far larger than the bytes: where
-/// no events are wanted, take `read_parsed_joined`.
+/// The lists of its events are made last, after all tests. They may be far larger than the bytes: if no
+/// events are needed, take `read_parsed_joined`.
 pub fn read_joined(alloc: Global, bytes: &[u8]) -> Result<Joined, PackageStop>
     ensures found { IfOk result (IsJoinedRead bytes.now) }
     ensures magic { (result ≡ Err (PackageStop.Damaged DamageKind.Magic))
@@ -38,9 +38,8 @@ pub fn read_joined(alloc: Global, bytes: &[u8]) -> Result<Joined, PackageStop>
     answer(alloc, bytes)
 }
 
-/// The same joined package, with its traces kept as runs and with the scripts that the worlds of its runs
-/// start with. It takes memory by the bytes that are read, and none by the number of events. The answers are
-/// those of `read_joined`.
+/// The same joined package, with its traces kept as runs and with the first scripts of its runs. The memory
+/// grows with the bytes, and never with the number of events. The errors are those of `read_joined`.
 pub fn read_parsed_joined(alloc: Global, bytes: &[u8]) -> Result<ParsedJoined, PackageStop>
     ensures found { IfOk result (λ p. IsJoinedRead bytes.now (whole_join p.cut)) }
     // The numbers of its tables are those of their types.

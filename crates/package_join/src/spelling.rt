@@ -12,15 +12,15 @@ use ldv_value::Bytes;
 use package_layout::{SpellStop, append_digest};
 use std::alloc::{AllocError, Global};
 
-/// What a joined package begins with.
+/// The magic that begins a joined package.
 pub(crate) fn joined_magic() -> &'static [u8]
     ensures { result.now ≡ joined_magic }
 {
     b"LDVJOIN1"
 }
 
-/// The one spelling of a joined package. `TooLong` exactly where it has more than 67,108,864 bytes, its
-/// digest counted.
+/// The one spelling of a joined package. `TooLong` if and only if it has more than 67,108,864 bytes, its
+/// digest counted; `NoMemory` may come in place of either answer.
 pub fn spell_joined(alloc: Global, joined: &Joined) -> Result<Bytes, SpellStop>
     ensures bytes { IfOk result (λ bytes. bytes ≡ joined_spelling joined.now) }
     ensures within { IfOk result (λ bytes. length bytes ≤ input_limit) }
@@ -32,7 +32,8 @@ pub fn spell_joined(alloc: Global, joined: &Joined) -> Result<Bytes, SpellStop>
     append_digest(body)
 }
 
-/// The same of one whose traces are kept as runs, which are those of their events. No list of events is made.
+/// The same for a joined package whose traces are kept as the runs of their events. No list of events is
+/// made.
 pub fn spell_compact_joined(alloc: Global, joined: &CompactJoined) -> Result<Bytes, SpellStop>
     requires first { IsCut joined.now.first.runs }
     requires second { IsCut joined.now.second.runs }

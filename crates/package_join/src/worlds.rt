@@ -17,7 +17,8 @@ use slicer::{NameSet, has_name};
 use sql_model::Tables;
 use std::alloc::{AllocError, Global};
 
-/// The world of a run. A file that only the other run needs present isn't in it.
+/// The world of a run. A file that only the other run needs present isn't in it. `AllocError` means out of
+/// memory only.
 pub fn joined_world(alloc: Global, joined: &Joined, which: Which) -> Result<World, AllocError>
     ensures { IfOk result (λ world. world ≡ joined_world which joined.now) }
 {
@@ -39,9 +40,9 @@ fn world_of(alloc: Global, run: &JoinedRun, joined: &Joined) -> Result<World, Al
     })
 }
 
-/// The world of a run of a joined package that was read with its scripts, with the one that it starts with.
-/// It is in the joined package's own memory: no file and no row is copied. A file that only the other run
-/// needs present isn't in it.
+/// The world of a run with its first script, for a joined package that was read with its scripts. It takes
+/// the joined package's own memory: no file and no row is copied. A file that only the other run needs
+/// present isn't in it.
 pub fn joined_parsed_world(
     alloc: Global,
     joined: ParsedJoined,

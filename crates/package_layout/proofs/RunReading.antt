@@ -1,4 +1,4 @@
--- A package that is read with its trace as runs is the one that is read.
+-- Reading with the trace as runs gives the same package as reading with its events.
 use Rattle.std.proofs.Common.{◌≡◌, ℕ, ◌-◌, Bool, true, false, cond, List, [], length, Option, Some, None, refl, sym, ap, subst, ◌∙◌, ◌&&◌}
 use Rattle.std.specs.Prelude.{◌==◌, nat_le, Ok, Err}
 use Rattle.std.specs.List.{list_all, AllByRecursion}

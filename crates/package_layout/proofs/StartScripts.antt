@@ -1,4 +1,4 @@
--- The script of a valid package: where there is one, and that its own world starts with it.
+-- The first script of a package: when there is one, and that its own world starts with it.
 use Rattle.std.proofs.Common.{◌≡◌, ℕ, List, [], ◌∷◌, length, map, find, Bool, true, false, if◌then◌else◌, Option, Some, None, is_some, refl, sym, ap, ◌∙◌}
 use Rattle.std.specs.Prelude.{◌&&◌, nat_le, bytes_eq, option_map, Result, Ok, Err, IfOk}
 use Rattle.ldv_value.proofs.Booleans.{and-true, and-false, and-parts}

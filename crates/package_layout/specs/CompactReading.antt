@@ -1,4 +1,4 @@
--- How packages are read whose traces are kept as runs: no list of events is made.
+-- Reading a package with its trace kept as runs: no list of events is made.
 use Rattle.std.specs.Prelude.{ℕ, List, length, Bool, ◌&&◌, ◌==◌, Option, Some, None, if◌then◌else◌}
 use Rattle.package_codec.specs.declared.compact_package.CompactPackage.{CompactPackage}
 use Rattle.package_codec.specs.CompactPackages.{expanded_package, cut_at}

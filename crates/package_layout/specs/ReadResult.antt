@@ -1,4 +1,4 @@
--- What reading a package returns.
+-- The result of reading a package.
 use Rattle.std.specs.Prelude.{◌≡◌, ℕ, List, Option, Some, None, Result, Ok, Err, if◌then◌else◌}
 use Rattle.run_model.specs.declared.package.Package.{Package}
 use Rattle.package_layout.specs.declared.damage.DamageKind.{DamageKind}

@@ -1,4 +1,4 @@
--- The script that a valid package starts with, and packages that are read with it.
+-- The first script of a valid package, and packages that are read with it.
 use Rattle.std.specs.Prelude.{◌≡◌, ℕ, List, [], ◌∷◌, length, find, nat_le, bytes_eq, if◌then◌else◌}
 use Rattle.std.specs.Prelude.{Option, Some, None, Result, Ok, Err}
 use Rattle.ldv_value.specs.Limits.{file_limit}

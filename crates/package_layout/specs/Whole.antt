@@ -1,4 +1,4 @@
--- The bytes of a package of each version, of which the digest is the last part.
+-- The bytes of a package of each version; the digest comes last.
 use Rattle.std.specs.Prelude.{ℕ, zero, suc, List, [], ◌++◌, length, Bool, ◌&&◌, ◌==◌, Option, Some}
 use Rattle.std.specs.Prelude.{None, if◌then◌else◌}
 use Rattle.std.specs.List.{list_all}

@@ -9,7 +9,7 @@ use package_codec::MAGIC_LENGTH;
 use sha2::{Digest, Sha256};
 use std::alloc::AllocError;
 
-/// How many bytes a digest has.
+/// The number of bytes of a digest.
 pub const DIGEST_LENGTH: usize = 32;
 
 /// How many bytes a magic and a digest have, which begin and end every package.
@@ -25,7 +25,7 @@ pub(crate) fn with_digest(body: Bytes) -> Result<Bytes, AllocError>
     Ok(bytes)
 }
 
-/// Whether bytes are long enough for a magic and a digest, and end with the digest of those before.
+/// Whether bytes are long enough for a magic and a digest, and end with the digest of the bytes before it.
 pub fn has_digest(bytes: &[u8]) -> bool
     ensures { result ≡ has_digest bytes.now }
 {

@@ -10,10 +10,10 @@ ghost use Rattle.package_codec.specs.declared.version.Version.{Version};
 ghost use Rattle.package_codec.specs.declared.version.Version.TheVariants.{One, Two};
 ghost use Rattle.package_layout.specs.Whole.{IsTyped, spelling_as};
 
-/// The law of the layout, over all packages that memory can hold. Of each version: two valid packages with
-/// one spelling are equal where the version has their tables, and the spelling of a valid one is read as that
-/// package, however long it is, where the version has what is in it and its counts of four bytes fit their
-/// fields. They do where it isn't too long. No bytes are a spelling of both versions.
+/// The law of the layout, over all packages that memory can hold. For each version, two valid packages with
+/// the same spelling are equal if the version can write their tables. The spelling of a valid package is read
+/// as that package, however long it is, if the version can write it and its counts of four bytes fit their
+/// fields. They fit if the spelling isn't too long. No bytes are a spelling of both versions.
 pub fn round_trip_law()
     ensures unique { (version : Version) (p q : Package) → IsTyped p
         → IsTyped q → IsValidPackage p → IsValidPackage q →

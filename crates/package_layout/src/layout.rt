@@ -24,7 +24,7 @@ use run_model::Package;
 use script_parse::Script;
 use std::alloc::{AllocError, Global};
 
-/// Why a package isn't spelled.
+/// Why a package has no bytes.
 #[derive(Clone, Copy, Debug, PartialEq, Eq)]
 pub enum SpellStop {
     /// Its spelling has more than 67,108,864 bytes.
@@ -53,12 +53,12 @@ impl From<AllocError> for SpellStop {
     }
 }
 
-/// The valid package that bytes spell, in the version that they begin as. They are `Damaged` where there is
-/// none: by `Magic` where they begin with no version's magic, else by `Digest` where they are too short for a
-/// digest or end with another one, else by `Form`.
+/// The valid package that bytes spell, in the version of their magic. If there is none they are `Damaged`: by
+/// `Magic` if they begin with no version's magic, else by `Digest` if they are too short for a digest or end
+/// with another one, else by `Form`. `NoMemory` may come in place of each.
 ///
-/// A list of its events is made last, once all else is judged. It may be far larger than the bytes: where no
-/// events are wanted, take `read_compact`.
+/// The list of its events is made last, after all tests. It may be far larger than the bytes: if no events
+/// are needed, take `read_compact`.
 pub fn read_package(alloc: Global, bytes: &[u8]) -> Result<Package, PackageStop>
     ensures found { IfOk result (λ p. IsTyped p × IsValidPackage p × IsSpelled bytes.now p) }
     ensures magic { (result ≡ Err (PackageStop.Damaged DamageKind.Magic)) ↔ (version_of bytes.now ≡ None) }
@@ -72,8 +72,8 @@ pub fn read_package(alloc: Global, bytes: &[u8]) -> Result<Package, PackageStop>
     decode_package(alloc, bytes)
 }
 
-/// The same package, with its trace kept as runs. It takes memory by the bytes that are read, and none by
-/// the number of events. The answers are those of `read_package`.
+/// The same package, with its trace kept as runs. Its memory grows with the bytes, and never with the number
+/// of events. Its errors are those of `read_package`.
 pub fn read_compact(alloc: Global, bytes: &[u8]) -> Result<CompactPackage, PackageStop>
     ensures found { IfOk result (λ r. IsTyped (expanded_package r) × IsValidPackage (expanded_package r)
         × IsSpelled bytes.now (expanded_package r)) }
@@ -91,8 +91,8 @@ pub fn read_compact(alloc: Global, bytes: &[u8]) -> Result<CompactPackage, Packa
     compact_answer(alloc, bytes)
 }
 
-/// The package of `read_compact`, with the script that it starts with. `expanded_package` makes its events.
-/// The answers are those of `read_package`.
+/// The package of `read_compact`, with its first script. `expanded_package` makes its events. Its errors are
+/// those of `read_package`.
 pub fn read_parsed(alloc: Global, bytes: &[u8]) -> Result<ParsedPackage, PackageStop>
     ensures found { IfOk result (λ p. IsTyped (expanded_package p.cut)
         × IsValidPackage (expanded_package p.cut) × IsSpelled bytes.now (expanded_package p.cut)) }

@@ -2,7 +2,7 @@
 //! and `read_compact` reads them without making the events.
 //!
 //! A package is its magic, its parts in order (by `package_codec`) and its digest. Both versions are read
-//! into runs of events and judged there; `read_package` makes the events last, of a package that is valid.
+//! into runs of events and checked there; `read_package` makes the events last, if the package is valid.
 //!
 //! Entry: `read_package` and `read_compact` in `src/layout.rt`. Read first: `specs/Whole.antt`.
 #![tactic(auto)]

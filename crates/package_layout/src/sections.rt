@@ -157,7 +157,7 @@ fn decode_sections(
     Ok(CompactPackage { bare, runs })
 }
 
-/// Reads the sections of a package, which are all of the bytes, with its trace as runs.
+/// Reads the sections of a package from all of the bytes, with its trace as runs.
 pub(crate) fn decode_all(
     alloc: Global,
     version: Version,

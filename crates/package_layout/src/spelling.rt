@@ -17,8 +17,8 @@ use package_codec::{CompactPackage, Version, magic};
 use run_model::Package;
 use std::alloc::{AllocError, Global};
 
-/// The one spelling of a package in the version that is written, the second. `TooLong` exactly where it has
-/// more than 67,108,864 bytes, its digest counted.
+/// The one spelling of a package in the second version. `TooLong` if and only if it has more than 67,108,864
+/// bytes, its digest counted; `NoMemory` may come in place of either answer.
 pub fn spell(alloc: Global, package: &Package) -> Result<Bytes, SpellStop>
     ensures bytes { IfOk result (λ bytes. bytes ≡ spelling «package».now) }
     ensures within { IfOk result (λ bytes. length bytes ≤ input_limit) }
@@ -29,9 +29,9 @@ pub fn spell(alloc: Global, package: &Package) -> Result<Bytes, SpellStop>
     spell_as(alloc, package, Version::Two)
 }
 
-/// The one spelling of a package in a version, which has all that is in the package: `fits_version` tests it,
-/// and the second version has all. `TooLong` exactly where it has more than 67,108,864 bytes, its digest
-/// counted.
+/// The one spelling of a package in a version. The version must be able to write the package: `fits_version`
+/// tests it, and the second version always is. `TooLong` if and only if the spelling has more than 67,108,864
+/// bytes, its digest counted; `NoMemory` may come in place of either answer.
 pub fn spell_as(alloc: Global, package: &Package, version: Version) -> Result<Bytes, SpellStop>
     requires fits { IsTrue (fits_version version «package».now) }
     ensures bytes { IfOk result (λ bytes. bytes ≡ spelling_as version «package».now) }
@@ -46,7 +46,8 @@ pub fn spell_as(alloc: Global, package: &Package, version: Version) -> Result<By
 }
 
 /// The spelling of a package whose trace is kept as runs, in the second version. No list of events is made.
-/// `TooLong` exactly where it has more than 67,108,864 bytes, its digest counted.
+/// `TooLong` if and only if it has more than 67,108,864 bytes, its digest counted; `NoMemory` may come in
+/// place of either answer.
 pub fn spell_compact(alloc: Global, package: &CompactPackage) -> Result<Bytes, SpellStop>
     requires { IsCut «package».now.runs }
     ensures bytes { IfOk result (λ bytes. bytes ≡ spelling (expanded_package «package».now)) }
@@ -76,7 +77,8 @@ fn body_of_compact(alloc: Global, package: &CompactPackage) -> Result<Bytes, All
     Ok(bytes)
 }
 
-/// The bytes before a digest, followed by it. `TooLong` exactly where both have more than 67,108,864 bytes.
+/// The bytes, followed by their digest. `TooLong` if and only if both have more than 67,108,864 bytes;
+/// `NoMemory` may come in place of either answer.
 pub fn append_digest(body: Bytes) -> Result<Bytes, SpellStop>
     ensures bytes { IfOk result (λ bytes. bytes ≡ body ++ sha256 body) }
     ensures within { IfOk result (λ bytes. length bytes ≤ input_limit) }

@@ -21,9 +21,9 @@ use run_model::{Logs, Mode, Package, PackedFile, PackedFiles, PackedTable, Packe
 use script_parse::{Script, ScriptStop, parse_script};
 use std::alloc::{AllocError, Global};
 
-/// The script that a valid package starts with, and `None` where it isn't valid: the runs are those of a
-/// trace, all of it meets the rules for valid packages, and the version has all of it. No list of events is
-/// made. `AllocError` means out of memory and nothing else.
+/// The first script of a package, or `None` if the package isn't valid. It is valid if its runs are those of
+/// a trace, all of it meets the rules for valid packages, and the version can write it. No list of events is
+/// made. `AllocError` means out of memory only.
 pub fn valid_script(
     alloc: Global,
     version: Version,

@@ -1,4 +1,4 @@
--- What a step asks, and what it leaves where it has a reply, over slots and as it is defined.
+-- The statement that a step asks, and its result after the reply: over slots they are as the model says.
 use Rattle.std.proofs.Common.{◌≡◌, ℕ, zero, suc, ◌+◌, List, [], ◌∷◌, ◌++◌, length, map, refl, sym, ap, ◌∙◌, subst}
 use Rattle.std.specs.Prelude.{Option, Some, None, slice_get, slice_set, option_map}
 use Rattle.std.proofs.lemmas.List.{map-set}

@@ -1,4 +1,4 @@
--- No step but one that asks makes the replies of a process more, and none but a `spawn` makes its children more.
+-- Only a step that asks adds to the replies of a process, and only a `spawn` adds to its children.
 use Rattle.std.proofs.Common.{◌≡◌, ℕ, zero, suc, ◌+◌, ◌<◌, ◌^◌, List, [], ◌∷◌, ◌++◌, length, refl, sym, ap, ◌∙◌, subst, Bool, true, false, arith, inl, inr, length-append}
 use Rattle.std.specs.Prelude.{Option, Some, None, option_and_then, slice_get, slice_set, nat_lt, ◌==◌}
 use Rattle.std.specs.List.{AllByRecursion}

@@ -1,4 +1,4 @@
--- The values of a row, which variables get in order; they are taken from the end of the reversed row.
+-- Variables get the values of a row in order; the values are taken from the end of the reversed row.
 use Rattle.std.proofs.Common.{◌≡◌, ℕ, List, [], ◌∷◌, ◌++◌, length, refl, ap, ◌∙◌, arith}
 use Rattle.std.specs.Prelude.{reverse}
 use Rattle.std.proofs.lemmas.List.{reverse-append, reverse-reverse}

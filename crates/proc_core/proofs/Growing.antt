@@ -1,4 +1,4 @@
--- What a step leaves of the set of processes that may run, by how it changes the processes.
+-- The set of processes that may run after a step, by how the step changes the processes.
 use Rattle.std.proofs.Common.{◌≡◌, ℕ, suc, ◌<◌, List, [], ◌∷◌, ◌++◌, length, refl, sym, ap, ◌∙◌, subst, true, arith}
 use Rattle.std.specs.Prelude.{Some, slice_get, slice_set}
 use Rattle.std.proofs.lemmas.List.{length-set}

@@ -1,4 +1,4 @@
--- What a process holds after each change that instructions are made of.
+-- A process over slots still represents its process of the model after each change of an instruction.
 use Rattle.std.proofs.Common.{◌≡◌, ℕ, ◌+◌, List, [], ◌∷◌, ◌++◌, map, refl, sym, ap, ◌∙◌}
 use Rattle.std.specs.Prelude.{Option, Some, None, slice_get, slice_set}
 use Rattle.sql_model.specs.Meaning.{or_null}

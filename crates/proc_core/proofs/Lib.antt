@@ -20,6 +20,7 @@ pub mod Moving
 pub mod Numbers
 pub mod OpenFiles
 pub mod Outcomes
+pub mod Paging
 pub mod OwnSame
 pub mod Programs
 pub mod Readiness

@@ -1,4 +1,4 @@
--- What a step leaves of the processes: one of them is changed, or one more is made.
+-- The processes after a step: one of them is changed, or one more is made.
 use Rattle.std.proofs.Common.{◌≡◌, ℕ, List, refl, sym, subst, inl, inr}
 use Rattle.std.specs.Prelude.{Option, Some, None, slice_get, slice_set, not}
 use Rattle.ldv_value.specs.FileState.{content_at}

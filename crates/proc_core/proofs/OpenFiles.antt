@@ -1,4 +1,4 @@
--- Open files by slot, and what reads and writes of them leave.
+-- Open files by slot, and the results of reads and writes of them.
 use Rattle.std.proofs.Common.{◌≡◌, ℕ, List, map, refl, sym, ap, ◌∙◌, subst, Bool, true, inl, inr}
 use Rattle.std.specs.Prelude.{Option, Some, None, option_and_then, if◌then◌else◌, ◌&&◌}
 use Rattle.std.specs.Str.{IsUtf8, is_utf8}

@@ -1,4 +1,4 @@
--- What there is to run at a path.
+-- The program at a path.
 use Rattle.std.proofs.Common.{◌≡◌, ℕ, List}
 use Rattle.std.specs.Prelude.{Some}
 use Rattle.ldv_value.specs.FileState.{content_at}

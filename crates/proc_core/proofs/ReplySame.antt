@@ -1,4 +1,4 @@
--- `fetch`, `count`, `status`, `close` and what an `sql` leaves, over slots and as they are defined.
+-- `fetch`, `count`, `status`, `close` and the result of an `sql`, over slots and as they are defined.
 use Rattle.std.proofs.Common.{◌≡◌, ℕ, zero, suc, ◌+◌, List, [], ◌∷◌, length, map, refl, sym, ap, ◌∙◌, subst, true, false, inl, inr}
 use Rattle.std.specs.Prelude.{Option, Some, None, slice_get, slice_set, option_map, option_and_then, ◌==◌}
 use Rattle.std.proofs.lemmas.Option.{slice_get-map}

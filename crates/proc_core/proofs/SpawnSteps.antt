@@ -1,4 +1,4 @@
--- A step of a `spawn`, by what the machine was found to do.
+-- A step of a `spawn`, by the result of the machine.
 use Rattle.std.proofs.Common.{◌≡◌, ℕ, List, [], ◌∷◌, ◌++◌, length, map, refl, sym, ap, ◌∙◌, subst, Bool, true, false}
 use Rattle.std.specs.Prelude.{Option, Some, None, slice_get, slice_set, nat_lt, if◌then◌else◌}
 use Rattle.ldv_value.specs.FileState.{FileState, content_at}

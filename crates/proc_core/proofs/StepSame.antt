@@ -1,4 +1,4 @@
--- One step of a run, by what the machine and the database were found to do.
+-- One step of a run, by the results of the machine and of the database.
 use Rattle.std.proofs.Common.{◌≡◌, ℕ, ◌+◌, List, [], ◌∷◌, ◌++◌, map, refl, sym, ap, ◌∙◌, subst, Bool}
 use Rattle.std.specs.Prelude.{Some, None, ◌||◌, is_some, slice_get, slice_set}
 use Rattle.std.proofs.Common.{append_assoc}

@@ -1,4 +1,4 @@
--- The step of the process that was chosen, from any state that a run stands in.
+-- The step of the chosen process, from any state that the machine represents.
 use Rattle.std.proofs.Common.{◌≡◌, ℕ, ◌<◌, List, [], ◌++◌, length, refl, sym, ap, ◌∙◌, subst, Bool, true, false}
 use Rattle.std.specs.Prelude.{Option, Some, None, slice_get}
 use Rattle.std.proofs.lemmas.Option.{slice_get_within}

@@ -1,4 +1,4 @@
--- What happens to the flags of the processes as one of them changes, and as one is made.
+-- How the flags of the processes change as one process changes or is made.
 use Rattle.std.specs.Prelude.{◌≡◌, ◌≢◌, ℕ, List, [], ◌∷◌, ◌++◌, length, slice_get, slice_set}
 use Rattle.std.specs.Prelude.{Some, None, is_none, true, false}
 use Rattle.run_model.specs.Types.{Value, Instr}

@@ -1,4 +1,4 @@
--- What a run is for the state that it is in, with the set of processes that may run.
+-- When a machine in memory, with its set of processes that may run, represents a state of the model.
 use Rattle.std.specs.Prelude.{◌==◌, length, Bool}
 use Rattle.ready_set.specs.Ready.{numbers}
 use Rattle.run_model.specs.State.{State}

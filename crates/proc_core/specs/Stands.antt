@@ -1,4 +1,4 @@
--- What a run is for the state that it is in.
+-- When a machine in memory represents a state of the model.
 use Rattle.std.specs.Prelude.{◌≡◌, ℕ, List, [], ◌∷◌, ◌++◌, slice_get, Bool, IsTrue, Some, None}
 use Rattle.std.specs.Prelude.{option_and_then}
 use Rattle.ldv_value.specs.FileState.{FileState, content_at}

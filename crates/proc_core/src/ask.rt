@@ -1,4 +1,4 @@
-//! The statement that the next step of a process asks, and what its reply changes in the process.
+//! The statement that the next step of a process asks, and how its reply changes the process.
 
 ghost use Rattle.std.specs.Prelude.{◌≡◌, ◌+◌, ◌<◌, ◌^◌, Some, length, slice_get, slice_set};
 ghost use Rattle.std.specs.Prelude.{IfOk, OnOk, OnSome};
@@ -17,8 +17,7 @@ use script_code::{SlotInstr, SlotOperands};
 use sql_model::Reply;
 use std::alloc::{AllocError, Global};
 
-/// A statement that a process asks: its text, its parameters, and the slot of the cursor that is to mean the
-/// reply.
+/// A statement that a process asks: its text, its parameters, and the slot of the cursor for its reply.
 #[derive(Drop)]
 pub(crate) struct Statement {
     pub cursor: usize,
@@ -104,7 +103,7 @@ fn statement_of_process(
     statement_of_instr(alloc, next_in(codes, process), process)
 }
 
-/// The statement that the next step of a process asks, where it asks one.
+/// The statement that the next step of a process asks, if it asks one.
 pub(crate) fn statement_at(
     machine: &Machine,
     number: usize,

@@ -91,18 +91,24 @@ fn split_text(alloc: Global, by: &str, text: &str) -> Result<CutParts, AllocErro
 }
 
 // Gives the variables their parts, or ends by misuse.
-fn cut_parts(before: usize, after: usize, parts: Option<CutParts>, process: &mut SlotProcess)
+fn cut_parts(
+    before: usize,
+    after: usize,
+    parts: Option<CutParts>,
+    process: &mut SlotProcess,
+) -> Result<(), AllocError>
     requires { process.old.place + 1 < 2 ^ 64 }
-    ensures { process.new ≡ slot_cut_parts before after parts process.old }
+    ensures { OnOk result (process.new ≡ slot_cut_parts before after parts process.old) }
 {
     match parts {
         None => process.end(WRONG_KIND),
         Some(parts) => {
-            process.set_variable(before, Value::Text(parts.before));
-            process.set_variable(after, Value::Text(parts.after));
+            process.set_variable(before, Value::Text(parts.before))?;
+            process.set_variable(after, Value::Text(parts.after))?;
             process.go_on();
         }
     }
+    Ok(())
 }
 
 // The parts of the text of a variable around an operand; none where it's misuse.
@@ -135,6 +141,6 @@ pub(crate) fn cut(
     ensures { OnOk result (process.new ≡ slot_cut before after by.now process.old) }
 {
     let parts = parts_around(alloc, by, after, process)?;
-    cut_parts(before, after, parts, process);
+    cut_parts(before, after, parts, process)?;
     Ok(())
 }

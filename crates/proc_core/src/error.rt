@@ -1,4 +1,4 @@
-//! Why a step isn't made, and why a run stops before its end.
+//! The reasons why a step isn't made, and why a run stops before its end.
 
 use run_model::ProcName;
 use std::alloc::AllocError;
@@ -6,7 +6,7 @@ use std::alloc::AllocError;
 /// Why a step isn't made.
 #[derive(Drop)]
 pub enum Stopped {
-    /// The database had no reply: the process, and the number of its replies so far.
+    /// The database had no reply to a statement of `process`, which had `index` replies so far.
     Diverged { process: ProcName, index: u32 },
     /// Out of memory.
     NoMemory,
@@ -28,7 +28,7 @@ impl From<AllocError> for Stopped {
 pub enum RunStop {
     /// Not all processes have ended after the steps of the budget.
     NotEnded,
-    /// The database had no reply: the process, and the number of its replies so far.
+    /// The database had no reply to a statement of `process`, which had `index` replies so far.
     Diverged { process: ProcName, index: u32 },
     /// Out of memory.
     NoMemory,

@@ -26,15 +26,9 @@ pub(crate) fn execute_own(
             op,
             left,
             right,
-        } => {
-            calculate(*to, *op, left, right, process);
-            Ok(())
-        }
+        } => calculate(*to, *op, left, right, process),
         OwnInstr::Glue { to, left, right } => glue(alloc, *to, left, right, process),
-        OwnInstr::ToInt { to, value } => {
-            let_number(*to, value, process);
-            Ok(())
-        }
+        OwnInstr::ToInt { to, value } => let_number(*to, value, process),
         OwnInstr::Cut { before, after, by } => cut(alloc, *before, *after, by, process),
         OwnInstr::Jump { place } => {
             process.go_to(*place);
@@ -59,13 +53,7 @@ pub(crate) fn execute_own(
             Ok(())
         }
         OwnInstr::Fetch { cursor, to, place } => fetch(*cursor, to, *place, process),
-        OwnInstr::Count { to, cursor } => {
-            count(*to, *cursor, process);
-            Ok(())
-        }
-        OwnInstr::Status { to, cursor } => {
-            status(*to, *cursor, process);
-            Ok(())
-        }
+        OwnInstr::Count { to, cursor } => count(*to, *cursor, process),
+        OwnInstr::Status { to, cursor } => status(*to, *cursor, process),
     }
 }

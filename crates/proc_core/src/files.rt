@@ -216,21 +216,28 @@ pub(crate) fn open_to_write(process: &SlotProcess, slot: usize) -> Option<&SlotF
 }
 
 // Gives a variable the line that was read, goes on at the label at the end of the file, or ends by misuse.
-fn take_line(read: LineRead, to: usize, slot: usize, place: usize, process: &mut SlotProcess)
+fn take_line(
+    read: LineRead,
+    to: usize,
+    slot: usize,
+    place: usize,
+    process: &mut SlotProcess,
+) -> Result<(), AllocError>
     requires room { process.old.place + 1 < 2 ^ 64 }
-    ensures { (file : OpenFile) → open_at slot process.old ≡ Some file
-        → process.new ≡ slot_take_line read to slot file place process.old }
+    ensures { OnOk result ((file : OpenFile) → open_at slot process.old ≡ Some file
+        → process.new ≡ slot_take_line read to slot file place process.old) }
 {
     match read {
         LineRead::End => process.go_to(place),
         LineRead::Line { text, next } => {
             process.files.move_to(slot, next);
-            process.set_variable(to, Value::Text(text));
+            process.set_variable(to, Value::Text(text))?;
             process.go_on();
         }
         LineRead::TooLong => process.end(TOO_LONG),
         LineRead::NotText => process.end(NOT_UTF8),
     }
+    Ok(())
 }
 
 // Reads a line of the open file in a slot; none where that isn't open for reading.
@@ -261,16 +268,17 @@ fn take_read(
     slot: usize,
     place: usize,
     process: &mut SlotProcess,
-)
+) -> Result<(), AllocError>
     requires { process.old.place + 1 < 2 ^ 64 }
-    ensures { (st : FileState) → IsReadBy (slot_open_for allows_read slot process.old) st read
+    ensures { OnOk result ((st : FileState) → IsReadBy (slot_open_for allows_read slot process.old) st read
         → process.new ≡ (slot_read_next (slot_open_for allows_read slot process.old) to slot place process.old
-        st).process }
+        st).process) }
 {
     match read {
         None => process.end(WRONG_KIND),
-        Some(line) => take_line(line, to, slot, place, process),
+        Some(line) => take_line(line, to, slot, place, process)?,
     }
+    Ok(())
 }
 
 /// `readline x f else L`
@@ -291,7 +299,7 @@ fn read_line<T: Tracer>(
         slot place process.old tree.now).acts)) }
 {
     let line = read(slot, process, tree, who, tracer)?;
-    take_read(line, to, slot, place, process);
+    take_read(line, to, slot, place, process)?;
     Ok(())
 }
 
@@ -434,7 +442,7 @@ fn exists<T: Tracer>(
         Some(path) => {
             let found = tree.exists(path.as_str());
             tell_path(who, PathAct::Tested(found), &path, tracer)?;
-            process.set_variable(to, Value::Int(number_of_test(found)));
+            process.set_variable(to, Value::Int(number_of_test(found)))?;
             process.go_on();
             Ok(())
         }

@@ -23,6 +23,7 @@ mod machine;
 mod new_child;
 mod new_process;
 mod outcome;
+mod pages;
 mod process;
 mod program;
 mod ready;
@@ -34,6 +35,7 @@ mod spawn_request;
 mod start;
 mod step;
 mod tell;
+mod variable_slots;
 mod variables;
 
 pub use error::{RunStop, Stopped};

@@ -110,7 +110,7 @@ fn wait_with<T: Tracer>(
             None => Ok(()),
             Some(status) => {
                 tell(who, Act::Waited { child }, tracer)?;
-                process.set_variable(to, Value::Int(i64::from(status)));
+                process.set_variable(to, Value::Int(i64::from(status)))?;
                 process.go_on();
                 Ok(())
             }
@@ -135,7 +135,7 @@ fn child_status(processes: &[SlotProcess], child: Option<u32>) -> Option<u8>
     }
 }
 
-/// The status of a process, where it has ended.
+/// The status of a process, if it has ended.
 #[inline(always)]
 pub(crate) fn status_in(processes: &[SlotProcess], number: usize) -> Option<u8>
     ensures { result ≡ slot_status_in processes.now number }
@@ -262,7 +262,7 @@ pub(crate) fn is_local_at(machine: &Machine, number: usize) -> bool
     is_local(next_of(&machine.codes, &machine.processes, number))
 }
 
-/// Makes the next step of a process, which asks nothing and makes no process.
+/// Makes the next step of a process, if that asks nothing and makes no process.
 pub(crate) fn execute_local<T: Tracer>(
     machine: &mut Machine,
     who: Who,

@@ -1,4 +1,4 @@
-//! The state of a run but for its database.
+//! The state of a run, without its database.
 
 ghost use Rattle.std.specs.Prelude.{◌≡◌, ◌+◌, ◌<◌, ◌^◌, OnSome, slice_get};
 ghost use Rattle.std.specs.Option.{option_map};
@@ -31,14 +31,14 @@ pub(crate) struct Machine {
     pub asked: u32,
     /// Which processes may run.
     pub ready: ReadySet,
-    /// Of each process the creation number of its parent; of the first, its own.
+    /// The creation number of each process's parent; the first process has its own there.
     pub parents: Numbers,
-    /// By path the creation number of the process that was made last from the script there.
+    /// For each path, the creation number of the last process that was made from the script there.
     pub runners: BTreeMap<String, usize>,
 }
 
-/// The next instruction of a process, by its creation number. There is none after the last one, and none of a
-/// process that isn't there.
+/// The next instruction of a process, by its creation number. `None` after the last one, and if there is no
+/// such process.
 pub(crate) fn next_of<'a>(
     codes: &'a Codes,
     processes: &[SlotProcess],

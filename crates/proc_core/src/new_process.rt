@@ -1,8 +1,7 @@
-//! A process before its first step: its slots, with the arguments in the variables that are named for them.
+//! A process before its first step: its slots, with the arguments in the variables of their names.
 
 ghost use Rattle.std.specs.Prelude.{◌≡◌, ◌+◌, ◌<◌, ◌∷◌, None, IfOk, OnOk, List as Items, drop, length, map};
 ghost use Rattle.std.specs.Prelude.{replicate};
-ghost use Rattle.ldv_value.specs.declared.value.Value.TheVariants.{Null};
 ghost use Rattle.proc_core.specs.Types.{Instr, Value};
 ghost use Rattle.run_model.specs.Core.{NameBinding, argument_name, arguments_from, argument_variables};
 ghost use Rattle.run_model.specs.Core.{new_process};
@@ -10,22 +9,12 @@ ghost use Rattle.proc_core.specs.inner.Slots.{value_held, Holds};
 
 use crate::file_slots::FileSlots;
 use crate::process::SlotProcess;
+use crate::variable_slots::VariableSlots;
 use itoa::Buffer;
-use ldv_value::{Bytes, CopyItem, List, Parts, Utf8, Value, Values};
+use ldv_value::{Bytes, CopyItem, List, Parts, Utf8, Value};
 use script_code::{Code, NameTable};
 use sql_model::Replies;
 use std::alloc::{AllocError, Global};
-
-// Slots of `count` variables that aren't set.
-fn unset_variables(alloc: Global, count: usize) -> Result<Values, AllocError>
-    ensures { IfOk result (λ slots. slots ≡ replicate count Null) }
-{
-    let mut slots = Vec::with_capacity(alloc, count)?;
-    for _slot in 0..count {
-        slots.push(Value::Null)?;
-    }
-    Ok(Values::of_vec(slots))
-}
 
 // `count` slots in which there is nothing.
 fn empty_slots<X: Drop>(alloc: Global, count: usize) -> Result<List<Option<X>>, AllocError>
@@ -39,16 +28,20 @@ fn empty_slots<X: Drop>(alloc: Global, count: usize) -> Result<List<Option<X>>, 
 }
 
 // Sets the variable of a name, where the script has that name.
-fn bind_first(names: &NameTable, name: &Utf8, value: Value, slots: &mut Values)
-    ensures { (bs : Items (NameBinding Value)) → slots.old ≡ map (value_held bs) names.now
-        → slots.new ≡ map (value_held (record { name = name.now; bound = value } ∷ bs)) names.now }
+fn bind_first(
+    names: &NameTable,
+    name: &Utf8,
+    value: Value,
+    slots: &mut VariableSlots,
+) -> Result<(), AllocError>
+    ensures { OnOk result ((bs : Items (NameBinding Value)) → slots.old ≡ map (value_held bs) names.now
+        → slots.new ≡ map (value_held (record { name = name.now; bound = value } ∷ bs)) names.now) }
 {
     match names.find(name) {
-        None => {}
+        None => Ok(()),
         Some(slot) => {
-            if slot < slots.len() {
-                slots.replace(slot, value);
-            }
+            slots.set(slot, value)?;
+            Ok(())
         }
     }
 }
@@ -69,7 +62,7 @@ fn bind_argument(
     names: &NameTable,
     arguments: &[Value],
     place: usize,
-    slots: &mut Values,
+    slots: &mut VariableSlots,
 ) -> Result<(), AllocError>
     requires { place < length arguments.now }
     ensures { OnOk result (slots.old ≡ map (value_held (arguments_from (place + 1 + 1)
@@ -78,7 +71,7 @@ fn bind_argument(
 {
     let name = argument_name(alloc, place as u64 + 1)?;
     let value = arguments[place].copy_item(alloc)?;
-    bind_first(names, &name, value, slots);
+    bind_first(names, &name, value, slots)?;
     Ok(())
 }
 
@@ -87,10 +80,10 @@ fn bind_arguments(
     alloc: Global,
     names: &NameTable,
     arguments: &[Value],
-) -> Result<Values, AllocError>
+) -> Result<VariableSlots, AllocError>
     ensures { IfOk result (λ slots. slots ≡ map (value_held (arguments_from 1 arguments.now)) names.now) }
 {
-    let mut slots = unset_variables(alloc, names.len())?;
+    let mut slots = VariableSlots::of_count(alloc, names.len());
     let mut left = arguments.len();
     while left > 0 {
         left -= 1;
@@ -100,13 +93,17 @@ fn bind_arguments(
 }
 
 // The slots of the variables of a process with these arguments: `argc` and `arg1`, `arg2` and so on are set.
-fn variables(alloc: Global, names: &NameTable, arguments: &[Value]) -> Result<Values, AllocError>
+fn variables(
+    alloc: Global,
+    names: &NameTable,
+    arguments: &[Value],
+) -> Result<VariableSlots, AllocError>
     ensures { IfOk result (λ slots. slots ≡ map (value_held (argument_variables arguments.now)) names.now) }
 {
     let mut slots = bind_arguments(alloc, names, arguments)?;
     let name = Utf8::of(alloc, "argc")?;
     let count = arguments.len() as i64;
-    bind_first(names, &name, Value::Int(count), &mut slots);
+    bind_first(names, &name, Value::Int(count), &mut slots)?;
     Ok(slots)
 }
 

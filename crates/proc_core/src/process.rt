@@ -1,11 +1,13 @@
 //! Processes, with slots in place of names.
 
-ghost use Rattle.std.specs.Prelude.{◌≡◌, ◌+◌, ◌<◌, ◌^◌};
+ghost use Rattle.std.specs.Prelude.{◌≡◌, ◌+◌, ◌<◌, ◌^◌, OnOk};
 ghost use Rattle.proc_core.specs.inner.Slots.{slot_ended, slot_went_on, slot_went_to, slot_with_variable};
 
 use crate::file_slots::FileSlots;
-use ldv_value::{Bytes, List, Parts, Value, Values};
+use crate::variable_slots::VariableSlots;
+use ldv_value::{Bytes, List, Parts, Value};
 use sql_model::Replies;
+use std::alloc::AllocError;
 
 /// The index of a reply among those of the process, and how many of its rows were fetched.
 #[derive(Clone, Copy)]
@@ -23,7 +25,7 @@ pub(crate) struct SlotProcess {
     pub code: usize,
     /// The index of its next instruction.
     pub place: usize,
-    pub variables: Values,
+    pub variables: VariableSlots,
     pub files: FileSlots,
     pub cursors: List<Option<SlotCursor>>,
     /// The creation numbers of the children that its slots mean.
@@ -64,11 +66,10 @@ impl SlotProcess {
 
     /// Gives a variable a value.
     #[inline(always)]
-    pub(crate) fn set_variable(&mut self, slot: usize, value: Value)
-        ensures { self.new ≡ slot_with_variable slot value self.old }
+    pub(crate) fn set_variable(&mut self, slot: usize, value: Value) -> Result<(), AllocError>
+        ensures { OnOk result (self.new ≡ slot_with_variable slot value self.old) }
     {
-        if slot < self.variables.len() {
-            self.variables.replace(slot, value);
-        }
+        self.variables.set(slot, value)?;
+        Ok(())
     }
 }

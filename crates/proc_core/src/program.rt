@@ -9,12 +9,12 @@ use ldv_value::{MAX_PROCESSES, Utf8};
 use script_code::{Code, read_code};
 use std::alloc::{AllocError, Global};
 
-/// What there is to run at a path.
+/// The program at a path, if there is one.
 #[derive(Drop)]
 pub(crate) enum Program {
     /// No file.
     Absent,
-    /// A file that isn't a script; or any file, where as many processes were made as may be.
+    /// A file that isn't a script, or any file if no further process may be made.
     Refused,
     /// The script that the last process made from this path runs, by the index of its resolved form.
     Known(usize),
@@ -22,7 +22,7 @@ pub(crate) enum Program {
     New(Code),
 }
 
-/// Looks up what there is to run at a path.
+/// Looks up the program at a path.
 pub(crate) fn program_at(machine: &Machine, path: &Utf8) -> Result<Program, AllocError>
     ensures { IfOk result (IsProgram machine.now path.now) }
 {

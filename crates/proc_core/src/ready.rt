@@ -77,7 +77,7 @@ pub(crate) fn has_ended(machine: &Machine) -> bool
     machine.ready.len() == 0
 }
 
-/// Brings the flag of a process up to date after its step, and where it has ended that of its parent.
+/// Brings the flag of a process up to date after its step, and its parent's flag too if it has ended.
 pub(crate) fn refresh(machine: &mut Machine, number: usize)
     ensures flags { machine.new.ready.flags ≡ refreshed machine.old.codes machine.old.processes.items
         machine.old.parents number machine.old.ready.flags }

@@ -70,21 +70,22 @@ fn next_row(process: &SlotProcess, cursor: SlotCursor) -> Result<Option<Values>,
 
 // Gives the variables the values, in order.
 #[tactic(auto, using(crate::proofs::FetchedValues::value_steps))]
-fn set_values(to: &[usize], row: Values, process: &mut SlotProcess)
-    ensures { process.new ≡ slot_with_values to.now row process.old }
+fn set_values(to: &[usize], row: Values, process: &mut SlotProcess) -> Result<(), AllocError>
+    ensures { OnOk result (process.new ≡ slot_with_values to.now row process.old) }
 {
     let mut left = row.into_vec();
     left.reverse();
     let mut slots = to;
     while let [slot, others @ ..] = slots {
         match left.pop() {
-            None => return,
+            None => return Ok(()),
             Some(value) => {
-                process.set_variable(*slot, value);
+                process.set_variable(*slot, value)?;
                 slots = others;
             }
         }
     }
+    Ok(())
 }
 
 // Counts one more fetched row.
@@ -103,18 +104,25 @@ fn one_more(slot: usize, cursor: SlotCursor, process: &mut SlotProcess)
 }
 
 // Gives the variables the values of a row and goes on, or ends by misuse where these aren't as many.
-fn take_row(row: Values, cursor: SlotCursor, slot: usize, to: &Slots, process: &mut SlotProcess)
+fn take_row(
+    row: Values,
+    cursor: SlotCursor,
+    slot: usize,
+    to: &Slots,
+    process: &mut SlotProcess,
+) -> Result<(), AllocError>
     requires room { process.old.place + 1 < 2 ^ 64 }
     requires more { cursor.fetched + 1 < 2 ^ 64 }
-    ensures { process.new ≡ slot_take_row row cursor slot to.now process.old }
+    ensures { OnOk result (process.new ≡ slot_take_row row cursor slot to.now process.old) }
 {
     if row.len() == to.len() {
         one_more(slot, cursor, process);
-        set_values(to.items(), row, process);
+        set_values(to.items(), row, process)?;
         process.go_on();
     } else {
         process.end(WRONG_KIND);
     }
+    Ok(())
 }
 
 // Fetches the next row, or goes on at the label where none is left.
@@ -130,7 +138,7 @@ fn fetch_from(
 {
     match next_row(process, cursor)? {
         None => process.go_to(place),
-        Some(row) => take_row(row, cursor, slot, to, process),
+        Some(row) => take_row(row, cursor, slot, to, process)?,
     }
     Ok(())
 }
@@ -199,11 +207,12 @@ fn reply_of(process: &SlotProcess, slot: usize) -> Option<&Reply>
 }
 
 /// `count x c`
-pub(crate) fn count(to: usize, slot: usize, process: &mut SlotProcess)
+pub(crate) fn count(to: usize, slot: usize, process: &mut SlotProcess) -> Result<(), AllocError>
     requires { process.old.place + 1 < 2 ^ 64 }
-    ensures { process.new ≡ slot_count to slot process.old }
+    ensures { OnOk result (process.new ≡ slot_count to slot process.old) }
 {
-    assign(to, row_count(process, slot), process);
+    assign(to, row_count(process, slot), process)?;
+    Ok(())
 }
 
 fn row_count(process: &SlotProcess, slot: usize) -> Computed
@@ -217,11 +226,12 @@ fn row_count(process: &SlotProcess, slot: usize) -> Computed
 }
 
 /// `status x c`
-pub(crate) fn status(to: usize, slot: usize, process: &mut SlotProcess)
+pub(crate) fn status(to: usize, slot: usize, process: &mut SlotProcess) -> Result<(), AllocError>
     requires { process.old.place + 1 < 2 ^ 64 }
-    ensures { process.new ≡ slot_status to slot process.old }
+    ensures { OnOk result (process.new ≡ slot_status to slot process.old) }
 {
-    assign(to, status_value(process, slot), process);
+    assign(to, status_value(process, slot), process)?;
+    Ok(())
 }
 
 fn status_value(process: &SlotProcess, slot: usize) -> Computed

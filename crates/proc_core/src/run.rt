@@ -82,8 +82,9 @@ pub struct Run<D: Database, T: Tracer> {
 }
 
 impl<D: Database, T: Tracer> Run<D, T> {
-    /// The run in which one process begins, that of the script at the first start word. The other start words
-    /// are its arguments. No path of the tree is touched.
+    /// A run before its first step: one process, which runs the script at the first start word. The other
+    /// start words are its arguments. No path of `tree` should be touched yet. `AllocError` means out of
+    /// memory only.
     pub fn start(
         start: &Words,
         seed: u64,
@@ -107,7 +108,7 @@ impl<D: Database, T: Tracer> Run<D, T> {
         Run::start_parsed(start, &script, seed, tree, db, tracer)
     }
 
-    /// The run as of `start`, of a script that was parsed before: that of the file at the first start word.
+    /// The same run as `start` gives; `script` is the parsed script of the file at the first start word.
     pub fn start_parsed(
         start: &Words,
         script: &Script,
@@ -158,14 +159,15 @@ impl<D: Database, T: Tracer> Run<D, T> {
         has_ended(&self.machine)
     }
 
-    /// How many steps were made.
+    /// How many steps were made, at most 10,000,000.
     pub fn steps(&self) -> u32
         ensures { result ≡ self.now.steps }
     {
         self.steps
     }
 
-    /// Makes one step of the process that the seed chooses.
+    /// Makes one step of the process that the seed chooses. Some process mustn't have ended, and fewer than
+    /// 10,000,000 steps may have been made. `Diverged`: the database had no reply.
     pub fn advance(self) -> Result<Run<D, T>, Stopped>
         requires going { has_ended self.machine ≡ false }
         requires room { self.steps < max_steps }
@@ -200,7 +202,8 @@ impl<D: Database, T: Tracer> Run<D, T> {
         }
     }
 
-    /// Makes steps until all processes have ended, at most `budget`. `NotEnded`: after these they haven't.
+    /// Makes steps until all processes have ended, at most `budget`, which is at most 10,000,000. `NotEnded`:
+    /// some process hasn't ended after `budget` steps. `Diverged`: the database had no reply.
     pub fn to_end(self, budget: u32) -> Result<Run<D, T>, RunStop>
         requires fresh { self.steps ≡ 0 }
         requires few { budget ≤ max_steps }

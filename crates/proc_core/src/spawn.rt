@@ -202,7 +202,7 @@ fn spawn_path<T: Tracer>(
     }
 }
 
-/// Makes the step of a `spawn`: a child is made, or the process goes on at the label, or it ends where the
+/// Makes the step of a `spawn`: a child is made, or the process goes on at the label, or it ends if the
 /// value isn't a path.
 pub(crate) fn spawn<T: Tracer>(
     machine: &mut Machine,

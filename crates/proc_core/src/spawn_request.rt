@@ -13,7 +13,7 @@ use ldv_value::{Utf8, Values};
 use script_code::SlotInstr;
 use std::alloc::{AllocError, Global};
 
-/// What a `spawn` says: a slot for the child, the path, none where the value isn't one, the arguments, and
+/// What a `spawn` says: a slot for the child, the path, `None` if the value isn't one, the arguments, and
 /// the place of the label.
 #[derive(Drop)]
 pub(crate) struct SpawnRequest {
@@ -72,7 +72,7 @@ fn request_of_process(
     request_of_instr(alloc, next_in(codes, process), process)
 }
 
-/// What the next step of a process says, where that is a `spawn`.
+/// What the next step of a process says, if it is a `spawn`.
 pub(crate) fn request_at(
     machine: &Machine,
     number: usize,

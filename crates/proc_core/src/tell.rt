@@ -87,7 +87,7 @@ pub(crate) fn tell_path<T: Tracer>(
     }
 }
 
-/// Reports the end of a process, where it has ended.
+/// Reports the end of a process, if it has ended.
 pub(crate) fn tell_status<T: Tracer>(
     who: Who,
     status: Option<u8>,

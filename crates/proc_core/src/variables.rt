@@ -25,16 +25,13 @@ use std::alloc::{AllocError, Global};
 // The bytes for which a line has room at first.
 const LINE_ROOM: usize = 128;
 
-/// The value in the slot of a variable; where there is no such slot, the caller's NULL.
+/// The value in the slot of a variable; if there is no such slot, the caller's NULL.
 #[inline(always)]
 pub(crate) fn variable_at<'a>(process: &'a SlotProcess, slot: usize, null: &'a Value) -> &'a Value
     requires { null.now ≡ Value.Null }
     ensures { result.now ≡ or_null (slice_get process.now.variables slot) }
 {
-    match process.variables.get(slot) {
-        None => null,
-        Some(value) => value,
-    }
+    process.variables.get(slot, null)
 }
 
 /// The value that an operand has. The NULL is lent to `variable_at`.
@@ -67,17 +64,22 @@ pub(crate) fn value_of(
 
 /// Gives a variable a computed value and goes on, or ends by misuse.
 #[inline(always)]
-pub(crate) fn assign(to: usize, value: Computed, process: &mut SlotProcess)
+pub(crate) fn assign(
+    to: usize,
+    value: Computed,
+    process: &mut SlotProcess,
+) -> Result<(), AllocError>
     requires { process.old.place + 1 < 2 ^ 64 }
-    ensures { process.new ≡ slot_assign to (computation_of value) process.old }
+    ensures { OnOk result (process.new ≡ slot_assign to (computation_of value) process.old) }
 {
     match value {
         Computed::Yields(value) => {
-            process.set_variable(to, value);
+            process.set_variable(to, value)?;
             process.go_on();
         }
         Computed::Misused(status) => process.end(status),
     }
+    Ok(())
 }
 
 /// `let x = v`
@@ -91,7 +93,7 @@ pub(crate) fn let_value(
     ensures { OnOk result (process.new ≡ slot_let to value.now process.old) }
 {
     let value = value_of(alloc, process, value)?;
-    assign(to, Computed::Yields(value), process);
+    assign(to, Computed::Yields(value), process)?;
     Ok(())
 }
 
@@ -120,12 +122,13 @@ pub(crate) fn calculate(
     left: &SlotOperand,
     right: &SlotOperand,
     process: &mut SlotProcess,
-)
+) -> Result<(), AllocError>
     requires { process.old.place + 1 < 2 ^ 64 }
-    ensures { process.new ≡ slot_calculate to op left.now right.now process.old }
+    ensures { OnOk result (process.new ≡ slot_calculate to op left.now right.now process.old) }
 {
     let value = calculation_of(op, left, right, process);
-    assign(to, value, process);
+    assign(to, value, process)?;
+    Ok(())
 }
 
 // What `++` gives.
@@ -158,7 +161,7 @@ pub(crate) fn glue(
     ensures { OnOk result (process.new ≡ slot_glue to left.now right.now process.old) }
 {
     let value = text_of(alloc, left, right, process)?;
-    assign(to, value, process);
+    assign(to, value, process)?;
     Ok(())
 }
 
@@ -171,12 +174,17 @@ fn number_of(value: &SlotOperand, process: &SlotProcess) -> Computed
 }
 
 /// `let x = int v`
-pub(crate) fn let_number(to: usize, value: &SlotOperand, process: &mut SlotProcess)
+pub(crate) fn let_number(
+    to: usize,
+    value: &SlotOperand,
+    process: &mut SlotProcess,
+) -> Result<(), AllocError>
     requires { process.old.place + 1 < 2 ^ 64 }
-    ensures { process.new ≡ slot_let_number to value.now process.old }
+    ensures { OnOk result (process.new ≡ slot_let_number to value.now process.old) }
 {
     let number = number_of(value, process);
-    assign(to, number, process);
+    assign(to, number, process)?;
+    Ok(())
 }
 
 #[inline(always)]

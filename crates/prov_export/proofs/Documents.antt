@@ -1,4 +1,4 @@
--- The graph is what is taken out of its document.
+-- Reading takes the graph out of its document again.
 use Rattle.std.proofs.Common.{◌≡◌, ℕ, zero, suc, ◌+◌, ◌<◌, ◌^◌, List, [], ◌∷◌, length, refl, sym, ap, ◌∙◌, Bool, true, false, cond, arith, inl, inr}
 use Rattle.std.specs.Prelude.{Option, Some, None, option_and_then, not, nat_lt, nat_le}
 use Rattle.std.specs.Option.{option_or}

@@ -1,4 +1,4 @@
--- What is given for each number of a range.
+-- A value for each number of a range.
 use Rattle.std.proofs.Common.{◌≡◌, ◌∙◌, ap, refl, arith, ℕ, zero, suc, ◌+◌, ◌<◌, List, [], ◌∷◌, ◌++◌}
 use Rattle.std.specs.Prelude.{Option, Some, None, option_and_then}
 use Rattle.prov_export.specs.Reading.{each_from}

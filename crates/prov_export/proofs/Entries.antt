@@ -1,4 +1,4 @@
--- Members that are put into an object: they are there, and the others stay.
+-- Members put into an object: they are there, and the others stay.
 use Rattle.std.proofs.Common.{◌≡◌, ℕ, List, [], ◌∷◌, ◌++◌, refl, sym, ap, ◌∙◌, Bool, true, false, Ordering, Less, Equal, Greater, nat_cmp, inl, inr}
 use Rattle.std.specs.Prelude.{◌⊎◌, Some, find, codes}
 use Rattle.std.specs.Cmp.Lexicographic.{slice_cmp}

@@ -1,4 +1,4 @@
--- Entries that are put into a map are members that are put into an object.
+-- Entries put into a map are members put into an object.
 use Rattle.std.proofs.Common.{◌≡◌, ◌∙◌, refl, Bool, true, List, [], ◌∷◌, Ordering, Less, Equal, Greater, String, string_bytes, string_cmp}
 use Rattle.std.specs.declared.alloc.Global.{Global}
 use Rattle.std.specs.BTreeMap.{insert_entry}

@@ -1,4 +1,4 @@
--- A node is what is read of its id.
+-- Reading the id of a node gives that node.
 use Rattle.std.proofs.Common.{◌≡◌, ℕ, ◌+◌, ◌-◌, ◌*◌, ◌/◌, ◌%◌, ◌^◌, ◌<◌, ◌≤◌, List, [], ◌∷◌, ◌++◌, length, take, drop, refl, sym, ap, ◌∙◌, Bool, true, false, cond, IsTrue, arith}
 use Rattle.std.specs.Prelude.{Option, Some, None, option_map, option_and_then, not, ◌&&◌, ◌==◌, nat_le, nat_lt, position}
 use Rattle.std.specs.List.{list_all, position_or_len}

@@ -1,4 +1,4 @@
--- What is left of the text behind a head.
+-- The rest of a text after its head.
 use Rattle.std.proofs.Common.{◌≡◌, ◌∙◌, ℕ, ◌<◌, List, [], ◌∷◌, length, drop, refl, sym, arith, length-drop}
 use Rattle.std.specs.Prelude.{None}
 use Rattle.prov_export.specs.Ids.{after}

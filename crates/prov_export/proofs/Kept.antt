@@ -1,4 +1,4 @@
--- When the graph that was taken out of bytes is kept, and what follows of what was read.
+-- When the graph taken out of bytes is kept, and the facts that reading shows.
 use Rattle.std.proofs.Common.{◌≡◌, ◌∙◌, sym, ap, ℕ, List, Bool, true, false, cond}
 use Rattle.std.specs.Prelude.{Option, Some, None, ◌&&◌, bytes_eq, Result, Ok, Err, IfOk}
 use Rattle.ldv_value.specs.Gives.{Gives}

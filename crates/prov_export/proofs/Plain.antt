@@ -1,4 +1,4 @@
--- Documents of objects, texts and numbers alone, as those of graphs are: what is written of them is read back.
+-- Documents with objects, texts and numbers only, as those of graphs are: their text is read back.
 use Rattle.std.specs.Prelude.{◌≡◌, ℕ, ◌<◌, ◌≤◌, ◌^◌, List, Some}
 use Rattle.std.specs.Ordering.{nat_cmp}
 use Rattle.std.specs.Cmp.Lexicographic.{slice_cmp}

@@ -1,4 +1,4 @@
--- The text of a plain document is read back as it.
+-- The text of a plain document is read back as that document.
 use Rattle.std.proofs.Common.{◌≡◌, ℕ, suc, ◌≤◌, List, [], ◌∷◌, ◌++◌, Bool, true, false, refl, sym, ap, ap₂, ◌∙◌, subst, append-nil}
 use Rattle.std.specs.Prelude.{Option, Some, option_map, option_and_then, max, decimal, IsUtf8}
 use Rattle.std.specs.Ordering.{nat_cmp}

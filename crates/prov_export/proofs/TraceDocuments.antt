@@ -1,4 +1,4 @@
--- The document of a trace's graph is read as it, and says what the reports on the trace say.
+-- The document of a trace's graph is read as that graph, and gives the same reports as the trace.
 use Rattle.std.proofs.Common.{◌≡◌, refl, sym, ap, subst, ℕ, ◌≤◌, List, [], ◌∷◌, length, Bool, true, false, cond, inl, inr, IsTrue}
 use Rattle.std.specs.Prelude.{Some, None, option_map, Contains, ◌⊎◌, nat_lt}
 use Rattle.std.specs.List.{AllByRecursion, position_or_len}

@@ -1,4 +1,4 @@
--- The graph of a trace in memory has the texts and numbers of its types.
+-- The texts and numbers of the graph of a trace in memory fit their types.
 use Rattle.std.proofs.Common.{◌≡◌, refl, ℕ, ◌-◌, ◌<◌, ◌≤◌, ◌^◌, List, [], ◌∷◌, ◌++◌, map, Bool, true, false, cond, arith}
 use Rattle.std.specs.Prelude.{Option, Some, None, option_map, ◌==◌, nat_le}
 use Rattle.std.specs.List.{flat_map, filter_map, cons_option, AllByRecursion}

@@ -1,4 +1,4 @@
--- What a graph meets of which a document is written.
+-- Facts about each graph that is written as a document.
 use Rattle.std.proofs.Common.{◌≡◌, ◌∙◌, ◌<◌, ◌≤◌, ◌^◌, List, [], ◌∷◌, length, sym, ap, true, false, IsTrue, arith, inl, inr}
 use Rattle.std.specs.Prelude.{Some, nat_le}
 use Rattle.std.specs.List.{list_any, list_all, AllByRecursion}

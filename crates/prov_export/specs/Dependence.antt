@@ -1,5 +1,5 @@
--- What the document of a graph says that a path depends on, in the lines of the report on a package. A
--- document has no names of processes, so they are named by their creation numbers.
+-- The report on the nodes that a path depends on, from the document of a graph, in the lines of the report on
+-- a package. A document has no names of processes, so their creation numbers name them.
 use Rattle.std.specs.Prelude.{ℕ, List, Option, option_map}
 use Rattle.std.specs.List.{flat_map}
 use Rattle.std.specs.Fmt.{decimal}

@@ -1,7 +1,7 @@
 -- The ids of nodes in a document, and the nodes that ids name.
 --
--- What is read of an id may have other ids too, as one with zeros before its number. Whoever reads a document
--- writes the graph anew and compares.
+-- Other ids may name the same node, as one with zeros before its number. So reading a document writes the
+-- graph anew and compares.
 use Rattle.std.specs.Prelude.{ℕ, ◌+◌, ◌-◌, ◌*◌, List, [], ◌∷◌, ◌++◌, take, drop, position, codes}
 use Rattle.std.specs.Prelude.{Bool, true, false, ◌&&◌, ◌==◌, nat_le, if◌then◌else◌}
 use Rattle.std.specs.Prelude.{Option, Some, None, option_map, option_and_then}

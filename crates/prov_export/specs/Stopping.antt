@@ -1,4 +1,4 @@
--- Why there is no graph: the bytes are no document, or memory ran out.
+-- The reasons why there is no graph: the bytes are no document, or memory ran out.
 use Rattle.std.specs.Prelude.{◌≡◌, Option, None}
 use Rattle.prov_export.specs.declared.error.ProvStop.{ProvStop}
 use Rattle.prov_export.specs.declared.error.ProvStop.TheVariants.{NotProv, NoMemory}

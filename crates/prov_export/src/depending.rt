@@ -1,4 +1,4 @@
-//! What the document of a graph says that a path depends on.
+//! The report on the nodes that a path depends on, from the document of a graph.
 
 ghost use Rattle.std.specs.Prelude.{◌≡◌, ◌<◌, ◌++◌, length, map, IfOk, OnOk};
 ghost use Rattle.std.specs.Fmt.{decimal};
@@ -14,7 +14,7 @@ use std::alloc::{AllocError, Global};
 use trace_graph::{Graph, Node, NodeKey};
 
 /// A line for each node from which information may have got to a path, in the order of the report on a
-/// package, with processes by their creation numbers. None exactly where the path is no node of the graph.
+/// package, with processes by their creation numbers. `None` if and only if the path is no node of the graph.
 /// `AllocError` means out of memory only.
 pub fn depends_text(alloc: Global, graph: &Graph, path: &str) -> Result<Option<Bytes>, AllocError>
     ensures { IfOk result (λ text. text ≡ depends_report graph.now path.now) }

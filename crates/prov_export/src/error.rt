@@ -1,11 +1,11 @@
-//! Why there is no graph.
+//! The reasons why bytes give no graph.
 
 use std::alloc::AllocError;
 
-/// Why bytes gave no graph.
+/// Why bytes give no graph.
 #[derive(Clone, Copy, Debug, PartialEq, Eq)]
 pub enum ProvStop {
-    /// They are the document of no well-formed graph.
+    /// The bytes are the document of no well-formed graph.
     NotProv,
     /// Out of memory.
     NoMemory,

@@ -23,7 +23,7 @@ pub(crate) fn is_entity(node: &Node) -> bool
     }
 }
 
-/// Whether a node is an entity, where `entity` is true; else whether it is an activity.
+/// Whether a node is an entity if `entity` is true, and else whether it is an activity.
 pub(crate) fn is_kind(entity: bool, node: &Node) -> bool
     ensures { result ≡ is_kind entity node.now }
 {
@@ -82,7 +82,7 @@ pub(crate) fn node_id(alloc: Global, node: &Node) -> Result<String, AllocError>
     }
 }
 
-/// The name of the edge of a number.
+/// The name of the edge with a number.
 pub(crate) fn edge_name(alloc: Global, number: u128) -> Result<String, AllocError>
     ensures { IfOk result (λ name. string_bytes name ≡ edge_name number) }
 {

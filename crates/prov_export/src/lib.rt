@@ -1,4 +1,4 @@
-//! Graphs as provenance documents: JSON after PROV-JSON, in a profile of this project's own.
+//! Graphs as provenance documents: JSON after PROV-JSON, in this project's own profile.
 //!
 //! A document is read to a JSON value; nodes and edges are taken out of it by name; the graph is written
 //! anew and compared with the bytes. All look-ups are in maps.

@@ -18,7 +18,7 @@ pub(crate) fn object_of(members: Members) -> Value
     Value::Object(members)
 }
 
-/// The member of a name.
+/// The member with a name.
 pub(crate) fn member_of<'a>(members: &'a Members, name: &str) -> Option<&'a Value>
     ensures { option_map (λ value. view value.now) result
         ≡ get_member name.now (members_view members.now.entries) }

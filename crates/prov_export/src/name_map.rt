@@ -1,4 +1,4 @@
-//! The names of members by the places that they have.
+//! The names of members by their places.
 
 ghost use Rattle.std.specs.Prelude.{◌≡◌, ℕ, Some, None, ◌==◌, if◌then◌else◌, option_map, OnOk, IfOk};
 ghost use Rattle.std.specs.Option.{option_or};
@@ -11,10 +11,10 @@ use serde_json::Value;
 use std::alloc::{AllocError, Global};
 use std::collections::BTreeMap;
 
-/// Names by places. Where two members have one place, the first has it.
+/// Names by places. If two members have the same place, the first keeps it.
 pub(crate) type Names<'a> = BTreeMap<u128, &'a str>;
 
-/// The name of the member that has a place.
+/// The name of the member at a place.
 pub(crate) fn name_of<'a>(names: &Names<'a>, place: u128) -> Option<&'a str>
     ensures { option_map (λ name. name.now) result ≡ names_of names.now place }
 {

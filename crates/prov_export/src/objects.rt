@@ -41,14 +41,14 @@ fn count(members: &Members) -> u128
 }
 
 impl<'a> ObjectRefs<'a> {
-    /// How many nodes there are.
+    /// The number of nodes.
     pub(crate) fn node_count(&self) -> u128
         ensures { result ≡ node_count (objects_seen self.now) }
     {
         count(self.entities) + count(self.activities)
     }
 
-    /// How many edges there are.
+    /// The number of edges.
     pub(crate) fn edge_count(&self) -> u128
         ensures { result ≡ edge_count (objects_seen self.now) }
     {

@@ -1,5 +1,5 @@
-//! What a document has under a name, in the order of the names. A value is kept as what it is made of: as a
-//! JSON value, each would take some 800 bytes.
+//! The members of a document, in the order of their names. A value is kept as the node or edge that it is
+//! made from: as a JSON value, each would take some 800 bytes.
 
 ghost use Rattle.std.specs.Prelude.{◌≡◌, ◌<◌, length, string_bytes, true, Bool, ℕ, IfOk, OnOk, IsTrue};
 ghost use Rattle.serde_json.specs.Data.{Data, no_members, put};
@@ -62,7 +62,7 @@ fn put_node(
     }
 }
 
-/// The nodes that are entities, where `entity` is true; else the activities.
+/// The entities among nodes if `entity` is true, and else the activities.
 pub(crate) fn node_entries(
     alloc: Global,
     entity: bool,

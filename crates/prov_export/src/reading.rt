@@ -22,7 +22,7 @@ use std::alloc::{AllocError, Global};
 use std::marker::Model;
 use trace_graph::{Edges, Graph, Nodes, is_well_formed};
 
-/// The nodes and edges that were taken out of a document.
+/// The nodes and edges taken out of a document.
 #[derive(Drop)]
 struct Draft {
     nodes: Nodes,
@@ -111,7 +111,8 @@ fn graph_of(alloc: Global, bytes: &[u8]) -> Result<Graph, ProvStop>
     }
 }
 
-/// The graph whose document the bytes are. `NotProv` exactly where they are that of no well-formed graph.
+/// The graph whose document the bytes are. `NotProv` if and only if they are the document of no well-formed
+/// graph; `NoMemory` may come in place of either answer.
 pub fn read_prov(alloc: Global, bytes: &[u8]) -> Result<Graph, ProvStop>
     ensures reading { Gives Stops result (prov_reading bytes.now) }
     ensures ok { IfOk result (λ graph. IsWellFormed graph × (prov_text graph ≡ bytes.now)) }

@@ -3,17 +3,17 @@
 ghost use Rattle.std.specs.Prelude.{◌≡◌};
 ghost use Rattle.prov_export.specs.Document.{is_relation, relation_name, relation_of, source_name, target_name};
 
-/// What kind of node comes from what kind. Paths, row versions and replies are entities; processes and
+/// The relations between kinds of nodes. Paths, row versions and replies are entities; processes and
 /// statements are activities.
 #[derive(Clone, Copy)]
 pub enum Relation {
-    /// An activity from an entity.
+    /// An activity used an entity.
     Used,
-    /// An entity from an activity.
+    /// An activity generated an entity.
     Generated,
-    /// An entity from an entity.
+    /// An entity was derived from an entity.
     Derived,
-    /// An activity from an activity.
+    /// An activity was informed by an activity.
     Informed,
 }
 

@@ -290,8 +290,8 @@ fn append_from_generated(alloc: Global, graph: &Graph, to: &mut Bytes) -> Result
     append_edges(alloc, Relation::Informed, graph, to)
 }
 
-/// The document of a graph, as compact JSON. It takes little more memory than the text, the graph and the
-/// names of one object. `AllocError` means out of memory only.
+/// The document of a graph, as compact JSON. The memory is little more than the text, the graph and the names
+/// of one object. `AllocError` means out of memory only.
 pub fn write_prov(alloc: Global, graph: &Graph) -> Result<Bytes, AllocError>
     ensures { IfOk result (λ text. text ≡ prov_text graph.now) }
 {

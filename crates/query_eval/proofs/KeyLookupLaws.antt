@@ -1,4 +1,4 @@
--- The row of a table that stands with a key.
+-- The live row of a table with a key.
 use Rattle.std.proofs.Common.{◌≡◌, ◌∙◌, refl, ℕ, ◌<◌, true, List, map, length, Option, Some, None}
 use Rattle.std.specs.Prelude.{filter}
 use Rattle.std.specs.Option.{option_map, option_to_list}

@@ -1,4 +1,4 @@
--- The sources of a core from a store, as the definitions want them.
+-- The sources of a core from a store have the properties that the definitions of a join ask for.
 use Rattle.std.proofs.Common.{◌≡◌, ◌==◌, ◌∙◌, sym, ap, subst, refl, ℕ, zero, suc, ◌+◌, ◌<◌, ◌≤◌, Bool, true, false, ◌&&◌, ◌||◌, List, [], ◌∷◌, ◌++◌, map, length, drop, get_or, append_assoc, append-nil, inl, inr, arith, Option, Some, None}
 use Rattle.std.specs.Prelude.{filter, find, is_none, option_map, slice_get, zip, IfSome}
 use Rattle.std.specs.Cmp.Lexicographic.{slice_cmp, nat_list_cmp_total}

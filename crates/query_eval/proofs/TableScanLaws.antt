@@ -1,4 +1,4 @@
--- The rows that masks leave, slot by slot.
+-- The rows that pass masks, slot by slot.
 use Rattle.std.proofs.Common.{◌≡◌, ◌∙◌, sym, ap, subst, refl, ℕ, zero, suc, ◌+◌, ◌-◌, ◌<◌, ◌≤◌, Bool, true, false, ◌&&◌, List, [], ◌∷◌, ◌++◌, map, drop, length, get_or, append_assoc, append-nil, inl, inr, arith, Option, Some, None}
 use Rattle.std.specs.Prelude.{filter, cond, unwrap_or, is_some, IfSome, IsSome}
 use Rattle.std.specs.List.{cons_option, filter_map, AllByRecursion}

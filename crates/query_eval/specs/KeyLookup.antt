@@ -1,4 +1,4 @@
--- The row of a table that stands with a key.
+-- The live row of a table with a key.
 use Rattle.std.specs.Prelude.{List, find}
 use Rattle.std.specs.Option.{option_map, option_to_list}
 use Rattle.query_eval.specs.TableScan.{with_version}

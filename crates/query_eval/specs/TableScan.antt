@@ -1,4 +1,4 @@
--- The rows of a table for which masks pass, slot by slot.
+-- The rows of a table that pass masks, slot by slot.
 use Rattle.std.specs.Prelude.{ℕ, suc, List, [], ◌∷◌, filter, Bool, false, Option}
 use Rattle.std.specs.Prelude.{if◌then◌else◌, slice_index_or, unwrap_or}
 use Rattle.std.specs.List.{filter_map}

@@ -15,7 +15,7 @@ use core_parts::{Refs, RefsBy};
 use ldv_value::{Key, Value, Values};
 use std::alloc::{AllocError, Global};
 
-/// Rows by the value in a column, in their order.
+/// Rows by the value in a column. Those of one value are in their order.
 #[derive(Drop)]
 pub(crate) struct Index<'a> {
     map: RefsBy<'a, Key<'a, Value>, SourceRow>,
@@ -66,7 +66,7 @@ fn add_known<'a>(
     }
 }
 
-/// The rows of a source by a column.
+/// The index of a source's rows by the column at a place, from 0.
 pub(crate) fn index_of<'a>(
     alloc: Global,
     rows: &'a [SourceRow],
@@ -110,8 +110,8 @@ fn value_of<'a>(prefix: &Refs<'a, SourceRow>, place: usize) -> Option<&'a Value>
     }
 }
 
-/// The rows of which the column equals the value at the place `from` of a joined row. `rows` and `place` are
-/// those by which the index was made.
+/// The rows whose column equals the value at the place `from` of a joined row; `None` if there is none.
+/// `rows` and `place` are those that the index was made from.
 #[tactic(auto, using(crate::proofs::Indexes::null_rows))]
 pub(crate) fn rows_for<'b, 'a>(
     index: &'b Index<'a>,

@@ -1,8 +1,8 @@
 //! The joined rows of FROM for which ON and WHERE are True.
 //!
-//! The sources are taken from left to right. Each condition is tested as soon as its columns are there. Where
-//! an equality ties a column of the next source to an earlier one, the rows are looked up by it; any choice
-//! of rows is right that leaves out only such as fail a condition.
+//! The sources are joined from left to right. Each condition is tested as soon as the row has its columns. If
+//! an equality ties a column of the next source to an earlier one, an index by this column gives the rows.
+//! Leaving out rows is right if each of them fails a condition.
 
 ghost use Rattle.std.specs.Prelude.{◌≡◌, ◌<◌, ◌≤◌, ◌+◌, ◌^◌, ◌++◌, ◌∷◌, [], ℕ, List as Items, filter, length};
 ghost use Rattle.std.specs.Prelude.{map, not, IfOk, OnOk};
@@ -75,7 +75,7 @@ fn count_values(rows: &[&SourceRow]) -> usize {
     count
 }
 
-/// The values of a joined row.
+/// The values of the joined row of a combination, in FROM order.
 pub(crate) fn joined_values(alloc: Global, rows: &[&SourceRow]) -> Result<Values, AllocError>
     ensures { IfOk result (λ values. values ≡ joined_row_values (map (λ r. r.now) rows.now)) }
 {

@@ -1,4 +1,4 @@
-//! The row of a table that stands with a key.
+//! The live row of a table with a key.
 
 ghost use Rattle.std.specs.Prelude.{◌≡◌, ◌<◌, length, IfOk, Some};
 ghost use Rattle.std.specs.List.{AllByRecursion};
@@ -15,7 +15,7 @@ use sql_model::RowKey;
 use std::alloc::{AllocError, Global};
 use table_store::TableStore;
 
-/// The row of a table that stands with a key; no row where none has it. The table has a key.
+/// The live row of a table with a key, or no row if none has it. The table has a key.
 #[tactic(auto, using(crate::proofs::KeyLookupLaws::keyed_known))]
 pub(crate) fn rows_of_key(
     alloc: Global,

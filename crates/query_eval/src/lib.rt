@@ -2,8 +2,8 @@
 //! BY and LIMIT, each row with its lineage.
 //!
 //! A source holds the rows of one table in FROM that can be in a joined row. If conditions fix its whole key
-//! by constants, the index of the table gives its one row. Else the conditions on single columns choose
-//! slots by scans, and only the rows left are copied. `proofs/StoredSourceLaws.antt` says why no row is
+//! by constants, the index of the table gives its one row. Otherwise the conditions on single columns choose
+//! slots by scans, and only the chosen rows are copied. `proofs/StoredSourceLaws.antt` says why no row is
 //! lost, and `proofs/Levels.antt` why the steps of a join give the rows of the product in its order.
 //!
 //! Entry: `picked` in `src/picking.rt`. Read first: `specs/Picking.antt`.

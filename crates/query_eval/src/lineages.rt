@@ -17,8 +17,8 @@ fn add_to_set(lineage: &mut LineageSet, answer: &Answer) -> Result<(), AllocErro
     lineage.add_rows(&answer.lineage)
 }
 
-/// The union of the lineages of answers, as a set. It stands for the lineages of all rows for which the
-/// answers stand (`proofs/Merges.antt`).
+/// The union of the lineages of answers, as a set. If the answers stand for rows, it stands for the lineages
+/// of all these rows (`proofs/Merges.antt`).
 pub fn united_set(alloc: Global, answers: &[Answer]) -> Result<LineageSet, AllocError>
     ensures { IfOk result (λ lineage. lineage ≡ lineage_of_answers answers.now) }
 {

@@ -1,4 +1,4 @@
-//! Answers of the same values made one, with the union of their lineages.
+//! Merging answers of the same values, with the union of their lineages.
 
 ghost use Rattle.std.specs.Prelude.{◌≡◌, ◌++◌, ◌∷◌, [], ℕ, Bool, List as Items, map, IfOk, OnOk};
 ghost use Rattle.std.specs.Prelude.{Some, None};
@@ -18,8 +18,8 @@ use std::collections::BTreeMap;
 // The places of answers, by their values.
 type Places<'a> = BTreeMap<Key<'a, Values>, usize>;
 
-/// One answer for all of the same values, at the place of the first, with the union of their lineages. NULL
-/// is the same as NULL. A row has one version in all these lineages.
+/// Merges all answers of the same values into one, at the place of the first, with the union of their
+/// lineages. NULL equals NULL. A row has one version in all these lineages.
 #[tactic(auto, using(crate::proofs::Merges::merged_stand))]
 pub fn merge(answers: Answers) -> Result<Answers, AllocError>
     ensures { IfOk result (λ made.

@@ -14,14 +14,14 @@ use lineage::{Answers, LineageSet};
 use sql_model::Checked;
 use std::alloc::{AllocError, Global};
 
-/// The answers of a query, and the rows of tables that the answers come from which LIMIT cuts.
+/// The answers of a query, and the united lineage of the answers that LIMIT cut.
 #[derive(Drop)]
 pub struct Finished {
     pub answers: Answers,
     pub cut: LineageSet,
 }
 
-/// The answers that ORDER BY and LIMIT make of those of a query's cores. The sort is stable. A row has one
+/// Sorts the answers of a query's cores by ORDER BY and cuts them by LIMIT. The sort is stable. A row has one
 /// version in all lineages of the answers.
 pub fn finish(checked: &Checked, answers: Answers) -> Result<Finished, AllocError>
     requires { IsQuery checked.now.statement }

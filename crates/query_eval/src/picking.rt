@@ -22,8 +22,8 @@ use table_store::Store;
 
 /// The picked combinations of a core over the tables of a store, in their order. `checked` is a query that
 /// was checked against the store's catalog, and `core` the place of one of its cores, from 0. A table's place
-/// in the lineages is its place, from 0, among the names of all tables of the store. Where `keep` is false
-/// the lineages are empty.
+/// in the lineages is its place, from 0, among the names of all tables of the store. If `keep` is false, the
+/// lineages are empty.
 #[tactic(auto, using(crate::proofs::StoredSourceLaws::stored_picks))]
 pub fn picked(
     checked: &Checked,

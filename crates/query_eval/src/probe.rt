@@ -1,4 +1,4 @@
-//! The equality by which the rows of the next source are looked up.
+//! The equality that looks up rows of the next source.
 
 ghost use Rattle.std.specs.Prelude.{◌≡◌, ◌<◌, IfSome, true};
 ghost use Rattle.query_eval.specs.inner.Joining.{IsBetween, IsEquality, IsProbeOf, HasProbe};
@@ -7,15 +7,15 @@ ghost use Rattle.query_eval.specs.inner.Joining.{is_equal_sign};
 use core_parts::{BoundExpr, column_of_source, is_column, is_equal_test};
 use sql_model::{Expr, Operator};
 
-/// Two columns that are equal: one by its place in the joined row of the earlier sources, and one of the
-/// next source by its place there.
+/// Two columns that are equal: one of the earlier sources, by its place in their joined row, and one of the
+/// next source, by its place there. Places count from 0.
 #[derive(Clone, Copy)]
 pub struct Probe {
     pub from: usize,
     pub place: usize,
 }
 
-/// A probe, and the index of its condition.
+/// A probe, and the index of its condition, from 0.
 #[derive(Clone, Copy)]
 pub struct Found {
     pub index: usize,
@@ -94,8 +94,8 @@ fn probe_of(cond: &BoundExpr, width: u128) -> Option<Probe>
     probe_between(*a, *b, width)
 }
 
-/// The first condition by which rows of the next source can be looked up: an equality of a column of it and
-/// one of an earlier source. These have `width` values.
+/// The first condition that can look up rows of the next source: an equality of one of its columns and a
+/// column of an earlier source. The earlier sources have `width` columns in all.
 pub(crate) fn probe_at(conds: &[BoundExpr], width: u128) -> Option<Found>
     ensures { IfSome result (λ found. HasProbe conds.now width found.index found.probe) }
 {

@@ -13,8 +13,8 @@ use lineage::{Answer, Answers, Picks};
 use sql_model::{Checked, Item, value_of};
 use std::alloc::{AllocError, Global};
 
-/// The answer rows of a core that doesn't group, whose picked combinations these are. `core` is the core's
-/// place, from 0.
+/// The answer rows of a core that doesn't group, from its picked combinations. `core` is the core's place,
+/// from 0.
 #[tactic(auto, using(crate::proofs::Projections::projections))]
 pub fn project(checked: &Checked, core: usize, picks: Picks) -> Result<Answers, AllocError>
     requires { HasCore checked.now core }

@@ -1,4 +1,4 @@
-//! The picks of a core that reads one source: its rows move into them, and nothing is joined.
+//! The picks of a core with one source: the rows move into the picks, and nothing is joined.
 
 ghost use Rattle.std.specs.Prelude.{◌≡◌, ◌++◌, ◌∷◌, List as Items, IfOk, OnOk};
 ghost use Rattle.std.specs.FinMap.{empty};

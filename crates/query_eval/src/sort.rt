@@ -13,7 +13,7 @@ use sql_model::{Order, value_or};
 use std::alloc::{AllocError, Global};
 use std::cmp::Ordering;
 
-/// An answer column by its place, from 0, and whether its order is turned round.
+/// An answer column by its place, from 0, and whether its order is descending.
 #[derive(Clone, Copy)]
 pub struct SortColumn {
     pub place: usize,
@@ -49,7 +49,7 @@ pub(crate) fn sort_columns(
     }
 }
 
-/// Answers sorted by columns. Where they are the same in all of these, they keep their order.
+/// Answers sorted by columns. Answers that are the same in all of these keep their order.
 pub(crate) fn sort_answers(columns: &[SortColumn], answers: Answers) -> Result<Answers, AllocError>
     ensures { IfOk result (λ sorted. sorted ≡ sorted_by (by_columns columns.now) answers) }
 {

@@ -1,4 +1,4 @@
-//! What a core reads: the rows of its sources.
+//! The rows of a core's sources.
 
 ghost use Rattle.std.specs.Prelude.{◌≡◌, ◌+◌, ◌^◌, ◌<◌, ◌≤◌};
 
@@ -27,8 +27,8 @@ pub type SourceRows = List<SourceRow>;
 /// The sources of a core, in FROM order.
 pub type Sources = List<Source>;
 
-/// The number of values of joined rows, with those of one source more. It is a sum of fewer than 2^64 numbers
-/// of columns, each below 2^64.
+/// The number of values of joined rows after one more source. It doesn't overflow, since it is a sum of fewer
+/// than 2^64 numbers of columns, each below 2^64.
 pub(crate) fn width_with(width: u128, more: usize) -> u128
     requires { width + 2 ^ 64 ≤ 2 ^ 128 }
     ensures sum { result ≡ width + more }

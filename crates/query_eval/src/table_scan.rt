@@ -1,4 +1,4 @@
-//! The rows of a table that masks leave: chosen by bits, and copied only then.
+//! The rows of a table that pass masks: chosen by bits, and copied only then.
 
 ghost use Rattle.std.specs.Prelude.{◌≡◌, ◌++◌, ◌<◌, ◌^◌, [], ℕ, length, IfOk, OnOk};
 ghost use Rattle.std.specs.Prelude.{Some, unwrap_or};
@@ -63,7 +63,7 @@ fn add_row(
     })
 }
 
-/// Adds the row of a slot, where it stands.
+/// Adds the row of a slot, if it is live.
 #[tactic(auto, using(crate::proofs::TableScanLaws::made_rows))]
 pub(crate) fn add_slot(
     table: &TableStore,
@@ -137,8 +137,8 @@ fn rows_by(
     }
 }
 
-/// The rows of a table that stand and for which each mask passes, in the order of their numbers. The masks
-/// suit their columns.
+/// The live rows of a table that pass each mask, in the order of their numbers. The masks fit the kinds of
+/// their columns.
 #[tactic(auto, using(crate::proofs::TableScanLaws::left_known))]
 pub(crate) fn rows_left(
     alloc: Global,

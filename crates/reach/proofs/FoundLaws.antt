@@ -1,4 +1,4 @@
--- The nodes that open edges come from are those from which a path leads to the node.
+-- An open edge comes from a node if and only if a path leads from it to the searched node.
 use Rattle.std.proofs.Common.{◌≡◌, ◌∙◌, sym, ap, subst, refl, inl, inr, ◌⊎◌, ℕ, Bool, true, false}
 use Rattle.std.proofs.Common.{List, [], Some, None}
 use Rattle.std.specs.Prelude.{◌↔◌, Contains, slice_get, if◌then◌else◌}

@@ -1,4 +1,4 @@
--- A place is marked exactly where an open edge comes from it.
+-- A place is marked if and only if an open edge comes from it.
 use Rattle.std.proofs.Common.{◌≡◌, ◌∙◌, sym, ap, subst, refl, inl, inr, ◌⊎◌, arith, ℕ, zero, suc, ◌+◌, ◌<◌, Bool, true, false}
 use Rattle.std.proofs.Common.{List, [], ◌∷◌, ◌++◌, length, get_or, set, map, Option, Some, None, Bor}
 use Rattle.std.specs.Prelude.{Contains, fold, replicate, slice_get, option_to_list, if◌then◌else◌}

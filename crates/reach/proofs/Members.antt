@@ -1,4 +1,4 @@
--- What lists contain: with an item more, filtered, mapped, and put in order.
+-- The members of lists: with one item more, filtered, mapped, and sorted.
 use Rattle.std.proofs.Common.{◌≡◌, ◌∙◌, sym, ap, subst, refl, inl, inr, ◌⊎◌, arith, ℕ, ◌<◌, zero, suc, Bool, true, false, cond}
 use Rattle.std.proofs.Common.{List, [], ◌∷◌, length, get_or, Option, Some, None}
 use Rattle.std.specs.Prelude.{Contains, fold}

@@ -1,4 +1,4 @@
--- Keys that are sorted and then stripped of doubles name the same nodes, in the order of the report, each once.
+-- Keys that are sorted, without doubles, name the same nodes, in the order of the report, each once.
 use Rattle.std.proofs.Common.{◌≡◌, ◌∙◌, sym, ap, subst, inl, inr, ◌⊎◌, Bool, true, List, [], ◌∷◌, map, Bor}
 use Rattle.std.specs.Prelude.{Contains}
 use Rattle.std.specs.List.{dedup}

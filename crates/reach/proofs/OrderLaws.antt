@@ -1,4 +1,4 @@
--- The order of the report is a total one, and nodes that are put in order are in it.
+-- The order of the report is total, and sorted nodes are in this order.
 use Rattle.std.proofs.Common.{◌≡◌, ◌∙◌, ap, subst, refl, ℕ, List, [], ◌∷◌}
 use Rattle.std.specs.Prelude.{fold}
 use Rattle.std.specs.List.{AllByRecursion}

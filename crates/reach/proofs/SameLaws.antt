@@ -1,4 +1,4 @@
--- Whichever way the latest times are found, the same nodes come of them.
+-- All ways to find the latest times give the same nodes.
 use Rattle.std.proofs.Common.{◌≡◌, ap, ℕ, Bool, true, List, None}
 use Rattle.std.specs.Prelude.{◌&&◌, nat_le, slice_get, if◌then◌else◌}
 use Rattle.std.specs.List.{filter_map}

@@ -1,4 +1,4 @@
--- Where the search stands: at first, after an edge, and after a place.
+-- The state of the search: at first, after an edge, and after a place.
 use Rattle.std.proofs.Common.{◌≡◌, ◌∙◌, sym, ap, subst, refl, inl, inr, ◌⊎◌, arith, ℕ, ◌<◌, ◌≤◌, Bool, true, false}
 use Rattle.std.proofs.Common.{List, [], ◌∷◌, length, set, Option, Some, None}
 use Rattle.std.specs.Prelude.{Contains, replicate, if◌then◌else◌}

@@ -1,4 +1,4 @@
--- What the tests of times say.
+-- The meaning of the tests of times.
 use Rattle.std.proofs.Common.{◌≡◌, ◌∙◌, sym, ap, subst, refl, inl, inr, arith, ℕ, ◌<◌, ◌≤◌, Bool, true, false, not}
 use Rattle.std.proofs.Common.{length, get_or, set, Option, Some, None}
 use Rattle.std.specs.Prelude.{◌&&◌, nat_le, if◌then◌else◌}

@@ -1,4 +1,4 @@
--- What a node of a graph depends on, as a function: passes over the edges find the latest times.
+-- The nodes that a node of a graph depends on, as a function: passes over the edges find the latest times.
 use Rattle.std.specs.Prelude.{ℕ, zero, suc, ◌+◌, ◌==◌, List, map, fold, Option, None, Some, slice_set}
 use Rattle.std.specs.Prelude.{if◌then◌else◌}
 use Rattle.trace_graph.specs.Graph.{Parts}

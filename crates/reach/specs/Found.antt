@@ -1,5 +1,5 @@
--- Nodes by the latest times at which they may be left: for each place, the last time, if there is one, by
--- which what comes there still gets to the node in time.
+-- The latest times at which nodes may be left: for each place the last time, if there is one, such that
+-- information that is there by then still gets to the node in time.
 use Rattle.std.specs.Prelude.{ℕ, List, [], ◌∷◌, Bool, false, ◌&&◌, nat_le, Option, None, Some, slice_get}
 use Rattle.std.specs.Prelude.{if◌then◌else◌, fold}
 use Rattle.std.specs.Option.{unwrap_or}

@@ -1,4 +1,4 @@
--- The lines of reports on nodes. Reports name processes in ways of their own.
+-- The lines of reports on nodes. Each report names processes in its own way.
 use Rattle.std.specs.Prelude.{ℕ, List, ◌++◌, codes}
 use Rattle.std.specs.Fmt.{decimal}
 use Rattle.run_model.specs.OutcomeText.{line}

@@ -1,5 +1,5 @@
--- The order in which nodes are reported: paths by their bytes, processes by number, rows by table, row and
--- version, and then statements and replies by number.
+-- The order of nodes in reports: paths by their bytes, processes by number, rows by table, row and version,
+-- and then statements and replies by number.
 use Rattle.std.specs.Prelude.{ℕ}
 use Rattle.std.specs.Ordering.{nat_cmp, ordering_then}
 use Rattle.std.specs.Cmp.Lexicographic.{slice_cmp}

@@ -1,4 +1,5 @@
--- What a node of a graph depends on by a time: the nodes from which information could get to it by then.
+-- The nodes that a node of a graph depends on by a time: those from which information could get to it by
+-- then.
 use Rattle.std.specs.Prelude.{◌≡◌, ◌↔◌, ℕ, ◌≤◌, List, [], ◌∷◌, Some, Contains, slice_get}
 use Rattle.std.specs.List.Sorted.{IsStrictlySortedBy}
 use Rattle.trace_graph.specs.Graph.{Parts}

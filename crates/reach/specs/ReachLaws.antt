@@ -1,5 +1,5 @@
--- What the intervals of a graph keep of the links that it was made of, and that paths and passes over the
--- edges give the same nodes.
+-- The intervals of a graph keep all paths of its links, and paths give the same nodes as passes over the
+-- edges.
 use Rattle.std.specs.Prelude.{◌≡◌, ℕ, ◌<◌, ◌≤◌, List, [], ◌∷◌, length, Contains, IsTrue}
 use Rattle.trace_graph.specs.Links.{Link}
 use Rattle.trace_graph.specs.Graph.{Parts, place_in, graph_by, are_between}

@@ -14,7 +14,7 @@ use crate::marks::open_marks;
 use std::alloc::{AllocError, Global};
 use trace_graph::{Edge, NodeKey};
 
-/// Keys of nodes where the graph has them, in any order.
+/// Borrowed keys of the nodes of a graph, in any order.
 type Keys<'a, 'b> = Vec<&'a NodeKey<'b>>;
 
 #[tactic(auto, using(crate::proofs::MarkLaws::mark_read))]

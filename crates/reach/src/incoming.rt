@@ -8,9 +8,9 @@ ghost use Rattle.reach.specs.inner.Incoming.{AreChains, value_at};
 use std::alloc::{AllocError, Global};
 use trace_graph::Edge;
 
-/// The edges to each node, chained by their places in the list of edges: for each node that of the first edge
-/// to it, and for each edge that of the next one to the same node. Where there is none stands the number of
-/// edges. That takes a number for each node and edge, and no list of its own for each node.
+/// The edges to each node, chained by their places in the list of edges: each node has the place of the first
+/// edge to it, and each edge the place of the next edge to the same node. The number of edges ends a chain.
+/// This takes a number for each node and each edge, and no list for each node.
 #[derive(Drop)]
 pub(crate) struct Incoming {
     pub(crate) firsts: Vec<usize>,

@@ -1,4 +1,4 @@
-//! For each node the latest time from which a node is still reached in time.
+//! The latest time of each node from which the searched node is still reached in time.
 
 ghost use Rattle.std.specs.Prelude.{◌≡◌, ◌<◌, length, IfOk, IsTrue};
 ghost use Rattle.trace_graph.specs.Graph.{are_between};
@@ -29,7 +29,7 @@ pub(crate) fn reaches(time: u32, latest: Option<u32>) -> bool
     }
 }
 
-/// For each of `count` places, the latest time from which `node` is still reached by `time`; none where it
+/// For each of `count` places, the latest time from which `node` is still reached by `time`; `None` if it
 /// isn't reached from there.
 pub(crate) fn latest_times(
     alloc: Global,

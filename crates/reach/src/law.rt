@@ -4,10 +4,9 @@ ghost use Rattle.reach.specs.ReachLaws.{DependsLaw, TrailsLaw};
 
 use trace_graph::graph_law;
 
-/// Where links lead from one node to another, each at its one time, and the times never fall and are at most
-/// some time, a path of the graph that the links make does by that time. So a graph with intervals loses
-/// nothing that the single events show. It may show more. And the nodes from which such a path leads to a
-/// node are those that repeated passes over the edges find, so what is said of the one holds of the other.
+/// If links lead from one node to another at times that never fall and are at most `t`, then a path of their
+/// graph does so by `t`. So a graph with intervals loses nothing that the single events show; it may show
+/// more. Repeated passes over the edges find the nodes from which such paths lead to a node, and no others.
 /// The function does nothing: its contract is the theorem.
 pub fn reach_law()
     ensures trails { TrailsLaw }

@@ -1,4 +1,4 @@
-//! The lines of reports on nodes, but for those of processes, which reports name in ways of their own.
+//! The lines of reports on nodes, except processes, since each report names these in its own way.
 
 ghost use Rattle.std.specs.Prelude.{◌≡◌, ◌++◌, codes, OnOk};
 ghost use Rattle.std.specs.Fmt.{decimal};
@@ -8,7 +8,7 @@ ghost use Rattle.reach.specs.NodeLines.{version_text};
 use ldv_value::{Bytes, append_number};
 use std::alloc::AllocError;
 
-/// Appends a word that ends in a blank, and a number.
+/// Appends a word that ends in a blank, and a number in decimal digits.
 pub fn append_numbered(to: &mut Bytes, word: &[u8], number: u64) -> Result<(), AllocError>
     ensures { OnOk result (to.new ≡ to.old ++ (word.now ++ decimal number)) }
 {
@@ -37,7 +37,7 @@ pub fn append_version(to: &mut Bytes, table: &str, row: u32, version: u32) -> Re
     to.extend(b"\n")
 }
 
-/// Appends a line of a word that ends in a blank, and a number.
+/// Appends a line: a word that ends in a blank, a number in decimal digits, and LF.
 pub fn append_number_line(to: &mut Bytes, word: &[u8], number: u32) -> Result<(), AllocError>
     ensures { OnOk result (to.new ≡ to.old ++ line (word.now ++ decimal number)) }
 {

@@ -1,5 +1,5 @@
-//! Marks at the places of nodes that open edges come from: an edge is open where what it brings to its target
-//! still gets to the searched node in time.
+//! Marks at the places of nodes that open edges come from. An edge is open if information that it brings to
+//! its target still gets to the searched node in time.
 
 ghost use Rattle.std.specs.Prelude.{◌≡◌, ◌<◌, length, IfOk, IsTrue};
 ghost use Rattle.trace_graph.specs.Graph.{are_between};

@@ -13,8 +13,7 @@ use std::alloc::{AllocError, Global};
 use std::collections::BinaryHeap;
 use trace_graph::Edge;
 
-// Whether an edge may be taken later than its source may be left so far, where its target may be left up to a
-// time.
+// Whether this edge gives its source a later departure time, if its target can be left at `time`.
 fn is_later(latest: &[Option<u32>], edge: &Edge, time: u32) -> bool
     requires { edge.now.source < length latest.now }
     ensures { result ≡ is_later latest.now edge.now time }
@@ -34,8 +33,8 @@ fn is_current(latest: &[Option<u32>], time: u32, place: usize) -> bool
     }
 }
 
-/// The search: the latest time of each place so far, and the places whose edges are to be looked at, each
-/// with its latest time. The latest comes first.
+/// The search: the latest time of each place so far, and a queue of the places whose edges it must still look
+/// at, each with its latest time. The latest comes first.
 #[derive(Drop)]
 pub(crate) struct Search {
     pub(crate) latest: Vec<Option<u32>>,
@@ -43,7 +42,7 @@ pub(crate) struct Search {
 }
 
 impl Search {
-    /// It begins at a place, which may be left up to a time.
+    /// The search from a place that can be left up to `time`.
     pub(crate) fn start(
         alloc: Global,
         count: usize,
@@ -61,7 +60,7 @@ impl Search {
         Ok(Search { latest, queue })
     }
 
-    // Looks at an edge whose target may be left up to a time.
+    // Looks at an edge whose target can be left up to `time`.
     fn look_at(&mut self, edge: &Edge, time: u32) -> Result<(), AllocError>
         requires { edge.now.source < length self.old.latest.items }
         ensures latest { OnOk result (self.new.latest.items
@@ -79,7 +78,7 @@ impl Search {
         Ok(())
     }
 
-    // Looks at edges to one place, which may be left up to a time.
+    // Looks at edges to one place that can be left up to `time`.
     fn look_at_all(&mut self, edges: &[Edge], time: u32) -> Result<(), AllocError>
         requires { ComeFrom (length self.old.latest.items) edges.now }
         ensures latest { OnOk result (self.new.latest.items

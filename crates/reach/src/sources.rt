@@ -1,4 +1,4 @@
-//! What a node depends on.
+//! The nodes that a node depends on.
 
 ghost use Rattle.std.specs.Prelude.{◌≡◌, ◌<◌, length, map, IfOk, IsTrue};
 ghost use Rattle.trace_graph.specs.Building.{node_of};
@@ -12,13 +12,13 @@ use crate::latest::latest_times;
 use std::alloc::{AllocError, Global};
 use trace_graph::{Edge, NodeKey};
 
-/// The nodes that a node of a graph depends on by a time: those from which a path of at least one edge leads
-/// to it, for which a time can be chosen within each edge's interval so that the times never fall and the
-/// last is at most `time`. The node itself is among them only where such a path leads from it to itself. Each
-/// node is there once: paths sorted by bytes, then processes by number, rows by table, row and version, and
-/// statements and then replies by number. They are lent, where the graph has them. `nodes` and `edges` are
-/// those of the graph, `node` is a place of it, from 0, and `time` is a step. `AllocError` means out of
-/// memory only.
+/// The nodes that a node of a graph depends on by a time. A path of at least one edge must lead from them to
+/// the node, and each edge must have a time within its interval such that the times never fall and the last
+/// is at most `time`. The node itself is among them only if such a path leads from it to itself. Each node
+/// comes once: paths sorted by bytes, then processes by number, rows by table, row and version, and
+/// statements and then replies by number. They are borrowed from the graph. `nodes` and `edges` are those of
+/// the graph, `node` is a place in `nodes`, from 0, and `time` is a step. `AllocError` means out of memory
+/// only.
 pub fn depends<'a, 'b>(
     alloc: Global,
     nodes: &'a [NodeKey<'b>],

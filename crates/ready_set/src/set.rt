@@ -10,8 +10,8 @@ use crate::tree::{count_before, leaf_at, set_leaf, widen_tree};
 use std::alloc::{AllocError, Global};
 use std::marker::Model;
 
-/// A set of numbers, which are made one after another from 0 on. Contracts see a flag for each number made so
-/// far, and for how many numbers there is room.
+/// A set of numbers, which are made one after another from 0 on, at most 2^30. Contracts see a flag for each
+/// number made so far, and the capacity `room`.
 #[derive(Drop)]
 pub struct ReadySet {
     // a tree with a leaf for each number that there is room for
@@ -64,7 +64,7 @@ impl ReadySet {
         Ok(())
     }
 
-    /// Makes the next number, which is in the set or not.
+    /// Makes the next number, and puts it into the set if `is_in`. There must be room for it (`reserve`).
     pub fn push(&mut self, is_in: bool)
         requires { length self.old.flags < self.old.room }
         ensures { self.new ≡ record self.old { flags = self.old.flags ++ is_in ∷ [] } }
@@ -73,7 +73,7 @@ impl ReadySet {
         self.made += 1;
     }
 
-    /// Puts a number into the set, or takes it out.
+    /// Puts a number into the set if `is_in`, and else takes it out. It must be made.
     pub fn set(&mut self, number: u32, is_in: bool)
         requires { number < length self.old.flags }
         ensures { self.new ≡ record self.old { flags = slice_set self.old.flags number is_in } }
@@ -81,7 +81,7 @@ impl ReadySet {
         put(&mut self.counts, self.room, number as usize, is_in);
     }
 
-    /// Puts a number into the set; it may be there already.
+    /// Puts a number, which must be made, into the set; it may be there already.
     pub fn add(&mut self, number: u32)
         requires { number < length self.old.flags }
         ensures { self.new ≡ record self.old { flags = slice_set self.old.flags number true } }
@@ -89,7 +89,7 @@ impl ReadySet {
         self.set(number, true);
     }
 
-    /// Takes a number out of the set; it may be absent.
+    /// Takes a number, which must be made, out of the set; it may be absent.
     pub fn remove(&mut self, number: u32)
         requires { number < length self.old.flags }
         ensures { self.new ≡ record self.old { flags = slice_set self.old.flags number false } }
@@ -127,8 +127,8 @@ impl ReadySet {
         self.len() == 0
     }
 
-    /// The least number in the set above one, or else the least of all. Where it is the one after, this takes
-    /// no search.
+    /// The least number in the set above `last`, or else the least of all. If that is `last + 1`, this takes
+    /// no search. The set mustn't be empty.
     pub fn pick_next(&self, last: u32) -> u32
         requires { 0 < length (numbers self.now.flags) }
         ensures { result ≡ next_round last (numbers self.now.flags) }
@@ -139,7 +139,7 @@ impl ReadySet {
         }
     }
 
-    /// The number at an index of the sorted list, counted round.
+    /// The number at the index `k`, modulo the length, of the sorted list. The set mustn't be empty.
     pub fn pick_at(&self, k: u64) -> u32
         requires { 0 < length (numbers self.now.flags) }
         ensures { result ≡ at_round (numbers self.now.flags) k }

@@ -1,5 +1,5 @@
 //! A binary tree of counts in one slice: node 1 is the root, the children of node i are nodes 2 i and
-//! 2 i + 1, and the leaves come last, one for each number that there is room for.
+//! 2 i + 1, and the leaves come last, one for each number up to the capacity.
 
 ghost use Rattle.std.specs.Prelude.{◌≡◌, ℕ, ◌+◌, ◌-◌, ◌*◌, ◌%◌, ◌^◌, ◌<◌, ◌≤◌};
 ghost use Rattle.std.specs.Prelude.{length, slice_index, IfOk};
@@ -7,7 +7,7 @@ ghost use Rattle.ready_set.specs.inner.Tree.{IsTree, SetsLeaf, IsWidened, sum_be
 
 use std::alloc::{AllocError, Global};
 
-/// A node, and how many counted leaves below it come before a leaf that is sought.
+/// A node, and how many counted leaves below it come before the sought leaf.
 #[derive(Clone, Copy)]
 struct Place {
     node: usize,
@@ -57,7 +57,7 @@ fn count_left_of(counts: &[u32], node: usize) -> u32
     if node % 2 == 1 { counts[node - 1] } else { 0 }
 }
 
-/// The counted leaf before which `k` other counted leaves come.
+/// The counted leaf that comes after `k` other counted leaves.
 pub(crate) fn leaf_at(counts: &[u32], height: u32, k: u32) -> usize
     requires tree { IsTree (2 ^ height) counts.now }
     requires low { height ≤ 30 }
@@ -99,7 +99,7 @@ fn child_of(counts: &[u32], place: Place) -> Place
     }
 }
 
-/// A tree with twice the room, in which the leaves are counted as in another.
+/// A tree of twice the capacity, with the same counted leaves.
 pub(crate) fn widen_tree(alloc: Global, counts: &[u32], room: usize) -> Result<Vec<u32>, AllocError>
     requires tree { IsTree room counts.now }
     requires few { room ≤ 2 ^ 29 }

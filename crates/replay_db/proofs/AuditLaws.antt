@@ -1,4 +1,4 @@
--- What an audit finds sound.
+-- The packages that an audit finds sound.
 use Rattle.std.proofs.Common.{◌≡◌, ℕ, ◌≤◌, List, [], length, refl, sym, ap, ◌∙◌, subst, true, inl, inr}
 use Rattle.std.specs.List.{common_prefix_len}
 use Rattle.std.specs.Prelude.{bytes_eq, nat_eq, map, Some, None, IsTrue}

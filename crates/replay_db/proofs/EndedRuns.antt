@@ -1,4 +1,4 @@
--- What a run over files and an engine says of the run of a world.
+-- A run over files and an engine is the run of its world.
 use Rattle.std.proofs.Common.{◌≡◌, ℕ, List, [], ◌++◌, sym, ap, ◌∙◌, Bool, true, append_assoc}
 use Rattle.std.specs.Prelude.{Option, Some, option_and_then, slice_get}
 use Rattle.std.specs.List.{list_all}

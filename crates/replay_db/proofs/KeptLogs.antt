@@ -1,4 +1,4 @@
--- The logs that are made of what was kept, once it is sorted by process, are those that it is kept for.
+-- The logs made from kept replies, sorted by process, are the logs of the run.
 use Rattle.std.proofs.Common.{◌≡◌, ℕ, List, [], ◌∷◌, ◌++◌, refl, sym, ap, ◌∙◌, Bool, true, false, append_assoc, length, arith, inl, inr}
 use Rattle.std.specs.Prelude.{bytes_eq, if◌then◌else◌}
 use Rattle.std.specs.Cmp.{IsTotalOrder}

@@ -1,4 +1,4 @@
--- What a run over an engine whose replies are kept says of the run of a world, and the package that it makes.
+-- A run over an engine whose replies are kept is the run of its world, and makes its package.
 use Rattle.std.proofs.Common.{◌≡◌, ℕ, List, [], ◌++◌, refl, sym, ap, ◌∙◌, Bool, true}
 use Rattle.std.specs.Prelude.{Some, slice_get}
 use Rattle.proc_core.specs.Stands.{AppendsEvents}

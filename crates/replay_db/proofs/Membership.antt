@@ -1,4 +1,4 @@
--- What is in two sorted worlds, and what was cut, say the same of whether one lies between.
+-- A sorted world lies between by its contents if and only if it does by what was cut.
 use Rattle.std.proofs.Common.{◌≡◌, ℕ, List, [], ◌∷◌, refl, sym, ap, ◌∙◌, subst, Bool, true, false, cond, arith, inl, inr}
 use Rattle.std.specs.Prelude.{Option, Some, None, is_some, is_none, filter, map, ◌||◌, ◌⊎◌, ◌==◌, nat_lt}
 use Rattle.std.specs.List.{filter_map, cons_option, list_any}

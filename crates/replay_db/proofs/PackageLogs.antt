@@ -1,4 +1,4 @@
--- The logs of good runs meet what a package asks of logs.
+-- The logs of good runs meet the rules for the logs of a package.
 use Rattle.std.proofs.Common.{◌≡◌, List, true}
 use Rattle.std.specs.Prelude.{IsTrue}
 use Rattle.std.specs.List.{list_all, AllByRecursion}

@@ -1,5 +1,4 @@
--- The package of a valid world's run that has ended is valid, and typed: that of the needed rows, and that of
--- the recorded replies.
+-- If a run of a valid world has ended, its packages, included and excluded, are valid and typed.
 use Rattle.std.proofs.Common.{◌≡◌, ℕ, suc, ◌+◌, ◌*◌, ◌≤◌, List, [], ◌∷◌, ◌++◌, length, map, Some, refl, ap, ◌∙◌, le_trans, Bool, true, ◌&&◌, IsTrue, nat_le, nat_lt, slice_get, arith}
 use Rattle.std.specs.List.{list_all, AllByRecursion}
 use Rattle.std.proofs.lemmas.Bool.{and_parts, and_from, le-leb}

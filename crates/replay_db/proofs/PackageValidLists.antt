@@ -1,4 +1,4 @@
--- What lists keep when items are dropped from them, and the others lose a part.
+-- Facts that lists keep when some items are dropped, and the others lose a part.
 use Rattle.std.proofs.Common.{◌≡◌, ℕ, ◌≤◌, List, [], ◌∷◌, length, map, filter, Option, Some, None, refl, ap, ◌∙◌, Bool, true, false, if◌then◌else◌, filter_map, nat_le, arith, inl, inr}
 use Rattle.std.specs.List.{list_all, list_any, cons_option, AllByRecursion}
 use Rattle.std.proofs.lemmas.Bool.{and_parts, and_from, or_parts, or_from, cases_Bool}

@@ -1,4 +1,4 @@
--- What events need of files and tables that meet the rules meets them too.
+-- If files and tables meet the rules, the parts of them that events need do so too.
 use Rattle.std.proofs.Common.{◌≡◌, ℕ, List, [], ◌∷◌, length, map, find, Option, Some, None, option_map, refl, sym, ap, ◌∙◌, Bool, true, false, not, ◌&&◌, if◌then◌else◌, filter_map, nat_le, nat_lt, ◌==◌, bytes_eq, inl, inr}
 use Rattle.std.specs.List.{list_all, cons_option}
 use Rattle.std.proofs.lemmas.Bool.{and_parts, and_from, not-true, not_from_false, cases_Bool}

@@ -1,4 +1,4 @@
--- The numbers of what events need are those of their types, and its texts are UTF-8.
+-- The parts that events need have numbers that fit their types, and texts of UTF-8.
 use Rattle.std.proofs.Common.{◌≡◌, ℕ, ◌∷◌, List, [], map, Option, Some, None, option_map, sym, subst, inl, inr}
 use Rattle.std.specs.List.{AllByRecursion}
 use Rattle.std.specs.Option.{option_or}

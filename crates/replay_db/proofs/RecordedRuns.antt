@@ -1,4 +1,4 @@
--- What is recorded of a run makes the package of that run.
+-- The record of a run makes the package of that run.
 use Rattle.std.proofs.Common.{◌≡◌, ℕ, [], sym, ap, ◌∙◌, true, false}
 use Rattle.std.specs.Prelude.{Some, None, if◌then◌else◌}
 use Rattle.run_model.specs.Package.{package_of}

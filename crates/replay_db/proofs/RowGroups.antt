@@ -1,4 +1,4 @@
--- Sorted rows are of no more groups than there are tables.
+-- Sorted rows have no more groups than there are tables.
 use Rattle.std.proofs.Common.{◌≡◌, ℕ, ◌+◌, ◌≤◌, List, [], ◌∷◌, ◌++◌, length, refl, sym, ap, ◌∙◌, Bool, true, false, append_assoc, arith, inl, inr}
 use Rattle.std.specs.Prelude.{filter, bytes_eq, IsTrue}
 use Rattle.std.specs.List.{list_any, AllByRecursion}

@@ -1,4 +1,5 @@
--- The events of the run of a world that can be run are a trace, and read each initial row as it was at first.
+-- If a world can be run, the events of its run are a trace, and read each initial row first in its initial
+-- version.
 use Rattle.std.proofs.Common.{◌≡◌, ℕ, List, [], ◌∷◌, refl, sym, subst, true, inl, inr}
 use Rattle.std.specs.Prelude.{Option, Some, None, nat_le, length, slice_get, bytes_eq, option_and_then, IsTrue}
 use Rattle.std.specs.List.{list_all}

@@ -1,5 +1,5 @@
--- What comes of a world that lies between the slice of a larger one and that one: it is what is due for the
--- larger one.
+-- If a world lies between the slice of a larger world and that world, its results are those of the larger
+-- one.
 use Rattle.std.proofs.Common.{◌≡◌, ℕ, ◌≤◌, [], refl, sym, ap, ◌∙◌, subst, true}
 use Rattle.std.specs.Prelude.{Option, Some, None, Result, Ok, Err}
 use Rattle.ldv_value.specs.Gives.{Gives}

@@ -1,5 +1,4 @@
--- Lists that are sorted by a key, strictly: one with the same items is the same, and each of its items is found
--- by its key.
+-- Lists strictly sorted by a key: two with the same items are equal, and each item is found by its key.
 use Rattle.std.proofs.Common.{◌≡◌, List, [], ◌∷◌, refl, sym, ap, ◌∙◌, subst, Bool, true, false, inl, inr}
 use Rattle.std.specs.Prelude.{Option, Some, None, find, ◌&&◌, ◌⊎◌}
 use Rattle.std.specs.List.{filter_map, cons_option}

@@ -1,4 +1,4 @@
--- What the event of a statement meets, over a database whose tables have these names.
+-- The rules that the event of a statement meets, over a database whose tables have these names.
 use Rattle.std.proofs.Common.{◌≡◌, ℕ, ◌+◌, ◌<◌, ◌≤◌, ◌^◌, List, [], ◌∷◌, length, refl, sym, ap, ◌∙◌, subst, Bool, true, false, arith, inl, inr}
 use Rattle.std.specs.Prelude.{Option, Some, None, map, filter, ◌&&◌, ◌==◌, nat_lt, IsTrue}
 use Rattle.std.specs.List.{list_all, list_any, AllByRecursion}

@@ -1,4 +1,4 @@
--- A table by the rules has room in the format.
+-- A table that meets the rules fits the fields of the format.
 use Rattle.std.proofs.Common.{◌≡◌, ℕ, ◌<◌, ◌≤◌, List, length, true, not, arith}
 use Rattle.std.specs.Prelude.{nat_lt, nat_eq}
 use Rattle.std.specs.List.{list_all}

@@ -1,4 +1,4 @@
--- What holds of each item of a list, and lists that rise.
+-- Facts about each item of a list, and lists that rise.
 use Rattle.std.proofs.Common.{◌≡◌, ℕ, ◌≤◌, List, [], ◌∷◌, length, ap, Bool, true, false, arith, inl, inr}
 use Rattle.std.specs.Prelude.{filter}
 use Rattle.std.specs.declared.cmp.Ordering.TheVariants.{Less, Equal}

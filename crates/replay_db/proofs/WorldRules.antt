@@ -1,4 +1,4 @@
--- What is sorted in a world that meets the rules, and the names of its tables.
+-- The sorted lists of a world that meets the rules, and the names of its tables.
 use Rattle.std.proofs.Common.{◌≡◌, ◌≤◌, List, [], ◌∷◌, length, map, sym, ap, ◌∙◌, Bool, true, arith, inl, inr}
 use Rattle.std.specs.Prelude.{◌&&◌, nat_le, nat_lt, IsTrue}
 use Rattle.std.specs.List.{list_all, AllByRecursion}

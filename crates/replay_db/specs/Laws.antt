@@ -1,4 +1,4 @@
--- What a world between is, by what is in it.
+-- Worlds between a slice and its world, by their contents.
 use Rattle.std.specs.Prelude.{◌↔◌, List, IsTrue}
 use Rattle.replay_db.specs.Types.{Event, World}
 use Rattle.run_model.specs.Between.{LiesBetween, CutOf}

@@ -1,5 +1,5 @@
--- Runs of worlds within a budget of steps, and the packages of these runs: what can be run, what comes of it,
--- and what that says of the worlds that are larger.
+-- Runs of worlds within a budget of steps, and the packages of these runs: worlds that can be run, the
+-- results, and the results of larger worlds.
 use Rattle.std.specs.Prelude.{◌≡◌, ◌≤◌, ℕ, true, if◌then◌else◌, Option, Some, None, Result}
 use Rattle.ldv_value.specs.Gives.{Gives}
 use Rattle.sql_model.specs.Tables.{tables_test}

@@ -1,4 +1,4 @@
--- The packages of the runs of valid worlds, of the needed rows or of the recorded replies, are valid.
+-- The packages of the runs of valid worlds, included or excluded, are valid.
 use Rattle.ldv_value.specs.Limits.{max_steps}
 use Rattle.std.specs.Prelude.{◌≡◌, ◌≤◌, ℕ, true, IsTrue}
 use Rattle.sql_model.specs.Tables.{tables_test}

@@ -5,7 +5,7 @@ ghost use Rattle.std.specs.Prelude.{◌≡◌, IfOk};
 use run_model::World;
 use std::alloc::AllocError;
 
-/// A copy of a world, for a run to take.
+/// A copy of a world, which a run can consume.
 pub(crate) fn copy_world(world: &World) -> Result<World, AllocError>
     ensures { IfOk result (λ copy. copy ≡ world.now) }
 {

@@ -1,4 +1,4 @@
-//! Why the run of a world has no outcome.
+//! The reasons why the run of a world has no outcome.
 
 use std::alloc::AllocError;
 

@@ -1,4 +1,4 @@
-//! The laws of packages: what they have of a world, that they are valid, and that they are found sound.
+//! The laws of packages: their parts of a world, their validity, and their audits.
 
 ghost use Rattle.replay_db.specs.Laws.{MembershipLaw};
 ghost use Rattle.replay_db.specs.Auditing.{SoundLaw, RecordedSoundLaw, OwnSoundLaw};
@@ -10,16 +10,15 @@ use package_layout::round_trip_law;
 use run_model::world_events_law;
 use value_laws::{fitting_law, steps_law};
 
-/// Of worlds that meet the rules, that one lies between the slice of a run and its world is said by what is
-/// in it as by what was cut. The function has no body: its contract is the theorem.
+/// If two worlds meet the rules, one lies between the slice of a run and its world by its contents if and
+/// only if it does by what was cut. The function has no body: its contract is the theorem.
 pub fn members_law()
     ensures { MembershipLaw }
 {}
 
-/// The package of a valid world's run that has ended is itself valid, so its spelling is read back as it,
-/// whether it has the rows that were needed or the replies that were recorded. The tables of a valid world
-/// are valid. A valid world can be run, and so can the own world of a valid package, which is valid too. The
-/// function does nothing: its contract is the theorem.
+/// If a run of a valid world has ended, its package is valid, included or excluded, and its spelling is read
+/// back as that package. The tables of a valid world are valid, and the world can be run. The own world of a
+/// valid package is valid. The function does nothing: its contract is the theorem.
 pub fn package_law()
     ensures tables { WorldTablesLaw }
     ensures valid { ValidPackageLaw }
@@ -35,9 +34,9 @@ pub fn package_law()
     world_events_law();
 }
 
-/// The audit of a package finds it sound exactly where its bytes are those of the package of its own world's
+/// The audit of a package finds it sound if and only if its bytes are those of the package of its own world's
 /// run, in their own version; so it finds every recorded package sound. A valid package is found sound in
-/// each version that has all of it, or in none. The function does nothing: its contract is the theorem.
+/// each version that can write it, or in none. The function does nothing: its contract is the theorem.
 pub fn audit_law()
     ensures sound { SoundLaw }
     ensures recorded { RecordedSoundLaw }

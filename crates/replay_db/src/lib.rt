@@ -1,4 +1,5 @@
-//! Worlds run, recorded and replayed over the engine, audits of packages, and why a package is enough.
+//! Worlds run, recorded and replayed over the engine, audits of packages, and the proof that a package
+//! suffices.
 //!
 //! Entry: `record_world` in `src/record.rt`. Read first: `specs/Runs.antt`.
 #![tactic(auto)]

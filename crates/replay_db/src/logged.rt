@@ -21,8 +21,8 @@ use script_parse::Script;
 use sql_engine::Engine;
 use std::alloc::{AllocError, Global};
 
-/// What is recorded of a run that has ended: its events, the number of its steps, and what each process
-/// asked, with the replies.
+/// The record of an ended run: its events, the number of its steps, and the statements of each process with
+/// their replies.
 #[derive(Drop)]
 pub(crate) struct Logged {
     pub events: Events,
@@ -71,8 +71,8 @@ fn recorded_run(run: Run<Recorder<Engine>, ListTracer>) -> Result<Logged, AllocE
     })
 }
 
-/// Runs a world within a budget of steps, and tells what is recorded of the run, with the replies. No
-/// question of SQL diverges.
+/// Runs a world within a budget of steps, and returns the record of the run, with the replies. No statement
+/// of SQL diverges.
 pub(crate) fn log_world(
     alloc: Global,
     world: World,

@@ -83,8 +83,8 @@ fn own_tables(alloc: Global, packed: &PackedTables) -> Result<Tables, AllocError
     Ok(tables)
 }
 
-/// The world that a package has in it: a copy of its start words, seed, files and tables, in which a present
-/// file is empty.
+/// The own world of a package: a copy of its start words, seed, files and tables. A present file is empty in
+/// it. `AllocError` means out of memory only.
 pub fn own_world(alloc: Global, package: &Package) -> Result<World, AllocError>
     ensures { IfOk result (λ world. world ≡ own_world «package».now) }
 {
@@ -96,7 +96,7 @@ pub fn own_world(alloc: Global, package: &Package) -> Result<World, AllocError>
     })
 }
 
-/// The world that a package has in it, as of `own_world`, with the script that it starts with.
+/// The same as `own_world`, with the first script.
 pub(crate) fn parsed_copy(alloc: Global, package: &Package) -> Result<ParsedWorld, AllocError>
     requires { CanRun (own_world «package».now) }
     ensures world { IfOk result (λ p. p.world ≡ own_world «package».now) }
@@ -137,8 +137,7 @@ fn files_of(alloc: Global, packed: PackedFiles) -> Result<Files, AllocError>
     Ok(files)
 }
 
-/// The world that a package has in it, as of `own_world`, in the package's own memory: no file and no row is
-/// copied.
+/// The same as `own_world`, in the package's own memory: no file and no row is copied.
 pub fn own_world_of(alloc: Global, package: Package) -> Result<World, AllocError>
     ensures { IfOk result (λ world. world ≡ own_world «package») }
 {
@@ -160,8 +159,7 @@ pub fn own_world_of(alloc: Global, package: Package) -> Result<World, AllocError
     })
 }
 
-/// The world that a package has in it, as of `own_world_of`, with the script that it starts with, which was
-/// parsed.
+/// The same as `own_world_of`, with the first script, which was parsed before.
 pub fn own_parsed_world(
     alloc: Global,
     package: Package,

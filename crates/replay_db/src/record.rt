@@ -121,12 +121,13 @@ fn package_of_mode(
     }
 }
 
-/// The package of the run of a world by its seed, within a budget of at most 10,000,000 steps: the files that
-/// the run needed, and the trace. An included one has the tables and rows that the run needed, each row with
-/// the first statement that needed it and its rule. An excluded one has what each process asked, with the
+/// The package of the run of a world by its seed, within a budget of at most 10,000,000 steps: the needed
+/// files, and the trace. An included package has the needed tables and rows, each row with the first
+/// statement that needed it and its rule. An excluded package has the statements of each process, with their
 /// replies. The run changes a copy of the world.
 ///
-/// `NotEnded` comes exactly where not all processes have ended after the steps of the budget.
+/// `NotEnded` comes if and only if some process hasn't ended after the steps of the budget; `NoMemory` may
+/// come in place of any answer.
 pub fn record_world(
     alloc: Global,
     world: &World,
@@ -143,7 +144,7 @@ pub fn record_world(
     package_of_mode(alloc, world, &script, mode, budget)
 }
 
-/// The package of the run of a world whose script was parsed, as of `record_world`.
+/// The same as `record_world`, of a world whose script was parsed before.
 pub fn record_parsed(
     alloc: Global,
     parsed: &ParsedWorld,

@@ -1,4 +1,4 @@
-//! A database that keeps what it was asked, with the replies.
+//! A database that keeps each statement that it is asked, with the reply.
 
 ghost use Rattle.std.specs.Prelude.{◌≡◌, ◌++◌, [], IfOk, OnOk};
 ghost use Rattle.sql_model.specs.Sorting.{sorted_by};
@@ -13,7 +13,7 @@ use sql_model::Reply;
 use std::alloc::{AllocError, Global};
 use std::cmp::Ordering;
 
-/// A database whose replies are those of the database in it. It keeps each question with its reply.
+/// A database with the replies of the database in it. It keeps each statement with its reply.
 #[derive(Drop)]
 pub struct Recorder<D: Database> {
     alloc: Global,
@@ -22,7 +22,7 @@ pub struct Recorder<D: Database> {
 }
 
 impl<D: Database> Recorder<D> {
-    /// The recorder over a database. It has kept nothing, and takes no memory.
+    /// The recorder over a database. It has kept nothing yet, and takes no memory.
     pub fn over(alloc: Global, db: D) -> Recorder<D>
         ensures db { result.db ≡ db }
         ensures kept { result.kept ≡ [] }
@@ -34,8 +34,8 @@ impl<D: Database> Recorder<D> {
         }
     }
 
-    /// What was kept, as logs: one for each process that asked, sorted by process, with what it asked and the
-    /// replies in order.
+    /// The kept statements and replies as logs, in the order of asking: one log for each process that asked,
+    /// sorted by process. `AllocError` means out of memory only.
     pub fn logs(self) -> Result<Logs, AllocError>
         ensures { IfOk result (λ logs. logs ≡ logs_kept self.kept) }
     {

@@ -21,7 +21,8 @@ use std::alloc::Global;
 /// The recorded trace and the recorded number of steps aren't looked at. The own world of every valid package
 /// can be run, as `package_law` says.
 ///
-/// `NotEnded` comes exactly where not all processes have ended after the steps of the budget.
+/// `NotEnded` comes if and only if some process hasn't ended after the steps of the budget; `NoMemory` may
+/// come in place of any answer.
 pub fn replay_included(alloc: Global, package: &Package, budget: u32) -> Result<Outcome, EndStop>
     requires can_run { CanRun (own_world «package».now) }
     requires bounded { budget ≤ max_steps }
@@ -31,8 +32,8 @@ pub fn replay_included(alloc: Global, package: &Package, budget: u32) -> Result<
     run_owned(alloc, world, budget)
 }
 
-/// The outcome of the run of an included package's own world, as of `replay_included`. The script that it
-/// starts with was parsed. The run takes over the package's files and rows, and copies none of them.
+/// The same as `replay_included`, with the first script parsed before. The run takes over the package's files
+/// and rows, and copies none of them.
 pub fn replay_included_parsed(
     alloc: Global,
     package: Package,
@@ -48,8 +49,8 @@ pub fn replay_included_parsed(
     run_parsed(alloc, own, budget)
 }
 
-/// The outcome of the run of an included package's own world, as of `replay_included_parsed`, from all that
-/// was read of the package. The runs of its trace and its number of steps are let go unseen.
+/// The same as `replay_included_parsed`, for a package as it was read. Its trace and its number of steps are
+/// dropped unseen.
 pub fn replay_included_read(
     alloc: Global,
     parsed: ParsedPackage,

@@ -25,7 +25,7 @@ use script_parse::Script;
 use sql_engine::Engine;
 use std::alloc::{AllocError, Global};
 
-/// The run of a world before its first step. The script that it starts with was parsed.
+/// The run of a world before its first step. The first script was parsed before.
 pub(crate) fn begin<T: Tracer>(
     alloc: Global,
     world: World,
@@ -51,7 +51,7 @@ pub(crate) fn begin<T: Tracer>(
     Ok(begun)
 }
 
-/// The run of a world at its end. No question of SQL diverges.
+/// The run of a world at its end. No statement of SQL diverges.
 pub(crate) fn run_to_end<T: Tracer>(
     alloc: Global,
     world: World,
@@ -101,7 +101,7 @@ fn outcome_of_run(
     Ok(ended.into_outcome()?)
 }
 
-/// The outcome of the run of a world, as of `run_parsed`, where its script wasn't parsed.
+/// The same as `run_parsed`, but it parses the first script.
 pub(crate) fn run_owned(alloc: Global, world: World, budget: u32) -> Result<Outcome, EndStop>
     requires can_run { CanRun world }
     requires bounded { budget ≤ max_steps }
@@ -112,10 +112,11 @@ pub(crate) fn run_owned(alloc: Global, world: World, budget: u32) -> Result<Outc
     outcome_of_run(alloc, world, &script, budget)
 }
 
-/// The outcome of the run of a world by its seed, within a budget of at most 10,000,000 steps. Its script was
-/// parsed. The run takes over the world's files and tables, and copies none of them.
+/// The outcome of the run of a world by its seed, within a budget of at most 10,000,000 steps. Its first
+/// script was parsed before. The run takes over the world's files and tables, and copies none of them.
 ///
-/// `NotEnded` comes exactly where not all processes have ended after the steps of the budget.
+/// `NotEnded` comes if and only if some process hasn't ended after the steps of the budget; `NoMemory` may
+/// come in place of any answer.
 pub fn run_parsed(alloc: Global, parsed: ParsedWorld, budget: u32) -> Result<Outcome, EndStop>
     requires can_run { CanRun parsed.world }
     requires parsed { IsParsed parsed }
@@ -128,8 +129,7 @@ pub fn run_parsed(alloc: Global, parsed: ParsedWorld, budget: u32) -> Result<Out
     outcome_of_run(alloc, world, &script, budget)
 }
 
-/// The outcome of the run of a world, as of `run_parsed`. Its script is parsed, and the run changes a copy of
-/// the world.
+/// The same as `run_parsed`, but it parses the first script, and the run changes a copy of the world.
 pub fn run_world(alloc: Global, world: &World, budget: u32) -> Result<Outcome, EndStop>
     requires can_run { CanRun world.now }
     requires bounded { budget ≤ max_steps }

@@ -1,4 +1,4 @@
-//! The files and the engine with which the run of a world starts.
+//! The files and the engine at the start of the run of a world.
 
 ghost use Rattle.std.specs.Prelude.{◌≡◌, true, IfOk};
 ghost use Rattle.ldv_value.specs.FileState.{files_test, initial_files};

@@ -1,4 +1,4 @@
-//! The audit of a package: whether it is that of its own world's run.
+//! The audit of a package: whether it is the package of its own world's run.
 
 ghost use Rattle.std.specs.Prelude.{◌≡◌, ◌≤◌, ◌+◌, Some, length, drop, nat_eq, IfOk, IsSome, IsTrue};
 ghost use Rattle.std.specs.List.{common_prefix_len};
@@ -20,13 +20,13 @@ use run_model::{Mode, Package, ParsedWorld};
 use std::alloc::{AllocError, Global};
 use value_laws::fitting_law;
 
-/// What an audit says of a package.
+/// The verdict of an audit.
 #[derive(Clone, Copy, Debug, PartialEq, Eq)]
 pub enum Verdict {
-    /// Its bytes are those of the included package of its own world's run, in their own version.
+    /// The bytes are those of the included package of the own world's run, in their own version.
     Sound,
-    /// They aren't: the two differ first at this place, in bytes from 0. Where one is the start of the other,
-    /// that is the length of the shorter.
+    /// They aren't: the two differ first at this byte, from 0. If one is the start of the other, it is the
+    /// length of the shorter one.
     Unsound { at: u64 },
 }
 
@@ -65,11 +65,12 @@ fn verdict_on(bytes: &[u8], due: &[u8]) -> Verdict
 }
 
 /// Compares the bytes of an included package with those of the package of its own world's run, within a
-/// budget of at most 10,000,000 steps. The bytes have a version, which has the package's tables, and the
-/// package of that run is spelled in it. Nothing of the recorded trace is looked at.
+/// budget of at most 10,000,000 steps. The version of the bytes must be able to write the package's tables,
+/// and the package of that run is spelled in it. The recorded trace isn't looked at.
 ///
-/// `NotEnded` comes exactly where that run hasn't ended after these steps, and `TooLong` exactly where it
-/// has and its package has more than 67,108,864 bytes in that version.
+/// `NotEnded` comes if and only if that run hasn't ended after these steps, and `TooLong` if and only if it
+/// has and its package has more than 67,108,864 bytes in that version. `NoMemory` may come in place of any
+/// answer.
 pub fn audit(
     alloc: Global,
     package: &Package,
@@ -89,7 +90,7 @@ pub fn audit(
     }
 }
 
-/// The audit of a package, as of `audit`, by its own world, whose script was parsed.
+/// The same as `audit`, for the own world of the package with its first script parsed before.
 pub fn audit_parsed(
     alloc: Global,
     own: &ParsedWorld,

@@ -1,4 +1,4 @@
-//! The script that a world starts with.
+//! The first script of a world.
 
 ghost use Rattle.std.specs.Prelude.{◌≡◌, Some, IfOk, IsSome};
 ghost use Rattle.std.specs.Option.{option_map};
@@ -30,7 +30,7 @@ pub(crate) fn parse_start(alloc: Global, world: &World) -> Result<Script, AllocE
     }
 }
 
-/// A world with the script that it starts with, which it has.
+/// A world with its first script. It must have one. `AllocError` means out of memory only.
 pub fn parsed_world(alloc: Global, world: World) -> Result<ParsedWorld, AllocError>
     requires { IsSome (start_script world) }
     ensures world { IfOk result (λ p. p.world ≡ world) }

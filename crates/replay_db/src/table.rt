@@ -26,10 +26,10 @@ use sql_engine::Engine;
 use sql_model::Table;
 use std::alloc::{AllocError, Global};
 
-/// Why there is no table, in the order in which it is judged.
+/// Why there is no table, in the order of the tests.
 #[derive(Clone, Copy, Debug, PartialEq, Eq)]
 pub enum TableStop {
-    /// The package is excluded, or has no table of the name.
+    /// The package is excluded, or has no table with this name.
     NoTable,
     /// Not all processes have ended after the steps of the budget.
     NotEnded,
@@ -218,14 +218,14 @@ fn table_included_parsed(
     table_of_run(alloc, world, script, name, step, budget)
 }
 
-/// The table of a name, with its rows and the number of its next row, after a step of the run of an included
-/// package's own world within a budget of at most 10,000,000 steps; step 0 is the start. The recorded trace
-/// and the recorded number of steps aren't looked at.
+/// The table with a name, its rows and the number of its next row, after a step of the run of an included
+/// package's own world; step 0 is the start. The budget is at most 10,000,000 steps. The recorded trace and
+/// the recorded number of steps aren't looked at.
 ///
-/// `NoTable` comes exactly where the package is excluded or has no table of the name; else `NotEnded` exactly
-/// where not all processes have ended after the steps of the budget; else `NoStep` exactly where the step is
-/// above the number of steps of the run. The own world of every valid package can be run, as `package_law`
-/// says.
+/// `NoTable` comes if and only if the package is excluded or has no table with this name; else `NotEnded` if
+/// and only if some process hasn't ended after the steps of the budget; else `NoStep` if and only if the step
+/// is above the number of steps of the run. `NoMemory` may come in place of any answer. The own world of
+/// every valid package can be run, as `package_law` says.
 pub fn table_at(
     alloc: Global,
     package: &Package,
@@ -249,9 +249,8 @@ pub fn table_at(
     }
 }
 
-/// The table of a name after a step of the run of an included package's own world, as of `table_at`. The
-/// script that it starts with was parsed. The run takes over the package's files and rows, and copies none of
-/// them.
+/// The same as `table_at`, with the first script parsed before. The run takes over the package's files and
+/// rows, and copies none of them.
 pub fn table_at_parsed(
     alloc: Global,
     package: Package,

@@ -12,14 +12,14 @@ use run_model::{Events, ListTracer, World};
 use script_parse::Script;
 use std::alloc::Global;
 
-/// What is recorded of a run that has ended: its events, and the number of its steps.
+/// The record of an ended run: its events, and the number of its steps.
 #[derive(Drop)]
 pub(crate) struct Traced {
     pub events: Events,
     pub steps: u32,
 }
 
-/// Runs a world within a budget of steps, and tells what is recorded of the run.
+/// Runs a world within a budget of steps, and returns the record of the run.
 pub(crate) fn trace_world(
     alloc: Global,
     world: World,

@@ -1,4 +1,4 @@
--- What is left of logs: the entries of a process, and the logs once one of them was used.
+-- The logs without their used entries: the entries of a process, and the logs once one more was used.
 use Rattle.std.proofs.Common.{◌≡◌, ℕ, zero, suc, ◌+◌, ◌-◌, ◌<◌, ◌≤◌, Bool, true, false, List, [], ◌∷◌, ◌++◌, length, get_or, set, drop, take, replicate, add-one, refl, ap, sym, ◌∙◌, subst, arith}
 use Rattle.std.specs.Prelude.{Option, Some, None, is_some, slice_get, ◌&&◌, if◌then◌else◌}
 use Rattle.std.proofs.lemmas.List.{take_all}

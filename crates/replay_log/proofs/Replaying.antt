@@ -1,4 +1,4 @@
--- What a run over files and recorded replies says of the run of a package.
+-- A run over files and recorded replies is the run of the package.
 use Rattle.std.proofs.Common.{◌≡◌, ℕ, List, [], refl, sym, ap, ◌∙◌, Bool, true, false}
 use Rattle.std.specs.Prelude.{Option, Some, None, is_some, Ok, if◌then◌else◌}
 use Rattle.ldv_value.proofs.Booleans.{or-parts}

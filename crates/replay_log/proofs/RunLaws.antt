@@ -1,4 +1,4 @@
--- Where a run has diverged, the process that asked hasn't ended.
+-- If a run has diverged, the process that asked hasn't ended.
 use Rattle.std.proofs.Common.{◌≡◌, ℕ, zero, suc, List, [], ◌∷◌, refl, sym, ap, ◌∙◌, subst, true, false, inl, inr}
 use Rattle.std.specs.Prelude.{Option, Some, None, is_some, is_none, not, slice_get, ◌&&◌, ◌||◌}
 use Rattle.std.specs.List.{list_all}

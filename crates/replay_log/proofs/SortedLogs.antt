@@ -1,4 +1,4 @@
--- Logs that are sorted by process: where that of a process is.
+-- Logs sorted by process: the place of the log of a process.
 use Rattle.std.proofs.Common.{◌≡◌, ℕ, zero, suc, ◌<◌, inl, inr, Bool, true, false, ◌&&◌, List, [], ◌∷◌, length, get_or, set, refl, ap, sym, ◌∙◌, arith}
 use Rattle.std.specs.Ordering.{nat_cmp, is_lt, is_eq, ordering_reverse}
 use Rattle.std.specs.List.Sorted.{IsPartitionedBy}

@@ -1,4 +1,4 @@
--- The script that a package's own world starts with is that of the package's file.
+-- The first script of a package's own world is that of the package's file.
 use Rattle.std.proofs.Common.{◌≡◌, ℕ, List, map, find, refl, sym, ap, ◌∙◌, true, false}
 use Rattle.std.specs.Prelude.{bytes_eq, slice_get, Option, Some, None, is_some, option_map, option_and_then, IsSome}
 use Rattle.ldv_value.specs.FileState.{file_at}

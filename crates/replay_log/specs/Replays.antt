@@ -1,4 +1,4 @@
--- What the run of a package over its recorded replies comes to.
+-- The results of the run of a package over its recorded replies.
 use Rattle.std.specs.Prelude.{◌≡◌, ℕ, [], true, Option, Some, None, is_some, Result, Ok, Err}
 use Rattle.ldv_value.specs.FileState.{files_test}
 use Rattle.ldv_value.specs.Sorted.{is_strictly_sorted}

@@ -1,4 +1,4 @@
-//! A copy of what a run over recorded replies takes of a package.
+//! A copy of the parts of a package that a run over recorded replies takes.
 
 ghost use Rattle.std.specs.Prelude.{◌≡◌, IfOk};
 ghost use Rattle.replay_log.specs.Replays.{without_trace};

@@ -1,4 +1,4 @@
-//! What can be run over recorded replies.
+//! The packages that can be run over recorded replies.
 
 ghost use Rattle.replay_log.specs.Replays.{CanReplayLaw};
 

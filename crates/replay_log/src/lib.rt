@@ -1,7 +1,7 @@
-//! The run of a package over its recorded replies: a process that asks what it asked in the recorded run
-//! gets the reply that it got there.
+//! The run of a package over its recorded replies: a process that asks the same as in the recorded run gets
+//! the same reply.
 //!
-//! A question takes a logarithm of the number of processes and one comparison with the recorded one.
+//! A statement takes logarithmic time in the number of processes, and one comparison with the recorded one.
 //!
 //! Entry: `replay_parsed` in `src/replay.rt`. Read first: `specs/Replays.antt`.
 #![tactic(auto)]

@@ -57,8 +57,8 @@ fn has_next(log: &Log, place: usize, text: &Utf8, params: &Values) -> bool
     }
 }
 
-/// Takes the reply of the entry at a place out of a log, where a text with parameters is recorded there. The
-/// entries after it stay.
+/// Takes the reply of the entry at a place out of a log, if the entry records this text with these
+/// parameters. The entries after it stay.
 #[tactic(auto, using(crate::proofs::LeftLogs::none_next))]
 pub(crate) fn take_next(
     log: &mut Log,

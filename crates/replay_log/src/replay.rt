@@ -50,11 +50,13 @@ fn begin(
     Ok(begun)
 }
 
-/// Runs the files of a package over its recorded replies, at most `budget` steps, and gives the outcome of
-/// the run. The script that it starts with was parsed. `NotEnded` comes exactly where it has neither ended
-/// nor diverged after these steps, and `Diverged` exactly where a process asked what wasn't recorded next for
-/// it: the process, and the number of its questions before that one. Replies that are left over at the end
-/// don't matter.
+/// Runs the files of a package over its recorded replies, at most `budget` steps (at most 10,000,000), and
+/// gives the outcome of the run. The first script was parsed before. Replies that are left at the end don't
+/// matter.
+///
+/// `NotEnded` comes if and only if the run has neither ended nor diverged after these steps. `Diverged` comes
+/// if and only if the next recorded statement of a process isn't the one that it asks: it has the process,
+/// and the number of its statements before that one. `NoMemory` may come in place of any answer.
 pub fn replay_parsed(
     alloc: Global,
     package: Package,
@@ -92,8 +94,7 @@ fn replay_owned(alloc: Global, package: Package, budget: u32) -> Result<Outcome,
     }
 }
 
-/// Runs the files of a package over its recorded replies, as `replay_parsed` does. The package stays; the run
-/// uses a copy.
+/// The same as `replay_parsed`, but it parses the first script, and the run uses a copy of the package.
 pub fn replay_excluded(alloc: Global, package: &Package, budget: u32) -> Result<Outcome, RunStop>
     requires can_replay { CanReplay «package».now }
     requires bounded { budget ≤ max_steps }
@@ -105,8 +106,7 @@ pub fn replay_excluded(alloc: Global, package: &Package, budget: u32) -> Result<
     }
 }
 
-/// Runs the files of a package over its recorded replies under another seed, as `replay_excluded` does under
-/// the package's own. The package stays; the run uses a copy.
+/// The same as `replay_excluded`, but under another seed than the package's own.
 pub fn replay_seeded(
     alloc: Global,
     package: &Package,
@@ -123,8 +123,7 @@ pub fn replay_seeded(
     }
 }
 
-/// Runs the files of a package over its recorded replies under another seed, as `replay_parsed` does under
-/// the package's own.
+/// The same as `replay_parsed`, but under another seed than the package's own.
 pub fn replay_seeded_parsed(
     alloc: Global,
     package: Package,

@@ -17,8 +17,8 @@ use sql_model::{Members, Needs, Reply};
 use std::alloc::{AllocError, Global};
 use std::marker::Model;
 
-/// A database of recorded replies: a process that asks what it asked in the recorded run gets the reply that
-/// it got there. Contracts see the logs of what wasn't asked yet.
+/// A database of recorded replies: a process that asks the same as in the recorded run gets the same reply.
+/// Contracts see the logs of the statements that weren't asked yet.
 #[derive(Drop)]
 pub struct ReplyLog {
     alloc: Global,
@@ -42,8 +42,8 @@ impl Model for ReplyLog {
 }
 
 impl ReplyLog {
-    /// The database of the replies in logs, of which none was used. The logs are sorted by process, each
-    /// process once. It takes no memory.
+    /// The database of the replies in logs, before its first statement. The logs must be sorted by process,
+    /// each process once. It takes no memory.
     pub fn of_logs(alloc: Global, logs: Logs) -> ReplyLog
         requires { is_strictly_sorted log_precedes logs ≡ true }
         ensures { result ≡ logs }

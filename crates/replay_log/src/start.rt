@@ -1,4 +1,4 @@
-//! The script that a package starts with.
+//! The first script of a package.
 
 ghost use Rattle.std.specs.Prelude.{◌≡◌, Some, bytes_eq, find, IfOk, IsSome};
 ghost use Rattle.std.specs.Option.{option_map};

@@ -1,4 +1,4 @@
--- What a later change does to the values as of a time, to the current ones and to the version.
+-- The effect of a later change on the values as of a time, on the current ones and on the version.
 use Rattle.std.proofs.Common.{◌≡◌, ℕ, ◌+◌, ◌<◌, ◌≤◌, List, [], ◌∷◌, ◌++◌, Option, Some, None, Bool, true, cond, length, refl, ap, ◌∙◌, inl, inr, arith, length-append, le-leb, append-nil}
 use Rattle.std.specs.Prelude.{filter, if◌then◌else◌, nat_le}
 use Rattle.std.specs.List.{last_or}

@@ -11,8 +11,8 @@ use ldv_value::Values;
 use std::alloc::{AllocError, Global};
 use std::marker::Model;
 
-/// The values of one row through time. Contracts see the list of its changes, sorted by time, and
-/// `spare`, the number of values for which there is room.
+/// The values of one row through time. Contracts see the list of its changes, sorted by time, and `spare`,
+/// the number of values that the chain can take without more memory.
 #[derive(Drop)]
 pub struct Chain {
     held: Vec<Version>,
@@ -54,7 +54,7 @@ impl Chain {
         last_values(self.held.as_slice())
     }
 
-    /// The values as of `time`; `None` before the first values and from the end's time on.
+    /// The values as of `time`; `None` before the first values and from the chain's end on.
     #[tactic(auto, using(crate::proofs::Parts::as_of_ended, crate::proofs::Parts::sorted_front))]
     pub fn as_of(&self, time: u32) -> Option<&Values>
         ensures values { option_map (λ x. x.now) result ≡ as_of self.now.changes time }
@@ -77,7 +77,8 @@ impl Chain {
         }
     }
 
-    /// Makes room for one more value. On `AllocError` the chain is as it was.
+    /// Reserves memory for one more value, so that `spare` is at least 1. On `AllocError` the chain is as it
+    /// was.
     pub fn reserve(&mut self) -> Result<(), AllocError>
         ensures changes { self.new.changes ≡ self.old.changes }
         ensures room { OnOk result (1 ≤ self.new.spare) }
@@ -87,8 +88,9 @@ impl Chain {
         self.held.reserve(1)
     }
 
-    /// Gives the row new values from `time` on. `AllocError` never comes where `spare` is at least 1, and
-    /// the chain is then as it was.
+    /// Gives the row new values from `time` on, which is later than the last change. The chain hasn't ended,
+    /// and its `version` is below 2^32 - 1. `AllocError` never comes if `spare` is at least 1, and leaves the
+    /// chain as it was.
     #[tactic(auto, using(crate::proofs::Later::sorted_after))]
     pub fn add(&mut self, time: u32, values: Values) -> Result<(), AllocError>
         requires live { IsSome (current_values self.old.changes) }
@@ -104,7 +106,8 @@ impl Chain {
         Ok(())
     }
 
-    /// Ends the row at `time`: from then on it has no values.
+    /// Ends the row at `time`, which is later than the last change: from then on it has no values. The chain
+    /// hasn't ended, and its `version` is below 2^32 - 1.
     #[tactic(auto, using(crate::proofs::Later::sorted_after))]
     pub fn end(&mut self, time: u32)
         requires live { IsSome (current_values self.old.changes) }

@@ -1,4 +1,4 @@
--- A step that asks nothing, over two cores that differ in their files, which agree: it is the same step.
+-- A step that asks nothing is the same over two cores that differ only in their files, if the files agree.
 use Rattle.std.proofs.Common.{◌≡◌, ℕ, zero, suc, List, [], ◌∷◌, ◌++◌, length, refl, sym, ap, ◌∙◌, subst, Bool, true, false, arith}
 use Rattle.std.specs.Prelude.{Option, Some, None, is_some, map, pos, slice_get, slice_set}
 use Rattle.std.specs.List.{AllByRecursion}

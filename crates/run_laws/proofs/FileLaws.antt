@@ -1,4 +1,4 @@
--- What is found among files of which some are cut.
+-- Look-ups among files, some of which are cut.
 use Rattle.std.proofs.Common.{◌≡◌, ℕ, List, [], ◌∷◌, refl, sym, ap, ◌∙◌, Bool, false, inl, inr}
 use Rattle.std.specs.Prelude.{Option, Some, None, option_map, is_some, find, bytes_eq}
 use Rattle.std.specs.List.{cons_option}

@@ -1,6 +1,6 @@
--- Two states of files that agree: on the paths that were touched, on the bytes of touched paths and of those that
--- the events to come need whole, and on the presence of those that they need as present. What is absent from
--- the larger state is absent from the smaller.
+-- Two states of files that agree: on the touched paths and their bytes, on the bytes of files that later
+-- events need whole, and on the presence of files that they need present. A file that the larger state lacks
+-- is absent from the smaller one too.
 use Rattle.std.proofs.Common.{◌≡◌, ℕ, List, [], ◌∷◌, refl, sym, ap, ◌∙◌, subst, Bool, true, false, inl, inr}
 use Rattle.std.specs.Prelude.{Option, Some, None, is_some, not, ◌&&◌, ◌≢◌, map, bytes_eq, if◌then◌else◌}
 use Rattle.std.specs.List.{list_any}

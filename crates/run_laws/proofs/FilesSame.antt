@@ -1,5 +1,5 @@
--- The steps of instructions that name a path or an open file, over two states of files that agree: they are the
--- same, and the states agree afterwards.
+-- Instructions that name a path or an open file make the same step over two states of files that agree, and
+-- the states agree afterwards.
 use Rattle.std.proofs.Common.{◌≡◌, ℕ, ◌+◌, List, [], ◌∷◌, ◌++◌, length, drop, refl, sym, ap, ◌∙◌, subst, Bool, true, false, arith}
 use Rattle.std.specs.Prelude.{Option, Some, None, is_some, map, nat_le, unwrap_or}
 use Rattle.ldv_value.specs.FileState.{FileState, is_there, bytes_at, rest_at, put, touch, after_remove, has_room, copy_end, after_copy, after_append, line_read, read_line}

@@ -1,4 +1,4 @@
--- What acts and events need isn't cut, said act by act.
+-- A cut that removes nothing that events need, act by act.
 use Rattle.std.proofs.Common.{◌≡◌, ℕ, List, [], ◌∷◌, ◌++◌, refl, ap, true, inl, inr}
 use Rattle.std.specs.Prelude.{Option, Some, None, is_some, map, not}
 use Rattle.std.specs.List.{list_any}

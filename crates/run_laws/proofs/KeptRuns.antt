@@ -1,4 +1,4 @@
--- A run over a database whose replies are kept is the run over that database, and what it keeps are the logs of
+-- Keeping the replies of a database doesn't change a run, and the kept questions and replies are the logs of
 -- its processes.
 use Rattle.std.proofs.Common.{◌≡◌, ◌≢◌, ℕ, zero, suc, ◌+◌, List, [], ◌∷◌, ◌++◌, refl, sym, ap, ◌∙◌, subst, Bool, true, false, inl, inr, arith, eq-eqb}
 use Rattle.std.specs.Prelude.{Option, Some, None, bytes_eq, slice_get, slice_set, ◌==◌, if◌then◌else◌}

@@ -1,4 +1,4 @@
--- What was kept, divided into that of one process and the rest: its log goes in between the others.
+-- Kept replies divided into those of one process and the rest: its log goes in between the others.
 use Rattle.std.proofs.Common.{◌≡◌, ℕ, List, [], ◌∷◌, refl, sym, ap, ◌∙◌, subst, Bool, true, false, inl, inr}
 use Rattle.std.specs.Prelude.{bytes_eq, filter, not, if◌then◌else◌}
 use Rattle.std.specs.List.{AllByRecursion}

@@ -1,4 +1,4 @@
--- The recorded entries of a process: those that the logs of a run's end have for it, and what is left of them.
+-- The recorded entries of a process: those in the logs at the end of a run, and those that are left.
 use Rattle.std.proofs.Common.{◌≡◌, ◌≢◌, ℕ, zero, suc, List, [], ◌∷◌, length, refl, sym, ◌∙◌, subst, false, inl, inr}
 use Rattle.std.specs.Prelude.{Some, map, filter, drop, not, ◌==◌, slice_get, bytes_eq}
 use Rattle.std.specs.List.{AllByRecursion}

@@ -1,5 +1,5 @@
--- The package of recorded replies runs as the world did: its files lie between what the run needed and the world's,
--- and over them its logs reply as the tables did.
+-- The package of recorded replies runs as the world did: its files lie between the needed files and the
+-- world's, and over them its logs reply as the tables did.
 use Rattle.std.proofs.Common.{◌≡◌, ℕ, zero, suc, ◌+◌, ◌-◌, ◌<◌, ◌≤◌, List, [], ◌++◌, refl, sym, ap, ◌∙◌, subst, Bool, true, false, arith, le_refl, inl, inr}
 use Rattle.std.specs.Prelude.{Some, None, slice_get, nat_lt, if◌then◌else◌}
 use Rattle.std.proofs.lemmas.Bool.{cases_Bool, ltb-true, ltb-false}

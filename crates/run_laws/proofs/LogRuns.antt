@@ -1,5 +1,5 @@
--- The run over recorded replies is the run over the database that gave them: at each step the logs have what each
--- process is still to ask, with the replies.
+-- The run over recorded replies is the run over the database that gave them: at each step the logs have the
+-- questions that each process will still ask, with the replies.
 use Rattle.std.proofs.Common.{◌≡◌, ◌≢◌, ℕ, zero, suc, ◌+◌, List, [], ◌∷◌, ◌++◌, refl, sym, ap, ◌∙◌, subst, Bool, true, arith, inl, inr}
 use Rattle.std.specs.Prelude.{Option, Some, None, drop, slice_get, slice_set, ◌==◌, if◌then◌else◌}
 use Rattle.std.specs.Cmp.{eq_by_cmp_equiv}

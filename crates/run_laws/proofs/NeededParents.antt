@@ -1,5 +1,5 @@
--- A run that needs a table needs its parents: each statement asks them with it, and what refers to what is the
--- same after each statement.
+-- A run that needs a table needs its parents: each statement asks them with it, and no statement changes the
+-- foreign keys.
 use Rattle.std.proofs.Common.{◌≡◌, ℕ, zero, suc, ◌+◌, List, [], ◌∷◌, ◌++◌, refl, sym, ap, ◌∙◌, subst, Bool, true, inl, inr}
 use Rattle.std.specs.Prelude.{Option, Some, None, map, ◌&&◌, ◌||◌, if◌then◌else◌}
 use Rattle.std.specs.List.{list_any, AllByRecursion}

@@ -1,4 +1,4 @@
--- What events need is the same of initial files and tables from which nothing was cut that they need.
+-- The needs of events are the same in a cut world that keeps all that they need.
 use Rattle.std.proofs.Common.{◌≡◌, ℕ, List, [], ◌∷◌, refl, ap, true, inl, inr}
 use Rattle.std.specs.Prelude.{Option, Some, None, option_map, is_some, filter}
 use Rattle.std.specs.List.{cons_option, filter_map}

@@ -1,5 +1,5 @@
 -- The processes of a run have different names: a child is named by its parent's name and its number among the
--- children, of which the parent has a count.
+-- parent's children, and the parent counts them.
 use Rattle.std.proofs.Common.{◌≡◌, ◌≢◌, ◌⊎◌, ℕ, zero, suc, ◌<◌, ◌≤◌, List, [], ◌∷◌, ◌++◌, length, refl, sym, ap, ◌∙◌, subst, arith, inl, inr}
 use Rattle.std.specs.Prelude.{Option, Some, None, map, slice_get, slice_set}
 use Rattle.std.specs.List.{AllByRecursion}

@@ -1,4 +1,4 @@
--- What stands at each place of a list of processes once another is put at a place, or one at the end.
+-- The items of a list of processes once one of them is replaced, or another is appended.
 use Rattle.std.proofs.Common.{◌≡◌, ◌≢◌, ℕ, zero, suc, List, [], ◌∷◌, ◌++◌, length, refl, sym, ap, subst, arith}
 use Rattle.std.specs.Prelude.{Option, Some, None, slice_get, slice_set}
 use Rattle.std.specs.List.{AllByRecursion}

@@ -1,5 +1,5 @@
--- A run from a state of whose database nothing was cut that the run needs, and whose files agree on what it needs
--- of them, is the run from the whole state. Rows that the run made are never cut.
+-- A run from a cut state is the run from the whole state, if the cut keeps all rows that the run needs and
+-- the files agree as far as it needs them. Rows that the run made are never cut.
 use Rattle.std.proofs.Common.{◌≡◌, ℕ, zero, suc, ◌+◌, List, [], ◌∷◌, ◌++◌, refl, sym, ap, ◌∙◌, subst, true, inl, inr}
 use Rattle.std.specs.Prelude.{Option, Some, None, map, slice_get}
 use Rattle.std.specs.List.{list_all}

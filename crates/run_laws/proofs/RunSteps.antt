@@ -1,4 +1,4 @@
--- How many steps a run makes: at most those that it may, and with no more to make it's at its end.
+-- The number of steps of a run is at most its budget, and a budget beyond the steps made changes nothing.
 use Rattle.std.proofs.Common.{◌≡◌, ℕ, zero, suc, ◌+◌, ◌≤◌, List, sym, ap, ◌∙◌, subst, arith, inl, inr}
 use Rattle.std.proofs.Math.Nat.{suc-add}
 use Rattle.std.proofs.lemmas.Bool.{cases_Bool}

@@ -1,5 +1,5 @@
--- A statement has the same answer of a database from which nothing was cut that it needs, and what it leaves is
--- what it leaves of the whole database without the same.
+-- A statement has the same answer over a cut database that keeps all that it needs. The cut database after it
+-- is the whole database after it with the same cut.
 use Rattle.std.proofs.Common.{◌≡◌, true}
 use Rattle.std.specs.Prelude.{Option, map}
 use Rattle.sql_model.specs.Needs.{need_of, asked_tables, versions_after, read_of}

@@ -1,6 +1,5 @@
--- A statement makes the same versions and updates the same rows of a database from which nothing was cut that it
--- needs: a DELETE those of the rows that it needs, an UPDATE those of the rows that it needs by rule L, an INSERT
--- those from the next number on.
+-- A statement makes the same row versions in a cut database that keeps all that it needs: a DELETE for the
+-- rows that it needs, an UPDATE for the rows that it needs by rule L, an INSERT from the next number on.
 use Rattle.std.proofs.Common.{◌≡◌, ℕ, ◌+◌, List, [], ◌++◌, refl, sym, ap, ◌∙◌, true}
 use Rattle.std.specs.Prelude.{Option, Some, None, option_map, map, nat_lt}
 use Rattle.std.specs.List.{list_all}

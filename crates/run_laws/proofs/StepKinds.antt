@@ -1,4 +1,4 @@
--- What a step of a run may be, and what its events are then.
+-- The kinds of steps of a run, and the events of each kind.
 use Rattle.std.proofs.Common.{◌≡◌, ℕ, ◌+◌, ◌<◌, List, ◌∷◌, ◌++◌, length, refl, sym, ap, ◌∙◌, subst, Bool, true, false}
 use Rattle.std.specs.Prelude.{Option, Some, None, map, slice_get, is_some, ◌||◌}
 use Rattle.run_laws.specs.Types.{Reply, Statement, Act, Event}

@@ -1,5 +1,5 @@
--- What every step of an instruction leaves of its process: its name, what it asked and, but for `spawn`, how
--- many children it made.
+-- Facts about its process that every step of an instruction keeps: its name, its statements and, except for
+-- `spawn`, the number of its children.
 use Rattle.std.proofs.Common.{◌≡◌, ℕ, ◌+◌, List, [], ◌∷◌, length, refl, Bool, true, false, inl, inr}
 use Rattle.std.specs.Prelude.{Option, Some, None, ◌==◌, nat_lt}
 use Rattle.std.proofs.lemmas.Bool.{cases_Bool}

@@ -1,4 +1,4 @@
--- The table that a statement changes, in a database and in the same without what was cut.
+-- The table that a statement changes, in a database and in the cut database.
 use Rattle.std.proofs.Common.{◌≡◌, ℕ, List, [], ◌∷◌, refl, sym, ap, ◌∙◌, Bool, true, inl, inr}
 use Rattle.std.specs.Prelude.{Option, Some, None, option_map, map, filter, ◌++◌}
 use Rattle.std.specs.List.{list_any, list_all}

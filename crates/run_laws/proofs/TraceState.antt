@@ -1,5 +1,6 @@
--- What every state of a run meets: children are processes that were made, open files have valid paths, statuses
--- are bytes, and no more processes were made than may be. With it, what a step that asks nothing does.
+-- Facts about every state of a run: children are processes that were made, open files have valid paths,
+-- statuses are bytes, and the number of processes is within its limit. They say what a step that asks nothing
+-- does.
 use Rattle.std.proofs.Common.{◌≡◌, ℕ, ◌+◌, ◌<◌, ◌≤◌, List, [], ◌∷◌, ◌++◌, length, refl, sym, ap, ◌∙◌, subst, Bool, true, false, arith, inl, inr}
 use Rattle.std.specs.Prelude.{Option, Some, None, not, nat_lt, ◌&&◌, slice_get, slice_set}
 use Rattle.std.specs.List.{AllByRecursion}

@@ -1,5 +1,5 @@
--- The law of what is kept: over a database whose replies are kept a run is that over the database, and what
--- is kept are the logs of its processes.
+-- The law of kept replies: keeping the replies of a database doesn't change a run, and the kept questions and
+-- replies are the logs of its processes.
 use Rattle.std.specs.Prelude.{◌≡◌, ℕ, List, []}
 use Rattle.run_laws.specs.Types.{File, Instr}
 use Rattle.run_model.specs.Database.{Base}

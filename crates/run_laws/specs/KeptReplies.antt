@@ -1,4 +1,4 @@
--- What is kept of a run's questions and replies, and the logs that it makes.
+-- The kept questions and replies of a run, and the logs that they make.
 use Rattle.std.specs.Prelude.{List, [], ◌∷◌, ◌++◌}
 use Rattle.std.specs.Ordering.{nat_cmp}
 use Rattle.std.specs.declared.cmp.Ordering.{Ordering}

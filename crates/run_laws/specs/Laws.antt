@@ -1,7 +1,7 @@
--- The law of worlds between: a world from which nothing was cut that a run needs runs as the whole world
--- does, and yields the same package. It holds for all statements, over every world whose tables are valid.
+-- The law of worlds between: a cut world that keeps all that a run needs runs as the whole world does, and
+-- yields the same package. It holds for all statements, over every world whose tables are valid.
 --
--- Where a package's own world lies between, replay of the package gives what the recorded run gave.
+-- A package's own world lies between, so its replay has the outcome of the recorded run.
 use Rattle.std.specs.Prelude.{◌≡◌, ℕ, ◌≤◌, List, [], true, Some}
 use Rattle.script_parse.specs.declared.script.Instr.{Instr}
 use Rattle.sql_model.specs.Tables.{tables_test}

@@ -1,4 +1,4 @@
-//! What is kept of a run's questions and replies.
+//! The questions and replies of a run, kept in order.
 
 ghost use Rattle.run_laws.specs.KeptLaw.{KeptLaw};
 
@@ -11,7 +11,7 @@ pub struct Kept {
     pub entry: Entry,
 }
 
-/// Over any database, a run whose replies are kept is the run over that database, and what is kept are the
+/// Over any database, keeping the replies doesn't change a run, and the kept questions and replies are the
 /// logs of its processes. The function has no body: its contract is the theorem.
 pub fn kept_law<Db>()
     ensures { KeptLaw Db }

@@ -3,9 +3,9 @@
 ghost use Rattle.run_laws.specs.Laws.{BetweenLaw, InterleavingLaw, SliceLaw, OwnLaw, ReplayLaw, EndedLaw};
 ghost use Rattle.run_laws.specs.LogLaws.{LogLaw, PickedLogLaw};
 
-/// A world from which nothing was cut that a run needs runs as the whole world does, whatever statements it
-/// asks; the own world of the run's package is such a world. The function has no body: its contract is the
-/// theorem.
+/// If a world is cut but keeps all that a run needs, it runs as the whole world does, whatever statements the
+/// run asks. The own world of the run's package is such a world. The function has no body: its contract is
+/// the theorem.
 pub fn between_law()
     ensures between { BetweenLaw }
     ensures interleaved { InterleavingLaw }
@@ -15,8 +15,8 @@ pub fn between_law()
     ensures settled { EndedLaw }
 {}
 
-/// The package of a run's recorded replies runs without the database as the world ran with it: it diverges
-/// nowhere and has the run's outcome, within every budget and by any picks. The function has no body: its
+/// The package of a run's recorded replies runs without the database as the world ran with it: it never
+/// diverges and has the run's outcome, within every budget and by any picks. The function has no body: its
 /// contract is the theorem.
 pub fn log_law()
     ensures seeded { LogLaw }

@@ -1,10 +1,9 @@
-//! Laws of runs: what a run needs of its world, and what recorded replies give in place of its tables. They
-//! are over the definitions of `run_model` alone, and need no runtime and no engine.
+//! Laws of runs: a run is the same over the part of its world that it needs, and over its recorded replies.
+//! They are about the definitions of `run_model` alone, and need no runtime and no engine.
 //!
-//! The lemmas below them say what a step is by its instruction, over files and tables that differ where
-//! nothing looks (`proofs/CoreSame.antt`, `proofs/StatementSame.antt`), what a step leaves as it was
-//! (`proofs/StepTrails.antt`, `proofs/QuietSteps.antt`), and how processes are named
-//! (`proofs/ProcessNames.antt`).
+//! Their lemmas compare steps over files and tables that differ only in parts that no step reads
+//! (`proofs/CoreSame.antt`, `proofs/StatementSame.antt`), say what a step keeps (`proofs/StepTrails.antt`,
+//! `proofs/QuietSteps.antt`), and say how processes are named (`proofs/ProcessNames.antt`).
 //!
 //! Entry: `between_law` in `src/law.rt`. Read first: `specs/Laws.antt`.
 #![tactic(auto)]

@@ -1,4 +1,4 @@
--- The files of a package, as those of its own world: they are valid where the package is.
+-- The files of a package, as those of its own world: they are valid if the package is.
 use Rattle.std.proofs.Common.{◌≡◌, ℕ, List, refl, ◌∙◌, Bool, true}
 use Rattle.std.specs.Prelude.{map, length, ◌&&◌, nat_le, Option, Some, None}
 use Rattle.std.specs.List.{list_all}

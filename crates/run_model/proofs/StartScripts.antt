@@ -1,4 +1,4 @@
--- The script of the file that the first start word names: of a world, and of a package as that of its own world.
+-- The script of the file at the first start word: that of a package is that of its own world.
 use Rattle.std.proofs.Common.{◌≡◌, ℕ, ◌<◌, List, [], ◌∷◌, length, true, arith, refl, inl, inr}
 use Rattle.std.specs.Prelude.{map, find, nat_le, bytes_eq, slice_get, Option, Some, None, is_some, option_and_then, option_map}
 use Rattle.std.proofs.lemmas.Bool.{cases_Bool}

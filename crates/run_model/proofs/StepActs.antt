@@ -1,5 +1,5 @@
--- A step has at most two acts: one of its own, or the two of a copy, and the end of its process, which doesn't end by a
--- copy. So a run of n steps has at most 2 * n + 1 events.
+-- A step has at most two acts: the two of a copy, which never ends its process, or one act of its own and the
+-- end of its process. So a run of n steps has at most 2 * n + 1 events.
 use Rattle.std.proofs.Common.{◌≡◌, ℕ, zero, suc, ◌+◌, ◌*◌, ◌≤◌, List, [], ◌∷◌, ◌++◌, length, refl, sym, ap, ◌∙◌, subst, Bool, true, false, arith, inl, inr, ◌⊎◌}
 use Rattle.std.specs.Prelude.{Option, Some, None, slice_get, slice_set, is_none, is_some, not, ◌&&◌, ◌||◌, map}
 use Rattle.std.proofs.lemmas.Bool.{cases_Bool, and_parts, or_parts}

@@ -1,5 +1,5 @@
--- What every step of an instruction leaves of its process: the children, but for `spawn`; open files, of which
--- something holds for each path; a status that is none or a byte.
+-- Facts about its process that every step of an instruction keeps: the children, except for `spawn`; a
+-- property of the paths of all open files; a status that is none or a byte.
 use Rattle.std.proofs.Common.{◌≡◌, ℕ, ◌+◌, ◌^◌, ◌<◌, List, [], ◌∷◌, ◌++◌, length, refl, subst, Bool, true, false, arith, inl, inr}
 use Rattle.std.specs.Prelude.{ℤ, pos, negsuc, Option, Some, None, not, ◌||◌, ◌==◌, nat_lt, if◌then◌else◌, option_and_then}
 use Rattle.std.specs.List.{AllByRecursion}

@@ -1,5 +1,5 @@
--- The slice of a world, and the worlds that lie between the slice and the world: by what is in them, and as
--- the world without what is cut.
+-- The slice of a world, and the worlds between the slice and the world: by their contents, and as the world
+-- without the parts that are cut.
 use Rattle.std.specs.Prelude.{◌≡◌, ◌⊎◌, ℕ, List, [], ◌∷◌, map, filter, Bool, true}
 use Rattle.std.specs.Prelude.{Option, Some, None, is_some}
 use Rattle.std.specs.List.{list_any, filter_map}

@@ -1,4 +1,4 @@
--- Databases: what is asked of one, and what it returns. A run is defined over any database.
+-- Databases: questions and answers. A run is defined over any database.
 use Rattle.std.specs.Prelude.{◌≡◌, ℕ, List, [], ◌∷◌, ◌++◌, Bool, IsTrue}
 use Rattle.run_model.specs.Types.{Value, Member, Need, Reply, Act, Asked, Event}
 use Rattle.run_model.specs.declared.database.Asker.{Asker}

@@ -1,4 +1,4 @@
--- The events of a run: what each step did. The end of a process is the last event of its step; `print`,
+-- The events of a run: the acts of each step. The end of a process is the last event of its step; `print`,
 -- `exit` and misuse have no other event.
 use Rattle.std.specs.Prelude.{ℕ, zero, suc, ◌+◌, List, [], ◌∷◌, ◌++◌, map, if◌then◌else◌, Option, Some, None}
 use Rattle.run_model.specs.Types.{Act, Started, Event}

@@ -1,5 +1,4 @@
--- The database of recorded replies: a process that asks what it asked in the recorded run gets the reply that
--- it got there.
+-- The database of recorded replies: a process that asks the same as in the recorded run gets the same reply.
 use Rattle.std.specs.Prelude.{ℕ, List, [], ◌∷◌, drop, Bool, ◌&&◌, if◌then◌else◌, bytes_eq}
 use Rattle.sql_model.specs.Keys.{same_values}
 use Rattle.sql_model.specs.Scope.{same_text}

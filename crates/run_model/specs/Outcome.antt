@@ -1,4 +1,4 @@
--- What an ended run yields: its processes, in the order of their names, and the paths that it touched.
+-- The outcome of an ended run: its processes, in the order of their names, and the paths that it touched.
 use Rattle.std.specs.Prelude.{ℕ, List, [], ◌∷◌, map, if◌then◌else◌, Option, Some, None, unwrap_or}
 use Rattle.std.specs.Ordering.{nat_cmp, is_lt}
 use Rattle.std.specs.Cmp.Lexicographic.{slice_cmp}

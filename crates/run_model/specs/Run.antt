@@ -1,4 +1,4 @@
--- Runs: the state after some steps. The first steps go by given picks, and the others by the seed.
+-- Runs: the state after some steps. Given picks choose the first steps, and the seed chooses the others.
 use Rattle.std.specs.Prelude.{ℕ, zero, suc, ◌+◌, List, [], ◌∷◌, if◌then◌else◌, Option, Some, None}
 use Rattle.run_model.specs.Core.{is_over}
 use Rattle.run_model.specs.Database.{Base}

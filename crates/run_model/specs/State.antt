@@ -1,4 +1,4 @@
--- The state of a run over any database, and what a step leaves.
+-- The state of a run over any database, and the result of a step.
 use Rattle.std.specs.Prelude.{ℕ, List}
 use Rattle.run_model.specs.Types.{Act}
 use Rattle.run_model.specs.Core.{Core}

@@ -1,5 +1,5 @@
 -- One step of a process: its next instruction. An `sql` asks the database; every other instruction is applied
--- to the core only. What each one does stands in the files that are used here.
+-- to the core only. The files used here define each instruction.
 use Rattle.std.specs.Prelude.{ℕ, ◌+◌, List, [], ◌∷◌, ◌++◌, length, slice_get, Option, Some, None}
 use Rattle.script_parse.specs.declared.script.Instr.TheVariants as instr
 use Rattle.run_model.specs.Types.{Instr, Reply, Act, Ended}

@@ -1,5 +1,5 @@
--- What the steps of all instructions share: the values that they take, what becomes of their process, misuse,
--- and what a step leaves.
+-- The shared parts of the steps of all instructions: the values of operands, the changes of the process,
+-- misuse, and the result of a step.
 --
 -- Misuse ends the process with its own status, and nothing else of the instruction takes effect.
 use Rattle.std.specs.Prelude.{ℕ, ◌+◌, ◌^◌, ℤ, pos, negsuc, List, [], map, slice_set, nat_lt}

@@ -1,5 +1,5 @@
--- The steps of `open`, `readline`, `write`, `copy`, `close`, `remove` and `exists`. What each does to the
--- files is said in `FileState.antt` of `ldv_value`; here stand what it does to its process, and its acts.
+-- The steps of `open`, `readline`, `write`, `copy`, `close`, `remove` and `exists`. `FileState.antt` of
+-- `ldv_value` says what each does to the files; this file says what it does to its process, and its acts.
 --
 -- An open file names its path, so it sees what any process writes there. A refused open or remove goes on at
 -- the label and changes nothing else.

@@ -1,7 +1,7 @@
--- Valid packages: what a package meets, a test for each rule.
+-- Valid packages: a test for each rule.
 --
 -- The limits on the numbers of files and of tables are apart from the other rules: `are_files` and
--- `are_tables` have none, since what several packages are joined to may have more.
+-- `are_tables` have none, since a package joined from several may have more.
 use Rattle.std.specs.Prelude.{ℕ, List, [], ◌∷◌, length, map, Bool, true, false, not, ◌&&◌, ◌==◌}
 use Rattle.std.specs.Prelude.{nat_lt, nat_le}
 use Rattle.std.specs.Prelude.{Option, Some, None, IsTrue, bytes_eq, find}

@@ -1,4 +1,4 @@
--- Valid traces: what the events of a run, one after another, meet.
+-- Valid traces: the rules for the events of a run, one after another.
 use Rattle.std.specs.Prelude.{ℕ, ◌+◌, List, [], ◌∷◌, Bool, true, false, ◌&&◌, ◌==◌, nat_lt, nat_le}
 use Rattle.std.specs.Prelude.{if◌then◌else◌, IsTrue, bytes_eq}
 use Rattle.std.specs.List.{list_all}

@@ -1,4 +1,4 @@
--- Valid worlds: what a world's parts meet is what a package that has all of them meets. And what can be run.
+-- Valid worlds: their parts meet the rules for a package with all of these parts. And worlds that can be run.
 use Rattle.std.specs.Prelude.{◌≡◌, [], map, Bool, true, ◌&&◌, Some, IsTrue, is_some}
 use Rattle.ldv_value.specs.FileState.{files_test}
 use Rattle.sql_model.specs.declared.need.Rule.TheVariants.{L}

@@ -1,5 +1,5 @@
--- The run of a world, over its tables: its outcome, its number of steps, its events, and what each process
--- asked. It has at most n steps, of which the first go by given picks, and the others by the seed.
+-- The run of a world, over its tables: its outcome, its number of steps, its events, and the statements of
+-- each process. It has at most n steps; given picks choose the first ones, and the seed chooses the others.
 use Rattle.std.specs.Prelude.{ℕ, List, [], ◌∷◌, ◌++◌, map, filter, length, Bool, false, not, ◌==◌, Option}
 use Rattle.std.specs.Prelude.{Some, None, slice_get}
 use Rattle.run_model.specs.Types.{Instr, Event, Log, Outcome, World}

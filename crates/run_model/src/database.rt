@@ -1,4 +1,4 @@
-//! Databases: who is asked the statements of a run.
+//! Databases, which reply to the statements of a run.
 
 ghost use Rattle.std.specs.Prelude.{◌≡◌, ◌≤◌, ◌<◌, ℕ, Err, IfOk, OnOk};
 ghost use Rattle.run_model.specs.Database.{Base, Lists, Gives, Diverges, asked_by, Notes};
@@ -10,8 +10,8 @@ use ldv_value::{Utf8, Values};
 use sql_model::Reply;
 use std::alloc::AllocError;
 
-/// Who asks: a process by its name and its creation number, the number of the step, from 1, and the number of
-/// the statement among all that are asked in the run, from 0.
+/// Who asks a statement: the name and the creation number, from 0, of the process, the number of the step,
+/// from 1, and the number of the statement among all of the run, from 0.
 #[derive(Drop)]
 pub struct Asker {
     pub name: ProcName,
@@ -23,7 +23,7 @@ pub struct Asker {
 /// Why a question has no reply.
 #[derive(Clone, Copy, Debug, PartialEq, Eq)]
 pub enum Stop {
-    /// The database has none.
+    /// The database has no reply.
     Diverged,
     /// Out of memory.
     NoMemory,
@@ -37,24 +37,24 @@ impl From<AllocError> for Stop {
     }
 }
 
-/// Replies to statements. What it replies, and its state afterwards, are a function of its state and the
-/// question; no tracer has a part in it.
+/// Replies to statements. The reply and the next state are a function of its state and the question; they
+/// never depend on the tracer.
 pub trait Database: Drop {
-    /// What its state is seen as.
+    /// The type of its state, as contracts see it.
     ghost Db: { Type 0 };
 
-    /// Its state.
+    /// Its state, as contracts see it.
     ghost seen: { Self → Db };
 
-    /// What it returns.
+    /// The function from its state and a question to the answer.
     ghost base: { Base Db };
 
-    /// The last step at which it was asked, 0 where it wasn't yet.
+    /// The last step at which it was asked; 0 before the first.
     ghost latest: { Self → ℕ };
 
     /// Asks a text with its parameters. A tracer that keeps events notes one, with the lists of the
-    /// statement. `Diverged` comes exactly where the database has no reply. After a `Stop` nothing is
-    /// promised of the database or the tracer, and neither is used again.
+    /// statement. `Diverged` comes if and only if the database has no reply, unless memory runs out first.
+    /// After a `Stop` nothing is promised of the database or the tracer, and neither is used again.
     fn ask<T: Tracer>(
         &mut self,
         who: &Asker,

@@ -7,7 +7,7 @@ use ldv_value::{CopyItem, List, Names, Utf8};
 use sql_model::{Members, Needs};
 use std::alloc::{AllocError, Global};
 
-/// What happened in a step. A `path` is that which an instruction named.
+/// What happened in a step. A `path` is the path that the instruction, or the first start word, named.
 #[derive(Drop)]
 pub enum Act {
     /// The first process was started on a path.
@@ -18,7 +18,7 @@ pub enum Act {
     Spawned {
         path: Utf8,
     },
-    /// A child was refused; `found` says whether the file was there.
+    /// A child was refused. `found` says whether the file was there.
     Unspawned {
         path: Utf8,
         found: bool,
@@ -31,7 +31,7 @@ pub enum Act {
     OpenedWrite {
         path: Utf8,
     },
-    /// A file was opened for appending; `found` says whether it was there.
+    /// A file was opened for appending. `found` says whether it was there; else it was made.
     OpenedAppend {
         path: Utf8,
         found: bool,
@@ -40,7 +40,8 @@ pub enum Act {
     OpenedNew {
         path: Utf8,
     },
-    /// An open was refused: of a new file where one was found, for reading where none was.
+    /// An open was refused: one for reading found no file, or one of a new file found a file. `found` says
+    /// which.
     Unopened {
         path: Utf8,
         found: bool,
@@ -57,22 +58,22 @@ pub enum Act {
     Removed {
         path: Utf8,
     },
-    /// It was found out whether a file is there, by `exists` or by a `remove` that was refused.
+    /// `exists` looked for a file, or a refused `remove` did. `found` says whether it was there.
     Tested {
         path: Utf8,
         found: bool,
     },
-    /// A child, by its creation number, was waited for.
+    /// The process waited for a child, by its creation number, until that ended.
     Waited {
         child: u32,
     },
-    /// The process ended.
+    /// The process ended, with this status.
     Ended {
         status: u8,
     },
-    /// A statement was asked, by its number in the run. `tables` are those that it asks: those that it names,
-    /// those of the rows that it needs, and all their parents. `reads` are the rows that it needs, `made` the
-    /// versions that it made.
+    /// A statement was asked, by its number in the run, from 0. `tables` are the tables that it names, the
+    /// tables of the rows that it needs, and all their parents. `reads` are the rows that it needs, and
+    /// `made` the row versions that it made.
     Asked {
         statement: u32,
         tables: Names,
@@ -92,7 +93,7 @@ impl Act {
         }
     }
 
-    /// The path that it names, if it names one.
+    /// The path that it names, or `None` if it names none.
     pub fn path(&self) -> Option<&Utf8>
         ensures { option_map (λ path. path.now) result ≡ named_path self.now }
     {

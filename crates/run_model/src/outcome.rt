@@ -21,7 +21,7 @@ pub struct ProcOutcome {
     pub replies: Replies,
 }
 
-/// A touched path at the end: its bytes, or that it is absent.
+/// A touched path at the end of the run: the bytes of the file there, or `None` if there is no file.
 #[derive(Drop)]
 pub struct PathOutcome {
     pub path: Utf8,

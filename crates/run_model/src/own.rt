@@ -46,8 +46,8 @@ fn own_table_of(alloc: Global, table: PackedTable) -> Result<Table, AllocError>
     })
 }
 
-/// The tables that the own world of a package has, in the memory of those of the package: their rows without
-/// the reasons why they are in it. No value is copied. `AllocError` means out of memory only.
+/// The tables of a package's own world. They are those of the package, whose rows lose the reasons why they
+/// are in it. Values are moved and never copied. `AllocError` means out of memory only.
 pub fn own_tables_of(alloc: Global, packed: PackedTables) -> Result<Tables, AllocError>
     ensures { IfOk result (λ tables. tables ≡ map own_table packed) }
 {

@@ -17,11 +17,14 @@ pub enum Mode {
     Excluded,
 }
 
-/// What is needed to run again what was recorded, with the trace of the recorded run.
+/// All that is needed to run a recorded run again, with its trace.
 #[derive(Drop)]
 pub struct Package {
+    /// Whether it has tables or logs.
     pub mode: Mode,
+    /// The path of the first script, and its arguments.
     pub start: Words,
+    /// The scheduler's seed.
     pub seed: u64,
     /// The number of steps of the recorded run, 1 to 10,000,000.
     pub steps: u32,
@@ -31,10 +34,11 @@ pub struct Package {
     pub tables: PackedTables,
     /// Sorted by process name.
     pub logs: Logs,
+    /// The trace of the recorded run, in the order of the steps.
     pub events: Events,
 }
 
-/// A needed file: whole with its content, or present, where only its being there was needed.
+/// A needed file: with its content, or without it if the run only needed the file to be there.
 #[derive(Drop)]
 pub struct PackedFile {
     pub path: Utf8,
@@ -59,7 +63,8 @@ impl CopyItem for PackedFile {
     }
 }
 
-/// A needed table with the initial rows that some statement needed.
+/// A needed table with the initial rows that some statement needed, by number. The number of the next row is
+/// `next`, and all rows have numbers below it.
 #[derive(Drop)]
 pub struct PackedTable {
     pub name: Utf8,
@@ -93,7 +98,8 @@ impl CopyItem for PackedTable {
     }
 }
 
-/// A needed initial row, with the first statement that needed it and the rule by which it did.
+/// A needed initial row: its number in the table, the first statement that needed it, by its number in the
+/// run, from 0, the rule by which that did, and the values.
 #[derive(Drop)]
 pub struct PackedRow {
     pub number: u32,

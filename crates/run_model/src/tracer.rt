@@ -12,10 +12,10 @@ pub trait Tracer: Drop {
     /// Whether it keeps events.
     ghost KEEPS: { Bool };
 
-    /// Whether it keeps events. Where it doesn't, no event has to be made for it.
+    /// Whether it keeps events. If it doesn't, no event needs to be made for it.
     const KEEPS: bool;
 
-    /// The events that it observed, where it keeps them.
+    /// The events that it observed, if it keeps them.
     ghost events: { Self → List Event };
 
     /// Notes the next event. On `AllocError` it may have lost it.
@@ -23,7 +23,7 @@ pub trait Tracer: Drop {
         ensures { IsTrue KEEPS → OnOk result (events self.new ≡ events self.old ++ event ∷ []) };
 }
 
-/// Keeps nothing, and takes no memory.
+/// A tracer that keeps nothing and takes no memory.
 #[derive(Drop)]
 pub struct NullTracer;
 
@@ -39,7 +39,7 @@ impl Tracer for NullTracer {
     }
 }
 
-/// Keeps all events, in order. Contracts see it as their list.
+/// A tracer that keeps all events, in order. Contracts see it as their list.
 #[derive(Drop)]
 pub struct ListTracer {
     held: Events,

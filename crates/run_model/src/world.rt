@@ -14,8 +14,8 @@ pub struct World {
     pub tables: Tables,
 }
 
-/// A world with the script that it starts with, which is that of the file at the first start word: the world
-/// was judged, and the script isn't parsed again.
+/// A world with its first script, parsed from the file at the first start word while the world was checked,
+/// so it needn't be parsed again.
 #[derive(Drop)]
 pub struct ParsedWorld {
     pub world: World,

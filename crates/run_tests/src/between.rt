@@ -1,6 +1,6 @@
-//! A world that lies between what a run needs and the run's world: it is recorded as that world. Its rows
-//! have numbers with gaps, which those of no document have, so that no command is given one. And the audits
-//! of packages of both, by the call that takes a package.
+//! A world that lies between the slice of a run and the run's world: it is recorded as that world. Its rows
+//! have numbers with gaps; no document has such rows, so no command can get this world. And the audits of
+//! packages of both, by the call that takes a package.
 
 ghost use Rattle.std.specs.Prelude.{IfOk};
 ghost use Rattle.package_layout.specs.Valid.{IsSpelled, IsValidPackage};

@@ -1,4 +1,4 @@
-//! Copies: no clause says that one is made where memory is left.
+//! Copies: no clause says that one is made if memory is left.
 
 use crate::worlds::world_of_text;
 use ldv_value::{Bytes, CopyItem, Names, Utf8, Value, Values};

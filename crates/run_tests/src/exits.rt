@@ -1,4 +1,4 @@
-//! The status and the line of the exit that no input brings about.
+//! The status and the line of the exit that no input can cause.
 
 ghost use Rattle.std.specs.Prelude.{◌<◌};
 

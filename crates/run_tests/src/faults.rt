@@ -1,5 +1,5 @@
-//! The program over streams of which one call fails. Call by call fails, from the first on, until the
-//! program is done: the call that would fail then isn't made.
+//! The program over streams in which one call fails. Each call fails in turn, from the first on, until the
+//! program doesn't make the call that should fail.
 
 use crate::joins::twice;
 use crate::streams::{Ended, call};

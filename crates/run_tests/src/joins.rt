@@ -32,7 +32,7 @@ fn append_twice(pair: &mut Vec<u8>, package: &[u8]) -> Result<(), AllocError> {
     append_sized(pair, package)
 }
 
-/// The input of `join` for a package and the same again.
+/// The input of `join` for a package and the same package again.
 pub(crate) fn twice(alloc: Global, package: &[u8]) -> Result<Vec<u8>, AllocError> {
     let mut pair = Vec::new(alloc);
     append_twice(&mut pair, package)?;

@@ -1,8 +1,8 @@
-//! Tests of runs, packages and the program, of what neither a proof nor a case of bytes shows.
+//! Tests of runs, packages and the program, for facts that neither a proof nor a case of bytes shows.
 //!
-//! They cover sizes, streams that fail, graphs of traces, and calls that no command makes. What bytes can
-//! show belongs into the cases of `conformance`, and `library_tests` has the tests of the libraries up to
-//! the engine. What is expected was worked out by hand.
+//! They cover sizes, streams that fail, graphs of traces, and calls that no command makes. Tests by bytes
+//! belong into the cases of `conformance`, and `library_tests` has the tests of the libraries up to the
+//! engine. The expected values were worked out by hand.
 #![tactic(auto)]
 
 #[cfg(test)]

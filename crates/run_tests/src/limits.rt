@@ -1,4 +1,4 @@
-//! Inputs and packages around the limit of 64 MiB, which are too long to be stored.
+//! Inputs and packages around the limit of 64 MiB; they are too long to store.
 
 ghost use Rattle.std.specs.Prelude.{◌<◌};
 

@@ -1,5 +1,5 @@
-//! Worlds of 300,000 rows and of 300,000 statements, within the default budget. A body that goes through
-//! all rows for each row isn't done in a test's time.
+//! Worlds of 300,000 rows and of 300,000 statements, within the default budget. A body that goes through all
+//! rows for each row would take longer than a test may.
 
 ghost use Rattle.replay_db.specs.Runs.{CanRun};
 

@@ -10,7 +10,7 @@ use std::alloc::{AllocError, Global};
 /// The most bytes that a read gives, and that a write takes.
 const PIECE: usize = 10;
 
-/// What a call of the program left: its status, what was written, and its line.
+/// The end of a call of the program: its status, its output, and its line.
 #[derive(Drop)]
 pub(crate) struct Ended {
     pub status: u8,

@@ -7,7 +7,7 @@ use std::alloc::Global;
 use std::process::Abort;
 use world_json::world_of;
 
-/// The world of a document that is one.
+/// The world of a valid document.
 pub(crate) fn world_of_text(rt: &impl Abort, alloc: Global, text: &str) -> World
     ensures { CanRun result }
 {

@@ -1,5 +1,4 @@
--- Resolved scripts: for each name the slot that stands for it. A slot is the index of a name among the names
--- of its kind.
+-- Resolved scripts: each name has a slot, its index among the names of its kind.
 use Rattle.std.specs.Prelude.{◌≡◌, ℕ, List, [], ◌∷◌, map, Option, Some, None}
 use Rattle.script_parse.specs.Script.{script_of}
 use Rattle.script_parse.specs.declared.script.Instr.TheVariants as instr

@@ -133,8 +133,8 @@ pub enum FileInstr {
     },
 }
 
-/// An instruction of `script_parse`, in which a slot stands for each name. A slot is the index of the name
-/// among the names of its kind, and `place` is the place of a label, as there.
+/// An instruction of `script_parse`, with a slot for each name. A slot is the index of a name among the names
+/// of its kind, from 0. A field `place` is the place of a label: the number of instructions before it.
 #[derive(Drop)]
 pub enum SlotInstr {
     /// One that changes its own process only.
@@ -188,11 +188,13 @@ impl Scope {
     }
 }
 
-/// A resolved script, which all processes that run it share, with the bytes that it was read from.
+/// A resolved script, with the bytes of its source. All processes that run it share it.
 #[derive(Drop)]
 pub struct Code {
     /// The bytes that were read.
     pub source: Bytes,
+    /// Its names; the slot of each is its index.
     pub scope: Scope,
+    /// Its instructions, in the order of the lines, without the implicit `exit 0` after the last one.
     pub instructions: SlotInstrs,
 }

@@ -51,7 +51,7 @@ impl NameTable {
         self.names.len()
     }
 
-    /// The slot of a name, or `None` where it isn't there. No name is there twice.
+    /// The slot of a name, from 0, or `None` if it isn't there.
     pub fn find(&self, name: &Utf8) -> Option<usize>
         ensures found { IsFound self.now name.now result }
         ensures distinct { AreDistinct self.now }
@@ -59,7 +59,7 @@ impl NameTable {
         slot_in(&self.slots, name)
     }
 
-    /// The slot of a name, which is added where it isn't there.
+    /// The slot of a name, which is added if it isn't there.
     #[tactic(auto, using(crate::proofs::KnownNames::keeps_same))]
     pub(crate) fn intern(&mut self, name: &Utf8) -> Result<usize, AllocError>
         ensures slot { IfOk result (IsSlot self.new name.now) }

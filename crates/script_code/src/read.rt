@@ -10,7 +10,8 @@ use ldv_value::Bytes;
 use script_parse::{Instrs, ScriptStop, parse_script};
 use std::alloc::{AllocError, Global};
 
-/// The resolved form of the script that bytes are, or `None` where they are no script.
+/// The resolved form of the script that bytes spell, or `None` if they spell none. `AllocError` means out of
+/// memory only.
 pub fn read_code(alloc: Global, bytes: &[u8]) -> Result<Option<Code>, AllocError>
     ensures { IfOk result (IsRead bytes.now) }
 {
@@ -21,7 +22,7 @@ pub fn read_code(alloc: Global, bytes: &[u8]) -> Result<Option<Code>, AllocError
     }
 }
 
-/// The resolved form of a script that was parsed from these bytes.
+/// The resolved form of a script that was parsed from these bytes. `AllocError` means out of memory only.
 pub fn code_of(alloc: Global, bytes: &[u8], script: &Instrs) -> Result<Code, AllocError>
     requires { script_of bytes.now ≡ Some script.now }
     ensures { IfOk result (λ code. IsCode code script.now) }

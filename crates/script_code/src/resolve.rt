@@ -11,7 +11,7 @@ use ldv_value::{Bytes, Cmp, Names, OpenMode, Utf8};
 use script_parse::{CalcOp, Instr, Instrs, Operand, Operands};
 use std::alloc::{AllocError, Global};
 
-/// The resolved form of a script, which was read from these bytes.
+/// The resolved form of a script that was read from these bytes.
 #[tactic(auto, using(crate::proofs::KnownNames::kept_distinct))]
 pub(crate) fn resolve(alloc: Global, source: Bytes, script: &Instrs) -> Result<Code, AllocError>
     requires { script_of source ≡ Some script.now }

@@ -1,4 +1,4 @@
--- What the tokens of a line say is what the grammar says.
+-- The tokens of a line are read only as the grammar allows.
 use Rattle.std.proofs.Common.{◌≡◌, ◌≢◌, ℕ, suc, ◌+◌, ◌<◌, ◌≤◌, List, [], ◌∷◌, ◌++◌, length, map, take, drop, refl, sym, ap, ◌∙◌, subst, cond, not, ltb, Bool, true, false, inl, inr, Some, None, leb, arith}
 use Rattle.std.specs.Prelude.{Option, codes, position}
 use Rattle.std.specs.List.{AllByRecursion, prefix_len}

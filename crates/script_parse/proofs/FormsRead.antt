@@ -1,4 +1,4 @@
--- What the grammar says of the tokens of a line is what is read.
+-- The tokens of a line are read in each way that the grammar allows.
 use Rattle.std.proofs.Common.{◌≡◌, ◌≢◌, ℕ, suc, ◌+◌, ◌≤◌, List, [], ◌∷◌, ◌++◌, length, map, take, drop, length-append, add-one, refl, sym, ap, ◌∙◌, cond, not, ltb, Bool, true, false, Some, None, leb, arith}
 use Rattle.std.specs.Prelude.{Option, codes, position}
 use Rattle.std.specs.List.{AllByRecursion, prefix_len}

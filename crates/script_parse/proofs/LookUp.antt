@@ -1,4 +1,4 @@
--- What lines say depends on what is found for each name.
+-- Two look-ups that find the same for each name give the same instructions.
 use Rattle.std.proofs.Common.{◌≡◌, ℕ, List, subst}
 use Rattle.std.specs.Prelude.{Option, Result}
 use Rattle.script_parse.specs.declared.line.Entry.{Entry}

@@ -1,4 +1,4 @@
--- The law of scripts: what is read is what the grammar says.
+-- The law of scripts: they are read as the grammar says.
 use Rattle.std.proofs.Common.{◌≡◌, ℕ, ◌+◌, List, [], ◌∷◌, ◌++◌, length, refl, sym, ap, ◌∙◌, subst, cond, not, true, false, inl, inr, Some, None, arith, append_assoc}
 use Rattle.std.specs.Prelude.{Option, ◌==◌, IsTrue, IsUtf8, codes}
 use Rattle.std.specs.List.{AllByRecursion, AllZip}

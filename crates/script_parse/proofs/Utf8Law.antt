@@ -1,4 +1,4 @@
--- A text is UTF-8 where its spelling is.
+-- A text is UTF-8 if its spelling is.
 use Rattle.std.proofs.Common.{◌≡◌, ℕ, zero, suc, ◌<◌, ◌≤◌, List, [], ◌∷◌, ◌++◌, length, take, drop, get_or, refl, sym, ap, ◌∙◌, subst, Bool, true, false, inl, inr, ◌&&◌, arith, length-append}
 use Rattle.std.specs.Prelude.{IsUtf8}
 use Rattle.std.specs.List.{AllByRecursion}
@@ -63,7 +63,7 @@ high_front b after body (c ∷ cs) high e are is =
       | inr above ↦ (encode c, encodes cs, encode_high c above, omega (arith, length-encode c, len_utf8_bounds c), IsUtf8-encode c p.0, sym is, (cs, (p.1, refl)))
     ]
 
--- A text is UTF-8 where its spelling is.
+-- A text is UTF-8 if its spelling is.
 pub spells_utf8 : (n : ℕ) (body text : List ℕ) → length text ≤ n → Spells body text → IsUtf8 body → IsUtf8 text
 spells_utf8 n body [] within spells u = IsUtf8-nil
 spells_utf8 zero body (b ∷ text) within spells u = absurd (omega arith)

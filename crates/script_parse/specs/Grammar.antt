@@ -1,5 +1,5 @@
 -- The grammar of scripts, as a relation between bytes and instructions. It says how each thing is written,
--- from the instructions to the bytes; no place in it says how they are read.
+-- from the instructions to the bytes, and never how they are read.
 use Rattle.std.specs.Prelude.{◌≡◌, ◌≢◌, ◌⊎◌, ℕ, ◌+◌, ◌^◌, ◌<◌, ◌≤◌, List, [], ◌∷◌, ◌++◌, length, map, IsTrue}
 use Rattle.std.specs.Prelude.{IsUtf8, ℤ, pos, neg_ℤ, codes, Option, Some, None}
 use Rattle.std.specs.List.{AllZip, AllByRecursion}

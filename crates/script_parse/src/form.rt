@@ -18,7 +18,7 @@ use crate::token::Token;
 use ldv_value::Utf8;
 use std::alloc::Global;
 
-/// Reads what a line says; `Malformed` where the line is bad whatever the other lines say.
+/// Reads what a line says. `Malformed`: the line is bad whatever the other lines say.
 pub(crate) fn read_line(alloc: Global, line: &[u8]) -> Result<Line, LineError>
     ensures { GivesLine result (line_of line.now) }
 {

@@ -18,7 +18,7 @@ use crate::token::Token;
 use ldv_value::{Cmp, OpenMode, Utf8};
 use std::alloc::Global;
 
-/// What a line says whose first word is this keyword, by the tokens after it.
+/// What a line says, by its keyword and the tokens after the keyword.
 pub(crate) fn instruction(
     alloc: Global,
     keyword: Keyword,

@@ -21,7 +21,7 @@ pub(crate) enum Line {
 pub(crate) struct Entry {
     /// Its number, from 1.
     pub number: u64,
-    /// What it says; `None` where it is bad whatever the other lines say.
+    /// What it says; `None` if it is bad whatever the other lines say.
     pub line: Option<Line>,
 }
 

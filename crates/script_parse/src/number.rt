@@ -8,8 +8,8 @@ ghost use Rattle.script_parse.specs.Number.{number_of};
 /// The greatest magnitude of an `i64`.
 const MAGNITUDE_LIMIT: u64 = 1 << 63;
 
-/// The number that a text writes: an optional `-` and digits, with leading zeros allowed. `None` where the
-/// text has another form, and where the number isn't within `i64`.
+/// The number that a text writes: an optional `-` and digits, with leading zeros allowed. `None` if the text
+/// has another form or the number isn't within `i64`.
 pub fn read_number(text: &str) -> Option<i64>
     ensures { result ≡ number_of text.now }
 {

@@ -18,9 +18,8 @@ use std::alloc::{AllocError, Global};
 /// Why bytes aren't read as a script.
 #[derive(Clone, Copy, Debug, PartialEq, Eq)]
 pub enum ScriptStop {
-    /// They aren't a script. The number, from 1, is that of the first bad line: one that isn't UTF-8 or
-    /// has no form, that defines a label which an earlier line defines, or that uses a label which no
-    /// line defines.
+    /// They aren't a script: the number, from 1, of the first bad line. A line is bad if it isn't UTF-8,
+    /// has no form, defines a label that an earlier line defines, or uses a label that no line defines.
     Line(u64),
     /// Out of memory.
     NoMemory,
@@ -37,8 +36,8 @@ impl From<AllocError> for ScriptStop {
     }
 }
 
-/// Reads a script, in one pass over its bytes: the instructions that they spell by the grammar, or the first
-/// bad line where they spell none.
+/// Reads a script, in one pass over its bytes: the instructions that they spell by the grammar. `Line`: they
+/// spell none, and this line is the first bad one. `NoMemory`: memory ran out.
 #[tactic(auto, using(crate::proofs::BadLines::result_rules))]
 pub fn parse_script(alloc: Global, bytes: &[u8]) -> Result<Script, ScriptStop>
     ensures reading { IfOk result (λ script. IsScript bytes.now script.instructions) }
@@ -53,7 +52,7 @@ pub fn parse_script(alloc: Global, bytes: &[u8]) -> Result<Script, ScriptStop>
     parse_lines(alloc, bytes)
 }
 
-/// The script that bytes are, or `None` where they are none.
+/// The script that bytes spell, or `None` if they spell none. `AllocError` means out of memory only.
 pub fn script_of(alloc: Global, bytes: &[u8]) -> Result<Option<Script>, AllocError>
     ensures { IfOk result (λ found. script_of bytes.now ≡ option_map (λ script. script.instructions) found) }
 {
@@ -64,7 +63,7 @@ pub fn script_of(alloc: Global, bytes: &[u8]) -> Result<Option<Script>, AllocErr
     }
 }
 
-/// The script that bytes are known to be.
+/// The script of bytes that are known to spell one. `AllocError` means out of memory only.
 pub fn known_script(alloc: Global, bytes: &[u8]) -> Result<Script, AllocError>
     requires { IsSome (script_of bytes.now) }
     ensures { IfOk result (λ script. script_of bytes.now ≡ Some script.instructions) }

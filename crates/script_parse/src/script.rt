@@ -27,9 +27,8 @@ pub enum CalcOp {
 }
 
 /// An instruction. A field `place` is the place of a label: the number of instructions before it. The
-/// number of all instructions is a place too, that of the implicit `exit 0`. A list for one operand
-/// and more holds the first one too, so it has at most 256 items; in `Spawn` and `Sql` the first
-/// operand has its own field, and the list holds the others.
+/// number of all instructions is a place too, that of the implicit `exit 0`. A list has 1 to 256 items;
+/// in `Spawn` and `Sql` the first operand has its own field, and the list has the others, at most 255.
 #[derive(Drop)]
 pub enum Instr {
     /// `let x = v`

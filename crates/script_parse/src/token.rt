@@ -24,7 +24,7 @@ pub enum Token {
 /// Tokens, in the order of the line.
 pub(crate) type Tokens = List<Token>;
 
-/// The token of bytes that stood without quotes.
+/// The token of bytes without quotes.
 pub(crate) fn word_token(bytes: Bytes) -> Result<Token, LineError>
     ensures { GivesLine result (word_token bytes) }
 {
@@ -37,7 +37,7 @@ pub(crate) fn word_token(bytes: Bytes) -> Result<Token, LineError>
     }
 }
 
-/// The token of bytes that stood in quotes, their escapes read.
+/// The token of bytes in quotes, with their escapes read.
 pub(crate) fn text_token(bytes: Bytes) -> Result<Token, LineError>
     ensures { GivesLine result (text_token bytes) }
 {

@@ -1,4 +1,4 @@
--- What is packed of the initial rows of a graph is what the events need of the tables, and the other way round.
+-- The packed initial rows of a graph are the rows of the tables that the events need.
 use Rattle.std.proofs.Common.{◌≡◌, ◌==◌, ℕ, List, [], ◌∷◌, Bool, true, false, not, ◌||◌, ◌&&◌, refl, sym, ap, ◌∙◌, inl, inr, eq-eqb}
 use Rattle.std.specs.Prelude.{Option, Some, None, is_some}
 use Rattle.std.specs.List.{list_any, filter_map, cons_option}

@@ -1,4 +1,4 @@
--- The events of a run read each initial row first as it was at first, and make none of them.
+-- The events of a run read each initial row first in its initial version, and make none of them.
 use Rattle.std.proofs.Common.{◌≡◌, ℕ, List, [], ◌∷◌, ◌++◌, refl, sym, ap, ◌∙◌, subst, Bool, true, false, arith, inl, inr}
 use Rattle.std.specs.Prelude.{Option, Some, None, not, ◌&&◌, ◌||◌, ◌==◌, nat_lt, slice_get}
 use Rattle.std.specs.List.{list_all, list_any}

@@ -1,4 +1,4 @@
--- What the events of a run say of one row, by the database that the run begins with.
+-- The events of a run about one row, by the database that the run begins with.
 use Rattle.std.proofs.Common.{◌≡◌, ℕ, zero, suc, ◌+◌, List, [], ◌∷◌, ◌++◌, length, refl, sym, ap, ◌∙◌, subst, Bool, true, false, inl, inr}
 use Rattle.std.specs.Prelude.{Option, Some, None, is_some, map, ◌||◌}
 use Rattle.std.specs.List.{list_all, list_any}

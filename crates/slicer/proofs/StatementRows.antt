@@ -1,5 +1,5 @@
--- What a statement does of one row, by the number of the row and the name of its table: whether the statement needs
--- it, sees it as it was at first, and makes it.
+-- A statement and one row, by the number of the row and the name of its table: whether the statement needs
+-- it, sees its initial version, and makes it.
 use Rattle.std.proofs.Common.{◌≡◌, ℕ, ◌+◌, ◌-◌, ◌<◌, List, [], ◌∷◌, ◌++◌, length, refl, sym, ap, ◌∙◌, subst, Bool, true, false, arith, inl, inr}
 use Rattle.std.specs.Prelude.{Option, Some, None, is_some, map, filter, find, not, ◌&&◌, ◌||◌, ◌==◌, nat_lt, bytes_eq}
 use Rattle.std.specs.List.{list_all, list_any, AllByRecursion}

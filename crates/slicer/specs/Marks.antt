@@ -1,4 +1,4 @@
--- What the maps of `src/` mean.
+-- The meaning of the maps of `src/`.
 use Rattle.std.specs.Prelude.{ℕ, List, map, filter, Bool, ◌&&◌, ◌==◌, Option, is_some, option_and_then}
 use Rattle.std.specs.Prelude.{if◌then◌else◌, Some, None, String}
 use Rattle.std.specs.List.{filter_map}

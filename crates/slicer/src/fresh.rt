@@ -92,7 +92,7 @@ fn fresh_in_block(
     Ok(words)
 }
 
-/// The rows that reads of one block need and no read before did, as words. They are added to the needed ones.
+/// The rows of one block that these reads need and no earlier read did, as words. They are added to `needed`.
 pub(crate) fn fresh_rows(
     alloc: Global,
     needed: &mut RowSet,

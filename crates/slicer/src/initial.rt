@@ -102,8 +102,8 @@ fn remove_all_made(rows: &mut RowSet, graph: &Graph)
     }
 }
 
-/// The rows whose first version is in the graph, and which no statement made. It goes over the nodes and the
-/// edges once.
+/// The rows whose first version is in the graph, without the rows that a statement made. It goes over the
+/// nodes and the edges once.
 pub(crate) fn initial_rows(alloc: Global, graph: &Graph) -> Result<RowSet, AllocError>
     ensures { IfOk result (λ rows. (table : List ℕ) (row : ℕ) → has_row rows table row
         ≡ is_initial_node graph.now (at_first table row)) }

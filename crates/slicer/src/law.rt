@@ -2,8 +2,8 @@
 
 ghost use Rattle.slicer.specs.InitialRows.{InitialRowsLaw};
 
-/// A run's events read each initial row first as it was at first, and make none of them, which `slice` asks
-/// for.
+/// A run's events read each initial row first in its initial version, and make none of them. `slice` requires
+/// this of its events.
 pub fn initial_rows_law()
     ensures { InitialRowsLaw }
 {}

@@ -1,4 +1,4 @@
-//! What a run needs of its world, from the run's events and their graph.
+//! The parts of its world that a run needs, from the run's events and their graph.
 //!
 //! Files come from the events, rows from the graph, and the events give each row its reason. Rows are united
 //! in blocks of bits (`docs/internals/DECISIONS.md` says why).

@@ -21,7 +21,7 @@ pub fn has_name(names: &NameSet, name: &Utf8) -> bool
     names.contains_key(name.as_str())
 }
 
-/// Puts a name into the set. It is copied where the set hasn't got it.
+/// Puts a name into the set. It is copied if the set hasn't got it.
 pub(crate) fn add_name(alloc: Global, names: &mut NameSet, name: &Utf8) -> Result<(), AllocError>
     ensures { OnOk result ((q : List ℕ) → has_name names.new q
         ≡ (has_name names.old q || same_text name.now q)) }
@@ -45,7 +45,7 @@ fn add_names(alloc: Global, names: &mut NameSet, more: &[Utf8]) -> Result<(), Al
     Ok(())
 }
 
-/// The set of these names.
+/// The set of these names. `AllocError` means out of memory only.
 pub fn set_of_names(alloc: Global, names: &[Utf8]) -> Result<NameSet, AllocError>
     ensures { IfOk result (λ set. (q : List ℕ) → has_name set q
         ≡ list_any (λ name. same_text name q) names.now) }

@@ -12,19 +12,19 @@ use run_model::{Events, PackedFiles, PackedTables, World};
 use std::alloc::{AllocError, Global};
 use trace_graph::{Graph, graph_law};
 
-/// What a run needs of its world.
+/// The parts of its world that a run needs.
 #[derive(Drop)]
 pub struct Sliced {
-    /// The needed initial files, in the world's order: whole, or present where only their being there
-    /// was needed.
+    /// The needed initial files, in the world's order: whole, or present if the run only needed them to be
+    /// there.
     pub files: PackedFiles,
     /// The needed initial tables, in the world's order, with their needed rows. Each row has the first
     /// statement that needs it, and its rule.
     pub tables: PackedTables,
 }
 
-/// What events need of the world that they began in. The graph is that of the events, and tells which rows
-/// are initial. `AllocError` means out of memory only.
+/// The parts that events need of the world that they began in. The graph must be that of the events; it shows
+/// which rows are initial. `AllocError` means out of memory only.
 pub fn slice(
     alloc: Global,
     events: &Events,

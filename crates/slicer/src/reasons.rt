@@ -67,7 +67,7 @@ fn note_table(
     Ok(())
 }
 
-/// Notes why a row of a table is needed, if the row isn't there. The table's name is copied where it is the
+/// Notes why a row of a table is needed, if the row isn't there yet. The table's name is copied if it is the
 /// first row of the table. `AllocError` means out of memory only, and then the reasons are as before.
 pub fn note_named(
     alloc: Global,
@@ -241,8 +241,8 @@ fn note_act(
     }
 }
 
-/// The first reason for each initial row. The rows that statements needed are taken out of those that a later
-/// one needs, so that only the first reads of a row are looked up.
+/// The first reason for each initial row. Rows that earlier statements needed are skipped in later ones, so
+/// only the first reads of a row are looked up.
 pub(crate) fn reasons_in(
     alloc: Global,
     events: &[Event],

@@ -15,7 +15,7 @@ use std::collections::BTreeMap;
 pub(crate) const BLOCK_ROWS: u32 = 4_096;
 
 /// Numbers in blocks of 4,096: bit i of word j of block b is the number 4,096 * b + 64 * j + i. A block has
-/// the words up to that of its greatest number, and maybe more, so a number far from all others takes 512
+/// the words up to the word of its greatest number, and maybe more, so a number far from all others takes 512
 /// bytes.
 pub(crate) type Numbers = BTreeMap<u32, List<u64>>;
 
@@ -35,7 +35,7 @@ pub(crate) fn has_bit(words: &List<u64>, number: u32) -> bool
     (words.items()[place] >> (number % 64)) & 1 == 1
 }
 
-/// Makes a number of words, where there are fewer.
+/// Adds empty words until there are `count`, if there are fewer.
 #[tactic(auto, using(crate::proofs::RowSetLaws::padded))]
 pub(crate) fn grow(words: &mut List<u64>, count: usize) -> Result<(), AllocError>
     ensures room { OnOk result (count ≤ length words.new) }
@@ -129,7 +129,7 @@ pub(crate) fn has_row(rows: &RowSet, table: &Utf8, row: u32) -> bool
     }
 }
 
-/// Puts the numbers of a table, whose name is copied.
+/// Puts the numbers of a table, and copies its name.
 pub(crate) fn put_table(
     alloc: Global,
     rows: &mut RowSet,

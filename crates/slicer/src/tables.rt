@@ -93,7 +93,7 @@ fn push_asked(
     }
 }
 
-/// The tables that are among the names, with the rows that have reasons.
+/// The tables whose names are among `names`, with the rows that have reasons.
 pub fn pack_tables(
     alloc: Global,
     names: &NameSet,
@@ -111,7 +111,7 @@ pub fn pack_tables(
 }
 
 /// The tables that statements ask, with the initial rows of the graph. Each row has the first statement that
-/// needs it, and a row that none needs is left out. `AllocError` means out of memory only.
+/// needs it; a row that no statement needs is left out. `AllocError` means out of memory only.
 pub(crate) fn needed_tables(
     alloc: Global,
     events: &[Event],

@@ -113,7 +113,7 @@ fn unite_new_table(
     put_table(alloc, rows, table, numbers)
 }
 
-/// Takes the rows of a set out of a block's words, and adds to the set what is left.
+/// Takes the rows of a set out of a block's words, and adds the rest to the set.
 pub(crate) fn unite_rows(
     alloc: Global,
     rows: &mut RowSet,

@@ -1,5 +1,5 @@
--- What an INSERT, an UPDATE or a DELETE answers, needs, leaves and makes, by what of it rests on its
--- expressions.
+-- The reply of an INSERT, an UPDATE or a DELETE, its needed rows, the tables after it and its row versions,
+-- by the parts that depend on its expressions.
 use Rattle.std.proofs.Common.{◌≡◌, ℕ, List, [], ◌∷◌, ◌++◌, map, filter, length, Bool, true, refl, ap, ◌∙◌, append-nil}
 use Rattle.std.specs.Prelude.{Option, Some, None, if◌then◌else◌}
 use Rattle.std.specs.List.{list_any}

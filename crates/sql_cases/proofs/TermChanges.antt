@@ -1,5 +1,5 @@
--- What an INSERT, an UPDATE and a DELETE over terms make, by a fold over terms. A function has the name of
--- the definition that it follows.
+-- The changes of an INSERT, an UPDATE and a DELETE over terms, by a fold over terms. A function has the name
+-- of the definition that it follows.
 use Rattle.std.specs.Prelude.{ℕ, ◌+◌, List, [], ◌∷◌, ◌++◌, map, filter, find, zip, length, ◌==◌, Bool, false, not, ◌&&◌, ◌||◌, if◌then◌else◌, Option, Some, None, option_map, option_to_list, unwrap_or}
 use Rattle.std.specs.List.{flat_map, list_all}
 use Rattle.sql_cases.proofs.Types.{Value, Catalog, ColumnName, Expr-F, SqlRefusal, NoTable, NoColumn, TypeClash, Statement, Column, Table, TableRow}

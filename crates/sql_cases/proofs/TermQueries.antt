@@ -1,6 +1,6 @@
--- What a query over terms means, by a fold over terms. With the fold over the expressions that the
--- terms stand for this is what the query means; with the one over terms it computes. A function has the name of
--- the definition that it follows.
+-- The meaning of a query over terms, by a fold over terms. With the fold over the represented expressions
+-- this is the meaning of the query; with the fold over terms it computes. A function has the name of the
+-- definition that it follows.
 use Rattle.std.specs.Prelude.{ℕ, List, [], ◌∷◌, ◌++◌, map, filter, length, ◌==◌, Bool, true, false, not, ◌&&◌, ◌||◌, nat_le, if◌then◌else◌, Option, Some, None, is_none, is_some, option_map, option_and_then, option_to_list, unwrap_or}
 use Rattle.std.specs.List.{flat_map, list_any, list_all, range_with_len}
 use Rattle.sql_cases.proofs.Types.{Value, ColumnName, Expr-F, Kind, H, SqlRefusal, NoTable, NoColumn, TypeClash, Table}

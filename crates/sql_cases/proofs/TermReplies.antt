@@ -1,4 +1,4 @@
--- What a statement over terms answers, needs, leaves and makes.
+-- The reply of a statement over terms, its needed rows, the tables after it, and its row versions.
 use Rattle.std.proofs.Common.{◌≡◌, List, [], ◌++◌, map, ap, ◌∙◌}
 use Rattle.std.specs.Prelude.{Option, Some, None}
 use Rattle.sql_cases.proofs.FreeTables.{else_none}

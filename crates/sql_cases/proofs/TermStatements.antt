@@ -1,4 +1,4 @@
--- Statements over terms, and the statements that they stand for.
+-- Statements over terms, and the statements that they represent.
 use Rattle.std.specs.Prelude.{ℕ, List, map, Bool, Option, option_map}
 use Rattle.sql_cases.proofs.Types.{Value, ColumnName, Core, Delete, FromItem, Insert, Item, Order, Query, Set, Statement, Update}
 use Rattle.sql_model.specs.declared.statement.Statement.TheVariants as statement

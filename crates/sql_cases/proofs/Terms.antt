@@ -1,4 +1,4 @@
--- Expressions over which a fold computes, and the equation that joins them to those of statements.
+-- Terms: expressions over which a fold computes, and the equation between them and those of statements.
 use Rattle.std.specs.Prelude.{Bool, Some, None}
 use Rattle.std.proofs.Common.{◌≡◌, ap, ◌∙◌}
 use Rattle.sql_cases.proofs.Types.{Value, ColumnName, Expr, Expr-F, Fold, Operator}

@@ -1,4 +1,4 @@
--- Whole answers with what they need, tried at the table t.
+-- Whole answers with the rows that they need, tried at the table t.
 use Rattle.std.specs.Prelude.{◌≡◌, refl, List, [], ◌∷◌, map, take, false, true, Some, None, pos, codes}
 use Rattle.sql_cases.proofs.Types.{Null, Int, Text, Add, Or, L, H, Name, Table}
 use Rattle.ldv_value.specs.declared.value.Cmp.TheVariants.{Eq, Lt, Gt}

@@ -1,4 +1,4 @@
--- Changes, with what they need, leave and make, tried at the table t.
+-- Changes, with their needed rows, the tables after them and their row versions, tried at the table t.
 use Rattle.std.proofs.Common.{List, [], ◌∷◌, ◌++◌, map, refl, pos}
 use Rattle.std.specs.Prelude.{ℕ, Some, None, codes}
 use Rattle.sql_cases.proofs.Types.{Null, Int, Text, Catalog, Add, L, K, Changed, Refused, NotNull, KeyTaken, Full, Table, TableRow}

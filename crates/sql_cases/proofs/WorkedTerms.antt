@@ -1,4 +1,4 @@
--- Statements over the table t, written by terms, and what is said of them.
+-- Statements over the table t, written by terms, and the equations about them.
 use Rattle.std.specs.Prelude.{◌≡◌, ℕ, ◌+◌, List, [], ◌∷◌, map, false, true, Option, Some, None, pos, codes}
 use Rattle.sql_cases.proofs.Types.{Cmp, Value, Int, Text, ColumnName, Compare, Member, Rule, Reply, Rows, Refused, SqlRefusal, FromItem, Order, Table}
 use Rattle.sql_model.specs.Needs.{NeededRow, need_of, needed_row, Versions, made_by}

@@ -1,4 +1,4 @@
--- One more item of a list that is flattened from the left.
+-- One step of flattening a list from the left.
 use Rattle.std.proofs.Common.{◌≡◌, ℕ, ◌+◌, ◌<◌, List, ◌++◌, length, get_or, drop, ap, sym, ◌∙◌, append_assoc}
 use Rattle.std.specs.List.{flat_map}
 use Rattle.sql_model.specs.declared.expr.ColumnName.{ColumnName}

@@ -1,4 +1,4 @@
--- The kinds of items and of unions, made from the left.
+-- The kinds of items and of unions, computed from the left.
 use Rattle.std.proofs.Common.{◌≡◌, ◌≢◌, suc, List, [], ◌∷◌, ◌++◌, length, ap, sym, ◌∙◌, refl, append_assoc}
 use Rattle.std.specs.Prelude.{Option, Some, None, option_map, option_and_then}
 use Rattle.std.proofs.lemmas.List.{append-nil}

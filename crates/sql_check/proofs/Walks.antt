@@ -1,4 +1,4 @@
--- What walks over an expression find in each of its forms.
+-- The results of walks over an expression, for each of its forms.
 use Rattle.std.proofs.Common.{◌≡◌, ℕ, List, [], ◌∷◌, ◌++◌, ap, ◌∙◌}
 use Rattle.std.specs.Prelude.{Bool, true, false, ◌&&◌, ◌||◌, Option, Some, None, option_map, option_and_then, find, if◌then◌else◌, not}
 use Rattle.std.specs.List.{list_all}

@@ -1,4 +1,4 @@
--- How a check that may run out of memory gives what the definition of a check gives.
+-- Results of a check that may run out of memory, compared with the definition of the check.
 use Rattle.std.specs.Prelude.{◌≡◌, ℕ, List, Result, Ok, Err}
 use Rattle.ldv_value.specs.Gives.{GivesOr}
 use Rattle.sql_check.specs.declared.error.CheckStop.{CheckStop}

@@ -13,7 +13,7 @@ use sql_model::{Catalog, Core, Expr, Item, Items, OrderKey};
 use std::alloc::{AllocError, Global};
 use std::marker::Model;
 
-/// An answer column: its name, where it has one.
+/// An answer column: its name, if it has one.
 #[derive(Drop)]
 pub(crate) struct AnswerColumn<'a> {
     text: Option<&'a Utf8>,
@@ -136,7 +136,8 @@ pub(crate) fn is_order_key(titles: &[AnswerColumn], key: &OrderKey) -> bool
     }
 }
 
-/// The place of the answer column that a key means, from 0.
+/// The place of the answer column that a key means, from 0. It is the number of answer columns if no column
+/// has the key's name.
 pub(crate) fn key_place(titles: &[AnswerColumn], key: &OrderKey) -> usize
     ensures { result ≡ key_place titles.now key.now }
 {

@@ -12,11 +12,11 @@ use ldv_value::{CopyItem, PlaceLists};
 use sql_model::{Catalog, Checked, Statement};
 use std::alloc::Global;
 
-/// A copy of a statement with the places of its columns, where the catalog has what the statement names
-/// and its kinds fit. The names of the catalog are sorted, each with its schema. The refusals are tried in
-/// the order of `CheckStop`, each over the whole statement: `NoTable`, `NoColumn` and `TypeClash` come
-/// exactly where `specs/Refusals.antt` of `sql_model` has them, as `docs/SQL.md` says in words. `NoMemory`
-/// may come at any point.
+/// A copy of a statement with the places of its columns, if the catalog has its tables and columns and its
+/// kinds fit. The names of the catalog are sorted, each with its schema. `NoTable`, `NoColumn` and
+/// `TypeClash` are tried in this order, each over the whole statement, and come exactly if
+/// `specs/Refusals.antt` of `sql_model` says so; `docs/SQL.md` describes them in words. `NoMemory` may come
+/// at any point.
 pub fn check(alloc: Global, statement: &Statement, catalog: &Catalog) -> Result<Checked, CheckStop>
     ensures { GivesChecked result (checked_of statement.now catalog.now) }
 {
@@ -28,9 +28,9 @@ pub fn check(alloc: Global, statement: &Statement, catalog: &Catalog) -> Result<
     })
 }
 
-/// The places of a statement's columns, as `check` gives them, for a caller that goes on with the statement
-/// itself. `NoTable`, `NoColumn` and `TypeClash` come exactly where `check` has them, and `NoMemory` may come
-/// at any point.
+/// The places of a statement's columns, as in the result of `check`, for a caller that needs no copy of the
+/// statement. `NoTable`, `NoColumn` and `TypeClash` come exactly if they come from `check`, and `NoMemory`
+/// may come at any point.
 pub fn check_places(
     alloc: Global,
     statement: &Statement,

@@ -91,7 +91,7 @@ fn is_having(scope: &[Entry], expr: &Expr) -> bool
     is_condition(group_kind(scope, expr))
 }
 
-/// Whether the conditions of a core are truths, and nothing counts the rows of several sources.
+/// Whether the conditions of a core are truths, and no aggregate counts the rows of several sources.
 pub(crate) fn conditions_fit(scope: &[Entry], core: &Core) -> bool
     ensures { result ≡ conditions_fit scope.now core.now }
 {

@@ -1,4 +1,4 @@
-//! Columns that aren't there or are ambiguous, and columns that aren't grouped by.
+//! Columns that don't exist or are ambiguous, and columns that aren't grouped by.
 
 ghost use Rattle.std.specs.Prelude.{◌≡◌, ◌||◌, ◌&&◌, ◌++◌, IfOk, OnOk, not};
 ghost use Rattle.std.specs.List.{list_all, list_any, range_with_len};
@@ -21,8 +21,8 @@ use sql_model::{
 };
 use std::alloc::{AllocError, Global};
 
-/// Whether a column isn't there or is ambiguous, or isn't in GROUP BY where it must be, or a key of
-/// ORDER BY is no answer column.
+/// Whether a column doesn't exist, is ambiguous or isn't in GROUP BY although it must be, or a key of ORDER
+/// BY isn't exactly one answer column.
 pub(crate) fn has_unknown_column(
     alloc: Global,
     statement: &Statement,

@@ -8,12 +8,12 @@ use ldv_value::Utf8;
 use sql_model::{FromItem, Set, has_twice};
 use std::alloc::{AllocError, Global};
 
-/// What has a name.
+/// An item with a name.
 pub(crate) trait Named {
-    /// The bytes of its name.
+    /// The bytes of the item's name.
     ghost name: { Self → List ℕ };
 
-    /// Its name.
+    /// The item's name.
     fn name_text(&self) -> &str
         ensures { result.now ≡ name self.now };
 }
@@ -42,7 +42,7 @@ impl Named for Set {
     }
 }
 
-/// Whether a name occurs twice.
+/// Whether two of the items have the same name.
 pub(crate) fn has_duplicate<N: Named>(alloc: Global, items: &[N]) -> Result<bool, AllocError>
     ensures { IfOk result (λ twice. twice ≡ repeats same_text (map N.name items.now)) }
 {

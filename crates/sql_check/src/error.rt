@@ -1,17 +1,17 @@
-//! Why a statement isn't accepted.
+//! Errors of the check.
 
 use std::alloc::AllocError;
 
-/// Why a statement isn't accepted. The refusals are tried in this order, each over the whole statement;
+/// Why a statement is refused. The refusals are tried in this order, each over the whole statement;
 /// `docs/SQL.md` says exactly when each comes.
 #[derive(Clone, Copy, Debug, PartialEq, Eq)]
 pub enum CheckStop {
-    /// A named table isn't there, or two sources of one SELECT have the same name.
+    /// A named table doesn't exist, or two sources of one SELECT have the same name.
     NoTable,
-    /// A column isn't there or means two; one isn't grouped by in a core that groups; a key of ORDER BY isn't
-    /// exactly one answer column.
+    /// A column name means no column or two; a column is used ungrouped in a core that groups; a key of ORDER
+    /// BY isn't exactly one answer column.
     NoColumn,
-    /// Kinds or counts of columns don't fit; an aggregate is where none may be, or counts the rows of several
+    /// Kinds or counts of columns don't fit; an aggregate is in a wrong place, or counts the rows of several
     /// sources; a column is set or named twice; a parameter of LIMIT isn't a number of at least 0.
     TypeClash,
     /// Out of memory.

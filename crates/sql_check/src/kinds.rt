@@ -13,14 +13,14 @@ use crate::scope::Entry;
 use ldv_value::Value;
 use sql_model::{Column, ColumnName, Expr, Fold, Kind, Operator};
 
-/// The kind of an expression over a row, without aggregates; `None` where kinds clash in it.
+/// The kind of an expression over a row; `None` if it has an aggregate or kinds clash in it.
 pub(crate) fn row_kind(scope: &[Entry], expr: &Expr) -> Option<Kind>
     ensures { result ≡ row_kind scope.now expr.now }
 {
     kind_in(scope, expr, false)
 }
 
-/// The kind of an expression over a group, where aggregates may stand; `None` where kinds clash in it.
+/// The kind of an expression over a group, in which aggregates are allowed; `None` if kinds clash in it.
 pub(crate) fn group_kind(scope: &[Entry], expr: &Expr) -> Option<Kind>
     ensures { result ≡ group_kind scope.now expr.now }
 {
@@ -105,7 +105,7 @@ pub(crate) fn is_logical(kind: Kind) -> bool
     }
 }
 
-/// Whether values of two kinds can be compared, and one be stored as the other.
+/// Whether values of two kinds can be compared, and values of one kind be stored in a column of the other.
 pub(crate) fn are_comparable(left: Kind, right: Kind) -> bool
     ensures { result ≡ are_comparable left right }
 {

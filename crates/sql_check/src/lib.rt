@@ -1,8 +1,8 @@
 //! The check of statements against schemas: refusals by names and kinds, and the places of columns.
 //!
-//! `tables` finds missing tables, `columns` missing and ungrouped columns, `clash` kinds and counts that
-//! don't fit, each over the whole statement before the next begins. Then `places` lists the places of its
-//! columns. `scope` says what a name can mean.
+//! `tables` finds missing tables, `columns` missing and ungrouped columns, and `clash` kinds and counts that
+//! don't fit, each over the whole statement before the next begins. Then `places` lists the places of the
+//! statement's columns. `scope` lists the columns that a name can mean.
 //!
 //! Entry: `check` in `src/checking.rt`. Read first: `specs/Places.antt` of `sql_model`.
 #![tactic(auto)]

@@ -52,7 +52,7 @@ fn names_source(table: &Option<Utf8>, source: &Utf8) -> bool
     }
 }
 
-/// The schema of a table's name.
+/// The schema of the table with a name; `None` if there is none.
 pub(crate) fn schema_at<'a>(catalog: &'a Catalog, name: &Utf8) -> Option<&'a Schema>
     ensures { option_copied result ≡ schema_at name.now catalog.now }
 {
@@ -69,7 +69,7 @@ pub(crate) fn schema_at<'a>(catalog: &'a Catalog, name: &Utf8) -> Option<&'a Sch
     None
 }
 
-/// The columns of a table's name, and none where it has no table.
+/// The columns of the table with a name, and none if there is no such table.
 pub(crate) fn columns_of<'a>(catalog: &'a Catalog, name: &Utf8) -> &'a [Column]
     ensures { result.now ≡ columns_of (schema_at name.now catalog.now) }
 {
@@ -79,14 +79,14 @@ pub(crate) fn columns_of<'a>(catalog: &'a Catalog, name: &Utf8) -> &'a [Column]
     }
 }
 
-/// The column of a name.
+/// The column with a name; `None` if there is none.
 pub(crate) fn column_at<'a>(columns: &'a [Column], name: &Utf8) -> Option<&'a Column>
     ensures { option_copied result ≡ find (is_column name.now) columns.now }
 {
     columns.iter().find(|column| column.name == *name)
 }
 
-/// Whether a column has the name.
+/// Whether some column has the name.
 pub(crate) fn has_column(columns: &[Column], name: &Utf8) -> bool
     ensures { result ≡ has_column columns.now name.now }
 {
@@ -108,7 +108,7 @@ pub(crate) fn scope_of<'a>(
     Ok(scope)
 }
 
-/// The columns of a table under its own name, which an UPDATE and a DELETE have in scope.
+/// The columns of a table under its own name. An UPDATE and a DELETE have these in scope.
 pub(crate) fn own_scope<'a>(
     alloc: Global,
     table: &'a Utf8,
@@ -148,7 +148,7 @@ fn count_meant(scope: &[Entry], name: &ColumnName) -> usize
     scope.iter().filter(|entry| entry.is_meant(name)).count()
 }
 
-/// The place of the column that a name means, or the number of columns where it means none.
+/// The place, from 0, of the column that a name means, or the number of columns if it means none.
 #[tactic(auto, using(ldv_value::proofs::Places::place_or_len))]
 pub(crate) fn place_of(scope: &[Entry], name: &ColumnName) -> usize
     ensures { result ≡ place_of scope.now name.now }

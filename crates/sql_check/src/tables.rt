@@ -1,4 +1,4 @@
-//! Tables that aren't there, and sources of one name.
+//! Tables that don't exist, and sources of one name.
 
 ghost use Rattle.std.specs.Prelude.{◌≡◌, ◌||◌, IfOk};
 ghost use Rattle.std.specs.List.{flat_map, list_any};
@@ -10,7 +10,7 @@ use ldv_value::Utf8;
 use sql_model::{Catalog, Core, Statement};
 use std::alloc::{AllocError, Global};
 
-/// Whether a table isn't there, or two sources of one core have one name.
+/// Whether a table doesn't exist, or two sources of one core have one name.
 #[tactic(auto, using(crate::proofs::Mapped::last_test))]
 pub(crate) fn has_unknown_table(
     alloc: Global,

@@ -16,7 +16,8 @@ use std::alloc::{AllocError, Global};
 /// Kinds of answer columns.
 pub(crate) type Kinds = List<Kind>;
 
-/// The kinds of a query's answer columns, its cores taken from the left; `None` where kinds or counts clash.
+/// The kinds of a query's answer columns, with its cores combined from the left; `None` if kinds or counts
+/// clash.
 pub(crate) fn query_kinds(
     alloc: Global,
     catalog: &Catalog,

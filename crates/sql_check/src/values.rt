@@ -1,4 +1,4 @@
-//! The values of an INSERT and the columns that they go to.
+//! The values of an INSERT and their columns.
 
 ghost use Rattle.std.specs.Prelude.{◌≡◌, ◌++◌, IfOk, OnOk, find, option_to_list, zip};
 ghost use Rattle.std.specs.List.{list_all};
@@ -16,7 +16,7 @@ use sql_model::{Column, Expr, Exprs, Insert};
 use std::alloc::{AllocError, Global};
 use std::marker::Model;
 
-/// A column that a value goes to.
+/// A column that takes a value.
 #[derive(Drop)]
 pub(crate) struct Target<'a> {
     column: &'a Column,
@@ -39,7 +39,7 @@ impl<'a> Target<'a> {
     }
 }
 
-/// Whether an INSERT names a column twice, or has a row of more or fewer values than columns, or a value
+/// Whether an INSERT names a column twice, has a row with more or fewer values than columns, or has a value
 /// of another kind than its column.
 #[tactic(auto, using(crate::proofs::Mapped::own_names))]
 pub(crate) fn insert_clashes(

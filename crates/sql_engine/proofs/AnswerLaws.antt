@@ -1,4 +1,4 @@
--- The rows of cores and of a query stand for those that the definitions give.
+-- The rows of cores and of a query represent those of the definitions.
 use Rattle.std.proofs.Common.{◌≡◌, ◌∙◌, sym, ap, subst, refl, ℕ, List, [], ◌∷◌, ◌++◌, map, Bool, true, false, Option, Some, None, arith, zero, suc}
 use Rattle.std.specs.Prelude.{if◌then◌else◌, not, ◌+◌, ◌<◌, drop, length, slice_get, is_some, IsTrue}
 use Rattle.std.specs.List.{flat_map}

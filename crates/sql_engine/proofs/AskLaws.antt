@@ -1,4 +1,4 @@
--- What a statement is answered, and what is recorded of it, by the definitions of databases.
+-- The reply to a statement, and the lists that are recorded of it, by the definitions of databases.
 use Rattle.std.proofs.Common.{◌≡◌, ◌∙◌, sym, ap, subst, refl, ℕ, suc, length, List, [], ◌∷◌, ◌++◌, map, Bool, true, false, Option, Some, None, IsTrue, inl, inr}
 use Rattle.std.specs.Prelude.{Ok, Err, filter, find, if◌then◌else◌}
 use Rattle.std.specs.List.{flat_map}

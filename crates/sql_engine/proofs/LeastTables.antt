@@ -1,5 +1,5 @@
--- The tables of some names with their parents are the fewest that have the tables of the names, and of each
--- its parents.
+-- Named tables with all their ancestors are the least set that has the named tables and, with each table, its
+-- parents.
 use Rattle.std.proofs.Common.{◌≡◌, ◌∙◌, sym, ap, refl, ℕ, zero, suc, List, [], ◌∷◌, Bool, true, inl, inr, append-nil}
 use Rattle.std.specs.Prelude.{map, filter, not}
 use Rattle.std.specs.List.{list_any}

@@ -1,4 +1,4 @@
--- The rows that are listed for two sets are the needed rows of the lineages for which the sets stand.
+-- The rows listed for two sets are the needed rows of the lineages that these sets represent.
 use Rattle.std.proofs.Common.{◌≡◌, ◌∙◌, sym, ap, refl, ℕ, suc, List, [], ◌∷◌, ◌++◌, map, length, Bool, true, false, Some, None, is_some, ◌&&◌, ◌||◌, inl, inr, T, cond, arith}
 use Rattle.std.specs.Prelude.{nat_lt, if◌then◌else◌}
 use Rattle.std.specs.List.{list_any, AllByRecursion}

@@ -1,4 +1,4 @@
--- The tables and versions of a store as a statement sees them.
+-- The tables and row versions of a store, as a statement sees them.
 use Rattle.std.proofs.Common.{◌≡◌, ◌∙◌, sym, ap, refl, ℕ, List, [], ◌∷◌, map, Bool, true, false, Option, Some, None, inl, inr}
 use Rattle.std.specs.Prelude.{find, ◌-◌, ◌||◌, if◌then◌else◌}
 use Rattle.std.specs.List.{list_any, list_all, flat_map, AllByRecursion}

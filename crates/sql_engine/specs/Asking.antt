@@ -1,4 +1,4 @@
--- What a statement is answered over a store, what is recorded of it, and what it makes of the store.
+-- The reply to a statement over a store, the lists that are recorded of it, and the store after it.
 use Rattle.std.specs.Prelude.{◌≡◌, ℕ, Bool, IsTrue, map, Option, Some, List, []}
 use Rattle.dml_versions.specs.declared.change.Change.{Change}
 use Rattle.dml_versions.specs.Versions.{versions_now}

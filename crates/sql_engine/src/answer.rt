@@ -17,8 +17,8 @@ use sql_model::{Checked, Core};
 use std::alloc::{AllocError, Global};
 use table_store::Store;
 
-/// The rows of values of an answer, the rows of tables that they come from, and those that are needed beside
-/// these. Both sets are empty where no lineage is kept.
+/// The rows of values of an answer, the rows of tables that they come from, and the further rows of tables
+/// that the query needs. Both sets are empty if no lineage is kept.
 #[derive(Drop)]
 pub(crate) struct QueryAnswer {
     pub rows: RowList,

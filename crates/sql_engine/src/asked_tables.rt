@@ -43,7 +43,7 @@ fn taken_names(names: Names, marks: &[Mark]) -> Names
     List::of_vec(items)
 }
 
-/// The tables that a statement asks, sorted, by the rows that it needs. It takes no memory.
+/// The tables that a statement asks, sorted. The rows that it needs are known here, and no memory is taken.
 pub(crate) fn tables_asked(
     taking: TableMarks,
     statement: &Statement,

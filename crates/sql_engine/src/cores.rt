@@ -19,7 +19,7 @@ use sql_model::{Checked, Core};
 use std::alloc::{AllocError, Global};
 use table_store::Store;
 
-/// Answer rows, and the rows of tables that are in groups that HAVING rejects.
+/// Answer rows, and the rows of tables in groups that HAVING rejects.
 #[derive(Drop)]
 pub(crate) struct CoreRows {
     pub answers: Answers,

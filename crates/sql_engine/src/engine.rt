@@ -1,4 +1,4 @@
-//! The engine: a store that is asked SQL.
+//! The engine: a store that answers SQL.
 
 ghost use Rattle.std.specs.Prelude.{◌≡◌, IfOk, true};
 ghost use Rattle.run_model.specs.SqlDatabase.{SqlDatabase, initial_database, sql_base};
@@ -16,7 +16,7 @@ use std::alloc::{AllocError, Global};
 use std::marker::Model;
 use table_store::Store;
 
-/// A database that is asked SQL. Contracts see it as its tables through time.
+/// A database that answers SQL. Contracts see it as its tables through time.
 #[derive(Drop)]
 pub struct Engine {
     alloc: Global,
@@ -32,7 +32,8 @@ impl Model for Engine {
 }
 
 impl Engine {
-    /// The database of tables, of which no row was changed yet. No table has two columns of one name.
+    /// The database of these tables, none of whose rows was changed yet. They must be a valid database, in
+    /// which no table has two columns of one name. `AllocError` means out of memory only.
     pub fn of_tables(alloc: Global, tables: Tables) -> Result<Engine, AllocError>
         requires database { is_database tables ≡ true }
         requires distinct { have_distinct_columns tables ≡ true }

@@ -1,4 +1,4 @@
-//! A text that is asked over a store: parsed, checked, executed, with the lists that are recorded of it.
+//! Statements over a store: a text is parsed, checked and executed, and its lists are recorded.
 
 ghost use Rattle.std.specs.Prelude.{◌≡◌, ◌<◌, ◌≤◌, length, Some, Ok, IfOk, OnOk, OnErr, IsTrue, Bool};
 ghost use Rattle.core_parts.specs.Checking.{IsQuery};
@@ -212,8 +212,8 @@ fn execute_statement(
     Ok(list_asked(room, asked, change, store, keep))
 }
 
-/// Answers a text with its parameters over the tables of a store at a time, which is later than that of the
-/// store's last change. Where `keep` is false, no lineage is made. On `AllocError` the store is as it was.
+/// Answers a text with its parameters over the tables of a store, at a time later than the store's last
+/// change. If `keep` is false, no lineage is made. On `AllocError` the store is as it was.
 pub(crate) fn execute(
     alloc: Global,
     store: &mut Store,

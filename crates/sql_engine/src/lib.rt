@@ -1,8 +1,8 @@
 //! The engine: SQL over the tables of a store, as a `Database` that a run asks.
 //!
-//! `cores` puts the rows of a query's cores together, and `answer` its answer and what it needs beside the
-//! lineage of the answer. The tables that a statement asks are marked from those that it names on (`marks`),
-//! in memory that was taken before it ran.
+//! `cores` unites the rows of a query's cores, and `answer` makes the answer and lists the rows that it needs
+//! beside its lineage. `marks` marks the tables that a statement asks: it starts from the named ones, and
+//! takes all memory before the statement runs.
 //!
 //! Entry: `ask` in `src/engine.rt`. Read first: `specs/Asking.antt`.
 #![tactic(auto)]

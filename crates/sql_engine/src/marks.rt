@@ -2,7 +2,7 @@
 //!
 //! The rows that a statement needs are known once it has run, and then nothing may fail any more. So all
 //! memory is taken before: a copy of the names of all tables, and a mark for each. There are few tables, so
-//! each is looked for from the first on.
+//! a linear search finds each.
 
 ghost use Rattle.std.specs.Prelude.{◌≡◌, ◌<◌, List as Items, ℕ, length, map, IfOk, None};
 ghost use Rattle.std.specs.List.{position};

@@ -1,4 +1,4 @@
-//! What executing a statement gives.
+//! The result of executing a statement.
 
 ghost use Rattle.std.specs.Prelude.{◌≡◌, IfOk};
 ghost use Rattle.sql_engine.specs.Asking.{refusal_change};
@@ -8,8 +8,8 @@ use ldv_value::{List, Names};
 use sql_model::{Members, Needs, Reply, SqlRefusal};
 use std::alloc::Global;
 
-/// The reply to a statement, and what is recorded of it: the tables that it asks, the rows that it needs and
-/// the versions that it makes. Where no events are kept, the lists may be anything.
+/// The reply to a statement, and the lists that are recorded: the tables that it asks, the rows that it needs
+/// and the row versions that it makes. If no events are kept, the lists may be anything.
 #[derive(Drop)]
 pub(crate) struct Recorded {
     pub reply: Reply,

@@ -1,4 +1,4 @@
--- A statement that asks a table asks its parents, and each table of which it needs a row.
+-- A statement asks the parents of each table that it asks, and each table with a row that it needs.
 use Rattle.std.proofs.Common.{◌≡◌, ℕ, List, [], ◌∷◌, refl, sym, ap, ◌∙◌, Bool, true, false, inl, inr}
 use Rattle.std.specs.Prelude.{Option, Some, None, option_map, map, filter, ◌&&◌, ◌||◌}
 use Rattle.std.specs.List.{list_any, list_all}

@@ -1,4 +1,4 @@
--- What an accepted statement makes of a valid table is a valid table.
+-- A valid table stays valid after an accepted statement.
 use Rattle.std.proofs.Common.{◌≡◌, ℕ, ◌+◌, List, [], ◌∷◌, ◌++◌, refl, sym, ap, ◌∙◌, subst, append-nil, Bool, true, false, inl, inr}
 use Rattle.std.specs.Prelude.{Option, Some, None, unwrap_or, length, map, filter, zip, not, ◌&&◌, ◌||◌, ◌==◌, if◌then◌else◌}
 use Rattle.std.specs.List.{list_any, list_all}

@@ -1,4 +1,4 @@
--- A statement leaves a database a database, and the tables of a world such tables.
+-- A database stays a database after a statement, and the tables of a world stay tables of a world.
 use Rattle.std.proofs.Common.{◌≡◌, ℕ, List, [], ◌∷◌, refl, sym, ap, ◌∙◌, Bool, true, false}
 use Rattle.std.specs.Prelude.{Option, Some, None, option_map, is_none, map, zip, ◌&&◌, ◌||◌}
 use Rattle.std.specs.List.{list_all}

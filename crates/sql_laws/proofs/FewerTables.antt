@@ -1,5 +1,4 @@
--- Over a database without tables that aren't asked, each table that is asked is found as it was, and so
--- is all that its schema tells.
+-- A database without some unasked tables has each asked table unchanged, with all that its schema determines.
 use Rattle.std.proofs.Common.{◌≡◌, ℕ, List, [], ◌∷◌, ◌++◌, refl, sym, ap, ◌∙◌, Bool, true, false, inl, inr}
 use Rattle.std.specs.Prelude.{Option, Some, None, option_map, option_and_then, is_none, map, filter, find, not, ◌||◌, if◌then◌else◌}
 use Rattle.std.specs.List.{flat_map, list_any, list_all}

@@ -1,4 +1,4 @@
--- An INSERT, UPDATE or DELETE is refused, answers, needs and changes the same over a database without tables
+-- An INSERT, UPDATE or DELETE has the same refusal, reply, needs and changes over a database without tables
 -- that it doesn't ask.
 use Rattle.std.proofs.Common.{◌≡◌, ℕ, List, [], ◌∷◌, ◌++◌, refl, sym, ap, ◌∙◌, subst, Bool, true, false, inl, inr}
 use Rattle.std.specs.Prelude.{Option, Some, None, map, filter, length, ◌||◌, if◌then◌else◌}

@@ -1,4 +1,4 @@
--- A query is refused, answers and needs the same over a database without tables that it doesn't ask.
+-- A query has the same refusal, reply and needs over a database without tables that it doesn't ask.
 use Rattle.std.proofs.Common.{◌≡◌, List, [], ◌∷◌, ◌++◌, refl, ◌∙◌}
 use Rattle.std.specs.Prelude.{Option, Some, None, map, filter, if◌then◌else◌}
 use Rattle.std.specs.List.{flat_map}

@@ -1,4 +1,4 @@
--- The first two rows of one key are the same over a list of rows from which others were left out.
+-- The first two rows of one key stay the same if other rows are left out of the list.
 use Rattle.std.proofs.Common.{◌≡◌, ℕ, List, [], ◌∷◌, ◌++◌, refl, sym, ap, ◌∙◌, Bool, true, append-nil, inl, inr}
 use Rattle.std.specs.Prelude.{Option, Some, None, filter, find, ◌&&◌}
 use Rattle.std.specs.List.{list_all}

@@ -1,4 +1,4 @@
--- Where no two rows have the same key, no row is found that has the key of an earlier one.
+-- If no two rows have the same key, no row has the key of an earlier one.
 use Rattle.std.proofs.Common.{◌≡◌, ℕ, List, [], ◌∷◌, ◌++◌, map, length, refl, ap, ◌∙◌, Bool, true, false, cond, arith, Option, Some, None}
 use Rattle.std.specs.Prelude.{filter, find, not, ◌&&◌, ◌==◌}
 use Rattle.std.proofs.lemmas.Bool.Decides.{nat_tests}

@@ -1,4 +1,4 @@
--- The value of an expression is of the expression's kind.
+-- The value of an expression has the expression's kind.
 use Rattle.std.proofs.Common.{◌≡◌, ℕ, suc, ◌+◌, ◌^◌, arith, List, [], ◌∷◌, refl, sym, ap, ◌∙◌, subst, Bool, true, false, inl, inr}
 use Rattle.std.specs.Prelude.{ℤ, pos, negsuc, ◌+ℤ◌, ◌-ℤ◌, ◌*ℤ◌, neg_ℤ, nat_lt, Option, Some, None, option_map, option_and_then, map, find, fold, length, not, ◌&&◌, if◌then◌else◌}
 use Rattle.std.specs.List.{list_all, reduce}

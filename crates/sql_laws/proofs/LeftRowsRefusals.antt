@@ -1,4 +1,4 @@
--- What rows refuse, and what is needed for it, over a table from which rows were left out that aren't needed.
+-- The refusals that depend on rows, and their needs, over a table without rows that aren't needed.
 use Rattle.std.proofs.Common.{◌≡◌, List, [], ◌∷◌, ◌++◌, refl, sym, ap, ◌∙◌, Bool, true, false, inl, inr}
 use Rattle.std.specs.Prelude.{Option, Some, None, map, filter, length, ◌&&◌, ◌||◌}
 use Rattle.std.specs.List.{list_all}

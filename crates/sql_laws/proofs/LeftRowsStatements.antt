@@ -1,5 +1,5 @@
--- A statement is refused, answers, needs and changes the same over a database from which rows were left out
--- that it doesn't need.
+-- A statement has the same refusal, reply, needs and changes over a database without rows that it doesn't
+-- need.
 use Rattle.std.proofs.Common.{◌≡◌, ℕ, List, [], ◌∷◌, refl, sym, ap, ◌∙◌, subst, Bool, true, false, inl, inr}
 use Rattle.std.specs.Prelude.{Option, Some, None, option_map, option_to_list, map, filter, length, ◌==◌, if◌then◌else◌}
 use Rattle.std.specs.List.{list_all}

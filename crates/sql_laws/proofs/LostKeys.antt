@@ -1,5 +1,5 @@
--- Which keys a statement loses is the same over a table from which rows were left out that it doesn't match: since
--- keys are unique before it, a row that was left out keeps its key from being lost, and no other row had it.
+-- A statement loses the same keys over a table without rows that it doesn't match. Keys are unique before it,
+-- so only the left-out row itself had its key, and that key isn't lost over the whole table.
 use Rattle.std.proofs.Common.{◌≡◌, List, refl, sym, ap, ◌∙◌, Bool, true, false}
 use Rattle.std.specs.Prelude.{map, filter, length, not, ◌&&◌, ◌||◌, ◌==◌, if◌then◌else◌}
 use Rattle.std.specs.List.{list_any, list_all}

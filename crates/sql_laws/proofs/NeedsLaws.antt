@@ -1,4 +1,4 @@
--- A list of needed rows, sorted and each row once with its first rule, is a map from rows to rules.
+-- A sorted list of needed rows, each once with its first rule, is a map from rows to rules.
 use Rattle.std.proofs.Common.{◌≡◌, ℕ, List, [], ◌∷◌, ◌++◌, refl, sym, ap, ◌∙◌, Bool, true, false}
 use Rattle.std.specs.Prelude.{map, ◌&&◌, ◌||◌, if◌then◌else◌, cond, Option, Some}
 use Rattle.std.specs.Cmp.{IsTotalOrder, unsigned_tied}

@@ -1,4 +1,4 @@
--- What holds of the rows of all tables holds of the rows that a statement needs.
+-- A property of all rows of all tables holds for the rows that a statement needs.
 use Rattle.std.proofs.Common.{◌≡◌, ℕ, List, [], ◌∷◌, ◌++◌, refl, sym, subst, Bool, true, false, inl, inr}
 use Rattle.std.specs.Prelude.{Option, Some, None, option_map, option_to_list, map, filter, not, ◌&&◌, ◌==◌}
 use Rattle.std.specs.List.{flat_map, filter_map, list_any, AllByRecursion, cons_option}

@@ -1,5 +1,5 @@
--- The rows that a checked statement inserts or changes have the kinds of their columns, and where none has NULL
--- in a NOT NULL column they are rows of the table.
+-- The rows that a checked statement inserts or changes have the kinds of their columns. If none has NULL in a
+-- NOT NULL column, they are rows of the table.
 use Rattle.std.proofs.Common.{◌≡◌, ℕ, suc, pred, List, [], ◌∷◌, refl, sym, ap, ◌∙◌, subst, Bool, true, false, inl, inr}
 use Rattle.std.specs.Prelude.{Option, Some, None, unwrap_or, map, find, length, zip, ◌==◌, if◌then◌else◌}
 use Rattle.std.specs.List.{list_any, list_all}

@@ -1,4 +1,5 @@
--- The first child row that a statement would leave without its parent is the same over a database from which rows were left out that it doesn't match, or tables, where that row stays.
+-- The first child row that a statement would leave without its parent stays the same over a database without
+-- some tables or unmatched rows, if that row stays.
 use Rattle.std.proofs.Common.{◌≡◌, ℕ, List, [], ◌∷◌, ◌++◌, refl, sym, ap, ◌∙◌, subst, Bool, true, false, inl, inr}
 use Rattle.std.specs.Prelude.{Option, Some, None, map, filter, length, not, ◌&&◌, ◌==◌, if◌then◌else◌}
 use Rattle.std.specs.List.{flat_map, filter_map, list_any, list_all, cons_option}

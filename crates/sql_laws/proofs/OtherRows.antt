@@ -1,5 +1,5 @@
--- Only rows of a database are left out of it: the tables without them are the same, and no row is left out
--- that a statement appends.
+-- Only rows that the database has before a statement are left out: the tables without them are the same, and
+-- each row that the statement appends stays.
 use Rattle.std.proofs.Common.{◌≡◌, ℕ, ◌<◌, ◌≤◌, List, [], ◌∷◌, refl, ap, ◌∙◌, Bool, true, false, arith}
 use Rattle.std.specs.Prelude.{filter, not, ◌&&◌, ◌||◌, ◌==◌, nat_lt, if◌then◌else◌}
 use Rattle.std.specs.List.{list_any, list_all}

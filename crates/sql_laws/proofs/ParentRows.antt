@@ -1,5 +1,5 @@
--- Over a database from which rows were left out, rows that were given lack the same parents, and have the
--- same parent rows, where their parent rows stay.
+-- Over a database without some rows, given rows lack the same parents and have the same parent rows, if their
+-- parent rows stay.
 use Rattle.std.proofs.Common.{◌≡◌, ℕ, List, [], ◌∷◌, ◌++◌, refl, sym, ap, ◌∙◌, Bool, true, false, inl, inr}
 use Rattle.std.specs.Prelude.{Option, Some, None, option_map, map, filter, ◌&&◌, ◌||◌, if◌then◌else◌}
 use Rattle.std.specs.List.{flat_map, filter_map, list_all, cons_option}

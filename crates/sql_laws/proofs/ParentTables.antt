@@ -1,5 +1,5 @@
--- The tables of some names with their parents: the same where other tables were left out, and the parents of
--- all of them are among them.
+-- The tables of some names with their parents. They stay the same if other tables are left out, and the
+-- parents of all of them are among them.
 use Rattle.std.proofs.Common.{◌≡◌, ℕ, zero, suc, ◌+◌, ◌<◌, ◌≤◌, List, [], ◌∷◌, ◌++◌, length, refl, sym, ap, ◌∙◌, subst, Bool, true, false, ◌⊎◌, inl, inr, arith, append-nil}
 use Rattle.std.specs.Prelude.{Some, map, filter, zip, not, ◌||◌}
 use Rattle.std.specs.List.{list_any, list_all}

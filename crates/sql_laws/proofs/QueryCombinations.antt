@@ -1,4 +1,4 @@
--- Over tables from which rows were left out stand the combinations all rows of which stay.
+-- The combinations over tables without some rows are those whose rows all stay.
 use Rattle.std.proofs.Common.{◌≡◌, ℕ, List, [], ◌∷◌, ◌++◌, refl, sym, ap, ◌∙◌, Bool, true, false, inl, inr}
 use Rattle.std.specs.Prelude.{Option, Some, None, option_map, map, filter}
 use Rattle.std.specs.List.{flat_map}

@@ -1,4 +1,4 @@
--- Which rows stay, as a test of lists of rows, and what follows where all needed rows stay.
+-- The rows that stay, as a test of lists of rows, and consequences if all needed rows stay.
 use Rattle.std.proofs.Common.{◌≡◌, List, [], ◌∷◌, ◌++◌, refl, sym, ap, ◌∙◌, Bool, true, inl, inr}
 use Rattle.std.specs.Prelude.{map, ◌&&◌, ◌==◌, if◌then◌else◌}
 use Rattle.std.specs.List.{flat_map, list_all}

@@ -1,5 +1,4 @@
--- A query is refused, answers and needs the same over tables from which rows were left out that it doesn't
--- need.
+-- A query has the same refusal, reply and needs over tables without rows that it doesn't need.
 use Rattle.std.proofs.Common.{◌≡◌, ℕ, List, [], ◌∷◌, ◌++◌, refl, sym, ap, ◌∙◌, subst, Bool, true, false, inl, inr}
 use Rattle.std.specs.Prelude.{Option, Some, None, map, filter, ◌||◌, if◌then◌else◌}
 use Rattle.std.specs.List.{flat_map, list_all, list_any}

@@ -1,4 +1,4 @@
--- Where all rows of merged rows stay, so do those of each row that was merged.
+-- If all rows in the lineage of a merged row stay, so do those of each row that was merged into it.
 use Rattle.std.proofs.Common.{◌≡◌, List, [], ◌∷◌, refl, sym, ◌∙◌, Bool, true, inl, inr}
 use Rattle.std.specs.Prelude.{map, filter, not, ◌&&◌}
 use Rattle.std.specs.List.{list_all}

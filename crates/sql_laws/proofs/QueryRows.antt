@@ -1,5 +1,5 @@
--- The rows of a union of cores over tables from which rows were left out: all rows, where all of them stay,
--- and those that stay, where no row stands for several.
+-- The rows of a union of cores over tables without some rows. They are all the rows if all of them stay, and
+-- those that stay if no row was merged from several.
 use Rattle.std.proofs.Common.{◌≡◌, List, [], ◌∷◌, ◌++◌, refl, sym, ap, ◌∙◌, Bool, true, false, append-nil, inl, inr}
 use Rattle.std.specs.Prelude.{map, filter, not, ◌&&◌, ◌||◌, if◌then◌else◌}
 use Rattle.std.specs.List.{flat_map, list_all, list_any}

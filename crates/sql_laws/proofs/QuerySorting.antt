@@ -1,4 +1,4 @@
--- Answer rows are sorted by a total order, and what LIMIT keeps of a part of them.
+-- Answer rows are sorted by a total order. The rows that LIMIT keeps if only a part of the answer rows stays.
 use Rattle.std.proofs.Common.{◌≡◌, ℕ, suc, zero, List, [], ◌∷◌, refl, sym, ap, ◌∙◌, Bool, true, false, inl, inr}
 use Rattle.std.specs.Prelude.{Option, Some, None, filter, take, drop, ◌&&◌, if◌then◌else◌}
 use Rattle.std.specs.List.{list_all}

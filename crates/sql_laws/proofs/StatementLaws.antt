@@ -1,5 +1,6 @@
--- A statement is refused, answers, needs and asks the same over a database from which rows were left out that
--- it doesn't need, and tables that it doesn't ask, and the tables after it are those without the same.
+-- A statement has the same refusal, reply, needs and asked tables over a database without rows that it
+-- doesn't need and tables that it doesn't ask. The tables after it are those after it over the whole
+-- database, without the same.
 use Rattle.std.proofs.Common.{◌≡◌, List, refl, sym, ap, ◌∙◌, subst, true}
 use Rattle.std.specs.Prelude.{Some, None, ℕ, ◌++◌, map, filter}
 use Rattle.sql_laws.specs.Types.{Statement, TheQuery, TheInsert, TheUpdate, TheDelete, Table}

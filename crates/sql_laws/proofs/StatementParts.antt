@@ -1,5 +1,5 @@
--- What a statement is refused, answers and needs, by parts: an INSERT, UPDATE or DELETE looks at the schemas
--- and at its own table, and where these refuse nothing at the references between tables.
+-- The refusal, reply and needs of a statement, by parts. An INSERT, UPDATE or DELETE looks at the schemas and
+-- at its own table, and if these refuse nothing, at the references between tables.
 use Rattle.std.proofs.Common.{◌≡◌, ℕ, List, [], ◌++◌, refl, sym, ap, ◌∙◌, subst, Bool, true, false, append-nil}
 use Rattle.std.specs.Prelude.{Option, Some, None, option_map, option_to_list, map, length, if◌then◌else◌}
 use Rattle.sql_laws.specs.Types.{Catalog, Reply, Changed, SqlRefusal, Syntax, NoTable, NoColumn, TypeClash, NotNull, KeyTaken, Full, NoParent, HasChild, P, Delete, Insert, Statement, TheInsert, TheUpdate, TheDelete, Update, Table}

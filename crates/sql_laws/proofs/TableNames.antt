@@ -1,4 +1,4 @@
--- Tables that are strictly increasing by name: no two have one name.
+-- No two tables have one name if the tables are strictly increasing by name.
 use Rattle.std.proofs.Common.{◌≡◌, ℕ, List, [], ◌∷◌, refl, sym, ap, ◌∙◌, Bool, true, false, inl, inr}
 use Rattle.std.specs.Prelude.{Some, find, map, if◌then◌else◌}
 use Rattle.std.specs.List.{list_all}

@@ -1,4 +1,4 @@
--- The law of databases: a statement leaves a database a database.
+-- The law of databases: the tables after a statement over a database are a database.
 use Rattle.std.specs.Prelude.{◌≡◌, List, true, Option}
 use Rattle.sql_model.specs.Scope.{catalog_of}
 use Rattle.sql_model.specs.Statements.{after}

@@ -1,5 +1,5 @@
--- The law of kinds: where the values of columns are of the columns' kinds, the value of an expression is of
--- the expression's kind.
+-- The law of kinds: if the values of columns have the columns' kinds, the value of an expression has the
+-- expression's kind.
 use Rattle.std.specs.Prelude.{◌≡◌, List, [], ◌∷◌, zip, find, Bool, true, Some}
 use Rattle.std.specs.List.{list_all}
 use Rattle.sql_model.specs.Kinds.{kind_of_column, kind, is_of_kind}

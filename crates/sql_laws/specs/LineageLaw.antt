@@ -1,4 +1,4 @@
--- The laws of lineages as sets: what evaluation may do with them so that answers and needs are the same.
+-- The laws of lineages as sets: the steps of evaluation that keep answers and needs the same.
 use Rattle.std.specs.Prelude.{◌≡◌, ℕ, List, take, drop, ◌&&◌}
 use Rattle.std.specs.List.{list_any}
 use Rattle.sql_model.specs.QueryAnswer.{Origin, AnswerRow, SortKey, lineage_of, has_values, merged_row, merge}

@@ -1,6 +1,6 @@
--- The law of a statement's needed rows: over a database from which rows were left out that a statement
--- doesn't need, and tables that it doesn't ask, its refusal, reply, needs and asked tables are the same, and
--- the tables after it are those after it over the whole database without the same rows and tables.
+-- The law of a statement's needed rows: leaving out rows that it doesn't need and tables that it doesn't ask
+-- keeps its refusal, reply, needs and asked tables. The tables after it are then those after it over the
+-- whole database, without the same rows and tables.
 use Rattle.std.specs.Prelude.{◌≡◌, ℕ, List, [], ◌∷◌, filter, Bool, true, not, ◌&&◌, ◌||◌, Option}
 use Rattle.std.specs.List.{list_any}
 use Rattle.sql_laws.specs.Types.{Statement, Table}

@@ -1,4 +1,4 @@
--- The types that the laws are about, of the crates below, under one name each.
+-- The types that the laws use, from the crates below, each under one name.
 pub use Rattle.ldv_value.specs.declared.value.Cmp.{Cmp}
 pub use Rattle.ldv_value.specs.declared.value.Truth.{Truth}
 pub use Rattle.ldv_value.specs.declared.value.Truth.TheVariants.{True, False, Unknown}

@@ -11,18 +11,19 @@ ghost use Rattle.sql_laws.specs.StatementLaw.{AskedNeedsLaw, AskedParentsLaw, Cu
 ghost use Rattle.sql_laws.specs.StatementLaw.{CutTablesLaw, StatementLaw};
 
 /// For every query, with any sources, conditions, groups, DISTINCT, UNION, UNION ALL, ORDER BY and LIMIT:
-/// over tables from which rows were left out that it doesn't need, its refusal, reply and needs are the
-/// same. The function has no body: its contract is the theorem. So it is with all laws here.
+/// leaving out rows that the query doesn't need keeps its refusal, reply and needs. The function has no body:
+/// its contract is the theorem, as for all laws here.
 pub fn query_law()
     ensures { QueryLaw }
 {}
 
-/// For every statement, and for texts that are none: over a database from which rows were left out that
-/// the statement doesn't need, and tables that it doesn't ask, its refusal, reply, needs and asked tables
-/// are the same, and the tables after it are those after it over the whole database, without the same rows
-/// and tables. What is left is a database where each foreign key of a table that stays has its parent among
-/// those that stay, whichever rows are left out; a statement asks the parents of each table that it asks, and
-/// each table of which it needs a row.
+/// For every statement, and for texts that are none: leaving out rows that it doesn't need and tables that it
+/// doesn't ask keeps its refusal, reply, needs and asked tables. The tables after it are then those after it
+/// over the whole database, without the same rows and tables.
+///
+/// The tables that stay are a database if each of their foreign keys has its parent among them, whichever
+/// rows are left out. A statement asks the parents of each table that it asks, and each table with a row that
+/// it needs.
 pub fn statement_law()
     ensures same { StatementLaw }
     ensures cut { CutLaw }
@@ -32,23 +33,22 @@ pub fn statement_law()
     ensures needs { AskedNeedsLaw }
 {}
 
-/// Where the values of columns are of the columns' kinds, the value of each expression is of the kind that it
-/// is checked to have; and a row of values of its columns' kinds is such an environment.
+/// If the values of columns have the columns' kinds, the value of each expression has the expression's
+/// checked kind. A row of values that have their columns' kinds is such an environment.
 pub fn kind_law()
     ensures kinds { KindLaw }
     ensures row { RowLaw }
 {}
 
-/// A statement, accepted or refused, leaves a database a database, with the names and schemas that its
-/// tables had, where no two columns of a table have one name; and so it leaves the tables of a world such
-/// tables.
+/// The tables after a statement, accepted or refused, are a database with the same names and schemas, if they
+/// were one before and no table has two columns of one name. Valid tables of a world stay so too.
 pub fn database_law()
     ensures database { DatabaseLaw }
     ensures tables { TablesLaw }
 {}
 
-/// Lineages are sets: merging and sorting lose no row, and merged, sorted, first and needed rows are the
-/// same whatever the order of rows in lineages is, and how often a row is there.
+/// Lineages are sets. Merging and sorting lose no row. Neither the order of rows in lineages nor how often a
+/// row occurs changes the merged, sorted, first and needed rows.
 pub fn lineage_law()
     ensures merge { MergeLaw }
     ensures unites { UnitesLaw }

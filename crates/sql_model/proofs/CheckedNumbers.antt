@@ -1,4 +1,4 @@
--- Checked arithmetic gives a number within 64 bits, or NULL.
+-- The result of checked arithmetic is a number within 64 bits or NULL.
 use Rattle.std.proofs.Common.{◌≡◌, ◌^◌, refl, sym, ap, ◌∙◌, arith, true, false, w64}
 use Rattle.std.specs.Prelude.{ℤ, pos, negsuc, Option, Some, None, SomeIff, FitsSigned, nat_lt}
 use Rattle.std.proofs.lemmas.Bool.Decides.{nat_tests}

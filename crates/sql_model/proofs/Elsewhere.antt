@@ -1,4 +1,4 @@
--- No child loses a parent in a table without a key, since no foreign key refers to it.
+-- No child loses a parent in a table without a key, since no foreign key refers to that table.
 use Rattle.std.proofs.Common.{◌≡◌, ℕ, List, [], ◌∷◌, ◌++◌, refl, sym, ap, ◌∙◌, Bool, true, false}
 use Rattle.std.specs.Prelude.{Option, Some, None, option_map, map, zip, length, not, ◌&&◌, ◌==◌}
 use Rattle.std.specs.List.{flat_map, filter_map, list_all, cons_option}

@@ -1,4 +1,4 @@
--- What definitions that are closed elsewhere are, and what is found by a name.
+-- The equations of definitions that are opaque outside their files, and the item that a name finds.
 use Rattle.std.proofs.Common.{◌≡◌, ℕ, List, [], ◌∷◌, refl, Bool, true, false}
 use Rattle.std.specs.Prelude.{Option, Some, option_map, map, find, zip, if◌then◌else◌}
 use Rattle.sql_model.specs.Changes.{table_after}

@@ -1,4 +1,4 @@
--- A list has the same item twice where its sorted items have the same neighbours.
+-- A list has an item twice if two neighbours among its sorted items are the same.
 use Rattle.std.proofs.Common.{◌≡◌, ℕ, suc, ◌+◌, ◌≤◌, ◌<◌, arith, List, [], ◌∷◌, length, refl, sym, ap, ◌∙◌, Bool, true, false, ◌||◌}
 use Rattle.std.specs.Prelude.{nat_lt, slice_index_or}
 use Rattle.std.specs.List.{list_any, sum_by}

@@ -1,4 +1,4 @@
--- Lineages as sets: an order, or how often a row stands there, makes no difference.
+-- Lineages as sets: neither the order of rows nor how often a row occurs makes a difference.
 use Rattle.std.proofs.Common.{◌≡◌, List, [], ◌∷◌, ◌++◌, refl, sym, ap, ◌∙◌, Bool, true, false, ◌||◌, ◌==◌, map}
 use Rattle.std.specs.List.{list_any}
 use Rattle.std.proofs.lemmas.Bool.Decides.{Decides-eqb}

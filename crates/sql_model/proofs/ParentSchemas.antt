@@ -1,4 +1,4 @@
--- The schema of a name among items that have one, and which references each have a parent.
+-- The schema of a name among items with names and schemas, and the references that have a parent.
 use Rattle.std.proofs.Common.{◌≡◌, ℕ, List, [], ◌∷◌, ◌++◌, refl, sym, ap, ◌∙◌, Bool, true, false, arith}
 use Rattle.std.specs.Prelude.{Option, Some, None, option_map, is_none, map, find, zip, length, ◌&&◌, ◌||◌, ◌==◌, if◌then◌else◌}
 use Rattle.std.specs.List.{flat_map, filter_map, list_any, list_all, cons_option}

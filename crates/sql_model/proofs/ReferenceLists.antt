@@ -1,4 +1,4 @@
--- Of lists from which items were left out: what some item has, and which item is first.
+-- Lists without some of their items: whether an item passes a test, and which one is first.
 use Rattle.std.proofs.Common.{◌≡◌, List, [], ◌∷◌, ◌++◌, refl, sym, ap, ◌∙◌, Bool, true, false, inl, inr}
 use Rattle.std.specs.Prelude.{Some, map, filter, not, ◌&&◌, ◌||◌, if◌then◌else◌}
 use Rattle.std.specs.List.{flat_map, list_any, list_all}

@@ -1,4 +1,4 @@
--- Lists of references to texts, and of numbers, in which an item is the same as a later one.
+-- Repeated items in lists of numbers and of references to texts.
 use Rattle.std.proofs.Common.{◌≡◌, ℕ, List, Bool, true, false, not, ◌&&◌, map, Bor, Ordering, sym, ap, ◌∙◌}
 use Rattle.std.specs.Prelude.{nat_eq}
 use Rattle.std.specs.Cmp.{unsigned_tied}

@@ -1,4 +1,4 @@
--- The words of the language, told by their number of bytes first.
+-- The reserved words of SQL, grouped by their number of bytes.
 use Rattle.std.proofs.Common.{◌≡◌, ℕ, List, [], ◌∷◌, length, refl, sym, ap, ◌∙◌, Bool, true, false, inl, inr, ◌≢◌}
 use Rattle.std.specs.Prelude.{◌||◌, ◌==◌, bytes_eq, codes, filter}
 use Rattle.std.specs.List.{AllByRecursion, list_any}

@@ -1,4 +1,4 @@
--- Values that are the same are equal, and what is equal is the same.
+-- Two values are the same by the test exactly if they are equal.
 use Rattle.std.proofs.Common.{◌≡◌, ◌∙◌, sym, ap, refl, true, List, inl, inr}
 use Rattle.std.specs.FinMap.{int_cmp-IsAntisymmetric, nat_cmp-IsAntisymmetric, slice_cmp-IsAntisymmetric}
 use Rattle.std.specs.Ordering.{is_eq}

@@ -1,4 +1,4 @@
--- Lists in which an item is the same as a later one, found by a set of those that were seen.
+-- Repeated items in a list, found by a set of the items that were seen.
 use Rattle.std.proofs.Common.{◌≡◌, List, [], ◌∷◌, Bool, true, false, ◌&&◌, ◌||◌, not, cond, map, refl, sym, ap, ◌∙◌}
 use Rattle.std.specs.List.{list_any}
 use Rattle.sql_model.specs.Keys.{repeats}

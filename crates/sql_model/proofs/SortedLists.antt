@@ -1,4 +1,4 @@
--- Lists that are strictly increasing by a transitive test, and their parts.
+-- Lists that are strictly increasing by a transitive test, and the parts of such lists.
 use Rattle.std.proofs.Common.{◌≡◌, List, [], ◌∷◌, refl, Bool, true, inl, inr}
 use Rattle.std.specs.Prelude.{map, filter, ◌&&◌}
 use Rattle.std.specs.List.{list_all}

@@ -1,4 +1,5 @@
--- A stable sort gives the sorted list, whatever its steps, and the sort of a part is that part of the sorted list.
+-- Every stable sort gives the same list, whatever its steps. Sorting a part of a list gives that part of the
+-- sorted list.
 use Rattle.std.proofs.Common.{◌≡◌, ℕ, suc, ◌+◌, List, [], ◌∷◌, get_or, refl, sym, ap, ◌∙◌, subst, Bool, true, false, inl, inr, arith}
 use Rattle.std.specs.Prelude.{filter, not, ◌&&◌, if◌then◌else◌}
 use Rattle.std.specs.Cmp.{IsTotalOrder}

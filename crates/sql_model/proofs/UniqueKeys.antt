@@ -1,5 +1,5 @@
--- Where no row has the key of an earlier one, no two rows of a table have the same key; and so it is of fewer
--- rows.
+-- If no row has the key of an earlier one, no two rows of a table have the same key. The same holds for a
+-- part of the rows.
 use Rattle.std.proofs.Common.{◌≡◌, ℕ, List, [], ◌∷◌, ◌++◌, refl, sym, ap, ◌∙◌, Bool, true, false, inl, inr}
 use Rattle.std.specs.Prelude.{Option, Some, None, map, filter, find, length, not, ◌&&◌, ◌==◌}
 use Rattle.std.specs.Option.{option_or}

@@ -1,4 +1,4 @@
--- Rows of which no two have one key: what one of them has, no other has.
+-- Rows with pairwise different keys: the key of one is the key of no other.
 use Rattle.std.proofs.Common.{◌≡◌, ℕ, List, [], ◌∷◌, refl, sym, ap, ◌∙◌, Bool, true, false, inl, inr}
 use Rattle.std.specs.Prelude.{map, filter, length, not, ◌&&◌, ◌==◌}
 use Rattle.std.specs.List.{list_any}

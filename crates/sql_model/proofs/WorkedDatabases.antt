@@ -1,4 +1,4 @@
--- Databases, and tables that are none.
+-- Examples of databases, and of tables that are no database.
 use Rattle.std.specs.Prelude.{◌≡◌, refl, ℕ, List, [], ◌∷◌, true, false, pos, codes}
 use Rattle.sql_model.specs.Types.{Null, Int, Text, Column, Schema, Table, TableRow}
 use Rattle.sql_model.specs.Tables.{key_places_test, places_named, schema_test, is_valid_table, is_database, tables_test}

@@ -1,4 +1,4 @@
--- Tables and statements of which the definitions are tried.
+-- Tables and statements on which the definitions are tried.
 use Rattle.std.specs.Prelude.{ℕ, List, [], ◌∷◌, Bool, true, false, Option, Some, None, pos, codes}
 use Rattle.sql_model.specs.Types.{Cmp, Value, Null, Int, Text, ColumnName, Expr, Compare, Core, FromItem, Item, Statement, TheQuery, Column as TableColumn, Table, TableRow}
 use Rattle.sql_model.specs.declared.expr.Expr.TheVariants.{Constant, Column, Both}

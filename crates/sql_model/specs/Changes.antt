@@ -1,4 +1,4 @@
--- What INSERT, UPDATE and DELETE make of their table, and what the rows refuse.
+-- The table after an INSERT, UPDATE or DELETE, and the refusals that depend on its rows.
 use Rattle.std.specs.Prelude.{ℕ, ◌+◌, List, [], ◌∷◌, ◌++◌, map, find, filter, zip, length, Bool, false, not}
 use Rattle.std.specs.Prelude.{◌&&◌, ◌==◌, nat_lt, if◌then◌else◌, Option, Some, None, option_map}
 use Rattle.std.specs.Prelude.{option_to_list}

@@ -1,6 +1,6 @@
--- What an expression means over a row, where its columns are given by places in place of names.
+-- The meaning of an expression over a row if its columns are given by places and not by names.
 --
--- The places are those of its column names, left to right: each name takes the next one.
+-- There is a place for each column name, from left to right: each name takes the next one.
 use Rattle.std.specs.Prelude.{◌≡◌, ℕ, List, [], ◌∷◌, Some, None}
 use Rattle.sql_model.specs.Types.{Truth, Value, Null, Expr, Expr-F}
 use Rattle.sql_model.specs.declared.expr.Expr.TheOpen as open_expr

@@ -1,7 +1,7 @@
 -- The expression at the front of tokens.
 --
--- An expression is read within a limit of its depth and to a least level (`Operators`). What is inside a
--- form has one level of depth less.
+-- An expression is read up to a greatest depth and down to a least level (`Operators`). Inside a form the
+-- greatest depth is one less.
 use Rattle.std.specs.Prelude.{ℕ, zero, suc, ◌+◌, max, List, Bool, true, false, nat_le, if◌then◌else◌, Option}
 use Rattle.std.specs.Prelude.{Some, None, codes, nat_eq}
 use Rattle.std.specs.Cmp.Lexicographic.{pointwise}

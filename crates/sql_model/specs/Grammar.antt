@@ -1,5 +1,5 @@
--- The expressions of SQL, as a relation between tokens and trees. It says how each form is written; no place
--- in it says how texts are read.
+-- The expressions of SQL, as a relation between tokens and trees. It says how each form is written, and
+-- nothing about how texts are read.
 use Rattle.std.specs.Prelude.{◌≡◌, ◌⊎◌, ℕ, ◌+◌, ◌≤◌, max, List, [], ◌∷◌, ◌++◌, IsTrue, codes, Some, None}
 use Rattle.std.specs.Prelude.{true, false}
 use Prim.Native.String.{String}

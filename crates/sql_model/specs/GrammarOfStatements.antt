@@ -1,5 +1,5 @@
--- The statements of SQL, as relations between trees and tokens, form by form. No place in it says how tokens
--- are read.
+-- The statements of SQL, as relations between trees and tokens, form by form. It says nothing about how
+-- tokens are read.
 use Rattle.std.specs.Prelude.{◌≡◌, ◌≢◌, ◌⊎◌, ℕ, ◌≤◌, ℤ, pos, List, [], ◌∷◌, ◌++◌, length, map, Bool, true}
 use Rattle.std.specs.Prelude.{false, Option, Some, None, option_to_list}
 use Rattle.ldv_value.specs.Limits.{max_depth, max_sources}

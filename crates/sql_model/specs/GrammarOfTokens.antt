@@ -1,4 +1,4 @@
--- How the tokens of SQL are written, as a relation between bytes and tokens. No place in it says how bytes
+-- How the tokens of SQL are written, as a relation between bytes and tokens. It says nothing about how bytes
 -- are read.
 use Rattle.std.specs.Prelude.{◌≡◌, ◌⊎◌, ℕ, ◌+◌, ◌-◌, ◌*◌, ◌≤◌, Bool, ◌||◌, ◌==◌, if◌then◌else◌, List, []}
 use Rattle.std.specs.Prelude.{◌∷◌, ◌++◌, length, map, IsTrue, codes, pos}

@@ -1,4 +1,4 @@
--- The order of keys, which goes value by value, is total.
+-- The order of keys, value by value, and that it is total.
 use Rattle.std.specs.declared.cmp.Ordering.{Ordering}
 use Rattle.std.specs.Cmp.{IsTotalOrder, on_total}
 use Rattle.ldv_value.specs.Order.{values_order, values_total}

@@ -1,4 +1,4 @@
--- The kind of an expression, or none where kinds clash inside it, and the columns that it names.
+-- The kind of an expression, or none if kinds clash inside it, and the columns that it names.
 use Rattle.std.specs.Prelude.{ℕ, List, [], ◌∷◌, ◌++◌, find, Bool, true, false, ◌&&◌, ◌||◌, not, if◌then◌else◌}
 use Rattle.std.specs.Prelude.{Option, Some, None, option_and_then, option_map}
 use Rattle.sql_model.specs.Types.{Value, Null, Int, Text, ColumnName, Operator, Add, Subtract, Multiply}

@@ -1,10 +1,10 @@
--- What an expression means: its value and its truth over a group of rows.
+-- The meaning of an expression: its value and its truth over a group of rows.
 --
--- A row is given by the value of each column that a name can mean there (an environment). Over one row
--- the group has that one row. Over a group a column outside an aggregate has its value in the first
--- row, and an aggregate folds over the group. No expression fails: arithmetic over NULL or outside 64
--- bits is NULL. An expression of the kind TRUTH has a truth, and every other one a value; what the
--- other half says there isn't looked at.
+-- An environment gives the value of each column that a name can mean in a row. An expression over one row is
+-- taken over the group of that row alone. Over a group a column outside an aggregate has its value in the
+-- first row, and an aggregate folds over the group. No expression fails: arithmetic over NULL or outside 64
+-- bits is NULL. An expression of the kind TRUTH has a truth, and every other one has a value; nothing looks
+-- at its other half.
 use Rattle.std.specs.Prelude.{◌^◌, ℤ, pos, negsuc, ◌+ℤ◌, ◌-ℤ◌, ◌*ℤ◌, neg_ℤ, List, [], ◌∷◌, length, map}
 use Rattle.std.specs.Prelude.{filter, Bool, true, false, not, nat_lt, if◌then◌else◌, Option, Some, None}
 use Rattle.std.specs.List.{reduce}

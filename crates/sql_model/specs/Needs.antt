@@ -1,7 +1,7 @@
--- What a statement needs of the tables: the rows that its reply rests on, and the tables that it asks.
--- What it makes of them: versions of rows.
+-- The needs of a statement: the rows that its reply rests on, and the tables that it asks. The versions of
+-- rows that it makes.
 --
--- A row that is needed by several rules has the first of them.
+-- If several rules need a row, the first of them is its rule.
 use Rattle.std.specs.Prelude.{ℕ, ◌+◌, List, [], ◌∷◌, ◌++◌, map, filter, Bool, false, not, ◌&&◌, ◌||◌, ◌==◌}
 use Rattle.std.specs.Prelude.{if◌then◌else◌, Option, Some, None, option_map, option_to_list}
 use Rattle.std.specs.List.{flat_map, list_any, list_all}

@@ -1,4 +1,4 @@
--- What may be between operands. The levels are those of `Levels` of `sql_model`.
+-- The operators and other forms after an operand. Their levels are those of `Levels`.
 use Rattle.std.specs.Prelude.{ℕ, List, [], ◌∷◌, Bool, ◌&&◌, nat_le, if◌then◌else◌, Option, Some, None, codes}
 use Rattle.std.specs.Prelude.{nat_eq}
 use Rattle.std.specs.Cmp.Lexicographic.{pointwise}

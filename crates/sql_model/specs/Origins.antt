@@ -1,4 +1,4 @@
--- Lineages as sets of rows: the order of rows, and how often a row is there, don't matter.
+-- Lineages as sets of rows: neither the order of rows nor how often a row occurs matters.
 use Rattle.std.specs.Prelude.{List, [], ◌∷◌, ◌≡◌, map, Bool, ◌&&◌, ◌==◌}
 use Rattle.std.specs.List.{flat_map, list_any}
 use Rattle.sql_model.specs.QueryAnswer.{Origin, AnswerRow}

@@ -1,4 +1,4 @@
--- Lists of parts, names of columns, and what follows a word.
+-- Lists of parts, names of columns, and parts after a word.
 use Rattle.std.specs.Prelude.{ℕ, List, [], ◌∷◌, ◌++◌, length, Bool, true, false, if◌then◌else◌, Option, Some}
 use Rattle.std.specs.Prelude.{None, codes}
 use Rattle.sql_model.specs.declared.expr.Expr.{Expr}

@@ -1,4 +1,4 @@
--- The places of a statement's columns, and what a check gives. All places count from 0.
+-- The places of a statement's columns, and the result of a check. All places count from 0.
 use Rattle.std.specs.Prelude.{ℕ, ◌-◌, List, [], ◌∷◌, ◌++◌, map, Option, Some, None, Result, Ok, Err}
 use Rattle.std.specs.List.{position_or_len}
 use Rattle.sql_model.specs.Types.{Catalog, Checked, SqlRefusal, Core, Order, OrderKey, Name, Place, Query}

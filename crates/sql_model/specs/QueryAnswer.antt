@@ -1,8 +1,8 @@
 -- The answer of a query: rows of values, each with its lineage, the rows of tables that it comes from.
 --
--- A row of a selection, projection or join comes from the rows of its combination, a row of a group from
--- all rows of the group, and a row that was merged from several of the same values from those of them all. A
--- lineage is a set: the order of rows, and how often a row is there, don't matter (`Origins`).
+-- A row of a selection, projection or join comes from the rows of its combination, and a row of a group from
+-- all rows of the group. A row that was merged from several rows of the same values comes from the rows of
+-- all of them. A lineage is a set: neither the order of rows nor how often a row occurs matters (`Origins`).
 use Rattle.std.specs.Prelude.{ℕ, List, [], ◌∷◌, ◌++◌, map, filter, take, drop, Bool, true, false, not}
 use Rattle.std.specs.Prelude.{if◌then◌else◌, Option, Some, None, pos, negsuc}
 use Rattle.std.specs.List.{flat_map, list_all}

@@ -1,7 +1,7 @@
--- References of rows to rows of parents: what refuses a change by them, and which parents it needs.
+-- References of rows to rows of parents: which changes they refuse, and which parents a change needs.
 --
--- What is said of a change is said of the tables before and after it and of the rows that it inserts or
--- matches, so that stores can speak of it too.
+-- The definitions take the tables before and after a change and the rows that it inserts or matches, so that
+-- stores can use them too.
 use Rattle.std.specs.Prelude.{ℕ, List, [], ◌∷◌, map, filter, length, ◌==◌, Bool, false, not, ◌&&◌, Option}
 use Rattle.std.specs.Prelude.{Some, None, if◌then◌else◌, is_none}
 use Rattle.std.specs.List.{flat_map, filter_map, list_any, list_all}

@@ -1,5 +1,4 @@
--- The refusals that only the statement and the schemas decide: a table, a column or a kind that isn't as it
--- must be.
+-- The refusals that depend only on the statement and the schemas: those for a wrong table, column or kind.
 --
 -- The three are tried in this order, each over the whole statement.
 use Rattle.std.specs.Prelude.{ℕ, List, [], ◌∷◌, ◌++◌, map, find, filter, zip, length, Bool, true, false, not}

@@ -1,4 +1,4 @@
--- Tables and schemas by name, and which column a name means.
+-- Tables and schemas by name, and the column that a name means.
 use Rattle.std.specs.Prelude.{ℕ, List, [], ◌∷◌, map, find, filter, zip, length, Bool, true, ◌&&◌, ◌==◌}
 use Rattle.std.specs.Prelude.{Option, Some, None, option_map, nat_eq}
 use Rattle.std.specs.List.{flat_map, list_any, position_or_len}

@@ -1,4 +1,4 @@
--- Sorting: stable, by an order.
+-- Stable sorting by an order.
 use Rattle.std.specs.Prelude.{List, [], ◌∷◌, if◌then◌else◌}
 use Rattle.std.specs.declared.cmp.Ordering.{Ordering}
 use Rattle.std.specs.Ordering.{is_gt}

@@ -1,4 +1,4 @@
--- What a statement gives: its refusal, its reply and the database after it.
+-- The outcome of a statement: its refusal, its reply and the database after it.
 use Rattle.std.specs.Prelude.{ℕ, List, length, Option, Some, None, option_map}
 use Rattle.sql_model.specs.Types.{Catalog, Reply, Rows, Changed, Refused, SqlRefusal, Syntax, NoParent}
 use Rattle.sql_model.specs.Types.{HasChild, Statement}

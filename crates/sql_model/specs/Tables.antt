@@ -1,7 +1,7 @@
 -- Valid schemas, valid tables, and databases of them, test by test.
 --
--- Documents and packages have tables in types of their own. So each test is over columns, places, values and
--- numbers, and over rows by what gives their number.
+-- Documents and packages have their own types of tables. So each test takes columns, places, values and
+-- numbers, and for rows a function that gives a row's number.
 use Rattle.std.specs.Prelude.{◌≡◌, ℕ, List, length, map, zip, ◌==◌, Bool, true, false, not, ◌&&◌, nat_eq, nat_lt}
 use Rattle.std.specs.Prelude.{nat_le, Option, Some, None, slice_get}
 use Rattle.std.specs.List.{list_all, position_or_len}

@@ -1,4 +1,4 @@
--- The statement that a text is, with these parameters.
+-- The statement that a text spells with its parameters.
 use Rattle.std.specs.Prelude.{ℕ, ◌+◌, List, [], ◌∷◌, length, Bool, ◌==◌, if◌then◌else◌, Option, Some, None}
 use Rattle.std.specs.Prelude.{codes, slice_get}
 use Rattle.ldv_value.specs.declared.value.Value.{Value}

@@ -1,6 +1,6 @@
--- The types of the crate's code and their variants, under one name each, for all files that speak of them.
+-- The types of the crate's code and their variants, each under one name, for all files that use them.
 --
--- The variants of expressions and of aggregate functions are used with a prefix, `expr` and `fold`.
+-- The variants of expressions have the prefix `expr`, and those of aggregate functions the prefix `fold`.
 pub use Rattle.ldv_value.specs.declared.value.Cmp.{Cmp}
 pub use Rattle.ldv_value.specs.declared.value.Truth.{Truth}
 pub use Rattle.ldv_value.specs.declared.value.Truth.TheVariants.{True, False, Unknown}

@@ -1,4 +1,4 @@
-//! Arithmetic on values: NULL where a side isn't a number, or the result is outside 64 bits.
+//! Arithmetic on values. The result is NULL if a side isn't a number or the number is outside 64 bits.
 
 ghost use Rattle.std.specs.Prelude.{◌≡◌, ◌+ℤ◌, ◌-ℤ◌, ◌*ℤ◌, neg_ℤ};
 ghost use Rattle.sql_model.specs.Meaning.{number_value, with_numbers};

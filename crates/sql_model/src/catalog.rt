@@ -1,4 +1,4 @@
-//! The schemas that a statement is checked against, and what a check gives.
+//! The schemas that a statement is checked against, and the result of the check.
 
 ghost use Rattle.std.specs.Prelude.{◌≡◌, IfOk, map};
 ghost use Rattle.sql_model.specs.Scope.{catalog_of};
@@ -15,10 +15,11 @@ pub struct Catalog {
     pub schemas: Schemas,
 }
 
-/// A checked statement and the places of its columns, from 0. A query has one list per core, with the
-/// place of each column name in the joined row, left to right over the items, ON and WHERE, GROUP BY and
-/// HAVING, and then one more list, with the places of the ORDER BY keys in the answer row. Any other
-/// statement has one list, of places in the table's row: of an UPDATE the new values' and then WHERE's.
+/// A checked statement and the places of its columns, from 0. A query has one list per core, with the place
+/// of each column name in the joined row, left to right over the items, ON and WHERE, GROUP BY and HAVING,
+/// and then one more list, with the places of the ORDER BY keys in the answer row. Any other statement has
+/// one list, of places in the table's row. An UPDATE has those of the new values first and then those of
+/// WHERE.
 #[derive(Drop)]
 pub struct Checked {
     pub statement: Statement,
@@ -26,7 +27,7 @@ pub struct Checked {
 }
 
 impl Catalog {
-    /// The names and schemas of tables, in their order.
+    /// The catalog of tables: their names and schemas, in the order of the tables.
     pub fn of(alloc: Global, tables: &Tables) -> Result<Catalog, AllocError>
         ensures { IfOk result (λ catalog. catalog ≡ catalog_of tables.now) }
     {

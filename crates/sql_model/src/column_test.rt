@@ -5,11 +5,11 @@ use ldv_value::Cmp;
 /// A test of a value.
 #[derive(Clone, Copy)]
 pub enum CellTest {
-    /// Its comparison with the number is True.
+    /// The comparison of the value with the number is True.
     Compare { op: Cmp, constant: i64 },
-    /// It is NULL.
+    /// The value is NULL.
     IsNull,
-    /// It isn't NULL.
+    /// The value isn't NULL.
     IsNotNull,
 }
 

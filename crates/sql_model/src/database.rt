@@ -1,4 +1,4 @@
-//! Whether tables are a database: an engine or a store takes no others.
+//! The test whether tables are a database. An engine or a store takes no other tables.
 
 ghost use Rattle.std.specs.Prelude.{◌≡◌, ◌&&◌, IfOk, nat_le, nat_lt};
 ghost use Rattle.std.specs.List.{list_all};
@@ -16,10 +16,11 @@ use crate::unique::has_key_twice;
 use ldv_value::is_strictly_sorted;
 use std::alloc::{AllocError, Global};
 
-/// Whether tables are a database of which no table has two columns of one name: they are strictly increasing
-/// by name; of each the rows have strictly increasing numbers below that of the next new row, and a value for
-/// each column that fits it, and no two have one key; and each foreign key has a parent with a key that it
-/// fits. Whether rows refer to rows of parents isn't asked. `AllocError` means out of memory only.
+/// Whether tables are a database, and no table has two columns of one name. In a database the tables are
+/// strictly increasing by name. The rows of each have strictly increasing numbers below that of the next new
+/// row, a fitting value for each column, and pairwise different keys. Each foreign key has a parent with a
+/// key that it fits. The test doesn't look at the references of rows. `AllocError` means only that memory ran
+/// out.
 pub fn is_database(alloc: Global, tables: &Tables) -> Result<bool, AllocError>
     ensures { IfOk result (λ holds.
         holds ≡ (is_database tables.now && have_distinct_columns tables.now)) }

@@ -6,7 +6,7 @@ use ldv_value::{Cmp, CopyItem, List, Utf8, Value};
 use sqlite_items::Boxed;
 use std::alloc::{AllocError, Global};
 
-/// The name of a column, with the name of its source where one is written.
+/// The name of a column, with the name of its source if one is written.
 #[derive(Drop)]
 pub struct ColumnName {
     pub table: Option<Utf8>,
@@ -33,7 +33,7 @@ pub enum Operator {
 /// An aggregate.
 #[derive(Clone, Copy, Debug, PartialEq, Eq)]
 pub enum Fold {
-    /// COUNT: of rows, or of those with a value that isn't NULL.
+    /// COUNT of rows, or of the values that aren't NULL.
     Count,
     /// SUM
     Sum,
@@ -43,7 +43,7 @@ pub enum Fold {
     Max,
 }
 
-/// An expression. A parameter is a constant by the time that one is made.
+/// An expression. Each parameter is already replaced by its value, a constant.
 #[derive(Drop)]
 pub enum Expr {
     /// A constant.
@@ -56,7 +56,7 @@ pub enum Expr {
     Not(Boxed<Expr>),
     /// Two expressions with an operator between them.
     Both(Operator, Boxed<Expr>, Boxed<Expr>),
-    /// IS NULL, or IS NOT NULL where the flag is set.
+    /// IS NULL, or IS NOT NULL if the flag is true.
     IsNull(Boxed<Expr>, bool),
     /// An aggregate of an expression; COUNT(*) has none.
     Aggregate(Fold, Option<Boxed<Expr>>),

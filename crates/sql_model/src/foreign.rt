@@ -10,7 +10,7 @@ ghost use Rattle.sql_model.specs.Types.{Schema};
 use crate::table::{Column, Columns, Foreign, Schema, Table};
 use ldv_value::Utf8;
 
-/// Foreign keys of a table.
+/// The most foreign keys that a table may have.
 pub const MAX_FOREIGN: usize = 16;
 
 /// A table by its name and its schema.
@@ -44,8 +44,8 @@ impl NamedSchema for Table {
     }
 }
 
-/// Whether each foreign key of some tables has a parent among them, with a key of as many columns, which fit
-/// place by place in INT and TEXT.
+/// Whether each foreign key of some tables has a parent among them. The parent needs a key with as many
+/// columns, and both columns at each place are INT or both are TEXT.
 pub fn have_parents<T: NamedSchema>(tables: &[T]) -> bool
     ensures { result ≡ have_parents
         (record { names = map T.name_of tables.now; schemas = map T.schema_of tables.now }) }

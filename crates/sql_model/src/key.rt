@@ -12,7 +12,7 @@ pub struct RowKey {
     pub values: Values,
 }
 
-/// The value of a row at a place, from 0; NULL where the row has none there.
+/// A copy of a row's value at a place, from 0; NULL if the row has no value there.
 pub fn value_at(alloc: Global, row: &Values, place: usize) -> Result<Value, AllocError>
     ensures { IfOk result (λ value. value ≡ value_at row.now place) }
 {

@@ -1,12 +1,12 @@
-//! SQL as this product has it: the types of statements, tables, replies and needs, which texts are which
-//! statements, what they mean, and the value of an expression over a row.
+//! The SQL of this product: the types of statements, tables, replies and needs, the statement that a text
+//! spells, its meaning, and the value of an expression over a row.
 //!
-//! Which text is which statement is defined twice: as a grammar (`GrammarOfTokens`, `Grammar` of
-//! expressions, `GrammarOfStatements`), and as a function from left to right (`Texts`, over `Tokens`,
-//! `Expressions`, `Queries` and others). Meaning stands in `Tables` (valid schemas, tables, databases),
-//! `Scope` (which column a name means), `Kinds`, `Refusals`, `Places`, `Meaning` (expressions),
-//! `QueryAnswer` and `Sorting`, `Changes`, `Statements` (refusal, reply, the tables after), `ForeignKeys`
-//! and `References`, `Needs`, and `Origins` (lineages as sets).
+//! The statement of a text is defined twice: by a grammar (`GrammarOfTokens`, `Grammar` of expressions,
+//! `GrammarOfStatements`), and by a function from left to right (`Texts`, over `Tokens`, `Expressions`,
+//! `Queries` and others). The meaning is defined in `Tables` (valid schemas, tables, databases), `Scope`
+//! (which column a name means), `Kinds`, `Refusals`, `Places`, `Meaning` (expressions), `QueryAnswer` and
+//! `Sorting`, `Changes`, `Statements` (refusal, reply, the tables after), `ForeignKeys` and `References`,
+//! `Needs`, and `Origins` (lineages as sets).
 //!
 //! Entry: `truth_of` in `src/value.rt`. Read first: `specs/Statements.antt`.
 #![tactic(auto)]

@@ -7,23 +7,23 @@ use ldv_value::{CopyItem, List, Precedes, Utf8};
 use std::alloc::{AllocError, Global};
 use std::cmp::Ordering;
 
-/// Why a statement needs a row. Where several hold, the first is the rule.
+/// Why a statement needs a row. If several variants hold, the first one is the rule.
 #[derive(Clone, Copy, Debug, PartialEq, Eq)]
 pub enum Rule {
-    /// It is in the lineage of an answer row, or matched by an UPDATE or DELETE.
+    /// The row is in the lineage of an answer row, or matched by an UPDATE or DELETE.
     L,
-    /// It is in the lineage of a group that HAVING rejected; or of a row that LIMIT cut, in a query that
-    /// groups, has DISTINCT, or has UNION without ALL.
+    /// The row is in the lineage of a group that HAVING rejected. Or it is in the lineage of a row that LIMIT
+    /// cut, and the query groups, has DISTINCT, or has UNION without ALL.
     H,
-    /// It is one of the two rows of a refused key.
+    /// The row is one of the two rows whose key was refused.
     K,
-    /// It is a parent row: an inserted or matched row refers to its key after the statement.
+    /// The row is a parent row: an inserted or matched row refers to its key after the statement.
     P,
-    /// It is the child row for which a change of its parent's table is refused.
+    /// The row is the child row that makes a change of its parent's table refused.
     C,
 }
 
-/// A row of a table at a version, the number of earlier changes of that row.
+/// A row of a table, by its number, at a version: the number of the row's earlier changes.
 #[derive(Drop)]
 pub struct Member {
     pub table: Utf8,
@@ -31,7 +31,7 @@ pub struct Member {
     pub version: u32,
 }
 
-/// A row that a statement needs.
+/// A row that a statement needs, and why.
 #[derive(Drop)]
 pub struct Need {
     pub member: Member,

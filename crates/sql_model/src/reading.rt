@@ -1,6 +1,6 @@
-//! The states of the definitions that read a text from left to right: of the scanner among the bytes, how an
-//! operand begins, what joins operands, and an expression with its depth (`specs/Tokens.antt`,
-//! `specs/Expressions.antt`).
+//! The states of the definitions that read a text from left to right (`specs/Tokens.antt`,
+//! `specs/Expressions.antt`): the state of the scanner, the beginning of an operand, the form between
+//! operands, and an expression with its depth.
 
 use crate::expr::{Expr, Exprs, Fold, Operator};
 use crate::statement::FromItems;
@@ -12,30 +12,30 @@ use ldv_value::Bytes;
 pub enum LexState {
     /// Between two tokens, or before the first one.
     Between,
-    /// In a word, of which these are the bytes, folded.
+    /// In a word, with its bytes so far in lower case.
     InWord(Bytes),
-    /// In a number, of which this is the value, or 2^64 - 1 where it is more.
+    /// In a number, with its value so far, at most 2^64 - 1.
     InNumber(u64),
-    /// In a text between quotes, of which this is the content.
+    /// In a text between quotes, with its content so far.
     InText(Bytes),
-    /// In such a text after a quote, which ends the text or is the first of two.
+    /// In a text between quotes, right after a quote. The quote ends the text or is the first of two.
     AfterQuote(Bytes),
-    /// After a byte that begins a symbol of two bytes.
+    /// After a byte that may begin a symbol of two bytes.
     InSymbol(u8),
-    /// After a token that is whole.
+    /// After a complete token.
     Ended(Token),
 }
 
 /// How an operand begins.
 #[derive(Drop)]
 pub enum Opening {
-    /// It is this constant, column or COUNT(*).
+    /// With this constant, column or COUNT(*), which is the whole operand.
     Leaf(Expr),
-    /// It is this form around another expression.
+    /// With this form, around another expression.
     Nested(Prefix),
 }
 
-/// A form around one expression, which begins with a token of its own.
+/// A form around one expression. It begins with its own token.
 #[derive(Clone, Copy)]
 pub enum Prefix {
     /// NOT.
@@ -48,7 +48,7 @@ pub enum Prefix {
     FoldOf(Fold),
 }
 
-/// What may follow an operand.
+/// The form that follows an operand.
 #[derive(Clone, Copy)]
 pub enum Infix {
     /// An operator, and then a second operand.
@@ -57,19 +57,19 @@ pub enum Infix {
     IsNull,
 }
 
-/// An expression as it is read.
+/// An expression that was read.
 #[derive(Drop)]
 pub struct ParsedExpr {
-    /// What is read.
+    /// The expression.
     pub expr: Expr,
-    /// Its depth, from 1, with the parentheses that it is in.
+    /// Its depth, from 1, which counts the parentheses around it too.
     pub depth: usize,
-    /// The level of its form: 1 OR, 2 AND, 3 NOT, 4 a comparison or IS NULL, 5 plus and minus, 6 times,
-    /// 7 unary minus, 8 a constant, a column, an aggregate or parentheses.
+    /// The level of its form: 1 OR, 2 AND, 3 NOT, 4 a comparison or IS NULL, 5 plus and minus, 6 times, 7
+    /// unary minus, and 8 a constant, a column, an aggregate or parentheses.
     pub level: u8,
 }
 
-/// Sources, and the conditions that follow ON.
+/// The sources of FROM, and the conditions that follow ON.
 #[derive(Drop)]
 pub struct Sources {
     /// The sources, from left to right.

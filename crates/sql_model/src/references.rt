@@ -21,8 +21,8 @@ use std::alloc::{AllocError, Global};
 use std::collections::BTreeSet;
 use std::marker::Model;
 
-/// Whether each key to which a row refers is one of a row of the parent. `AllocError` means out of memory
-/// only.
+/// Whether the parent has a row with each key that a row refers to. `AllocError` means only that memory ran
+/// out.
 #[tactic(auto, using(crate::proofs::ReferringRows::all_hold))]
 pub fn references_hold(alloc: Global, tables: &Tables) -> Result<bool, AllocError>
     ensures { IfOk result (λ holds. holds ≡ references_hold tables.now) }
@@ -96,7 +96,8 @@ fn add_last<'a>(
     rows: &'a TableRows,
 ) -> Result<(), AllocError>
     ensures { IfOk result (λ none. (parents : List Seen)
-        → (list_all (hold_in parents) found.new.items && list_all (all_have_parents parents rows.now) others.now)
+        → (list_all (hold_in parents) found.new.items
+        && list_all (all_have_parents parents rows.now) others.now)
         ≡ (list_all (hold_in parents) found.old.items
         && list_all (all_have_parents parents rows.now) (foreign.now ∷ others.now))) }
 {
@@ -258,7 +259,7 @@ fn refers_among<'a>(keys: &BTreeSet<KeyOf<'a>>, foreign: &'a Foreign, row: &'a T
     refers_to_none(foreign, &row.values) || keys.contains(&KeyOf::of(&row.values, &foreign.columns))
 }
 
-/// Whether one of the values by which a row would refer is NULL, so that it refers to no key.
+/// Whether a row refers to no key, since one of its values in the foreign key's columns is NULL.
 pub fn refers_to_none(foreign: &Foreign, values: &Values) -> bool
     ensures { result ≡ list_any is_null (values_at foreign.now.columns values.now) }
 {

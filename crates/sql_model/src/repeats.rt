@@ -7,7 +7,7 @@ ghost use Rattle.sql_model.specs.Keys.{repeats};
 use std::alloc::{AllocError, Global};
 use std::collections::BTreeSet;
 
-/// Whether some item is the same as a later one, by the order of its type.
+/// Whether some item is equal to a later one, in the order of their type.
 pub fn has_twice<K: Ord + Drop>(alloc: Global, keys: Vec<K>) -> Result<bool, AllocError>
     ensures { IfOk result (λ twice. twice ≡ repeats (eq_by_cmp K.cmp) keys.items) }
 {

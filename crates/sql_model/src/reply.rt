@@ -9,14 +9,14 @@ use std::alloc::{AllocError, Global};
 /// `docs/SQL.md` says exactly when each comes.
 #[derive(Drop)]
 pub enum SqlRefusal {
-    /// The text, with its parameters, has no reading.
+    /// The text, with its parameters, is no statement.
     Syntax,
-    /// A named table isn't there, or two sources of one SELECT have the same name.
+    /// A named table doesn't exist, or two sources of one SELECT have the same name.
     NoTable,
-    /// A column isn't there or means two; one isn't grouped by in a core that groups; a key of ORDER BY isn't
-    /// exactly one answer column.
+    /// A column name means no column or two; a column is used ungrouped in a core that groups; a key of ORDER
+    /// BY isn't exactly one answer column.
     NoColumn,
-    /// Kinds or counts of columns don't fit; an aggregate is where none may be, or counts the rows of several
+    /// Kinds or counts of columns don't fit; an aggregate is in a wrong place, or counts the rows of several
     /// sources; a column is set or named twice; a parameter of LIMIT isn't a number of at least 0.
     TypeClash,
     /// A row that is inserted or matched would have NULL in a NOT NULL column.
@@ -29,7 +29,7 @@ pub enum SqlRefusal {
     /// A row that is inserted or matched would refer to a key that no row of the parent `table` has. `key` is
     /// that of the first such row, by number, and of its first such foreign key.
     NoParent { table: Utf8, key: Values },
-    /// Another row, of `table`, would refer to a key that the statement's table had before and has no more.
+    /// Another row, of `table`, would refer to a key that the statement's table had before but would lose.
     /// `key` is that of the first such row, by table and number, and of its first such foreign key.
     HasChild { table: Utf8, key: Values },
 }

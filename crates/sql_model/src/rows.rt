@@ -37,7 +37,7 @@ fn fits(column: &Column, value: &Value) -> bool
     has_kind(column, value) && allows(column, value)
 }
 
-/// Whether a value has its column's kind.
+/// Whether a value has its column's kind. NULL has every kind.
 pub fn has_kind(column: &Column, value: &Value) -> bool
     ensures { result ≡ has_kind column.now value.now }
 {
@@ -48,7 +48,7 @@ pub fn has_kind(column: &Column, value: &Value) -> bool
     }
 }
 
-/// Whether a value isn't NULL where its column is NOT NULL.
+/// Whether a column allows a value: NULL is refused if the column is NOT NULL.
 pub fn allows(column: &Column, value: &Value) -> bool
     ensures { result ≡ allows column.now value.now }
 {
@@ -59,7 +59,7 @@ pub fn allows(column: &Column, value: &Value) -> bool
     }
 }
 
-/// Whether each value has at most `TEXT_LIMIT` bytes.
+/// Whether each text among some values has at most `TEXT_LIMIT` bytes.
 pub fn are_short(values: &Values) -> bool
     ensures { result ≡ list_all is_short values.now }
 {

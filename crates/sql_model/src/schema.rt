@@ -65,7 +65,7 @@ pub fn meets_column_count(columns: &Columns) -> bool
     1 <= columns.len() && columns.len() <= MAX_COLUMNS
 }
 
-/// Whether each column has a name by the rule, and no two have the same.
+/// Whether each column has a valid name (`is_sql_name`), and no two have the same.
 pub fn meets_column_names(alloc: Global, columns: &Columns) -> Result<bool, AllocError>
     ensures { IfOk result (λ holds. holds ≡ column_names_test columns.now) }
 {
@@ -120,7 +120,7 @@ fn are_places(columns: &Columns, key: &Places) -> bool
     key.items().iter().all(|place| *place < count)
 }
 
-/// Whether each column of a key, given by its places, is NOT NULL.
+/// Whether each column of a key is NOT NULL. `key` has the places of the columns, from 0.
 pub fn is_key_not_null(columns: &Columns, key: &Places) -> bool
     ensures { result ≡ key_not_null_test columns.now key.now }
 {

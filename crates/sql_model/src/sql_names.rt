@@ -21,8 +21,8 @@ const OF_SIX: [&str; 6] = ["delete", "having", "insert", "select", "update", "va
 
 const OF_EIGHT: [&str; 1] = ["distinct"];
 
-/// Whether a text may name a table or a column: a lower-case word of 1 to 63 bytes that isn't one of
-/// the language's own words.
+/// Whether a text may name a table or a column: a lower-case word of 1 to 63 bytes, and no reserved word of
+/// SQL.
 pub fn is_sql_name(text: &str) -> bool
     ensures { result ≡ sql_name_test text.now }
 {

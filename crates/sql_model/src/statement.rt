@@ -25,7 +25,7 @@ pub enum Statement {
 pub struct Query {
     pub cores: Cores,
     pub order: Orders,
-    /// The value after LIMIT.
+    /// The value after LIMIT; `None` if there is no LIMIT.
     pub limit: Option<Value>,
 }
 
@@ -42,11 +42,11 @@ pub struct Core {
     pub picks: Exprs,
     /// The columns of GROUP BY.
     pub group: ColumnNames,
-    /// The condition of HAVING.
+    /// The condition of HAVING; `None` if there is none.
     pub having: Option<Expr>,
 }
 
-/// The items of a core that are written; `*` is none.
+/// The items that a core's text names; none for `*`.
 pub fn items_of(core: &Core) -> &[Item]
     ensures { result.now ≡ items_of core.now }
 {
@@ -56,7 +56,7 @@ pub fn items_of(core: &Core) -> &[Item]
     }
 }
 
-/// An item of a SELECT, with its AS name.
+/// An item of a SELECT, with its AS name if it has one.
 #[derive(Drop)]
 pub struct Item {
     pub expr: Expr,
@@ -70,7 +70,7 @@ pub struct FromItem {
     pub name: Utf8,
 }
 
-/// A part of ORDER BY.
+/// A key of ORDER BY, and whether DESC follows it.
 #[derive(Drop)]
 pub struct Order {
     pub key: OrderKey,
@@ -90,7 +90,7 @@ pub enum OrderKey {
 #[derive(Drop)]
 pub struct Insert {
     pub table: Utf8,
-    /// The columns that it names; `None` is all, in order.
+    /// The columns that it names; `None` means all, in order.
     pub columns: Option<Names>,
     /// The rows of VALUES.
     pub rows: ExprRows,
@@ -126,7 +126,7 @@ pub type Cores = List<Core>;
 pub type Items = List<Item>;
 /// Sources.
 pub type FromItems = List<FromItem>;
-/// Parts of ORDER BY.
+/// Keys of ORDER BY.
 pub type Orders = List<Order>;
 /// Columns that UPDATE sets.
 pub type Sets = List<Set>;

@@ -3,7 +3,7 @@
 use ldv_value::{CopyItem, List, Places, Precedes, Utf8, Values};
 use std::alloc::{AllocError, Global};
 
-/// A column: its name, whether its kind is TEXT and not INT, and whether NULL is refused in it.
+/// A column: its name, whether its kind is TEXT (else INT), and whether it is NOT NULL.
 #[derive(Drop)]
 pub struct Column {
     pub name: Utf8,
@@ -11,16 +11,16 @@ pub struct Column {
     pub not_null: bool,
 }
 
-/// A foreign key: the places of its columns, from 0, and the name of the table to whose key they refer, the
-/// parent. It has as many columns as that key, and they fit it place by place in INT and TEXT.
+/// A foreign key: the places of its columns, from 0, and the name of its parent, the table that they refer
+/// to. It has as many columns as the parent's key, and both columns at each place are INT or both are TEXT.
 #[derive(Drop)]
 pub struct Foreign {
     pub columns: Places,
     pub parent: Utf8,
 }
 
-/// The columns of a table, 1 to 64; the places of its key's columns, from 0, none being no key; and its
-/// foreign keys, at most 16.
+/// The schema of a table: its 1 to 64 columns, the places of its key's columns, from 0, and its foreign keys,
+/// at most 16. A table with no key column has no key.
 #[derive(Drop)]
 pub struct Schema {
     pub columns: Columns,

@@ -10,7 +10,7 @@ pub enum Token {
     Word(Utf8),
     /// A number, 0 to 2^63 - 1.
     Number(i64),
-    /// A text between quotes: its content, of at most 65,536 bytes, with one quote for each two.
+    /// A text between quotes: its content, at most 65,536 bytes, with one quote for each doubled quote.
     Quoted(Utf8),
     /// The value of a parameter, in place of its `?`.
     Given(Value),

@@ -45,7 +45,7 @@ impl HasValues for TableRow {
 }
 
 /// The values of a row at some places, from 0, as a key of a set or a map, without a copy. Keys are ordered
-/// value by value, and NULL is the same as NULL. A place past the end of the row has NULL.
+/// value by value, and NULL equals NULL. A place past the end of the row has NULL.
 #[derive(Drop)]
 pub struct KeyOf<'a> {
     row: &'a Values,
@@ -155,7 +155,8 @@ fn compare_at(row: &Values, place: usize, other: &Values, at: usize) -> Ordering
     value_or(row, place, &null).cmp(value_or(other, at, &null))
 }
 
-/// The value of a row at a place, from 0, or a given NULL where the row has none there.
+/// The value of a row at a place, from 0. If the row has no value there, it is `null`, which the caller gives
+/// as NULL.
 pub fn value_or<'a>(row: &'a Values, place: usize, null: &'a Value) -> &'a Value
     requires { null.now ≡ Null }
     ensures { result.now ≡ value_at row.now place }
@@ -166,8 +167,8 @@ pub fn value_or<'a>(row: &'a Values, place: usize, null: &'a Value) -> &'a Value
     }
 }
 
-/// Whether two rows have the same values in the key's columns, whose places are given, from 0. Without a
-/// key column there is no key.
+/// Whether two rows have the same values in the key's columns, at the given places, from 0. It is false if
+/// there is no key column.
 pub fn has_key_twice<R: HasValues>(
     alloc: Global,
     places: &Places,

@@ -12,9 +12,9 @@ use crate::truths::{and_truth, comparison_truth, not_truth, null_truth, or_truth
 use ldv_value::{Cmp, CopyItem, Places, Truth, Value, Values};
 use std::alloc::{AllocError, Global};
 
-/// The value of an expression over a row, where `places` gives the row's place of each column that the
-/// expression names, left to right, from 0: those that its names have in some scope. An aggregate is
-/// taken over this one row, and an expression that has a truth has the value NULL.
+/// The value of an expression over a row. `places` has the place in the row, from 0, of each column that the
+/// expression names, from left to right, as some scope gives them. An aggregate is taken over this one row,
+/// and a condition has the value NULL.
 pub fn value_of(
     alloc: Global,
     expr: &Expr,
@@ -28,7 +28,7 @@ pub fn value_of(
     Ok(value)
 }
 
-/// The truth of a condition over a row, with `places` as in `value_of`. An expression that has a value
+/// The truth of a condition over a row, with `places` as in `value_of`. An expression that isn't a condition
 /// has the truth Unknown.
 pub fn truth_of(
     alloc: Global,

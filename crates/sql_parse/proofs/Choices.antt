@@ -1,4 +1,4 @@
--- By which way a choice gave what it gave.
+-- The branch of a choice that gave its result.
 use Rattle.std.proofs.Common.{◌≡◌, Bool, true, false, refl, Some}
 use Rattle.std.specs.Prelude.{Option, ◌||◌, if◌then◌else◌}
 

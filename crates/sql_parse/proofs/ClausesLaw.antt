@@ -1,4 +1,5 @@
--- A clause of two words and a list, as GROUP BY and ORDER BY are, or nothing: the same both ways.
+-- A clause of two words and a list, such as GROUP BY and ORDER BY, or nothing: reading agrees with the
+-- grammar.
 use Rattle.std.proofs.Common.{◌≡◌, ℕ, ◌≤◌, List, [], ◌∷◌, ◌++◌, length, refl, sym, ap, ◌∙◌, subst, true, inl, inr, ◌⊎◌}
 use Rattle.std.specs.Prelude.{Option, Some, ◌↔◌, if◌then◌else◌, codes}
 use Prim.Native.String.{String}

@@ -1,4 +1,4 @@
--- The cores of a query, the same both ways.
+-- The cores of a query: reading agrees with the grammar.
 use Rattle.std.proofs.Common.{◌≡◌, ℕ, ◌≤◌, List, [], ◌∷◌, ◌++◌, length, refl, sym, ap, ◌∙◌, subst, Bool, true, false, append_assoc}
 use Rattle.std.specs.Prelude.{Option, option_to_list, codes}
 use Rattle.sql_model.specs.declared.expr.ColumnName.{ColumnName}

@@ -1,4 +1,4 @@
--- What is an expression by the grammar is read as that one.
+-- An expression by the grammar is read as that expression.
 use Rattle.std.proofs.Common.{◌≡◌, ◌&&◌, ℕ, zero, suc, ◌+◌, ◌-◌, ◌<◌, ◌≤◌, zero-add, List, [], ◌∷◌, ◌++◌, append-nil, append_assoc, refl, sym, ap, ◌∙◌, subst, Bool, true, false, Some, None, inl, inr, arith}
 use Rattle.std.specs.Prelude.{Option, codes, max, nat_le, nat_eq, if◌then◌else◌}
 use Rattle.std.specs.Cmp.Lexicographic.{pointwise}

@@ -1,4 +1,4 @@
--- What is read as an expression within a depth is no deeper.
+-- An expression that is read within a depth is no deeper.
 use Rattle.std.proofs.Common.{◌≡◌, ℕ, zero, suc, ◌+◌, ◌≤◌, List, sym, ap, ◌∙◌, subst, Bool, true, false, Some, None, arith}
 use Rattle.std.specs.Prelude.{Option, codes, max, nat_le, if◌then◌else◌}
 use Rattle.std.proofs.lemmas.Bool.{leb-true}

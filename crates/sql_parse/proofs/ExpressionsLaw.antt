@@ -1,4 +1,4 @@
--- What is read as an expression is one by the grammar.
+-- An expression that is read is one by the grammar.
 use Rattle.std.proofs.Common.{◌≡◌, ℕ, zero, suc, ◌+◌, ◌≤◌, List, [], ◌∷◌, ◌++◌, append-nil, append_assoc, refl, sym, ap, ◌∙◌, subst, Bool, true, false, Some, None, inl, inr, arith}
 use Rattle.std.specs.Prelude.{Option, codes, nat_le, nat_eq, if◌then◌else◌}
 use Rattle.std.specs.Cmp.Lexicographic.{pointwise}

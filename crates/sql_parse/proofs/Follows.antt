@@ -1,4 +1,4 @@
--- What may stand after a form.
+-- The tokens that may follow a form.
 use Rattle.std.proofs.Common.{◌≡◌, ℕ, List, [], ◌∷◌, ◌++◌, refl, ap, ◌∙◌, not, Bool, true, false, Some, None, append_assoc}
 use Rattle.std.specs.Prelude.{Option, ◌||◌, ◌&&◌, nat_eq, codes}
 use Prim.Native.String.{String}

@@ -1,4 +1,4 @@
--- Expressions, columns, lists and items, the same both ways.
+-- Expressions, columns, lists and items: reading agrees with the grammar.
 use Rattle.std.proofs.Common.{◌≡◌, ℕ, ◌≤◌, List, [], ◌∷◌, ◌++◌, length, refl, sym, ap, ◌∙◌, subst, not, Bool, true, false, Some, None, inl, inr, ◌⊎◌, arith, append_assoc}
 use Rattle.std.specs.Prelude.{Option, ◌||◌, codes, nat_eq, is_none}
 use Prim.Native.String.{String}

@@ -1,4 +1,4 @@
--- Parameters in the places of their `?`.
+-- Parameters in place of their `?`.
 use Rattle.std.proofs.Common.{◌≡◌, ℕ, List, [], ◌∷◌, ◌++◌, refl, append_assoc, ap, sym, Some, None}
 use Rattle.std.specs.Prelude.{Option}
 use Rattle.ldv_value.specs.declared.value.Value.{Value}

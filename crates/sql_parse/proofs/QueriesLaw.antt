@@ -1,4 +1,4 @@
--- Queries, the same both ways.
+-- Queries: reading agrees with the grammar.
 use Rattle.std.proofs.Common.{◌≡◌, ℕ, ◌≤◌, ℤ, pos, negsuc, List, [], ◌∷◌, ◌++◌, length, refl, sym, ap, ◌∙◌, subst, Bool, true, false, Some, None, inl, inr, arith, append_assoc}
 use Rattle.std.specs.Prelude.{Option, if◌then◌else◌, codes}
 use Rattle.std.proofs.lemmas.Bool.{cases_Bool}

@@ -1,4 +1,4 @@
--- A text is UTF-8 where it is with its quotes doubled.
+-- A text is UTF-8 if it is UTF-8 with its quotes doubled.
 use Rattle.std.proofs.Common.{◌≡◌, ℕ, ◌<◌, List, [], ◌∷◌, ◌++◌, length, take, drop, get_or, refl, sym, ap, ◌∙◌, subst, cond, inl, inr, arith, append_assoc}
 use Rattle.std.specs.Prelude.{IsUtf8}
 use Rattle.std.specs.List.{AllByRecursion}

@@ -1,4 +1,4 @@
--- One form after another, the same both ways.
+-- Repeated forms: reading agrees with the grammar.
 use Rattle.std.proofs.Common.{◌≡◌, ℕ, zero, suc, ◌<◌, ◌≤◌, List, [], ◌∷◌, ◌++◌, length, refl, sym, ap, ◌∙◌, subst, Bool, true, false, Some, None, inl, inr, ◌⊎◌, arith, append_assoc, append-nil}
 use Rattle.std.specs.Prelude.{Option, if◌then◌else◌, codes}
 use Prim.Native.String.{String}

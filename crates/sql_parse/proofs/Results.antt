@@ -1,4 +1,4 @@
--- What parse returns, by the grammar.
+-- The results of `parse`, by the grammar.
 use Rattle.std.proofs.Common.{◌≡◌, ℕ, List, sym, ◌∙◌, Some, None}
 use Rattle.std.specs.Prelude.{Result, Ok, Err, IfOk, IsErrOf, IsUtf8}
 use Rattle.ldv_value.specs.declared.value.Value.{Value}

@@ -1,4 +1,4 @@
--- The sources of a core, the same both ways.
+-- The sources of a core: reading agrees with the grammar.
 use Rattle.std.proofs.Common.{◌≡◌, ℕ, ◌<◌, ◌≤◌, List, [], ◌∷◌, ◌++◌, length, map, refl, sym, ap, ◌∙◌, subst, not, Bool, true, false, Some, None, inl, inr, ◌⊎◌, arith, append_assoc, append-nil}
 use Rattle.std.specs.Prelude.{Option, if◌then◌else◌, codes, nat_eq}
 use Rattle.std.specs.Cmp.Lexicographic.{pointwise}

@@ -1,4 +1,4 @@
--- Statements and texts, the same both ways.
+-- Statements and texts: reading agrees with the grammar.
 use Rattle.std.proofs.Common.{◌≡◌, ◌≢◌, ℕ, zero, suc, ◌+◌, ◌≤◌, List, [], ◌∷◌, ◌++◌, length, drop, refl, sym, ap, ◌∙◌, subst, true, false, Some, None, inl, inr, arith}
 use Rattle.std.specs.Prelude.{Option, ◌==◌, if◌then◌else◌, codes, slice_get, IsUtf8}
 use Rattle.std.proofs.lemmas.Bool.{cases_Bool, eqb-true, eq-eqb, false≢true}

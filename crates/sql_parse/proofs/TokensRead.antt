@@ -1,4 +1,4 @@
--- What spells tokens is read as them.
+-- Bytes that spell tokens are read as these tokens.
 use Rattle.std.proofs.Common.{◌≡◌, ℕ, ◌+◌, ◌-◌, ◌*◌, ◌^◌, ◌<◌, ◌≤◌, min, List, [], ◌∷◌, ◌++◌, length, map, refl, sym, ap, ◌∙◌, subst, cond, true, false, inl, inr, Some, None, arith, append_assoc, append-nil, pos}
 use Rattle.std.specs.Prelude.{◌==◌, ◌&&◌, IsTrue, IsUtf8, nat_le}
 use Rattle.std.specs.List.{AllByRecursion}

@@ -1,4 +1,4 @@
--- What is read as tokens is spelled so.
+-- Bytes that are read as tokens spell these tokens.
 use Rattle.std.proofs.Common.{◌≡◌, ◌≢◌, ℕ, ◌+◌, ◌-◌, ◌*◌, ◌^◌, ◌<◌, ◌≤◌, min, List, [], ◌∷◌, ◌++◌, length, map, refl, sym, ap, ◌∙◌, subst, cond, true, false, inl, inr, ◌⊎◌, Some, None, arith, append_assoc, append-nil, pos}
 use Rattle.std.specs.Prelude.{◌==◌, IsTrue, nat_le, nat_lt}
 use Rattle.std.specs.List.{AllByRecursion}

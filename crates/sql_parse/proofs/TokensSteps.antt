@@ -1,4 +1,4 @@
--- How the reading of a text goes on at a byte, and where it ends a token.
+-- One step of reading a text: the state after a byte, and whether a token ends before it.
 use Rattle.std.proofs.Common.{◌≡◌, ℕ, List, [], ◌∷◌, ◌++◌, refl, sym, ap, ◌∙◌, cond, true, false, Some, None}
 use Rattle.std.specs.Prelude.{Option, option_to_list}
 use Rattle.sql_model.specs.declared.token.Token.{Token}

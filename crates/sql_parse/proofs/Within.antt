@@ -1,4 +1,4 @@
--- An expression within a depth, by what is within one less.
+-- An expression within a depth, in terms of expressions within a depth of one less.
 use Rattle.std.proofs.Common.{◌≡◌, ℕ, zero, suc, ◌-◌, ◌<◌, List, refl, None, subst, sym, arith}
 use Rattle.sql_model.specs.declared.token.Token.{Token}
 use Rattle.ldv_value.specs.Options.{◌>>=◌}

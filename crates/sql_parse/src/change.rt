@@ -11,7 +11,7 @@ use ldv_value::{Names, Utf8};
 use sql_model::{Delete, Exprs, Insert, Set, Update};
 use std::alloc::Global;
 
-/// What follows INSERT.
+/// Reads the rest of an INSERT, after its first word.
 pub(crate) fn insert(alloc: Global, reader: &mut Reader) -> Result<Insert, ParseStop>
     ensures { ReadsPart result reader.new (reads_insert reader.old) }
 {
@@ -40,7 +40,7 @@ fn columns(alloc: Global, reader: &mut Reader) -> Result<Option<Names>, ParseSto
     Ok(Some(names))
 }
 
-/// What follows UPDATE.
+/// Reads the rest of an UPDATE, after its first word.
 pub(crate) fn update(alloc: Global, reader: &mut Reader) -> Result<Update, ParseStop>
     ensures { ReadsPart result reader.new (reads_update reader.old) }
 {
@@ -62,7 +62,7 @@ impl Part for Set {
     }
 }
 
-/// What follows DELETE.
+/// Reads the rest of a DELETE, after its first word.
 pub(crate) fn delete(alloc: Global, reader: &mut Reader) -> Result<Delete, ParseStop>
     ensures { ReadsPart result reader.new (reads_delete reader.old) }
 {

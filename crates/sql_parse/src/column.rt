@@ -9,7 +9,7 @@ use ldv_value::Utf8;
 use sql_model::ColumnName;
 use std::alloc::Global;
 
-/// A column.
+/// Reads a column.
 pub(crate) fn column(alloc: Global, reader: &mut Reader) -> Result<ColumnName, ParseStop>
     ensures { ReadsPart result reader.new (reads_column reader.old) }
 {
@@ -17,7 +17,7 @@ pub(crate) fn column(alloc: Global, reader: &mut Reader) -> Result<ColumnName, P
     column_after(alloc, reader, name)
 }
 
-/// The column that begins with a name, which is its own or that of its source.
+/// Reads the rest of a column, after its first name. That is its own name or that of its source.
 pub(crate) fn column_after(
     alloc: Global,
     reader: &mut Reader,

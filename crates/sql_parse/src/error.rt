@@ -1,11 +1,11 @@
-//! Why a text isn't read.
+//! Errors of the parser.
 
 use std::alloc::AllocError;
 
-/// Why a text isn't read as a statement.
+/// Why a text wasn't read as a statement.
 #[derive(Clone, Copy, Debug, PartialEq, Eq)]
 pub enum ParseStop {
-    /// It has no reading with these parameters.
+    /// The text is no statement with these parameters.
     Syntax,
     /// Out of memory.
     NoMemory,

@@ -16,7 +16,7 @@ use sql_model::{Expr, Infix, Opening, Operator, ParsedExpr, Prefix};
 use sqlite_items::Boxed;
 use std::alloc::Global;
 
-/// An expression.
+/// Reads an expression.
 pub(crate) fn expression(alloc: Global, reader: &mut Reader) -> Result<Expr, ParseStop>
     ensures { ReadsPart result reader.new (reads_expr reader.old) }
 {

@@ -1,4 +1,4 @@
-//! The values of parameters in the places of their `?`.
+//! Replacing each `?` by the value of its parameter.
 
 ghost use Rattle.sql_parse.specs.inner.Gives.{GivesParsed};
 ghost use Rattle.sql_model.specs.Texts.{placed_token};
@@ -8,7 +8,8 @@ use crate::reader::is_word;
 use crate::token::{Lent, Lexeme};
 use ldv_value::Values;
 
-/// A token with the value of its parameter, where it is a `?`, and the place of the next parameter.
+/// A token, or the value of its parameter if it is a `?`, and the place of the next parameter. `Syntax` comes
+/// if there is no such parameter.
 pub(crate) fn placed_token<'a>(
     params: &'a Values,
     place: usize,

@@ -14,10 +14,10 @@ ghost use Rattle.sql_model.specs.Tokens.{tokens_of};
 
 /// Reading agrees with the grammar of expressions, in both directions.
 ///
-/// What `reads_expr` reads from the front of tokens is an expression by the grammar, of some level and of a
-/// depth of at most 64, and the rest is what follows it. Each expression by the grammar of such a
-/// depth is read from the front of tokens, where it doesn't go on with the token after it. And tokens are
-/// an expression by the grammar in at most one way, whatever its depth.
+/// If `reads_expr` reads an expression from the front of tokens, the tokens before the rest are this
+/// expression by the grammar, of some level and of a depth of at most 64. Each expression by the grammar of
+/// such a depth is read from the front of tokens, unless it goes on with the token after it. Tokens are an
+/// expression by the grammar in at most one way, whatever its depth.
 pub fn expression_law()
     ensures read { (ts : List Token) (e : Expr) (rest : List Token) → reads_expr ts ≡ Some (e, rest)
         → (front : List Token) × (ts ≡ front ++ rest)
@@ -29,15 +29,15 @@ pub fn expression_law()
         → IsExpr level depth ts e → IsExpr m n ts f → (e ≡ f) × (level ≡ m) × (depth ≡ n) }
 {}
 
-/// Bytes that are UTF-8 are cut into tokens exactly as the grammar spells tokens by bytes, and so in at most
-/// one way.
+/// UTF-8 bytes are split into tokens exactly as the grammar spells tokens by bytes, and so in at most one
+/// way.
 pub fn token_law()
     ensures { (text : List ℕ) (ts : List Token) → IsUtf8 text
         → (tokens_of text ≡ Some ts) ↔ Spells text ts }
 {}
 
-/// Reading agrees with the grammar of texts: a text with its parameters is read as a statement exactly where
-/// the grammar relates them, and so it has at most one reading.
+/// Reading agrees with the grammar of texts: a text with its parameters is read as a statement exactly if the
+/// grammar relates them, and so it has at most one reading.
 pub fn reading_law()
     ensures same { (text : List ℕ) (params : List Value) (s : Statement) → IsUtf8 text
         → (statement_of text params ≡ Some s) ↔ Reads text params s }

@@ -1,8 +1,8 @@
 //! The SQL parser: from a text with its parameters to the statement that the grammar of `sql_model` gives
 //! it.
 //!
-//! `scan` cuts a text into tokens, and `given` puts each parameter in the place of its `?`. The other
-//! modules read the tokens from left to right, each its part of the grammar.
+//! `scan` splits a text into tokens, and `given` replaces each `?` by its parameter. The other modules read
+//! the tokens from left to right, each its part of the grammar.
 //!
 //! Entry: `parse` in `src/reading.rt`. Read first: `specs/Texts.antt` of `sql_model`.
 #![tactic(auto)]

@@ -1,4 +1,4 @@
-//! How an operand begins.
+//! Beginnings of operands.
 
 ghost use Rattle.std.specs.Prelude.{◌≡◌};
 ghost use Rattle.sql_parse.specs.inner.Gives.{GivesParsed, ReadsPart};
@@ -13,7 +13,7 @@ use ldv_value::{CopyItem, Value};
 use sql_model::{Expr, Fold, Opening, Prefix};
 use std::alloc::Global;
 
-/// The beginning of an operand of at least a level.
+/// Reads the beginning of an operand whose level is at least `least`.
 pub(crate) fn read_opening(
     alloc: Global,
     reader: &mut Reader,
@@ -113,7 +113,7 @@ fn column_opening(alloc: Global, reader: &mut Reader, word: &str) -> Result<Open
     Ok(Opening::Leaf(Expr::Column(column)))
 }
 
-/// The least level of what is inside a form.
+/// The least level of an expression inside a form.
 pub(crate) fn inside_level(wrap: Prefix) -> u8
     ensures { result ≡ inside_level wrap }
 {

@@ -1,4 +1,4 @@
-//! What may be between operands, and how strongly it binds.
+//! Infix operators and IS, and how strongly they bind.
 
 ghost use Rattle.std.specs.Prelude.{◌≡◌, ◌∷◌, List};
 ghost use Rattle.sql_model.specs.declared.token.Token.{Token};
@@ -99,7 +99,7 @@ fn may_join(least: u8, level: u8, sign: Infix) -> bool
     least <= level_of(sign) && left_of(sign) <= level
 }
 
-/// The level of what an infix operator, or IS, makes.
+/// The level of an expression with an infix operator or IS.
 pub(crate) fn level_of(sign: Infix) -> u8
     ensures { result ≡ level_of sign }
 {
@@ -109,7 +109,7 @@ pub(crate) fn level_of(sign: Infix) -> u8
     }
 }
 
-/// The level of what an operator makes.
+/// The level of an expression with an operator.
 pub(crate) fn operator_level(operator: Operator) -> u8
     ensures { result ≡ operator_level operator }
 {

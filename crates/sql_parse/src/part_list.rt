@@ -19,7 +19,7 @@ use std::alloc::Global;
 
 /// An element of a comma-separated list.
 pub(crate) trait Part: Drop {
-    /// What is read at the front of tokens.
+    /// The part at the front of tokens, and the tokens after it.
     ghost reads: { Items Token → Option (Self × Items Token) };
 
     /// Reads one part.
@@ -27,7 +27,7 @@ pub(crate) trait Part: Drop {
         ensures { ReadsPart result reader.new (reads reader.old) };
 }
 
-/// One part and more of them, with commas between.
+/// Reads one or more parts, with commas between them.
 pub(crate) fn parse_list<P: Part>(alloc: Global, reader: &mut Reader) -> Result<List<P>, ParseStop>
     ensures { ReadsPart result reader.new (list_of_parts P.reads reader.old) }
 {
@@ -89,7 +89,7 @@ impl Part for Exprs {
     }
 }
 
-/// The expression after a word, where the word is there.
+/// Reads a word and the expression after it; `None` if the next token isn't the word.
 pub(crate) fn optional_expression(
     alloc: Global,
     reader: &mut Reader,

@@ -17,7 +17,7 @@ use ldv_value::{CopyItem, Value};
 use sql_model::{Cores, Order, OrderKey, Orders, Query};
 use std::alloc::Global;
 
-/// A query.
+/// Reads a query.
 pub(crate) fn query(alloc: Global, reader: &mut Reader) -> Result<Query, ParseStop>
     ensures { ReadsPart result reader.new (reads_query reader.old) }
 {

@@ -12,7 +12,7 @@ use sql_model::is_sql_name;
 use std::alloc::Global;
 use std::marker::Model;
 
-/// Tokens, of which those in front are read. Contracts see those that are left.
+/// Tokens that are read from the front. Contracts see those that are left.
 #[derive(Drop)]
 pub(crate) struct Reader<'a> {
     tokens: Tokens<'a>,
@@ -47,7 +47,7 @@ impl<'a> Reader<'a> {
         }
     }
 
-    /// The next token, which stays.
+    /// The next token, which isn't consumed; `None` if none is left.
     pub fn peek(&self) -> Option<&Lexeme<'a>>
         ensures { MatchOption result (self.now ≡ []) (λ t. self.now ≡ t.now ∷ tail self.now) }
     {
@@ -64,7 +64,7 @@ impl<'a> Reader<'a> {
         }
     }
 
-    /// Goes past the next token, if there is one.
+    /// Skips the next token, if there is one.
     pub fn skip(&mut self)
         ensures { self.new ≡ tail self.old }
     {
@@ -73,7 +73,7 @@ impl<'a> Reader<'a> {
         }
     }
 
-    /// Goes past the next token where it is this word or symbol, and says whether it is.
+    /// Skips the next token if it is this word or symbol, and returns whether it is.
     pub fn pass(&mut self, text: &str) -> bool
         ensures test { result ≡ starts text.now self.old }
         ensures rest { self.new ≡ tokens_past text.now self.old }
@@ -86,7 +86,7 @@ impl<'a> Reader<'a> {
         }
     }
 
-    /// Goes past the next token, which must be this word or symbol.
+    /// Skips the next token; `Syntax` if it isn't this word or symbol.
     pub fn expect(&mut self, text: &str) -> Result<(), ParseStop>
         ensures { Passes result self.new (after_word text.now self.old) }
     {
@@ -97,7 +97,7 @@ impl<'a> Reader<'a> {
         }
     }
 
-    /// Takes the next token; `Syntax` where none is left.
+    /// Takes the next token; `Syntax` if none is left.
     pub fn take_token(&mut self) -> Result<Lexeme<'a>, ParseStop>
         ensures { ReadsPart result self.new (reads_token self.old) }
     {
@@ -111,7 +111,7 @@ impl<'a> Reader<'a> {
         }
     }
 
-    /// Takes the next token, which must be a name.
+    /// Takes the next token as a name; `Syntax` if it isn't one.
     pub fn take_name(&mut self, alloc: Global) -> Result<Utf8, ParseStop>
         ensures { ReadsPart result self.new (reads_name self.old) }
     {
@@ -132,7 +132,7 @@ pub(crate) fn is_word(token: &Lexeme, text: &str) -> bool
     }
 }
 
-/// A word as a name.
+/// A word as a name; `Syntax` if it can't be one.
 pub(crate) fn name_in(alloc: Global, word: &str) -> Result<Utf8, ParseStop>
     ensures { GivesParsed result (name_in word.now) }
 {

@@ -19,9 +19,9 @@ use sql_model::Statement;
 use std::alloc::Global;
 
 /// Reads a statement, in one pass over the tokens of the text. The k-th `?` stands for the k-th parameter.
-/// `Syntax` comes exactly where the text with these parameters has no reading by the grammar of
-/// `docs/SQL.md`: also where it has more or fewer `?` than there are parameters, an expression deeper than
-/// 64, or more than 8 sources in a core.
+/// `Syntax` comes exactly if the text with these parameters has no reading by the grammar of `docs/SQL.md`.
+/// It has none if it has more or fewer `?` than there are parameters, an expression deeper than 64, or more
+/// than 8 sources in a core.
 pub fn parse(alloc: Global, text: &str, params: &Values) -> Result<Statement, ParseStop>
     ensures reading { IfOk result (λ statement. ReadsAs text.now params.now statement) }
     ensures none { IsErrOf result Syntax → (statement : Statement) → ¬ ReadsAs text.now params.now statement }

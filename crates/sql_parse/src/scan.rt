@@ -1,7 +1,7 @@
 //! From the bytes of a text to its tokens.
 //!
-//! A token is cut out of the text where it stands, words out of the text in lower case, which is made once
-//! for all of them.
+//! A token borrows its bytes from the text. Words borrow from the text in lower case, which is made once for
+//! all of them.
 
 ghost use Rattle.std.specs.Prelude.{◌≡◌, ◌∷◌, [], ◌++◌, ◌+◌, ◌-◌, ◌<◌, ◌≤◌, List, ℕ, None, false};
 ghost use Rattle.std.specs.Prelude.{length, map, slice_index, slice_range};
@@ -22,7 +22,7 @@ use crate::token::{Lexeme, Tokens, number_token, symbol_token, text_token, word_
 use ldv_value::{Bytes, Values};
 use std::alloc::{AllocError, Global};
 
-/// The number of tokens for which there is room at first.
+/// The number of tokens that memory is reserved for at first.
 const ROOM: usize = 24;
 
 /// A text with its letters in lower case.
@@ -38,8 +38,7 @@ pub(crate) fn lower_case(alloc: Global, text: &[u8]) -> Result<Bytes, AllocError
     Ok(lower)
 }
 
-/// The tokens of a text, which is also given in lower case, with the k-th parameter in the place of the
-/// k-th `?`.
+/// The tokens of a text, with the k-th parameter in place of the k-th `?`. `lower` is the text in lower case.
 #[tactic(auto, using(crate::proofs::TokensFrom::given_rules))]
 pub(crate) fn tokens<'a>(
     alloc: Global,

@@ -14,7 +14,7 @@ use ldv_value::{MAX_SOURCES, Utf8};
 use sql_model::{ColumnName, ColumnNames, Core, Expr, Exprs, Item, Items, Sources};
 use std::alloc::{AllocError, Global};
 
-/// A core, which follows UNION ALL where `joined_all` is true.
+/// Reads a core. `joined_all` says whether it follows UNION ALL.
 pub(crate) fn core(alloc: Global, reader: &mut Reader, joined_all: bool) -> Result<Core, ParseStop>
     ensures { ReadsPart result reader.new (reads_core joined_all reader.old) }
 {

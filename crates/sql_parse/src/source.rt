@@ -14,7 +14,8 @@ use ldv_value::Utf8;
 use sql_model::{Exprs, FromItem, FromItems, Sources, is_sql_name};
 use std::alloc::Global;
 
-/// The sources of a core, at most `most`, with the conditions that follow their ON.
+/// Reads the sources of a core, with the conditions that follow their ON; `Syntax` if there are more than
+/// `most`.
 pub(crate) fn all_sources(
     alloc: Global,
     reader: &mut Reader,

@@ -9,17 +9,18 @@ use crate::error::ParseStop;
 use crate::reader::Reader;
 use std::alloc::Global;
 
-/// What is read in steps, each of which adds a part to what is made so far.
+/// A value that is read in steps. Each step adds a part to it.
 pub(crate) trait Steps: Drop {
-    /// What a step at the front of tokens makes of what is made so far, and whether another step follows.
+    /// The value after a step at the front of tokens, whether another step follows, and the tokens after the
+    /// step.
     ghost reads: { Self → List Token → Option ((Self × Bool) × List Token) };
 
-    /// Reads one step.
+    /// Reads one step, and returns the value after it and whether another step follows.
     fn read_step(self, alloc: Global, reader: &mut Reader) -> Result<(Self, bool), ParseStop>
         ensures { ReadsPart result reader.new (reads self reader.old) };
 }
 
-/// Reads steps while another one follows, at most `most`; `Syntax` where more follow.
+/// Reads steps while another one follows; `Syntax` if there are more than `most`.
 #[tactic(auto, using(crate::proofs::Repeat::repeat_rules))]
 pub(crate) fn all_steps<S: Steps>(
     alloc: Global,

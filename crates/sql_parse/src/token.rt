@@ -1,4 +1,4 @@
-//! Tokens of a text, lent from it.
+//! Tokens of a text, which borrow from it.
 
 ghost use Rattle.std.specs.Prelude.{◌≡◌, IfOk};
 ghost use Rattle.std.specs.Str.{is_utf8};
@@ -12,7 +12,7 @@ use ldv_value::{Bytes, List, NAME_LIMIT, TEXT_LIMIT, Utf8, Value};
 use std::alloc::AllocError;
 use std::marker::Model;
 
-/// What a token is. Words and the values of parameters stay where they are.
+/// The content of a token. Words and the values of parameters are borrowed, not copied.
 #[derive(Drop)]
 pub(crate) enum Lent<'a> {
     /// A word, its letters in lower case, or a symbol.
@@ -25,7 +25,7 @@ pub(crate) enum Lent<'a> {
     Given(&'a Value),
 }
 
-/// A token, which may be lent. Contracts see the `Token` of `sql_model`.
+/// A token, which may borrow its content. Contracts see the `Token` of `sql_model`.
 #[derive(Drop)]
 pub(crate) struct Lexeme<'a> {
     lent: Lent<'a>,
@@ -44,21 +44,21 @@ impl<'a> Model for Lexeme<'a> {
 pub(crate) type Tokens<'a> = List<Lexeme<'a>>;
 
 impl<'a> Lexeme<'a> {
-    /// The token that is this.
+    /// The token with this content.
     pub fn of(lent: Lent<'a>) -> Lexeme<'a>
         ensures { result ≡ token_of lent.entry }
     {
         Lexeme { lent }
     }
 
-    /// What the token is.
+    /// The content of the token.
     pub fn as_lent(&self) -> &Lent<'a>
         ensures { token_of result.now ≡ self.now }
     {
         &self.lent
     }
 
-    /// What the token is, itself.
+    /// The content of the token, moved out of it.
     pub fn into_lent(self) -> Lent<'a>
         ensures { token_of result ≡ self.entry }
     {
@@ -66,7 +66,7 @@ impl<'a> Lexeme<'a> {
         lent
     }
 
-    /// A copy, which lends the same.
+    /// A copy, which borrows from the same text and parameters.
     pub fn copy(&self) -> Result<Lexeme<'a>, AllocError>
         ensures { IfOk result (λ copy. copy ≡ self.now) }
     {
@@ -79,7 +79,7 @@ impl<'a> Lexeme<'a> {
     }
 }
 
-/// The token of a word's bytes.
+/// The token of a word's bytes; `Syntax` if they are more than `NAME_LIMIT` or not UTF-8.
 pub(crate) fn word_token<'a>(bytes: &'a [u8]) -> Result<Lexeme<'a>, ParseStop>
     ensures { GivesParsed result (word_token bytes.now) }
 {
@@ -89,7 +89,7 @@ pub(crate) fn word_token<'a>(bytes: &'a [u8]) -> Result<Lexeme<'a>, ParseStop>
     symbol_token(bytes)
 }
 
-/// The token of a number's value.
+/// The token of a number's value; `Syntax` if it is above 2^63 - 1.
 pub(crate) fn number_token<'a>(number: u64) -> Result<Lexeme<'a>, ParseStop>
     ensures { GivesParsed result (number_token number) }
 {
@@ -100,7 +100,7 @@ pub(crate) fn number_token<'a>(number: u64) -> Result<Lexeme<'a>, ParseStop>
     }
 }
 
-/// The token of the bytes between quotes.
+/// The token of the bytes between quotes; `Syntax` if they are more than `TEXT_LIMIT` or not UTF-8.
 pub(crate) fn text_token<'a>(bytes: Bytes) -> Result<Lexeme<'a>, ParseStop>
     ensures { GivesParsed result (text_token bytes) }
 {
@@ -111,7 +111,7 @@ pub(crate) fn text_token<'a>(bytes: Bytes) -> Result<Lexeme<'a>, ParseStop>
     Ok(Lexeme::of(Lent::Quoted(text)))
 }
 
-/// The token of a symbol's bytes.
+/// The token of a symbol's bytes; `Syntax` if they aren't UTF-8.
 #[tactic(auto, using(crate::proofs::Spelled::symbol_rules))]
 pub(crate) fn symbol_token<'a>(bytes: &'a [u8]) -> Result<Lexeme<'a>, ParseStop>
     ensures { GivesParsed result (symbol_token bytes.now) }

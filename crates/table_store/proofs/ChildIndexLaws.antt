@@ -1,5 +1,4 @@
--- References by their keys: what an index of them has once a pair is added or taken out, and which row comes
--- next.
+-- References by their keys: an index of them after a pair is added or removed, and the row that comes next.
 use Rattle.std.proofs.Common.{◌≡◌, ℕ, zero, suc, ◌+◌, ◌<◌, ◌≤◌, List, [], ◌∷◌, length, get_or, take, refl, sym, ap, subst, ◌∙◌, Bool, true, false, cond, inl, inr, arith, Option, Some, None, add-one}
 use Rattle.std.specs.Prelude.{ℤ, IfSome, find, if◌then◌else◌}
 use Rattle.std.specs.Cmp.{eq_by_cmp_equiv, nat_cmp_is}
@@ -32,6 +31,11 @@ pub keep_as : (a b : Bool) (f g : ℤ → Bool) (o : Option ℤ) → (a ≡ true
     → pair_as a f o ≡ true → pair_as b g o ≡ true
 keep_as a b f g None one two is = one is
 keep_as a b f g (Some z) one two is = two z is
+
+pub none_as : (a : Bool) (f : ℤ → Bool) (o : Option ℤ) → a ≡ false → ((z : ℤ) → f z ≡ false)
+    → pair_as a f o ≡ false
+none_as a f None one two = one
+none_as a f (Some z) one two = two z
 
 pub keep_both : (one two three : Pairs) → KeepPairs one two → KeepPairs two three → KeepPairs one three
 keep_both one two three first second place key number is = second place key number (first place key number is)

@@ -1,4 +1,4 @@
--- What is looked up for children: sets of keys, the keys of rows by their numbers, and what the row in a slot
+-- Look-ups for children: sets of keys, the keys of rows by their numbers, and the keys that the row in a slot
 -- refers to.
 use Rattle.std.proofs.Common.{◌≡◌, ◌==◌, ℕ, ◌+◌, ◌<◌, List, [], ◌∷◌, ◌++◌, take, length, get_or, refl, sym, ap, ◌∙◌, Bool, true, false, cond, not, ◌&&◌, ◌||◌, inl, inr, Option, Some, None, is_some}
 use Rattle.std.specs.Prelude.{find, if◌then◌else◌}

@@ -1,14 +1,14 @@
 -- The first row of a table that refers to one of some keys: by one key after the other, and by one foreign key
 -- after the other.
 use Rattle.std.proofs.Common.{◌≡◌, ◌==◌, ℕ, zero, suc, ◌+◌, ◌<◌, ◌≤◌, List, [], ◌∷◌, take, length, get_or, refl, sym, ap, ◌∙◌, Bool, true, false, cond, not, ◌&&◌, ◌||◌, inl, inr, arith, Option, Some, None, is_some, eq-eqb}
-use Rattle.std.specs.Prelude.{find, min, if◌then◌else◌, ◌^◌}
+use Rattle.std.specs.Prelude.{IfSome, find, min, if◌then◌else◌, ◌^◌}
 use Rattle.std.specs.BTreeSet.{BTreeSet}
 use Rattle.std.specs.List.{AllByRecursion, cons_option, list_any}
 use Rattle.std.specs.Option.{option_map, option_map_or, option_and_then, option_or}
 use Rattle.std.proofs.lemmas.Bool.{cases_Bool, cases_lt, eqb-true, ne_eqb}
 use Rattle.std.proofs.lemmas.List.{take_more}
 use Rattle.ldv_value.proofs.Booleans.{and-false, or-false, or-parts, true≢false}
-use Rattle.ldv_value.proofs.Lists.{list_any-append, list_any-false}
+use Rattle.ldv_value.proofs.Lists.{all-weaker, list_any-append, list_any-false}
 use Rattle.ldv_value.proofs.Options.{none-some}
 use Rattle.ldv_value.specs.Options.{first_some}
 use Rattle.row_version.specs.History.{current_values}
@@ -16,7 +16,7 @@ use Rattle.sql_model.specs.Keys.{same_values}
 use Rattle.sql_model.specs.References.{Orphan, child_of, orphan_by, reference}
 use Rattle.sql_model.specs.Scope.{is_table, same_text}
 use Rattle.table_store.specs.inner.Afterwards.{in_set, is_other, orphan_in_other, orphan_in_row, orphan_in_slot, orphan_in_table}
-use Rattle.table_store.specs.inner.ChildPairs.{IsNextOf, first_number, given_in, is_child, is_child_by, is_child_in, is_child_of, lower_of, refers}
+use Rattle.table_store.specs.inner.ChildPairs.{AreReferred, IsNextOf, IsReferred, Pairs, first_number, given_in, is_child, is_child_by, is_child_in, is_child_of, lower_of, refers}
 use Rattle.table_store.specs.inner.ChildSteps.{AreFrom, IsStep, after}
 use Rattle.table_store.specs.Histories.{RowHistory, TableHistory, no_history, row_now, row_of, rows_now, slot_of_row, table_now}
 use Rattle.table_store.specs.RowOrder.{AreInOrder}
@@ -430,3 +430,45 @@ module _ (target : List ℕ) (numbers : List ℕ) (set : BTreeSet RowKey) (h : T
 pub given_sorted : (own : Bool) (numbers : List ℕ) → are_sorted_numbers numbers ≡ true → are_sorted_numbers (given_in own numbers) ≡ true
 given_sorted true numbers sorted = sorted
 given_sorted false numbers sorted = refl
+
+-- ---- where no row refers to a key
+
+-- no number under any key
+abbrev pub HaveNone : Pairs → Type 0
+HaveNone pairs = (place : ℕ) (key : List Value) (number : ℕ) → pairs place key number ≡ false
+
+module _ (given target : List ℕ) (keys : List RowKey) (row : TableRow) where
+  abbrev is_one : Option (List Value) → Bool
+  is_one o = list_any (λ (key : RowKey). option_map_or (λ own. same_values own key.values) o false) keys
+
+  -- by a foreign key by which the row refers to none
+  none_by : (f : Foreign) → reference f row.values ≡ None → is_child_by given target keys f row ≡ false
+  none_by f is =
+      ap (λ (b : Bool). same_text f.parent target && (not (is_among given row) && b))
+      (ap is_one is ∙ list_any-false keys)
+      ∙ ap (λ (b : Bool). same_text f.parent target && b) (and-false (not (is_among given row)))
+      ∙ and-false (same_text f.parent target)
+
+  -- by one foreign key, if its keys have no row
+  none_at_key : (at : List Value → Bool) → ((key : List Value) → at key ≡ false)
+      → (f : Foreign) (o : Option (List Value)) → reference f row.values ≡ o
+      → IfSome o (λ key. at key ≡ true) → is_child_by given target keys f row ≡ false
+  none_at_key at none f None is pair = none_by f is
+  none_at_key at none f (Some key) is pair = absurd (true≢false (sym pair ∙ none key))
+
+  none_in : (pairs : Pairs) → HaveNone pairs → (fs : List Foreign) → IsReferred pairs fs row
+      → is_child_in given target keys fs row ≡ false
+  none_in pairs none [] there = refl
+  none_in pairs none (f ∷ fs) there = λ j.
+      none_at_key (λ key. pairs 0 key row.number) (λ key. none 0 key row.number) f (reference f row.values)
+      refl (there 0 (omega arith)) j
+      || none_in (λ place. pairs (suc place)) (λ place. none (suc place)) fs
+      (λ place within. there (suc place) (omega (arith, within))) j
+
+pub none_referred : (pairs : Pairs) → HaveNone pairs → (fs : List Foreign) (rows : List TableRow)
+    → AreReferred pairs fs rows → (given target : List ℕ) (keys : List RowKey)
+    → None ≡ first_number (is_child_in given target keys fs) rows
+none_referred pairs none fs rows there given target keys =
+    none_passes (is_child_in given target keys fs) rows
+    (all-weaker (IsReferred pairs fs) (λ row. is_child_in given target keys fs row ≡ false)
+    (λ row its. none_in given target keys row pairs none fs its) rows there)

@@ -1,4 +1,4 @@
--- Pairs of a key and a number in order: which number comes first under a key.
+-- Ordered pairs of a key and a number, and the first number under a key.
 use Rattle.std.proofs.Common.{◌≡◌, ℕ, ◌<◌, ◌≤◌, List, [], ◌∷◌, refl, sym, ap, subst, ◌∙◌, Bool, true, false, cond, inl, inr, arith, Option, Some, None}
 use Rattle.std.specs.Prelude.{slice_get, IfSome, if◌then◌else◌}
 use Rattle.std.specs.BTreeMap.{is_at}

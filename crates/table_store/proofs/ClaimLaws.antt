@@ -1,4 +1,4 @@
--- New rows after those that stand, and their keys.
+-- New rows after the live ones, and their keys.
 use Rattle.std.proofs.Common.{◌≡◌, ◌==◌, ℕ, zero, suc, ◌+◌, ◌<◌, ◌≤◌, Bool, true, false, cond, ◌&&◌, List, [], ◌∷◌, ◌++◌, length, get_or, take, drop, refl, ap, sym, subst, ◌∙◌, arith, Option, Some, None, eq-eqb, append_assoc, add-one, drop-cons}
 use Rattle.std.specs.Prelude.{find, if◌then◌else◌, Result, Ok, Err, OnOk}
 use Rattle.std.specs.Option.{option_map, option_or}

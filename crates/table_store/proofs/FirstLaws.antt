@@ -1,4 +1,4 @@
--- The first that some item of a list gives.
+-- The first result that a function gives over the items of a list.
 use Rattle.std.proofs.Common.{◌≡◌, ℕ, zero, suc, ◌+◌, ◌<◌, ◌≤◌, List, [], ◌∷◌, ◌++◌, length, take, get_or, refl, sym, ap, ◌∙◌, Bool, true, false, inl, inr, arith, add-one}
 use Rattle.std.specs.Prelude.{Option, Some, None, is_some, map, filter, if◌then◌else◌}
 use Rattle.std.proofs.lemmas.List.{take_all}

@@ -1,4 +1,4 @@
--- Keys of given rows: which are claimed, and which two rows clash first.
+-- Keys of given rows: the keys that are claimed, and the first two rows that clash.
 use Rattle.std.proofs.Common.{◌≡◌, ◌==◌, ℕ, ◌+◌, ◌<◌, ◌≤◌, inl, inr, Bool, true, false, cond, ◌&&◌, ◌||◌, List, [], ◌∷◌, ◌++◌, map, length, get_or, take, drop, refl, ap, sym, subst, ◌∙◌, arith, Option, Some, None, eq-eqb, append_assoc, append-nil}
 use Rattle.std.specs.Prelude.{find, is_some, nat_lt, if◌then◌else◌, unwrap_or}
 use Rattle.std.specs.List.{AllByRecursion, list_all, list_any}

@@ -1,4 +1,4 @@
--- Numbers of new rows, which are held apart where they are too high for a row.
+-- Numbers of new rows, which are stored apart if they are too high for a row.
 use Rattle.std.proofs.Common.{◌≡◌, ℕ, ◌+◌, ◌<◌, ◌≤◌, List, [], ◌∷◌, ◌++◌, length, ap, arith, Option, Some, None}
 use Rattle.std.specs.Prelude.{◌^◌}
 use Rattle.sql_model.specs.Changes.{numbered_rows}

@@ -1,4 +1,4 @@
--- What an index has, by its two maps.
+-- The view of an index, by its two maps.
 use Rattle.std.proofs.Common.{◌≡◌, ℕ, inl, inr, Bool, true, false, cond, List, [], ◌∷◌, refl, ap, sym, ◌∙◌, Option, Some, None}
 use Rattle.std.specs.Prelude.{ℤ, IsSome}
 use Rattle.std.specs.Option.{option_or}

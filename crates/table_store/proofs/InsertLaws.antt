@@ -1,4 +1,4 @@
--- New rows of a table: their numbers, their kinds, and which of them clash.
+-- New rows of a table: their numbers, their kinds, and their clashes.
 use Rattle.std.proofs.Common.{◌≡◌, ◌==◌, ℕ, zero, suc, ◌+◌, ◌<◌, ◌≤◌, inl, inr, Bool, true, false, cond, ◌&&◌, ◌||◌, List, [], ◌∷◌, ◌++◌, map, length, get_or, refl, ap, sym, subst, ◌∙◌, arith, Option, Some, None, eq-eqb, append_assoc, append-nil}
 use Rattle.std.specs.Prelude.{find, if◌then◌else◌, nat_lt, zip, ◌^◌}
 use Rattle.std.specs.List.{list_all, list_any, cons_option}

@@ -1,4 +1,4 @@
--- What references refuse a change for, after what its own table refuses.
+-- The refusals of a change by references, after those by its own table.
 use Rattle.std.proofs.Common.{◌≡◌, ◌∙◌, ℕ, List, sym, ap, subst, Bool, true, false, Option, Some, None}
 use Rattle.std.specs.Prelude.{Result, Err, nat_lt, ◌+◌, length}
 use Rattle.std.specs.List.{list_any}

@@ -1,4 +1,4 @@
--- Which children lose their parents, by the rows that are given or dropped.
+-- The children that lose their parents, by the rows that are given or deleted.
 use Rattle.std.proofs.Common.{◌≡◌, ℕ, List, [], ◌∷◌, ◌++◌, refl, sym, ap, ◌∙◌, Bool, true, false, inl, inr}
 use Rattle.std.specs.Prelude.{Option, Some, None, map, filter, length, not, ◌&&◌, ◌||◌, ◌==◌, if◌then◌else◌}
 use Rattle.std.specs.List.{flat_map, list_any}

@@ -1,4 +1,4 @@
--- What tables are now, and what they are from their last change on.
+-- The tables now, which are the tables after any time from their last change on.
 use Rattle.std.proofs.Common.{◌≡◌, ℕ, suc, ◌<◌, ◌≤◌, inl, inr, Bool, true, false, cond, List, [], ◌∷◌, map, length, get_or, refl, ap, sym, subst, ◌∙◌, arith, Option, Some, None, le-leb}
 use Rattle.std.specs.Prelude.{find, filter, nat_le, IfSome, IsSome, IfOk, Result, Ok, Err}
 use Rattle.std.specs.List.{cons_option, last_or}

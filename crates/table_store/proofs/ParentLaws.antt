@@ -1,4 +1,5 @@
--- The parent rows of given rows: what is looked up is what the rows refer to, where no two rows have one key.
+-- The parent rows of given rows: the rows that are looked up are those that the given rows refer to, if no
+-- two rows have one key.
 use Rattle.std.proofs.Common.{◌≡◌, ◌==◌, ℕ, ◌+◌, ◌<◌, List, [], ◌∷◌, ◌++◌, map, length, get_or, take, refl, sym, ap, subst, ◌∙◌, Bool, true, false, cond, not, ◌&&◌, ◌⊎◌, inl, inr, arith, Option, Some, None, is_some}
 use Rattle.std.specs.Prelude.{IfSome, filter, find, if◌then◌else◌, nat_lt, unwrap_or}
 use Rattle.std.specs.BTreeMap.{BTreeMap, IsEmpty, Updates, is_at}

@@ -1,5 +1,5 @@
--- Which parents are missing once rows are given: by the tables before, with the given rows and those that keep
--- their place.
+-- The parents that are missing after rows are given, by the tables before, the given rows and the rows that
+-- stay.
 use Rattle.std.proofs.Common.{◌≡◌, ℕ, ◌+◌, ◌<◌, ◌≤◌, List, [], ◌∷◌, refl, sym, ap, ◌∙◌, subst, Bool, true, false, ◌⊎◌, inl, inr, arith}
 use Rattle.std.specs.Prelude.{Option, Some, None, map, find, length, not, unwrap_or, ◌&&◌, ◌||◌, ◌==◌, if◌then◌else◌}
 use Rattle.std.specs.List.{filter_map, list_any, list_all}

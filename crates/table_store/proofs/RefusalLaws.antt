@@ -1,4 +1,4 @@
--- What references refuse a change for, by what the code looks up.
+-- The refusals of a change by references, as the code looks them up.
 use Rattle.std.proofs.Common.{◌≡◌, ℕ, ◌+◌, ◌<◌, List, [], ◌∷◌, length, refl, sym, ap, ◌∙◌, subst, Bool, true, false, cond, is_some, inl, inr, arith}
 use Rattle.std.specs.Prelude.{Option, Some, None, map, find, zip, not, ◌&&◌, ◌||◌, ◌==◌, if◌then◌else◌}
 use Rattle.std.specs.List.{list_any, list_all}

@@ -1,4 +1,4 @@
--- Keys of rows once others took the place of some of them.
+-- Keys of rows after others have replaced some of them.
 use Rattle.std.proofs.Common.{◌≡◌, ◌==◌, ℕ, zero, suc, ◌<◌, ◌≤◌, inl, inr, true, false, cond, List, [], ◌∷◌, ◌++◌, map, length, get_or, refl, ap, sym, subst, ◌∙◌, arith, Option, Some, None, eq-eqb}
 use Rattle.std.specs.Prelude.{find, IfOk, Result, Ok, Err, nat_lt, unwrap_or, slice_get, if◌then◌else◌}
 use Rattle.std.specs.List.{list_any}

@@ -1,4 +1,4 @@
--- A walk over the rows that stand, by their bits.
+-- A walk over the live rows, by their bits.
 use Rattle.std.proofs.Common.{◌≡◌, ◌∙◌, sym, ap, refl, ℕ, zero, suc, ◌+◌, ◌-◌, ◌<◌, false, List, [], ◌∷◌, ◌++◌, drop, get_or, append_assoc, append-nil, arith, Option, Some, None}
 use Rattle.std.specs.Prelude.{is_some, IsSome}
 use Rattle.std.specs.List.{cons_option}

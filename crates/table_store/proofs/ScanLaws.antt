@@ -1,4 +1,4 @@
--- What a scan of a column selects.
+-- The slots that a scan of a column selects.
 use Rattle.std.proofs.Common.{◌≡◌, ℕ, ◌+◌, ◌/◌, ◌<◌, ◌≤◌, inl, inr, Bool, true, false, not, ◌&&◌, List, [], ◌∷◌, length, map, get_or, refl, ap, sym, ◌∙◌, arith}
 use Rattle.std.specs.Prelude.{ℤ, Option, Some, None, is_none, is_some, slice_get}
 use Rattle.std.specs.Option.{option_map_or}

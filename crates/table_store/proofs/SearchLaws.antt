@@ -1,4 +1,4 @@
--- What a binary search in sorted numbers finds.
+-- The result of a binary search in sorted numbers.
 use Rattle.std.proofs.Common.{◌≡◌, ◌==◌, ℕ, zero, suc, ◌<◌, ◌≤◌, List, [], ◌∷◌, length, get_or, Result, Ok, Err, Bool, true, sym, inl, inr, arith}
 use Rattle.std.specs.Prelude.{is_ok, nat_lt}
 use Rattle.std.specs.List.{list_any, list_all}

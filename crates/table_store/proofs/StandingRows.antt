@@ -1,4 +1,4 @@
--- Rows that stand: the slots that they are in, and the one that has a key.
+-- Live rows: their slots, and the row with a key.
 use Rattle.std.proofs.Common.{◌≡◌, ◌==◌, ◌∙◌, sym, ap, subst, refl, ℕ, suc, ◌<◌, Bool, true, false, List, [], ◌∷◌, map, length, get_or, inl, inr, arith, Option, Some, None}
 use Rattle.std.specs.Prelude.{filter, find}
 use Rattle.std.specs.Cmp.{eq_by_cmp_equiv}

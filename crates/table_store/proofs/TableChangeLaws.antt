@@ -1,4 +1,4 @@
--- Changes of a table: what its rows are afterwards, and before.
+-- Changes of a table: its rows before and after.
 use Rattle.std.proofs.Common.{◌≡◌, ◌==◌, ℕ, zero, suc, ◌+◌, ◌<◌, ◌≤◌, inl, inr, Bool, true, false, cond, not, ◌||◌, List, [], ◌∷◌, ◌++◌, map, length, get_or, refl, ap, sym, subst, ◌∙◌, arith, Option, Some, None, eqb-true, append-nil}
 use Rattle.std.specs.Prelude.{find, filter, IfSome, IsSome, nat_le, nat_lt, unwrap_or}
 use Rattle.std.specs.List.{cons_option, list_any, list_all, last_or}

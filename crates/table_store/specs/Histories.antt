@@ -1,7 +1,7 @@
--- Tables through time: of each row its changes, and of each table the numbers of its next row.
+-- Tables through time: the changes of each row, and the numbers of each table's next row.
 --
--- All that the store's contracts say is a function of these: the tables as they are now or were after a time,
--- and the versions of their rows.
+-- The store's contracts only use functions of these: the tables now or after a time, and the versions of
+-- their rows.
 use Rattle.std.specs.Prelude.{◌≡◌, ℕ, ◌==◌, ◌+◌, ◌<◌, length, Bool, List, [], ◌∷◌, ◌++◌, Option, Some, None}
 use Rattle.std.specs.Prelude.{map, find, filter, nat_le, if◌then◌else◌, is_some}
 use Rattle.std.specs.List.{filter_map, last_or, position}

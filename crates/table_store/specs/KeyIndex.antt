@@ -1,7 +1,7 @@
--- The index over the key: from the key of each row that stands to the row's number.
+-- The index over the key: from the key of each live row to the row's number.
 --
--- It may have more keys than that: those of rows that are gone or have another key now. Whoever looks up a
--- key looks at the row too.
+-- It may have more keys: those of rows that are deleted or have another key now. So each look-up of a key
+-- checks the row too.
 use Rattle.std.specs.Prelude.{◌≡◌, ℕ, ℤ, List, [], ◌∷◌, Option, Some, None, find}
 use Rattle.std.specs.Map.{update_all}
 use Rattle.std.specs.Ordering.{int_cmp, eq_by_cmp}

@@ -1,4 +1,4 @@
--- What references between the tables of a store refuse, and the parent rows of given rows.
+-- The refusals by references between the tables of a store, and the parent rows of given rows.
 use Rattle.std.specs.Prelude.{◌≡◌, ℕ, ◌++◌, ◌==◌, ◌⊎◌, Bool, true, not, List, map, filter, Option}
 use Rattle.std.specs.Prelude.{Some, is_none}
 use Rattle.std.specs.List.{list_any}

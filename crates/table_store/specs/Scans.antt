@@ -1,4 +1,4 @@
--- What a scan of a column selects.
+-- The slots that a scan of a column selects.
 use Rattle.std.specs.Prelude.{ℤ, Bool, true, false, not}
 use Rattle.ldv_value.specs.Order.{test_of}
 use Rattle.sql_model.specs.Meaning.{is_null, is_true}

@@ -1,4 +1,4 @@
--- What changes make of tables, and when they are refused, in the words of what statements mean.
+-- The tables after changes, and the refusals of changes, in terms of the meaning of statements.
 use Rattle.std.specs.Prelude.{◌≡◌, ℕ, ◌+◌, ◌++◌, ◌&&◌, ◌==◌, Bool, not, List, length, map, filter, find}
 use Rattle.std.specs.Prelude.{Option, Some, None, unwrap_or, Result, Ok, Err, if◌then◌else◌, nat_lt}
 use Rattle.std.specs.List.{list_any, list_all}

@@ -1,4 +1,4 @@
--- A change of one table of a store, by what refuses it.
+-- A change of one table of a store, and the references that may refuse it.
 use Rattle.std.specs.Prelude.{◌≡◌, ℕ, List, Option, Result, OnOk, OnErr}
 use Rattle.std.specs.Option.{option_and_then}
 use Rattle.sql_model.specs.Scope.{table_at}

@@ -1,4 +1,4 @@
--- The tables of a store, as they are kept.
+-- The tables of a store, as they are stored.
 use Rattle.std.specs.Prelude.{◌≡◌, ℕ, ◌<◌, ◌≤◌, Bool, true, List, [], length, map, slice_index_or}
 use Rattle.ldv_value.specs.Sorted.{is_strictly_sorted, text_precedes}
 use Rattle.sql_model.specs.Scope.{catalog_of}

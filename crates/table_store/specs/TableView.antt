@@ -1,4 +1,4 @@
--- A table as it is kept.
+-- A table as it is stored.
 use Rattle.std.specs.Prelude.{◌≡◌, ℕ, ◌<◌, ◌≤◌, Bool, List, [], ◌∷◌, length, map}
 use Rattle.std.specs.Prelude.{slice_index_or}
 use Rattle.row_version.specs.History.{IsSorted, last_time}

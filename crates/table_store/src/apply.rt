@@ -1,4 +1,4 @@
-//! Changes of rows, where all room that they take is there.
+//! Changes of rows whose memory was reserved before.
 
 ghost use Rattle.std.specs.Prelude.{◌≡◌, ◌<◌, true, Some, None, IsOk, length, map, slice_index_or};
 ghost use Rattle.std.specs.Ordering.{nat_cmp};
@@ -14,7 +14,8 @@ use crate::change::{Copies, RowChange};
 use crate::grid::Grid;
 use std::alloc::AllocError;
 
-/// Changes the rows of some numbers at a time. It never fails, as there is room.
+/// Applies changes of rows, each by its number, at a time. It never fails, since `make_room` reserved the
+/// memory.
 pub(crate) fn apply_all(
     grid: &mut Grid,
     chains: &mut Chains,

@@ -1,4 +1,4 @@
-//! The chains of the rows that have changed, by their numbers.
+//! The chains of rows that have changed, by row number.
 
 ghost use Rattle.std.specs.Prelude.{◌≡◌, ◌==◌, ℕ, ◌+◌, ◌<◌, ◌≤◌, Bool, false, List, [], ◌∷◌, ◌++◌, Option};
 ghost use Rattle.std.specs.Prelude.{Some, None, OnOk, OnErr, IsOk, IsSome, is_some};
@@ -13,7 +13,7 @@ use row_version::Chain;
 use std::alloc::{AllocError, Global};
 use std::collections::BTreeMap;
 
-/// Chains by the numbers of their rows.
+/// Chains by row number.
 #[derive(Drop)]
 pub(crate) struct Chains {
     pub(crate) held: BTreeMap<u32, Chain>,
@@ -29,7 +29,7 @@ impl Chains {
         }
     }
 
-    /// The chain of a row.
+    /// The chain of a row; `None` if the row hasn't changed.
     pub(crate) fn chain(&self, number: u32) -> Option<&Chain>
         ensures { option_map (λ x. x.now) result ≡ get nat_cmp self.now.held number }
     {
@@ -43,7 +43,7 @@ impl Chains {
         self.held.get(&number).is_some()
     }
 
-    /// Makes a chain for a row that has none.
+    /// Adds the chain of a row that has none.
     pub(crate) fn open(&mut self, number: u32, chain: Chain) -> Result<(), AllocError>
         requires { get nat_cmp self.old.held number ≡ None }
         ensures ok { OnOk result (get nat_cmp self.new.held number ≡ Some chain) }
@@ -55,7 +55,7 @@ impl Chains {
         Ok(())
     }
 
-    /// Makes room for one more change of a row.
+    /// Reserves memory for one more change of a row that has a chain.
     pub(crate) fn reserve(&mut self, number: u32) -> Result<(), AllocError>
         requires { IsSome (get nat_cmp self.old.held number) }
         ensures changes { option_map (λ chain. chain.changes) (get nat_cmp self.new.held number)
@@ -72,7 +72,7 @@ impl Chains {
         }
     }
 
-    /// Gives a row new values from a time on. There is room for them.
+    /// Gives a row with a chain new values from a time on. `reserve` made room for them.
     pub(crate) fn add(&mut self, number: u32, time: u32, values: Values) -> Result<(), AllocError>
         requires ready { IsReady (get nat_cmp self.old.held number) time }
         requires room { HasRoom (get nat_cmp self.old.held number) }
@@ -89,7 +89,7 @@ impl Chains {
         }
     }
 
-    /// Ends a row at a time.
+    /// Ends a row with a chain at a time.
     pub(crate) fn end(&mut self, number: u32, time: u32)
         requires { IsReady (get nat_cmp self.old.held number) time }
         ensures changes { option_map (λ chain. chain.changes) (get nat_cmp self.new.held number)

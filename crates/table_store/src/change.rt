@@ -1,4 +1,4 @@
-//! Changes that are given for rows: other values, or that a row is dropped.
+//! Changes of rows: new values, or none for a row that is deleted.
 
 ghost use Rattle.std.specs.Prelude.{◌≡◌, List, [], ◌∷◌, ◌++◌, map, IfOk, OnOk};
 ghost use Rattle.table_store.specs.inner.RowChanges.{removal, rewrite};
@@ -7,21 +7,21 @@ use ldv_value::Values;
 use sql_model::{TableRow, TableRows};
 use std::alloc::{AllocError, Global};
 
-/// New values of a row, once for its columns and once for its chain.
+/// The new values of a row, one copy for its columns and one for its chain.
 #[derive(Drop)]
 pub(crate) struct Copies {
     pub(crate) for_columns: Values,
     pub(crate) for_chain: Values,
 }
 
-/// A change of the row of a number: its new values, or none where it is dropped.
+/// A change of the row with a number: its new values, or none if the row is deleted.
 #[derive(Drop)]
 pub(crate) struct RowChange {
     pub(crate) number: u32,
     pub(crate) copies: Option<Copies>,
 }
 
-/// Changes by which the rows of these numbers are dropped.
+/// The changes that delete the rows with these numbers.
 pub(crate) fn removals(alloc: Global, numbers: &[u32]) -> Result<Vec<RowChange>, AllocError>
     ensures { IfOk result (λ made. made.items ≡ map removal numbers.now) }
 {
@@ -35,7 +35,7 @@ pub(crate) fn removals(alloc: Global, numbers: &[u32]) -> Result<Vec<RowChange>,
     Ok(made)
 }
 
-/// Changes by which the rows of these numbers get other values. Each is copied once, for its chain.
+/// The changes that give rows these values. The values of each row are copied once, for its chain.
 pub(crate) fn rewrites(alloc: Global, rows: TableRows) -> Result<Vec<RowChange>, AllocError>
     ensures { IfOk result (λ made. made.items ≡ map rewrite rows) }
 {

@@ -1,10 +1,13 @@
-//! The rows of a table by the keys to which they refer.
+//! The rows of a table by the keys that they refer to.
 
-ghost use Rattle.std.specs.Prelude.{◌≡◌, ◌<◌, ℕ, List, true, false, OnOk, IfOk, IfSome, length};
+ghost use Rattle.std.specs.Prelude.{◌≡◌, ◌<◌, ℕ, ℤ, List, true, false, IsTrue, OnOk, IfOk, IfSome, length};
 ghost use Rattle.std.specs.Prelude.{slice_index_or};
+ghost use Rattle.std.specs.Ordering.{int_cmp};
+ghost use Rattle.sql_model.specs.KeyOrder.{key_order};
 ghost use Rattle.sql_model.specs.References.{reference};
 ghost use Rattle.table_store.specs.inner.ChildPairs.{no_foreign, pair_in, AreReferred, IsFirstFrom, IsReferred};
-ghost use Rattle.table_store.specs.inner.ChildPairs.{KeepBut, KeepPairs, StayReferred};
+ghost use Rattle.table_store.specs.inner.ChildPairs.{has_pair, placed_order, KeepBut, KeepPairs};
+ghost use Rattle.table_store.specs.inner.ChildPairs.{StayReferred};
 ghost use Rattle.table_store.specs.Histories.{no_history, rows_now};
 ghost use Rattle.table_store.specs.Types.{Foreign, Value};
 
@@ -16,8 +19,8 @@ use ldv_value::Values;
 use sql_model::{Foreign, Foreigns, RowKey, TableRow, refers_to_none};
 use std::alloc::{AllocError, Global};
 
-/// The numbers of rows under the keys to which they refer, by the place of each foreign key. A key that is
-/// one number is held as that.
+/// The numbers of rows under the keys that they refer to, by the place of each foreign key. A key of one
+/// number is stored as that number.
 #[derive(Drop)]
 pub(crate) struct ChildIndex {
     pub(crate) ints: ChildSet<(usize, i64)>,
@@ -33,6 +36,34 @@ impl ChildIndex {
         }
     }
 
+    /// Whether there is no number under any key.
+    pub(crate) fn is_empty(&self) -> bool
+        ensures { IsTrue result → (place : ℕ) (key : List Value) (number : ℕ)
+            → pair_in self.now place key number ≡ false }
+    {
+        if !self.has_no_int() {
+            return false;
+        }
+        self.has_no_other()
+    }
+
+    // Whether there is none under a key that is one number.
+    fn has_no_int(&self) -> bool
+        ensures { IsTrue result → (place : ℕ) (int : ℤ) (number : ℕ)
+            → has_pair (placed_order int_cmp) self.now.ints.held (place, int) number ≡ false }
+    {
+        self.ints.is_empty()
+    }
+
+    // Whether there is none under another key.
+    fn has_no_other(&self) -> bool
+        ensures { IsTrue result → (place : ℕ) (key : List Value) (number : ℕ)
+            → has_pair (placed_order key_order) self.now.others.held (place, record { values = key }) number
+            ≡ false }
+    {
+        self.others.is_empty()
+    }
+
     /// Adds a number under a key.
     pub(crate) fn add(&mut self, place: usize, key: RowKey, number: u32) -> Result<(), AllocError>
         ensures kept { KeepPairs (pair_in self.old) (pair_in self.new) }
@@ -44,7 +75,7 @@ impl ChildIndex {
         }
     }
 
-    /// Takes a number out from under a key. It takes no memory.
+    /// Removes a number under a key. It takes no memory.
     pub(crate) fn remove(&mut self, place: usize, key: RowKey, number: u32)
         ensures { KeepBut place key.values number (pair_in self.old) (pair_in self.new) }
     {
@@ -54,7 +85,7 @@ impl ChildIndex {
         }
     }
 
-    /// The least number under a key from one on.
+    /// The least number under a key that is at least `from`.
     pub(crate) fn first_from(
         &self,
         place: usize,
@@ -86,7 +117,7 @@ pub(crate) fn index_of_rows(
     Ok(index)
 }
 
-/// Adds rows under the keys to which they refer. Where memory is out, some of them may be there.
+/// Adds rows under the keys that they refer to. On `AllocError` some of them may have been added.
 pub(crate) fn add_all(
     alloc: Global,
     index: &mut ChildIndex,
@@ -143,8 +174,8 @@ fn add_by(
     index.add(place, key, row.number)
 }
 
-/// Takes rows of some numbers out from under the keys to which they referred after a time and refer no
-/// longer, as far as there is memory. So a key to which many rows once referred is looked up as fast as any.
+/// Removes rows, by their numbers, under the keys that they referred to after a time but no longer refer to.
+/// If memory runs out, some stay. So a key that many rows once referred to is looked up as fast as any.
 pub(crate) fn settle_all(
     alloc: Global,
     index: &mut ChildIndex,

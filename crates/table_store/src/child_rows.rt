@@ -1,4 +1,4 @@
-//! The first row of a table that refers to one of some keys, by the index of its references.
+//! The search for the first row of a table that refers to one of some keys, by the index of its references.
 
 ghost use Rattle.std.specs.Prelude.{◌≡◌, ◌==◌, ◌&&◌, ◌<◌, true, false, Some, IfOk, length, min, slice_index_or};
 ghost use Rattle.std.specs.Prelude.{if◌then◌else◌};
@@ -21,8 +21,29 @@ use sql_model::{Foreign, RowKey, refers_to_none};
 use std::alloc::{AllocError, Global};
 use std::collections::BTreeSet;
 
-/// The number of the first row that isn't given and refers to one of some keys of the target.
+/// The number of the first row that refers to one of some keys of the target and isn't among the given rows;
+/// `None` if there is none. A table is passed over at once if no row of it refers to a key.
 pub(crate) fn first_child_in(
+    alloc: Global,
+    table: &TableStore,
+    target: &str,
+    given: &[u32],
+    keys: &BTreeSet<RowKey>,
+) -> Result<Option<u32>, AllocError>
+    requires { are_sorted_numbers given.now ≡ true }
+    ensures { IfOk result (λ first. first
+        ≡ first_number (is_child_in given.now target.now keys.now.keys table.now.schema.foreign)
+        (rows_now table.now.slots)) }
+{
+    if table.has_no_reference() {
+        return Ok(None);
+    }
+    let first = first_by_each(alloc, table, target, given, keys)?;
+    Ok(first)
+}
+
+// The same, by one foreign key after the other.
+fn first_by_each(
     alloc: Global,
     table: &TableStore,
     target: &str,

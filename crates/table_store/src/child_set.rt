@@ -1,6 +1,6 @@
 //! Numbers under keys of one type, many under one: pairs of a key and a number, in order.
 
-ghost use Rattle.std.specs.Prelude.{◌≡◌, ℕ, true, false, OnOk, if◌then◌else◌, Some, None};
+ghost use Rattle.std.specs.Prelude.{◌≡◌, ℕ, true, false, IsTrue, OnOk, if◌then◌else◌, Some, None};
 ghost use Rattle.std.specs.Ordering.{is_eq, nat_cmp, ordering_then};
 ghost use Rattle.table_store.specs.inner.ChildPairs.{has_pair, IsFirstFrom};
 
@@ -24,6 +24,13 @@ impl<K: Ord + Drop> ChildSet<K> {
         }
     }
 
+    /// Whether there is no pair.
+    pub(crate) fn is_empty(&self) -> bool
+        ensures { IsTrue result → (q : K) (n : ℕ) → has_pair K.cmp self.now.held q n ≡ false }
+    {
+        self.held.is_empty()
+    }
+
     /// Adds a pair.
     pub(crate) fn add(&mut self, key: K, number: u32) -> Result<(), AllocError>
         ensures kept { (q : K) (n : ℕ) → has_pair K.cmp self.old.held q n ≡ true
@@ -34,7 +41,7 @@ impl<K: Ord + Drop> ChildSet<K> {
         Ok(())
     }
 
-    /// Takes a pair out. It takes no memory.
+    /// Removes a pair. It takes no memory.
     pub(crate) fn remove(&mut self, key: K, number: u32)
         ensures { (q : K) (n : ℕ) → is_eq (ordering_then (K.cmp key q) (nat_cmp number n)) ≡ false
             → has_pair K.cmp self.old.held q n ≡ true → has_pair K.cmp self.new.held q n ≡ true }
@@ -43,7 +50,7 @@ impl<K: Ord + Drop> ChildSet<K> {
         self.held.remove(&pair);
     }
 
-    /// The least number under a key from one on. It takes no memory.
+    /// The least number under a key that is at least `from`. It takes no memory.
     pub(crate) fn first_from(&self, key: K, from: u32) -> Option<u32>
         ensures { IsFirstFrom (has_pair K.cmp self.now.held key) from result }
     {

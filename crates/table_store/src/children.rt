@@ -1,4 +1,4 @@
-//! What refuses a change for a child row that would lose its parent.
+//! Refusals of changes for child rows that would lose their parents.
 
 ghost use Rattle.std.specs.Prelude.{◌≡◌, ◌==◌, ◌&&◌, ◌||◌, ℕ, List, [], ◌∷◌, true, false, not, Some, IfOk};
 ghost use Rattle.std.specs.Prelude.{IsSome, OnOk, slice_index_or};
@@ -28,14 +28,14 @@ use sql_model::{Foreign, RowKey, refers_to_none};
 use std::alloc::{AllocError, Global};
 use std::collections::BTreeSet;
 
-/// Whether a foreign key of one of some tables has the table of a name for its parent.
+/// Whether some table has a foreign key whose parent is the table with a name.
 pub(crate) fn is_parent(tables: &[TableStore], target: &str) -> bool
     ensures { result ≡ list_any (λ table. refers_to target.now (table_now table)) tables.now }
 {
     tables.iter().any(|table| refers_to(table, target))
 }
 
-/// Whether a foreign key of a table has the table of a name for its parent.
+/// Whether a table has a foreign key whose parent is the table with a name.
 pub(crate) fn refers_to(table: &TableStore, target: &str) -> bool
     ensures { result ≡ refers_to target.now (table_now table.now) }
 {
@@ -51,7 +51,7 @@ fn has_parent(foreigns: &[Foreign], target: &str) -> bool
         .any(|foreign| foreign.parent.is_text(target))
 }
 
-/// The keys that the rows of some numbers have and that aren't among those of given rows.
+/// The keys that rows, by their numbers, have now, without those in `keys`.
 pub(crate) fn lost_keys(
     alloc: Global,
     held: &TableStore,
@@ -146,8 +146,8 @@ fn key_standing(alloc: Global, held: &TableStore, slot: u64) -> Result<RowKey, A
     Ok(key)
 }
 
-/// What refuses the change for the first row, by table and number, that isn't given and refers to one of the
-/// lost keys of the target.
+/// The refusal for the first row, by table and number, that refers to one of the lost keys of the target and
+/// isn't in `numbers`; `None` if there is none.
 pub(crate) fn first_child(
     alloc: Global,
     tables: &[TableStore],

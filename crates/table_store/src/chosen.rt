@@ -13,8 +13,8 @@ use sql_model::{CellTest, ColumnTest};
 use std::alloc::{AllocError, Global};
 
 impl TableStore {
-    /// The slots whose row stands now and passes each test, as bits: a word for each 64 slots, rounded up. A
-    /// comparison is of a column of INT.
+    /// The slots whose row is live now and passes each test, as bits: a word for each 64 slots, rounded up.
+    /// The tests compare only columns of INT.
     #[tactic(auto, using(crate::proofs::ChosenLaws::chosen_is))]
     pub fn choose_slots(&self, alloc: Global, tests: &[ColumnTest]) -> Result<Vec<u64>, AllocError>
         requires { AllFitColumns self.now.schema.columns tests.now }

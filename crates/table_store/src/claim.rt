@@ -1,4 +1,4 @@
-//! Keys of new rows: which is taken, and how they come into the index.
+//! Keys of new rows: the first one that is taken, and their entries in the index.
 
 ghost use Rattle.std.specs.Prelude.{◌≡◌, ◌==◌, ℕ, ◌+◌, ◌-◌, ◌^◌, ◌<◌, ◌≤◌, ◌&&◌, Bool, true, false};
 ghost use Rattle.std.specs.Prelude.{List, [], ◌∷◌, ◌++◌, if◌then◌else◌, Option, Some, None, find, IfOk};
@@ -25,8 +25,8 @@ use ldv_value::{Places, Values};
 use sql_model::RowKey;
 use std::alloc::{AllocError, Global};
 
-/// Puts the keys of new rows, numbered from `next` on, into the index. Where a key is taken, or memory is
-/// out, the rows that stand are still held under their keys.
+/// Enters the keys of new rows, numbered from `next` on, into the index. `KeyTaken` comes if a key is taken.
+/// After an `Err` the index still has the live rows under their keys.
 pub(crate) fn claim(
     alloc: Global,
     index: &mut Index,

@@ -1,4 +1,4 @@
-//! Two rows that have one key, once given rows took the place of others.
+//! Two rows that have one key after given rows have replaced others.
 
 ghost use Rattle.std.specs.Prelude.{◌≡◌, ℕ, List, Option, Some, None, IfOk};
 ghost use Rattle.table_store.specs.inner.GivenKeys.{clash_of, earlier_clash, first_clash};
@@ -8,7 +8,7 @@ use crate::error::StoreStop;
 use ldv_value::Values;
 use std::alloc::AllocError;
 
-/// Two rows that have one key, by their numbers.
+/// Two rows that have one key, by number, the earlier first.
 #[derive(Drop)]
 pub(crate) struct Clash {
     pub(crate) earlier: u32,
@@ -17,7 +17,7 @@ pub(crate) struct Clash {
 }
 
 impl Clash {
-    /// Two rows of a key, whichever of them comes first.
+    /// The clash of two rows, given in any order, with their key.
     pub(crate) fn of(a: u32, b: u32, key: Values) -> Clash
         ensures { result ≡ clash_of a b key }
     {
@@ -36,7 +36,7 @@ impl Clash {
         }
     }
 
-    /// What refuses the change.
+    /// The refusal of the change.
     pub(crate) fn into_stop(self) -> StoreStop
         ensures { result ≡ KeyTaken (Some self.earlier) (Some self.later) self.key }
     {
@@ -48,7 +48,7 @@ impl Clash {
     }
 }
 
-/// Of two clashes the one whose later row comes first.
+/// The one of two clashes whose later row has the lower number.
 pub(crate) fn earlier_clash(first: Option<Clash>, clash: Clash) -> Clash
     ensures { result ≡ earlier_clash first clash }
 {
@@ -64,7 +64,7 @@ pub(crate) fn earlier_clash(first: Option<Clash>, clash: Clash) -> Clash
     }
 }
 
-/// The first clash, after a given row and the one that keeps its key, if any, were looked at.
+/// The first clash so far and that of a given row, if another row, `keeper`, has its key.
 pub(crate) fn first_clash(
     first: Option<Clash>,
     keeper: Option<u32>,

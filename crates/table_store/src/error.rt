@@ -3,13 +3,13 @@
 use ldv_value::{Utf8, Values};
 use std::alloc::AllocError;
 
-/// Why a change of rows is refused. Nothing has changed then.
+/// Why a change of rows is refused. A refused change changes nothing.
 #[derive(Drop)]
 pub enum StoreStop {
     /// A row would have NULL in a column that is NOT NULL.
     NotNull,
     /// Two rows would have the same key: `later` is the first row, in the order of numbers, whose key an
-    /// earlier row has, and `earlier` is that row. Each is `None` where that row didn't stand before.
+    /// earlier row has, and `earlier` is that row. Each is `None` if that row is new.
     KeyTaken {
         earlier: Option<u32>,
         later: Option<u32>,
@@ -17,14 +17,14 @@ pub enum StoreStop {
     },
     /// The number of the next row would be above 4,294,967,295.
     Full,
-    /// A given row refers to a key that no row of the parent `table` has afterwards: the first such row, in
-    /// the order of numbers, and its first such foreign key.
+    /// A given row would refer to `key`, which no row of the parent `table` would have. `key` is that of the
+    /// first such row, in the order of numbers, and of its first such foreign key.
     NoParent {
         table: Utf8,
         key: Values,
     },
-    /// A row that isn't given, the first by `table` and number, refers to a key that the changed table had
-    /// before and has no more.
+    /// Another row would refer to `key`, which the changed table had before but would lose. `row` is the
+    /// first such row, by `table` and number.
     HasChild {
         table: Utf8,
         row: u32,

@@ -1,4 +1,4 @@
-//! Given rows: the rows of a change, by their keys and their numbers.
+//! Given rows, which are the rows of a change, by their keys and their numbers.
 
 ghost use Rattle.std.specs.Prelude.{◌≡◌, ◌==◌, List, IfOk, map, true};
 ghost use Rattle.std.specs.List.{list_any};
@@ -29,7 +29,7 @@ fn keys_of<R: HasValues>(
     Ok(keys)
 }
 
-/// The keys of given rows, where they are asked for, and none otherwise.
+/// The keys of given rows if `asked` is true, and none otherwise.
 pub(crate) fn keys_if<R: HasValues>(
     alloc: Global,
     asked: bool,

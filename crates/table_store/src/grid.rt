@@ -1,4 +1,4 @@
-//! The rows of a table in columns: one slot for each row that the table ever held.
+//! The rows of a table in columns: one slot for each row that the table ever had.
 
 ghost use Rattle.std.specs.Prelude.{◌≡◌, ◌==◌, ◌≢◌, ℕ, ◌+◌, ◌-◌, ◌*◌, ◌/◌, ◌^◌, ◌<◌, ◌≤◌, Bool, true, false};
 ghost use Rattle.std.specs.Prelude.{◌&&◌, List, [], ◌∷◌, ◌++◌, length, slice_index, slice_index_or};
@@ -22,7 +22,7 @@ use std::alloc::{AllocError, Global};
 use std::cmp::Ordering;
 use std::marker::Model;
 
-/// Rows in columns; contracts see the list of their slots.
+/// Rows in columns. Contracts see the list of their slots.
 #[derive(Drop)]
 pub(crate) struct Grid {
     numbers: Vec<u32>,
@@ -45,7 +45,7 @@ impl Model for Grid {
 }
 
 impl Grid {
-    /// No rows, with a column for each item of `texts`: of texts where it is true, and else of numbers.
+    /// No rows, with a column for each item of `texts`: of texts if the item is true, and else of numbers.
     #[tactic(auto, using(crate::proofs::GridLaws::grid_empty))]
     pub(crate) fn new(alloc: Global, texts: &[bool]) -> Result<Grid, AllocError>
         ensures { IfOk result (λ grid. grid ≡ record { slots = []; kinds = texts.now; next = 0 }) }
@@ -60,7 +60,7 @@ impl Grid {
         })
     }
 
-    /// How many rows the table ever held.
+    /// How many rows the table ever had.
     #[tactic(auto, using(crate::proofs::GridLaws::grid_rules))]
     pub(crate) fn len(&self) -> usize
         ensures count { result ≡ length self.now.slots }
@@ -76,7 +76,7 @@ impl Grid {
         self.next
     }
 
-    /// Moves the number of the next row up.
+    /// Raises the number of the next row.
     pub(crate) fn set_next(&mut self, next: u32)
         requires { self.old.next ≤ next }
         ensures { self.new ≡ record self.old { next = next } }
@@ -93,7 +93,7 @@ impl Grid {
         self.numbers[slot]
     }
 
-    /// Since when the row in a slot has its first values.
+    /// The time of the first values of the row in a slot.
     #[tactic(auto, using(crate::proofs::GridLaws::grid_rules))]
     pub(crate) fn since(&self, slot: usize) -> u32
         requires { slot < length self.now.slots }
@@ -102,7 +102,7 @@ impl Grid {
         self.since[slot]
     }
 
-    /// Whether the row in a slot stands.
+    /// Whether the row in a slot is live.
     #[tactic(auto, using(crate::proofs::GridLaws::grid_rules))]
     pub(crate) fn stands(&self, slot: usize) -> bool
         requires { slot < length self.now.slots }
@@ -129,8 +129,8 @@ impl Grid {
         compare_cells(&self.columns, slot, places.items(), values.items())
     }
 
-    /// Sets the bits of the slots whose row stands and has a number in the column that compares so to the
-    /// constant, and clears all others.
+    /// Sets the bits of the slots whose row is live and whose number in the column passes the comparison with
+    /// the constant, and clears all others.
     pub(crate) fn scan(&self, column: usize, op: Cmp, constant: i64, mask: &mut [u64])
         requires column { slice_get self.now.kinds column ≡ Some false }
         requires mask { length mask.old ≡ (length self.now.slots + 63) / 64 }
@@ -142,8 +142,8 @@ impl Grid {
         and_into(mask, self.standing.words());
     }
 
-    /// Sets the bits of the slots whose row stands and has NULL in the column, or, where `is_null` is false,
-    /// another value, and clears all others. Past the last column there is NULL.
+    /// Sets the bits of the slots whose row is live and has NULL in the column (if `is_null` is false:
+    /// another value), and clears all others. A place past the last column has NULL.
     pub(crate) fn scan_nulls(&self, column: usize, is_null: bool, mask: &mut [u64])
         requires { length mask.old ≡ (length self.now.slots + 63) / 64 }
         ensures { (n : ℕ) → member mask.new n ≡ slot_null column is_null
@@ -153,7 +153,7 @@ impl Grid {
         keep_nulls_at(&self.columns, column, is_null, mask);
     }
 
-    /// The slots whose row stands, as bits.
+    /// The slots of live rows, as bits.
     pub(crate) fn standing_slots(&self) -> &[u64]
         ensures long { length result.now ≡ (length self.now.slots + 63) / 64 }
         ensures members { (n : ℕ) → member result.now n ≡ (slice_index_or self.now.slots n no_slot).stands }
@@ -161,7 +161,7 @@ impl Grid {
         self.standing.words()
     }
 
-    /// Adds rows, which have their first values since `since`. On `AllocError` nothing has changed.
+    /// Adds rows whose first values are written at the time `since`. On `AllocError` nothing has changed.
     pub(crate) fn push_all(&mut self, rows: TableRows, since: u32) -> Result<(), AllocError>
         requires numbered { AreNumberedFrom self.old.next rows }
         requires few { length rows < 2 ^ 32 }
@@ -205,7 +205,7 @@ impl Grid {
         set_cells(&mut self.columns, slot, values);
     }
 
-    /// Drops the row in a slot; its values stay there.
+    /// Deletes the row in a slot. Its values stay in the columns.
     pub(crate) fn clear(&mut self, slot: usize)
         requires { slot < length self.old.slots }
         ensures { self.new ≡ record self.old {
@@ -216,7 +216,7 @@ impl Grid {
         self.standing.set(slot, false);
     }
 
-    /// The slot of the row of a number, found by bisection.
+    /// The slot of the row with a number, found by bisection.
     pub(crate) fn find(&self, number: u32) -> Option<usize>
         ensures found { IfSome result (λ slot. (slot < length self.now.slots)
             × ((slice_index_or self.now.slots slot no_slot).number ≡ number)) }
@@ -226,8 +226,8 @@ impl Grid {
         place_in(&self.numbers, number)
     }
 
-    /// The numbers are strictly increasing and below the next one. The call does nothing; it lends this to
-    /// the caller.
+    /// Does nothing. Its contract tells the caller that the numbers are strictly increasing and below the
+    /// next one.
     #[tactic(auto, using(crate::proofs::GridLaws::grid_rules))]
     pub(crate) fn tell_order(&self)
         ensures rising { (i j : ℕ) → i < j → j < length self.now.slots

@@ -10,8 +10,8 @@ use sql_model::RowKey;
 use std::alloc::{AllocError, Global};
 use std::collections::BTreeMap;
 
-/// The numbers of new rows by their keys, each less 2^32. They are kept until some row is refused, as then
-/// the table is full.
+/// The numbers of new rows by their keys, each minus 2^32. They are needed until the change is refused, which
+/// is certain, since the table is full.
 #[derive(Drop)]
 pub(crate) struct HighKeys {
     pub(crate) held: BTreeMap<RowKey, u64>,
@@ -27,14 +27,14 @@ impl HighKeys {
         }
     }
 
-    /// What is under a key.
+    /// The number under a key, minus 2^32.
     pub(crate) fn number(&self, key: &RowKey) -> Option<u64>
         ensures { result ≡ high_in self.now key.now }
     {
         self.held.get(key).copied()
     }
 
-    /// Puts a number less 2^32 under a key.
+    /// Stores a number, minus 2^32, under a key.
     pub(crate) fn put(&mut self, key: RowKey, above: u64) -> Result<(), AllocError>
         ensures ok { OnOk result ((q : RowKey)
             → high_in self.new q ≡ cond (is_at (key_order key) q) (Some above) (high_in self.old q)) }

@@ -22,8 +22,8 @@ use ldv_value::{List, Places, Value, Values};
 use sql_model::{RowKey, TableRow, value_at};
 use std::alloc::{AllocError, Global};
 
-/// The numbers of rows by their keys. A key that is one number is held as that, in a third of the memory or
-/// less.
+/// The numbers of rows by their keys. A key of one number is stored as that number, in a third of the memory
+/// or less.
 #[derive(Drop)]
 pub(crate) struct Index {
     pub(crate) ints: KeyMap<i64>,
@@ -51,7 +51,7 @@ impl Index {
         }
     }
 
-    /// Puts a number under a key.
+    /// Stores a number under a key, and replaces the number that is there.
     pub(crate) fn put(&mut self, key: RowKey, number: u32) -> Result<(), AllocError>
         ensures ok { OnOk result ((q : RowKey)
             → held_in self.new q ≡ cond (is_at (key_order key) q) (Some number) (held_in self.old q)) }
@@ -63,7 +63,7 @@ impl Index {
         }
     }
 
-    /// Puts under each key of another index the number that it has there, unless it has one here.
+    /// Enters the keys of another index with their numbers. A key that has a number here keeps it.
     pub(crate) fn open_all(&mut self, other: &Index) -> Result<(), AllocError>
         ensures kept { (q : RowKey) (n : ℕ) → held_in self.old q ≡ Some n → held_in self.new q ≡ Some n }
         ensures ok { OnOk result ((q : RowKey) → IsSome (held_in other.now q)
@@ -74,8 +74,8 @@ impl Index {
         Ok(())
     }
 
-    /// Gives each key of another index, all of which have a number here, the number that it has there. It
-    /// takes no memory.
+    /// Gives each key of another index the number that it has there. Each of them has a number here already,
+    /// so it takes no memory.
     pub(crate) fn set_all(&mut self, other: Index)
         requires { (q : RowKey) → IsSome (held_in other q) → IsSome (held_in self.old q) }
         ensures { (q : RowKey) → held_in self.new q
@@ -87,7 +87,7 @@ impl Index {
     }
 }
 
-/// The number that a key of one number is; `None` for any other key.
+/// The number of a key that is one number; `None` for any other key.
 pub(crate) fn int_key(key: &[Value]) -> Option<i64>
     ensures { result ≡ int_key key.now }
 {
@@ -123,7 +123,7 @@ fn int_of(value: &Value) -> Option<i64>
     }
 }
 
-/// The index of rows. Without key columns it has no key.
+/// The index of rows. It is empty if there are no key columns.
 #[tactic(auto, using(crate::proofs::IndexLaws::indexed_by))]
 pub(crate) fn index_of(
     alloc: Global,
@@ -211,7 +211,7 @@ fn add_value(
     Ok(())
 }
 
-/// Whether the row of a number stands and has a key.
+/// Whether the row with a number is live and has a key.
 pub(crate) fn has_key_at(rows: &Rows, places: &Places, key: &Values, number: u64) -> bool
     ensures fits { result ≡ true → number < 2 ^ 32 }
     ensures found { option_map (λ row. row.number)
@@ -228,7 +228,7 @@ pub(crate) fn has_key_at(rows: &Rows, places: &Places, key: &Values, number: u64
     }
 }
 
-/// Whether the row in a slot stands and has a key.
+/// Whether the row in a slot is live and has a key.
 pub(crate) fn has_key_in(rows: &Rows, places: &Places, key: &Values, slot: usize) -> bool
     requires { slot < length rows.now.slots }
     ensures found { find (has_key places.now key.now)
@@ -242,7 +242,7 @@ pub(crate) fn has_key_in(rows: &Rows, places: &Places, key: &Values, slot: usize
     rows.compare_key(slot, places, key).is_eq()
 }
 
-/// The number of the row that stands with a key, by the index.
+/// The number of the live row with a key, found by the index; `None` if there is none.
 pub(crate) fn held_number(index: &Index, rows: &Rows, places: &Places, key: &RowKey) -> Option<u32>
     requires { AreHeld places.now (λ key. held_in index.now key) (rows_now rows.now.slots) }
     ensures { result ≡ option_map (λ row. row.number)
@@ -260,7 +260,7 @@ pub(crate) fn held_number(index: &Index, rows: &Rows, places: &Places, key: &Row
     }
 }
 
-/// The number of the row that stands with a key, slot by slot. It takes no memory.
+/// The number of the live row with a key, found slot by slot; `None` if there is none. It takes no memory.
 pub(crate) fn number_by_slots(rows: &Rows, places: &Places, key: &Values) -> Option<u32>
     ensures { result ≡ option_map (λ row. row.number)
         (find (has_key places.now key.now) (rows_now rows.now.slots)) }

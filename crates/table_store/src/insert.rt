@@ -1,4 +1,4 @@
-//! New rows: what refuses them, and their numbers.
+//! New rows: their refusals and their numbers.
 
 ghost use Rattle.std.specs.Prelude.{◌≡◌, ℕ, ◌+◌, ◌^◌, ◌<◌, Bool, List, ◌++◌, IfOk, length, zip, nat_lt};
 ghost use Rattle.std.specs.List.{list_any};
@@ -17,7 +17,7 @@ pub(crate) fn any_lacks_value(columns: &[Column], rows: &[Values]) -> bool
         .any(|values| lacks_value(columns, values.items()))
 }
 
-/// Whether a row that has a number has NULL in a column that is NOT NULL.
+/// Whether a numbered row has NULL in a column that is NOT NULL.
 pub(crate) fn any_row_lacks_value(columns: &[Column], rows: &[TableRow]) -> bool
     ensures { result ≡ list_any (has_null columns.now) rows.now }
 {
@@ -40,14 +40,14 @@ fn refuses_null(column: &Column, value: &Value) -> bool
     column.not_null && is_null(value)
 }
 
-/// Whether the number after that of the last new row would be above the limit.
+/// Whether the number after that of the last of `count` new rows would be above `MAX_NEXT`.
 pub(crate) fn is_full(next: u32, count: usize) -> bool
     ensures { result ≡ nat_lt max_next (next + count) }
 {
     count > (MAX_NEXT - next) as usize
 }
 
-/// New rows with their numbers.
+/// New rows, numbered from `next` on.
 pub(crate) fn numbered_rows(
     alloc: Global,
     rows: RowList,

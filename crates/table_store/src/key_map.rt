@@ -48,8 +48,8 @@ impl<K: Ord + CopyKey> KeyMap<K> {
         }
     }
 
-    /// A map of keys with their numbers; of equal keys the last number stays. Its nodes are full, where those
-    /// of a map that rising keys are put into are half full.
+    /// A map of keys with their numbers. If keys are equal, the last number stays. Its nodes are full, unlike
+    /// the half-full nodes of a map after insertions of rising keys.
     pub(crate) fn of_pairs(alloc: Global, pairs: Vec<(K, u32)>) -> Result<KeyMap<K>, AllocError>
         ensures { IfOk result (λ made. (q : K) → get K.cmp made.held q
             ≡ update_all (eq_by_cmp K.cmp) (λ key. None) pairs.items q) }
@@ -65,7 +65,7 @@ impl<K: Ord + CopyKey> KeyMap<K> {
         self.held.get(key).copied()
     }
 
-    /// Puts a number under a key.
+    /// Stores a number under a key, and replaces the number that is there.
     pub(crate) fn put(&mut self, key: K, number: u32) -> Result<(), AllocError>
         ensures ok { OnOk result ((q : K)
             → get K.cmp self.new.held q ≡ cond (is_at (K.cmp key) q) (Some number)
@@ -77,7 +77,7 @@ impl<K: Ord + CopyKey> KeyMap<K> {
         Ok(())
     }
 
-    /// Changes the number under a key, where it has one. It takes no memory.
+    /// Changes the number under a key, if it has one. It takes no memory.
     pub(crate) fn set(&mut self, key: &K, number: u32)
         ensures { (q : K) → get K.cmp self.new.held q
             ≡ cond (is_at (K.cmp key.now) q) (in_place (Some number) (get K.cmp self.old.held q))
@@ -89,7 +89,7 @@ impl<K: Ord + CopyKey> KeyMap<K> {
         }
     }
 
-    /// Puts a number under a key that has none, and leaves that of a key that has one.
+    /// Stores a number under a key that has none. A key that has a number keeps it.
     pub(crate) fn open(&mut self, key: &K, number: u32) -> Result<(), AllocError>
         ensures kept { (q : K) (n : ℕ) → get K.cmp self.old.held q ≡ Some n
             → get K.cmp self.new.held q ≡ Some n }
@@ -103,7 +103,7 @@ impl<K: Ord + CopyKey> KeyMap<K> {
         Ok(())
     }
 
-    /// Puts under each key of another map the number that it has there, unless it has one here.
+    /// Enters the keys of another map with their numbers. A key that has a number here keeps it.
     pub(crate) fn open_all(&mut self, other: &KeyMap<K>) -> Result<(), AllocError>
         ensures kept { (q : K) (n : ℕ) → get K.cmp self.old.held q ≡ Some n
             → get K.cmp self.new.held q ≡ Some n }
@@ -119,7 +119,8 @@ impl<K: Ord + CopyKey> KeyMap<K> {
         Ok(())
     }
 
-    /// Gives each key of another map that has a number here the number that it has there. It takes no memory.
+    /// Gives each key of another map the number that it has there, if it has a number here. It takes no
+    /// memory.
     pub(crate) fn set_all(&mut self, other: KeyMap<K>)
         ensures { (q : K) → get K.cmp self.new.held q
             ≡ in_place (get K.cmp other.held q) (get K.cmp self.old.held q) }

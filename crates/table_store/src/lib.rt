@@ -1,5 +1,5 @@
 //! Tables through time: the rows that each table has now, and those that it had after each time. Contracts
-//! see a store as its tables, each with the changes of every row that it ever held.
+//! see a store as its tables, each with the changes of every row that it ever had.
 //!
 //! `docs/internals/STORAGE.md` draws a table in memory. A change first takes all memory that it needs
 //! (`room`); the rest can't fail (`apply`). The keys of new rows are entered into the index one by one

@@ -6,14 +6,14 @@ ghost use Rattle.table_store.specs.inner.Nexts.{nexts_of, AreInTime};
 
 use std::alloc::{AllocError, Global};
 
-/// From the time on this is the number of the next row.
+/// The number of the next row from a time on.
 #[derive(Clone, Copy, Debug, PartialEq, Eq)]
 pub(crate) struct NextSince {
     pub(crate) time: u32,
     pub(crate) next: u32,
 }
 
-/// The number of the next row since time 0.
+/// The numbers of the next row at the start: `next` from time 0 on.
 pub(crate) fn nexts_at_start(alloc: Global, next: u32) -> Result<Vec<NextSince>, AllocError>
     ensures { IfOk result (λ nexts. nexts_of nexts.items ≡ record { time = 0; next = next } ∷ []) }
 {
@@ -42,7 +42,7 @@ fn last_next_number(nexts: &[NextSince]) -> u32
     }
 }
 
-/// The time of the last change; 0 where there is none.
+/// The time of the last change; 0 if there is none.
 #[tactic(auto, using(crate::proofs::NextLaws::last_time_is))]
 pub(crate) fn last_since(nexts: &[NextSince]) -> u32
     ensures { result ≡ last_since (nexts_of nexts.now) }

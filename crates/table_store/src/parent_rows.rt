@@ -1,4 +1,4 @@
-//! The parent rows of given rows, as they would be once these were put.
+//! The parent rows of given rows, over the tables after a change that gives these rows.
 
 ghost use Rattle.std.specs.Prelude.{◌≡◌, ◌++◌, ◌<◌, List, Some, IfOk, IfSome, OnOk, length, true};
 ghost use Rattle.std.specs.List.{AllByRecursion, flat_map, list_all};
@@ -22,8 +22,8 @@ use sql_model::{Foreign, Foreigns, Member, Members, RowKey, TableRow, refers_to_
 use std::alloc::{AllocError, Global};
 use std::collections::BTreeMap;
 
-/// The rows that would have, once rows of a table were put, a key to which one of these refers, and that
-/// stand: row by row, and of each by the foreign keys in their order, at their versions now.
+/// The live rows, at their versions now, that given rows would refer to after they were put into their table:
+/// row by row, and for each row in the order of its foreign keys.
 pub(crate) fn parents_of(
     store: &Store,
     own: &TableStore,

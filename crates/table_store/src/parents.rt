@@ -1,4 +1,4 @@
-//! What refuses given rows for want of a parent.
+//! Refusals of given rows that would have no parent.
 
 ghost use Rattle.std.specs.Prelude.{◌≡◌, ◌<◌, ◌||◌, true, false, IfOk, length, map};
 ghost use Rattle.std.specs.List.{list_all, list_any};
@@ -22,9 +22,9 @@ use sql_model::{Foreign, Foreigns, HasValues, RowKey, refers_to_none};
 use std::alloc::{AllocError, Global};
 use std::collections::BTreeSet;
 
-/// The first key to which one of some rows of a table refers and that no row of the parent has once rows are
-/// given: row by row, and in each in the order of the foreign keys. `keys` are those of the given rows, and
-/// `numbers`, sorted, those of the rows whose place they take.
+/// The refusal for the first key that a row in `rows` refers to and that no row of the parent would have: row
+/// by row, and for each row in the order of its foreign keys. `keys` has the keys of the given rows, and
+/// `numbers`, sorted, the numbers of the rows that they replace.
 pub(crate) fn missing_parent<R: HasValues>(
     alloc: Global,
     store: &Store,
@@ -172,7 +172,7 @@ fn has_put(
     }
 }
 
-/// Whether a table is the one of a name.
+/// Whether a table has a name.
 pub(crate) fn is_own(parent: &TableStore, own: &str) -> bool
     ensures { result ≡ is_table own.now (table_now parent.now) }
 {

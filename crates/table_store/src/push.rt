@@ -1,4 +1,4 @@
-//! How rows are added to the parts of a grid: their numbers, their times, bits and columns.
+//! Appending rows to the parts of a grid: their numbers, their times, bits and columns.
 
 ghost use Rattle.std.specs.Prelude.{◌≡◌, ℕ, ◌+◌, ◌^◌, ◌<◌, ◌≤◌, Bool, true, List, [], ◌∷◌, ◌++◌, length, map};
 ghost use Rattle.std.specs.Prelude.{slice_index_or, vec_len, vec_capacity, IsOk, IfOk, OnOk};
@@ -10,7 +10,7 @@ use column_store::{Bits, Column, push_cells, reserve_cells, reserve_eighth};
 use sql_model::{TableRow, TableRows};
 use std::alloc::AllocError;
 
-/// Makes room for more rows. Those that are there stay as they are, also on `AllocError`.
+/// Reserves memory for more rows. The rows stay as they are, also on `AllocError`.
 pub(crate) fn reserve_rows(
     numbers: &mut Vec<u32>,
     since: &mut Vec<u32>,
@@ -64,7 +64,7 @@ fn reserve_parts(
     reserve_cells(columns, more)
 }
 
-/// Adds a row, for which there is room.
+/// Adds a row. `reserve_rows` has reserved the memory.
 pub(crate) fn push_row(
     numbers: &mut Vec<u32>,
     since: &mut Vec<u32>,
@@ -108,7 +108,7 @@ pub(crate) fn push_row(
     Ok(())
 }
 
-/// Adds rows, for which there is room, and returns the number after theirs.
+/// Adds rows, and returns the number after theirs. `reserve_rows` has reserved the memory.
 pub(crate) fn push_rows(
     numbers: &mut Vec<u32>,
     since: &mut Vec<u32>,

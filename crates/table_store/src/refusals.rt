@@ -1,4 +1,4 @@
-//! What references between tables refuse a change of rows for.
+//! Refusals of changes of rows by references between tables.
 
 ghost use Rattle.std.specs.Prelude.{◌≡◌, ◌==◌, None, Some, IfOk, if◌then◌else◌, length, true};
 ghost use Rattle.std.specs.Option.{option_map, option_or};
@@ -20,7 +20,7 @@ use sql_model::{RowKey, TableRow};
 use std::alloc::AllocError;
 use std::collections::BTreeSet;
 
-/// What references refuse new rows of a table for.
+/// The refusal of new rows of a table by references; `None` if they are accepted.
 pub(crate) fn insert_refusal(
     store: &Store,
     own: &TableStore,
@@ -39,7 +39,7 @@ pub(crate) fn insert_refusal(
     Ok(reference_stop)
 }
 
-/// What references refuse new values of rows of a table for.
+/// The refusal of new values of a table's rows by references; `None` if they are accepted.
 pub(crate) fn replace_refusal(
     store: &Store,
     own: &TableStore,
@@ -68,7 +68,7 @@ pub(crate) fn replace_refusal(
     Ok(lost)
 }
 
-/// What references refuse to drop rows of a table for.
+/// The refusal of a deletion of a table's rows by references; `None` if it is accepted.
 pub(crate) fn delete_refusal(
     store: &Store,
     own: &TableStore,

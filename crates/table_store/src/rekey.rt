@@ -1,4 +1,4 @@
-//! The keys of rows once others took the place of some of them.
+//! The keys of rows after given rows have replaced some of them.
 
 ghost use Rattle.std.specs.Prelude.{◌≡◌, ◌==◌, ℕ, ◌+◌, ◌^◌, ◌<◌, ◌≤◌, Bool, true, false, List, [], ◌∷◌, ◌++◌};
 ghost use Rattle.std.specs.Prelude.{Option, Some, None, find, OnOk, OnErr, IfOk, IfErr, IsSome, length};
@@ -21,10 +21,9 @@ use ldv_value::Places;
 use sql_model::{RowKey, TableRow};
 use std::alloc::{AllocError, Global};
 
-/// The numbers of the given rows under the keys that they have, once they took the place of those of their
-/// numbers; none where each of them keeps its key. With these put, the index is that of the rows then.
-/// KeyTaken: two rows would have one key. No other row is looked at than the given ones and those that have
-/// one of their keys.
+/// The entries that the index needs after given rows have replaced those with their numbers: the number of
+/// each given row under its key, or none if each of them keeps its key. `KeyTaken` comes if two rows would
+/// have one key. The call only looks at the given rows and at rows that have one of their keys.
 pub(crate) fn claims_of(
     alloc: Global,
     index: &Index,

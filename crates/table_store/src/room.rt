@@ -1,4 +1,4 @@
-//! Room in the chains of rows that are about to change, made before anything changes.
+//! Memory for the chains of rows that are about to change, reserved before anything changes.
 
 ghost use Rattle.std.specs.Prelude.{◌≡◌, ◌<◌, OnOk, IsSome, length, slice_index_or};
 ghost use Rattle.std.specs.Ordering.{nat_cmp};
@@ -13,7 +13,7 @@ use crate::grid::Grid;
 use row_version::Chain;
 use std::alloc::{AllocError, Global};
 
-/// Makes room for a change of each row. What is seen of the rows stays as it was.
+/// Reserves memory for a change of each row in `given`. The histories of the rows stay as they were.
 pub(crate) fn make_room(
     alloc: Global,
     grid: &Grid,

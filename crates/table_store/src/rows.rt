@@ -29,7 +29,7 @@ use std::alloc::{AllocError, Global};
 use std::cmp::Ordering;
 use std::marker::Model;
 
-/// Rows through time: contracts see the changes of each.
+/// Rows through time. Contracts see the changes of each row.
 #[derive(Drop)]
 pub(crate) struct Rows {
     grid: Grid,
@@ -49,7 +49,7 @@ impl Model for Rows {
 }
 
 impl Rows {
-    /// No rows, with a column for each item of `texts`: of texts where it is true, and else of numbers.
+    /// No rows, with a column for each item of `texts`: of texts if the item is true, and else of numbers.
     #[tactic(auto, using(crate::proofs::RowLaws::none_chained))]
     pub(crate) fn new(alloc: Global, texts: &[bool]) -> Result<Rows, AllocError>
         ensures { IfOk result (λ rows. rows ≡ record { slots = []; kinds = texts.now; next = 0 }) }
@@ -77,7 +77,7 @@ impl Rows {
         self.grid.number(slot)
     }
 
-    /// Whether the row in a slot stands.
+    /// Whether the row in a slot is live.
     #[tactic(auto, using(crate::proofs::RowLaws::row_rules))]
     pub(crate) fn stands(&self, slot: usize) -> bool
         requires { slot < length self.now.slots }
@@ -97,7 +97,7 @@ impl Rows {
         self.grid.copy_values(alloc, slot)
     }
 
-    /// A copy of the values that the row in a slot had after a time.
+    /// A copy of the values that the row in a slot had after a time; `None` if it wasn't live then.
     #[tactic(auto, using(crate::proofs::RowLaws::row_rules))]
     pub(crate) fn values_as_of(
         &self,
@@ -127,7 +127,7 @@ impl Rows {
         }
     }
 
-    /// The slot of the row of a number, found by bisection.
+    /// The slot of the row with a number, found by bisection.
     pub(crate) fn find(&self, number: u32) -> Option<usize>
         ensures found { IfSome result (λ slot. (slot < length self.now.slots)
             × ((slice_index_or self.now.slots slot no_history).number ≡ number)) }
@@ -137,8 +137,8 @@ impl Rows {
         self.grid.find(number)
     }
 
-    /// The numbers are strictly increasing and below the next one. The call does nothing; it lends this to
-    /// the caller.
+    /// Does nothing. Its contract tells the caller that the numbers are strictly increasing and below the
+    /// next one.
     pub(crate) fn tell_order(&self)
         ensures order { AreInOrder self.now.slots self.now.next }
         ensures small { self.now.next < 2 ^ 32 }
@@ -146,7 +146,7 @@ impl Rows {
         self.grid.tell_order();
     }
 
-    /// How the key of the row in a slot, which stands, compares to values.
+    /// How the key of the live row in a slot compares to values.
     pub(crate) fn compare_key(&self, slot: usize, places: &Places, values: &Values) -> Ordering
         requires within { slot < length self.now.slots }
         requires stands { IsSome (current_values (slice_index_or self.now.slots slot no_history).changes) }
@@ -156,8 +156,8 @@ impl Rows {
         self.grid.compare_key(slot, places, values)
     }
 
-    /// Sets the bits of the slots whose row stands and has a number in the column that compares so to the
-    /// constant, and clears all others.
+    /// Sets the bits of the slots whose row is live and whose number in the column passes the comparison with
+    /// the constant, and clears all others.
     pub(crate) fn scan(&self, column: usize, op: Cmp, constant: i64, mask: &mut [u64])
         requires column { slice_get self.now.kinds column ≡ Some false }
         requires mask { length mask.old ≡ (length self.now.slots + 63) / 64 }
@@ -168,8 +168,8 @@ impl Rows {
         self.grid.scan(column, op, constant, mask);
     }
 
-    /// Sets the bits of the slots whose row stands and has NULL in the column, or, where `is_null` is false,
-    /// another value, and clears all others. Past the last column there is NULL.
+    /// Sets the bits of the slots whose row is live and has NULL in the column (if `is_null` is false:
+    /// another value), and clears all others. A place past the last column has NULL.
     pub(crate) fn scan_nulls(&self, column: usize, is_null: bool, mask: &mut [u64])
         requires { length mask.old ≡ (length self.now.slots + 63) / 64 }
         ensures { (n : ℕ) → member mask.new n ≡ option_map_or
@@ -179,7 +179,7 @@ impl Rows {
         self.grid.scan_nulls(column, is_null, mask);
     }
 
-    /// The slots whose row stands, as bits.
+    /// The slots of live rows, as bits.
     pub(crate) fn standing_slots(&self) -> &[u64]
         ensures long { length result.now ≡ (length self.now.slots + 63) / 64 }
         ensures few { length self.now.slots < 2 ^ 32 }
@@ -191,7 +191,7 @@ impl Rows {
         self.grid.standing_slots()
     }
 
-    /// Moves the number of the next row up.
+    /// Raises the number of the next row.
     pub(crate) fn set_next(&mut self, next: u32)
         requires { self.old.next ≤ next }
         ensures { self.new ≡ record self.old { next = next } }
@@ -222,8 +222,8 @@ impl Rows {
         Ok(())
     }
 
-    /// Changes rows at a time: those of some numbers, which stand. The time is later than that of each
-    /// earlier change. On `AllocError` nothing has changed.
+    /// Applies changes of live rows, each by its number, at a time later than that of each earlier change. On
+    /// `AllocError` nothing has changed.
     pub(crate) fn change_all(
         &mut self,
         alloc: Global,

@@ -14,7 +14,8 @@ use column_store::{Column, IntColumn, drop_bit};
 use lanes::{and_into, minus_into, select_i64};
 use ldv_value::{Cmp, Value};
 
-/// The slots whose cell is a number that compares so to the constant.
+/// Sets the bits of the slots whose cell is a number that passes the comparison with the constant, and clears
+/// all others.
 #[tactic(auto, using(crate::proofs::ScanLaws::scan_rules))]
 pub(crate) fn select(column: &Column, op: Cmp, constant: i64, mask: &mut [u64])
     requires kind { column.now.text ≡ false }
@@ -49,8 +50,8 @@ fn drop_nulls(ints: &IntColumn, mask: &mut [u64])
     minus_into(mask, ints.nulls());
 }
 
-/// Keeps of some slots those with NULL at a place, or, where `is_null` is false, with another value. Past the
-/// last column there is NULL.
+/// Keeps in `mask` only the slots with NULL at a place (if `is_null` is false: with another value). A place
+/// past the last column has NULL.
 #[tactic(auto, using(crate::proofs::ScanLaws::place_rules))]
 pub(crate) fn keep_nulls_at(columns: &Vec<Column>, place: usize, is_null: bool, mask: &mut [u64])
     requires long { (k : ℕ) → k < length columns.now.items

@@ -17,7 +17,7 @@ use crate::rows::Rows;
 use sql_model::{Columns, Schema, TableRow, TableRows};
 use std::alloc::{AllocError, Global};
 
-/// The parts of a table's store that its rows make.
+/// The parts of a table's store that depend on its rows.
 #[derive(Drop)]
 pub(crate) struct Parts {
     pub(crate) held: Rows,
@@ -34,7 +34,7 @@ struct Beside {
     nexts: Vec<NextSince>,
 }
 
-/// The parts of the store of a table at time 0, by its schema, its rows and the number of the next one.
+/// The parts of a table's store at time 0, made from its schema, its rows and the number of the next row.
 pub(crate) fn parts_at_start(
     alloc: Global,
     schema: &Schema,

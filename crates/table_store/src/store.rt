@@ -57,7 +57,8 @@ impl Model for Store {
 }
 
 impl Store {
-    /// The store of tables at time 0. They are a database, and none has two columns of one name.
+    /// The store of tables at time 0. The caller gives a database in which no table has two columns of one
+    /// name.
     #[tactic(auto, using(crate::proofs::StoreLaws::start_rules))]
     pub fn of_tables(alloc: Global, tables: Tables) -> Result<Store, AllocError>
         requires database { is_database tables ≡ true }
@@ -74,8 +75,8 @@ impl Store {
         })
     }
 
-    /// The tables are a database, and none has two columns of one name. The call does nothing; it lends this
-    /// to the caller.
+    /// Does nothing. Its contract tells the caller that the tables are a database in which no table has two
+    /// columns of one name.
     pub fn tell_formed(&self)
         ensures { AreWellFormed (tables_now self.now) }
     {
@@ -96,7 +97,7 @@ impl Store {
         &self.catalog
     }
 
-    /// The table of a name.
+    /// The table with a name; `None` if there is none.
     pub fn table(&self, name: &str) -> Option<&TableStore>
         ensures table { option_map (λ table. table.now) result ≡ history_at name.now self.now }
         ensures timed { IfSome result (λ table. last_since table.now.nexts ≤ self.now.time) }
@@ -107,7 +108,7 @@ impl Store {
         }
     }
 
-    /// The rows of a table, which is there, after a time; from the last change on these are its rows now.
+    /// The rows of a table of the store after a time. From the last change on these are its rows now.
     pub fn rows_at(&self, table: &str, time: u32) -> Result<TableRows, AllocError>
         requires { IsSome (table_at table.now (tables_now self.now)) }
         ensures rows { IfOk result (λ rows. rows_after table.now time self.now ≡ Some rows) }
@@ -121,8 +122,8 @@ impl Store {
         }
     }
 
-    /// The number of the next row of a table, which is there, after a time; from the last change on it is
-    /// that of now.
+    /// The number of the next row of a table of the store after a time. From the last change on it is that of
+    /// now.
     pub fn next_at(&self, table: &str, time: u32) -> u32
         requires { IsSome (table_at table.now (tables_now self.now)) }
         ensures number { next_number_after table.now time self.now ≡ Some result }
@@ -135,8 +136,8 @@ impl Store {
         }
     }
 
-    /// The version of a row of a table, which is there: how often the row has changed. `None` where it
-    /// doesn't stand now.
+    /// The version of a row of a table of the store: how often the row has changed. `None` if it isn't live
+    /// now.
     pub fn version(&self, table: &str, row: u32) -> Option<u32>
         requires { IsSome (table_at table.now (tables_now self.now)) }
         ensures { option_map (λ history. version_now (history_of_row row history.slots))
@@ -148,8 +149,8 @@ impl Store {
         }
     }
 
-    /// The number of the row that stands with a key; `None` where no row has it. The table is there and has
-    /// a key.
+    /// The number of the live row with a key; `None` if no row has it. The table is in the store and has a
+    /// key.
     pub fn by_key(&self, table: &str, key: &Values) -> Option<u32>
         requires there { IsSome (table_at table.now (tables_now self.now)) }
         requires keyed { IfSome (table_at table.now (tables_now self.now))
@@ -164,8 +165,7 @@ impl Store {
         }
     }
 
-    /// The number of slots of a table, which is there: one for each row that it ever held, sorted by row
-    /// number.
+    /// The number of slots of a table of the store: one for each row that it ever had, sorted by row number.
     pub fn slots(&self, table: &str) -> u64
         requires { IsSome (table_at table.now (tables_now self.now)) }
         ensures { option_map (λ history. length history.slots) (history_at table.now self.now) ≡ Some result }
@@ -176,8 +176,8 @@ impl Store {
         }
     }
 
-    /// The number of the row in a slot of a table, which is there; `None` where the slot is past the end or
-    /// its row doesn't stand now.
+    /// The number of the row in a slot, from 0, of a table of the store; `None` if the slot is past the end
+    /// or its row isn't live now.
     pub fn slot_row(&self, table: &str, slot: u64) -> Option<u32>
         requires { IsSome (table_at table.now (tables_now self.now)) }
         ensures { option_map (λ history. option_map (λ row. row.number)
@@ -190,9 +190,9 @@ impl Store {
         }
     }
 
-    /// Sets the bits of the slots of a table whose row stands and has a number in the column that compares
-    /// so to the constant, and clears all others. The table is there, the column is of INT, and the mask
-    /// has a word for each 64 slots, rounded up.
+    /// Sets the bits of a table's slots whose row is live and whose number in the column passes the
+    /// comparison with the constant, and clears all others. The table is in the store, the column, from 0, is
+    /// of INT, and the mask has a word for each 64 slots, rounded up.
     pub fn scan(&self, table: &str, column: u64, op: Cmp, constant: i64, mask: &mut [u64])
         requires there { IsSome (table_at table.now (tables_now self.now)) }
         requires column { IfSome (history_at table.now self.now)
@@ -212,11 +212,11 @@ impl Store {
         }
     }
 
-    /// The rows, at their versions, that would have, once `rows` were put into a table, a key to which one of
-    /// `rows` refers, and that stand: row by row, and of each by the foreign keys in their order. A row to
-    /// which several refer is there several times. The table is there, `rows` stand in it, sorted by number,
-    /// or are numbered from the number of its next row on. Where two rows would have one key, nothing is
-    /// said of which rows these are.
+    /// The live rows, at their versions, that `rows` would refer to after they were put into a table: row by
+    /// row, and for each row in the order of its foreign keys. A row that several refer to occurs several
+    /// times. The table is in the store. `rows` are live rows of it with new values, sorted by number, or new
+    /// rows numbered from the number of its next row on. If two rows would have one key, the result may be
+    /// any rows.
     pub fn parents_of(&self, table: &str, rows: &TableRows) -> Result<Members, AllocError>
         requires there { IsSome (table_at table.now (tables_now self.now)) }
         requires put { IfSome (table_at table.now (tables_now self.now)) (CanBePut rows.now) }
@@ -233,10 +233,10 @@ impl Store {
         }
     }
 
-    /// Adds rows to a table at a time, numbered from the number of its next row on, and returns that
-    /// number. The table is there, the time is later than that of the last change, and each row has a value
-    /// for each column, of its kind. NotNull, KeyTaken, Full, NoParent: what the rows refuse, in this order;
-    /// NoMemory: out of memory. Nothing has changed then.
+    /// Adds rows to a table at a time, numbered from the number of its next row on, and returns that number.
+    /// The table is in the store, the time is later than that of the last change, and each row has a value
+    /// for each column, of its kind. `NotNull`, `KeyTaken`, `Full` and `NoParent` are tried in this order,
+    /// and `NoMemory` comes if memory runs out. After an `Err` nothing has changed.
     pub fn insert_all(&mut self, table: &str, rows: RowList, time: u32) -> Result<u32, StoreStop>
         requires there { IsSome (table_at table.now (tables_now self.old)) }
         requires later { self.old.time < time }
@@ -264,11 +264,11 @@ impl Store {
         }
     }
 
-    /// Gives the rows of these numbers other values at a time. The table is there, and the time is later
-    /// than that of the last change. The rows are sorted by number, each has the number of a row that
-    /// stands and a value for each column, of its kind. NotNull, KeyTaken, NoParent, HasChild: what the rows
-    /// refuse, in this order, where keys are those of the tables afterwards; NoMemory: out of memory. Nothing
-    /// has changed then.
+    /// Gives rows, each by its number, other values at a time. The table is in the store, and the time is
+    /// later than that of the last change. The rows are sorted by number, and each has the number of a live
+    /// row and a value for each column, of its kind. `NotNull`, `KeyTaken`, `NoParent` and `HasChild` are
+    /// tried in this order, with the keys that the tables would have afterwards, and `NoMemory` comes if
+    /// memory runs out. After an `Err` nothing has changed.
     pub fn replace_all(&mut self, table: &str, rows: TableRows, time: u32) -> Result<(), StoreStop>
         requires there { IsSome (table_at table.now (tables_now self.old)) }
         requires later { self.old.time < time }
@@ -295,9 +295,10 @@ impl Store {
         }
     }
 
-    /// Drops the rows of these numbers at a time. The table is there, and the time is later than that of
-    /// the last change. The numbers are sorted, and each is that of a row that stands. HasChild: another row
-    /// refers to a key that would be gone; NoMemory: out of memory. Nothing has changed then.
+    /// Deletes the rows with these numbers at a time. The table is in the store, and the time is later than
+    /// that of the last change. The numbers are sorted, and each is that of a live row. `HasChild` comes if
+    /// another row refers to a key that would be lost, and `NoMemory` if memory runs out. After an `Err`
+    /// nothing has changed.
     pub fn delete_all(&mut self, table: &str, numbers: &Numbers, time: u32) -> Result<(), StoreStop>
         requires there { IsSome (table_at table.now (tables_now self.old)) }
         requires later { self.old.time < time }

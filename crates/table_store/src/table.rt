@@ -1,7 +1,7 @@
 //! A table through time.
 
 ghost use Rattle.std.specs.Prelude.{◌≡◌, ◌==◌, ℕ, ◌+◌, ◌*◌, ◌/◌, ◌^◌, ◌<◌, ◌≤◌, true, false, List, []};
-ghost use Rattle.std.specs.Prelude.{◌∷◌, ◌++◌, Option, Some, None, find, OnOk, OnErr, IfOk, IsSome};
+ghost use Rattle.std.specs.Prelude.{◌∷◌, ◌++◌, Option, Some, None, find, OnOk, OnErr, IfOk, IsSome, IsTrue};
 ghost use Rattle.std.specs.Prelude.{length, map, slice_get, slice_index_or, is_some, if◌then◌else◌};
 ghost use Rattle.std.specs.Option.{option_map, option_map_or, option_or};
 ghost use Rattle.lanes.specs.Sets.{member};
@@ -13,7 +13,7 @@ ghost use Rattle.ldv_value.specs.Limits.{max_next};
 ghost use Rattle.sql_model.specs.Changes.{numbered_rows};
 ghost use Rattle.table_store.specs.KeyIndex.{AreIndexed};
 ghost use Rattle.table_store.specs.inner.ChildPairs.{no_foreign, pair_in, refers, AreReferred, IsNextOf};
-ghost use Rattle.table_store.specs.inner.ChildPairs.{KeepPairs};
+ghost use Rattle.table_store.specs.inner.ChildPairs.{first_number, is_child_in, KeepPairs};
 ghost use Rattle.table_store.specs.inner.GivenKeys.{with_claims};
 ghost use Rattle.table_store.specs.inner.IndexView.{held_in};
 ghost use Rattle.table_store.specs.Types.{Null, RowKey};
@@ -128,8 +128,8 @@ impl TableStore {
         self.name.copy()
     }
 
-    /// The rows are in the order of their numbers, which are below that of the next row. The call does
-    /// nothing; it lends this to the caller.
+    /// Does nothing. Its contract tells the caller that the rows are in the order of their numbers, which are
+    /// below that of the next row.
     pub fn tell_order(&self)
         ensures { AreInOrder self.now.slots (last_next_number self.now.nexts) }
     {
@@ -137,7 +137,7 @@ impl TableStore {
         self.rows.tell_order();
     }
 
-    /// The number of the next row is below 2^32. The call does nothing; it lends this to the caller.
+    /// Does nothing. Its contract tells the caller that the number of the next row is below 2^32.
     pub(crate) fn tell_small(&self)
         ensures { last_next_number self.now.nexts < 2 ^ 32 }
     {
@@ -145,8 +145,17 @@ impl TableStore {
         self.rows.tell_order();
     }
 
-    /// The least number, from one on, of a row that may refer to a key by the foreign key at a place: no
-    /// lower one from there on does.
+    /// Whether the index of references is empty, so that no row refers to a key.
+    pub(crate) fn has_no_reference(&self) -> bool
+        ensures { IsTrue result → (given : List ℕ) (target : List ℕ) (keys : List RowKey)
+            → None ≡ first_number (is_child_in given target keys self.now.schema.foreign)
+            (rows_now self.now.slots) }
+    {
+        self.children.is_empty()
+    }
+
+    /// The least number, at least `from`, of a row that may refer to a key by the foreign key at a place. No
+    /// row with a lower number that is at least `from` refers to it.
     pub(crate) fn referring_from(
         &self,
         place: usize,
@@ -162,22 +171,22 @@ impl TableStore {
         Ok(found)
     }
 
-    /// The changes of each row are sorted by time, and none is later than the last change of the table. The
-    /// call does nothing; it lends this to the caller.
+    /// Does nothing. Its contract tells the caller that the changes of each row are sorted by time, and none
+    /// is later than the last change of the table.
     pub fn tell_times(&self)
         ensures { AreTimed (last_since self.now.nexts) self.now.slots }
     {
         let _nexts = &self.nexts;
     }
 
-    /// The number of slots: one for each row that the table ever held, sorted by row number.
+    /// The number of slots: one for each row that the table ever had, sorted by row number.
     pub(crate) fn slots(&self) -> u64
         ensures { result ≡ length self.now.slots }
     {
         self.rows.len() as u64
     }
 
-    /// The number of the row in a slot; `None` where the slot is past the end or its row doesn't stand now.
+    /// The number of the row in a slot, from 0; `None` if the slot is past the end or its row isn't live now.
     #[tactic(auto, using(crate::proofs::TableLaws::slot_rules))]
     pub fn slot_row(&self, slot: u64) -> Option<u32>
         ensures { result ≡ option_map (λ row. row.number)
@@ -193,8 +202,7 @@ impl TableStore {
         Some(self.rows.number(slot))
     }
 
-    /// The slot of the row of a number, whether it stands or not, found by bisection; `None` where the table
-    /// never held it.
+    /// The slot of the row with a number, live or not, found by bisection; `None` if the table never had it.
     pub fn slot_of(&self, row: u32) -> Option<u64>
         ensures { result ≡ slot_of_row row self.now.slots }
     {
@@ -205,7 +213,7 @@ impl TableStore {
         }
     }
 
-    /// A copy of the values of the row in a slot, which stands.
+    /// A copy of the values of the live row in a slot.
     #[tactic(auto, using(crate::proofs::TableLaws::slot_rules))]
     pub fn row_values(&self, slot: u64) -> Result<Values, AllocError>
         requires { IsSome (current_values (slice_index_or self.now.slots slot no_history).changes) }
@@ -215,8 +223,8 @@ impl TableStore {
         self.rows.copy_values(self.name.allocator(), slot as usize)
     }
 
-    /// Sets the bits of the slots whose row stands and has a number in the column that compares so to the
-    /// constant, and clears all others. The column is of INT, and the mask has a word for each 64 slots,
+    /// Sets the bits of the slots whose row is live and whose number in the column passes the comparison with
+    /// the constant, and clears all others. The column is of INT, and the mask has a word for each 64 slots,
     /// rounded up.
     #[tactic(auto, using(crate::proofs::TableLaws::column_kind))]
     pub(crate) fn scan(&self, column: u64, op: Cmp, constant: i64, mask: &mut [u64])
@@ -230,9 +238,9 @@ impl TableStore {
         self.rows.scan(column as usize, op, constant, mask);
     }
 
-    /// Sets the bits of the slots whose row stands and has NULL in the column, or, where `is_null` is false,
-    /// another value, and clears all others. Past the last column there is NULL. The mask has a word for each
-    /// 64 slots, rounded up.
+    /// Sets the bits of the slots whose row is live and has NULL in the column (if `is_null` is false:
+    /// another value), and clears all others. A place past the last column has NULL. The mask has a word for
+    /// each 64 slots, rounded up.
     pub(crate) fn scan_nulls(&self, column: u64, is_null: bool, mask: &mut [u64])
         requires { length mask.old ≡ (length self.now.slots + 63) / 64 }
         ensures { (n : ℕ) → member mask.new n ≡ option_map_or
@@ -242,7 +250,7 @@ impl TableStore {
         self.rows.scan_nulls(column as usize, is_null, mask);
     }
 
-    /// The slots whose row stands now, as bits: a word for each 64 slots, rounded up.
+    /// The slots whose row is live now, as bits: a word for each 64 slots, rounded up.
     #[tactic(auto, using(crate::proofs::TableLaws::standing_now))]
     pub fn standing_slots(&self) -> &[u64]
         ensures long { length result.now ≡ (length self.now.slots + 63) / 64 }
@@ -253,7 +261,7 @@ impl TableStore {
         self.rows.standing_slots()
     }
 
-    /// The version of a row: how often it has changed. `None` where it doesn't stand now.
+    /// The version of a row: how often it has changed. `None` if it isn't live now.
     pub fn version(&self, row: u32) -> Option<u32>
         ensures { result ≡ version_now (history_of_row row self.now.slots) }
     {
@@ -264,7 +272,7 @@ impl TableStore {
         }
     }
 
-    /// The version of the row in a slot, which stands: how often it has changed. No slot is looked for.
+    /// The version of the live row in a slot: how often it has changed. It needs no search for the slot.
     #[tactic(auto, using(crate::proofs::TableLaws::slot_rules))]
     pub fn version_at(&self, slot: u64) -> u32
         requires { IsSome (current_values (slice_index_or self.now.slots slot no_history).changes) }
@@ -273,7 +281,7 @@ impl TableStore {
         self.rows.version(slot as usize)
     }
 
-    /// The number of the row that stands with a key; `None` where no row has it. The table has a key.
+    /// The number of the live row with a key; `None` if no row has it. The table has a key.
     pub fn by_key(&self, key: &Values) -> Option<u32>
         requires { 0 < length self.now.schema.key }
         ensures { result ≡ option_map (λ row. row.number)
@@ -286,8 +294,8 @@ impl TableStore {
         }
     }
 
-    /// The number of the row that stands with a key, given as the index has it; `None` where no row has it.
-    /// It takes no memory.
+    /// The number of the live row with a key, in the form that the index has; `None` if no row has it. The
+    /// table has a key. It takes no memory.
     #[tactic(auto, using(crate::proofs::TableLaws::held_keyed))]
     pub fn by_row_key(&self, key: &RowKey) -> Option<u32>
         requires { 0 < length self.now.schema.key }
@@ -297,7 +305,7 @@ impl TableStore {
         held_number(&self.index, &self.rows, &self.schema.key, key)
     }
 
-    /// The number of the next row after a time, found by bisection; from the last change on it is that of
+    /// The number of the next row after a time, found by bisection. From the last change on it is that of
     /// now.
     pub fn next_at(&self, time: u32) -> u32
         ensures number { result ≡ next_as_of time self.now.nexts }
@@ -306,7 +314,7 @@ impl TableStore {
         next_as_of(self.nexts.as_slice(), time)
     }
 
-    /// The rows after a time; from the last change on they are those of now, found by their bits.
+    /// The rows after a time. From the last change on they are those of now, found by their bits.
     pub fn rows_at(&self, time: u32) -> Result<TableRows, AllocError>
         ensures rows { IfOk result (λ rows. rows ≡ rows_as_of time self.now.slots) }
         ensures last { last_since self.now.nexts ≤ time
@@ -319,10 +327,10 @@ impl TableStore {
         rows_as_of(alloc, &self.rows, time)
     }
 
-    /// Adds rows at a time, numbered from the number of the next row on, and returns that number. The time
-    /// is later than that of each earlier change, and each row has a value for each column, of its kind.
-    /// NotNull, KeyTaken, Full: what the rows refuse, in this order, and then `reference_stop`; NoMemory: out
-    /// of memory. The table is then as it was.
+    /// Adds rows at a time, numbered from the number of the next row on, and returns that number. The time is
+    /// later than that of each earlier change, and each row has a value for each column, of its kind.
+    /// `NotNull`, `KeyTaken`, `Full` and `reference_stop` are tried in this order, and `NoMemory` comes if
+    /// memory runs out. After an `Err` the table is as it was.
     pub(crate) fn insert_all(
         &mut self,
         rows: RowList,
@@ -362,10 +370,11 @@ impl TableStore {
         Ok(next)
     }
 
-    /// Gives the rows of these numbers other values at a time. The time is later than that of each earlier
-    /// change. The rows are sorted by number, each has the number of a row that stands and a value for each
-    /// column, of its kind. NotNull, KeyTaken: what the rows refuse, in this order, where keys are those of
-    /// the table afterwards, and then `reference_stop`; NoMemory: out of memory. The table is then as it was.
+    /// Gives rows, each by its number, other values at a time. The time is later than that of each earlier
+    /// change. The rows are sorted by number, and each has the number of a live row and a value for each
+    /// column, of its kind. `NotNull`, `KeyTaken` (by the keys that the table would have) and
+    /// `reference_stop` are tried in this order, and `NoMemory` comes if memory runs out. After an `Err` the
+    /// table is as it was.
     pub(crate) fn replace_all(
         &mut self,
         rows: TableRows,
@@ -409,9 +418,10 @@ impl TableStore {
         Ok(())
     }
 
-    /// Drops the rows of these numbers at a time. The time is later than that of each earlier change. The
-    /// numbers are sorted, and each is that of a row that stands. `reference_stop` is returned; NoMemory: out
-    /// of memory. The table is then as it was.
+    /// Deletes the rows with these numbers at a time. The time is later than that of each earlier change. The
+    /// numbers are sorted, and each is that of a live row. `reference_stop`, the refusal by references if
+    /// there is one, is the error then, and `NoMemory` comes if memory runs out. After an `Err` the table is
+    /// as it was.
     pub(crate) fn delete_all(
         &mut self,
         numbers: &Numbers,

@@ -1,4 +1,4 @@
-//! The rows of a table in a list: those that stand now, and those that stood after a time.
+//! The rows of a table as a list: those that are live now, and those that were live after a time.
 
 ghost use Rattle.std.specs.Prelude.{◌≡◌, ◌++◌, ◌+◌, ◌<◌, ◌≤◌, length, slice_index_or, IfOk, IsSome, OnOk};
 ghost use Rattle.std.specs.Option.{option_to_list};
@@ -39,7 +39,7 @@ fn after(rows: &Rows, slot: u64) -> u64
     slot + 1
 }
 
-/// The rows that stand now, found by their bits.
+/// The rows that are live now, found by their bits.
 #[tactic(auto, using(crate::proofs::RowWalks::next_stands, crate::proofs::RowWalks::walked_on, crate::proofs::RowWalks::walked_end))]
 pub(crate) fn standing_rows(alloc: Global, rows: &Rows) -> Result<TableRows, AllocError>
     ensures { IfOk result (λ made. made ≡ rows_now rows.now.slots) }
@@ -58,7 +58,7 @@ pub(crate) fn standing_rows(alloc: Global, rows: &Rows) -> Result<TableRows, All
     }
 }
 
-/// The rows that stood after a time, slot by slot.
+/// The rows that were live after a time, found slot by slot.
 pub(crate) fn rows_as_of(alloc: Global, rows: &Rows, time: u32) -> Result<TableRows, AllocError>
     ensures { IfOk result (λ made. made ≡ rows_as_of time rows.now.slots) }
 {

@@ -1,4 +1,4 @@
--- Items, each once, at the place of the first that is the same.
+-- Items, each once, at the place where it comes first.
 use Rattle.std.proofs.Common.{◌≡◌, ◌∙◌, sym, ap, refl, Bool, true, false, not, cond, ◌||◌, List, [], ◌∷◌, ◌++◌}
 use Rattle.std.specs.Prelude.{if◌then◌else◌}
 use Rattle.std.specs.List.{filter, list_any, AllByRecursion}

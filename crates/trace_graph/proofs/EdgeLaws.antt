@@ -1,4 +1,4 @@
--- What one link more does to the edges of a graph.
+-- The edges of a graph after one link more.
 use Rattle.std.proofs.Common.{◌≡◌, ◌∙◌, sym, ap, subst, refl, arith, ℕ, Bool, true, false, cond, ◌||◌, List, [], ◌∷◌, ◌++◌, map}
 use Rattle.std.specs.Prelude.{◌&&◌, ◌==◌, min, max, fold, if◌then◌else◌}
 use Rattle.std.specs.List.{filter, flat_map, list_any, AllByRecursion}

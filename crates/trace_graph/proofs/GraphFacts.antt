@@ -1,4 +1,4 @@
--- What a graph says of its links.
+-- The facts about its links that a graph shows.
 use Rattle.std.proofs.Common.{◌≡◌, ◌∙◌, sym, ap, subst, refl, arith, ℕ, ◌≤◌, Bool, true, false, not, cond, ◌||◌, List, [], ◌∷◌, ◌++◌, map, Option, Some, IsTrue}
 use Rattle.std.specs.Prelude.{◌&&◌, min, max, fold, find, nat_le, slice_get}
 use Rattle.std.specs.List.{filter, flat_map, list_any, AllByRecursion}

@@ -1,4 +1,4 @@
--- That nodes are the same is equality, and that links are between the same nodes is an equivalence.
+-- The test of two nodes decides equality, and linking the same nodes is an equivalence of links.
 use Rattle.std.proofs.Common.{◌≡◌, ap, subst, refl, Bool, true}
 use Rattle.std.specs.Prelude.{◌&&◌, ◌==◌, bytes_eq}
 use Rattle.std.specs.Cmp.{IsEquivalence}

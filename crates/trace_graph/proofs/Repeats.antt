@@ -1,4 +1,4 @@
--- Nodes repeat where their keys do, and edges where their places do.
+-- Nodes repeat if their keys do, and edges repeat if their places do.
 use Rattle.std.proofs.Common.{◌≡◌, ◌∙◌, sym, ap, refl, ℕ, List, map, Bor}
 use Rattle.std.specs.Prelude.{◌&&◌}
 use Rattle.std.specs.Cmp.{unsigned_tied}

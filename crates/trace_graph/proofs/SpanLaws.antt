@@ -1,4 +1,4 @@
--- A time more of an edge, as an entry of a map.
+-- One time more of an edge, as an entry of a map.
 use Rattle.std.proofs.Common.{◌≡◌, ◌∙◌, ap, refl, ℕ, Bool, true, false, cond, List, [], ◌∷◌, map}
 use Rattle.std.specs.Prelude.{◌&&◌, if◌then◌else◌, Some}
 use Rattle.std.specs.Map.{lookup}

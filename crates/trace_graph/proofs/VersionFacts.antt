@@ -1,4 +1,4 @@
--- Which row versions the graph of a trace has, and which of them statements made.
+-- The row versions that the graph of a trace has, and those that statements made.
 use Rattle.std.proofs.Common.{◌≡◌, ◌∙◌, ap, refl, ℕ, Bool, true, false, ◌||◌, List, [], ◌∷◌, ◌++◌, map, Option, Some, None}
 use Rattle.std.specs.Prelude.{option_map}
 use Rattle.std.specs.List.{list_any, filter_map, cons_option}

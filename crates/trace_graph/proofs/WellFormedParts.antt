@@ -1,4 +1,4 @@
--- What well-formed graphs meet.
+-- The rules that well-formed graphs meet.
 use Rattle.std.proofs.Common.{◌≡◌, true, not, List, length, IsTrue}
 use Rattle.std.specs.Prelude.{◌&&◌}
 use Rattle.std.specs.List.{list_all}

@@ -1,4 +1,4 @@
--- How a graph grows link by link, which is what the code does.
+-- A graph grows link by link, as in the code.
 use Rattle.std.specs.Prelude.{◌≡◌, ℕ, min, max, List, [], ◌∷◌, ◌++◌, map, Bool, true, ◌&&◌, ◌==◌}
 use Rattle.std.specs.Prelude.{if◌then◌else◌, nat_le, Option, Some, None}
 use Rattle.std.specs.List.{list_any}

@@ -1,7 +1,6 @@
--- The graph of a trace. Its nodes are the paths, processes, row versions, statements and replies that are
--- linked, each once, in the order in which they are first seen. All links from one node to another are one
--- edge, with the interval from the first to the last of their times. Edges are in the order of their first
--- links.
+-- The graph of a trace. Its nodes are the linked paths, processes, row versions, statements and replies, each
+-- once, in the order in which events name them first. All links from one node to another are one edge, with
+-- the interval from the first to the last of their times. Edges are in the order of their first links.
 use Rattle.std.specs.Prelude.{ℕ, min, max, List, [], ◌∷◌, map, Bool, false, not, ◌&&◌, ◌==◌, nat_lt, position}
 use Rattle.std.specs.Prelude.{bytes_eq, fold, Option}
 use Rattle.std.specs.List.{filter, flat_map, list_all, position_or_len}

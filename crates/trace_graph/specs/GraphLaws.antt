@@ -1,4 +1,4 @@
--- What a graph says of the links that it was made of.
+-- The facts about its links that a graph shows.
 use Rattle.std.specs.Prelude.{◌≡◌, ℕ, List, Bool, false, ◌&&◌, ◌||◌, nat_le, IsTrue, slice_get}
 use Rattle.std.specs.List.{list_any, AllByRecursion}
 use Rattle.std.specs.Option.{option_map_or}

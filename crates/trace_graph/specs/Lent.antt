@@ -1,4 +1,4 @@
--- Graphs whose nodes are keys, with texts where they came from.
+-- Graphs whose nodes are keys, which borrow their texts.
 use Rattle.std.specs.Prelude.{ℕ, List, map, Bool}
 use Rattle.trace_graph.specs.Types.{Path}
 use Rattle.trace_graph.specs.declared.key.NodeKey.{NodeKey}

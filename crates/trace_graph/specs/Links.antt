@@ -1,6 +1,6 @@
--- What each event links. A link is an edge at one time, the step of its event. Information flows from its
--- source to its target: what is at a path to the process that reads it, a version to the reply that it was
--- read for.
+-- The links of each event. A link is an edge at one time, the step of its event. Information flows from its
+-- source to its target: from the content of a path to the process that reads it, from a row version to the
+-- reply of the statement that read it.
 use Rattle.std.specs.Prelude.{ℕ, ◌-◌, ◌==◌, List, [], ◌∷◌, ◌++◌, map, if◌then◌else◌}
 use Rattle.std.specs.Prelude.{Option, Some, None, option_map}
 use Rattle.std.specs.List.{filter_map}

@@ -1,4 +1,4 @@
--- Which row versions the graph of a trace has, and which of them statements made, said of the events.
+-- The row versions that the graph of a trace has, and those that statements made, by the events.
 use Rattle.std.specs.Prelude.{◌≡◌, List, Bool, true, false, ◌||◌}
 use Rattle.std.specs.List.{list_any}
 use Rattle.std.specs.Option.{option_map_or}

@@ -1,4 +1,4 @@
--- Well-formed graphs: those that are read back from their documents. The traces of valid packages have such.
+-- Well-formed graphs are read back from their documents. The traces of valid packages have such graphs.
 use Rattle.std.specs.Prelude.{ℕ, ◌≤◌, List, length, Bool, true, not, ◌&&◌, ◌==◌, nat_le, IsTrue}
 use Rattle.std.specs.List.{list_all, AllByRecursion}
 use Rattle.ldv_value.specs.Limits.{max_steps}

@@ -47,7 +47,7 @@ impl<'a> Building<'a> {
         Ok(())
     }
 
-    /// The place of a node, which comes last if it isn't there yet.
+    /// The place of a node, which is added at the end if it isn't there yet.
     pub(crate) fn place(&mut self, key: NodeKey<'a>) -> Result<usize, AllocError>
         ensures parts { OnOk result (parts_of self.new
             ≡ with_place (parts_of self.old) (node_of key.entry)) }
@@ -115,7 +115,7 @@ impl<'a> Building<'a> {
         Ok(())
     }
 
-    /// Links what the events of a trace do.
+    /// Adds the links of the events of a trace.
     pub(crate) fn fill(&mut self, texts: &'a NodeTexts, events: &[Event]) -> Result<(), AllocError>
         requires fits { IsTrue (made_fits 1 events.now) }
         requires held { IsTrue (acts_held texts.now.held.keys events.now) }
@@ -156,8 +156,8 @@ impl<'a> Building<'a> {
         Ok(())
     }
 
-    /// The same as `fill`, of events that are dropped one by one. Links are only noted, in the memory that
-    /// the events leave: the table of edges, which is larger, is to be made once they are gone.
+    /// The same as `fill`, but it drops the events one by one. Links are only noted, in the memory of dropped
+    /// events: the table of edges is larger, and is made once all events are gone.
     pub(crate) fn fill_from(
         &mut self,
         texts: &'a NodeTexts,
@@ -172,7 +172,7 @@ impl<'a> Building<'a> {
         self.note_events(texts, events)
     }
 
-    /// Takes the nodes out as keys, without what they were found by.
+    /// Takes the nodes out as keys, without their index.
     pub(crate) fn take_keys(&mut self, alloc: Global) -> Result<Vec<NodeKey<'a>>, AllocError>
         ensures keys { IfOk result (λ keys. keys.items ≡ self.old.keys.keys) }
         ensures spans { self.new.spans.entries ≡ self.old.spans.entries }
@@ -182,7 +182,7 @@ impl<'a> Building<'a> {
         copy_keys(alloc, keys.as_slice())
     }
 
-    /// Takes the edges out, with those that were only noted. `room` is how many of these to expect.
+    /// Takes the edges out, with those of the notes. `room` is the expected number of these.
     pub(crate) fn take_edges(&mut self, alloc: Global, room: usize) -> Result<Edges, AllocError>
         ensures edges { IfOk result (λ edges. edges
             ≡ with_notes (map edge_at self.old.spans.entries) self.old.notes) }
@@ -196,7 +196,7 @@ impl<'a> Building<'a> {
     }
 }
 
-/// How many nodes and edges there may be: tables that grow take a sixth of the time.
+/// The greatest numbers of nodes and of edges: tables that grow take a sixth of the time.
 #[derive(Clone, Copy)]
 pub(crate) struct Room {
     pub(crate) nodes: usize,
@@ -233,7 +233,7 @@ impl Room {
     }
 }
 
-/// The room for the nodes and edges of events.
+/// The greatest numbers of nodes and of edges that events make.
 pub(crate) fn room_of(events: &[Event]) -> Room {
     let mut room = Room { nodes: 0, edges: 0 };
     for event in events {

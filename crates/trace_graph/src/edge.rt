@@ -3,8 +3,8 @@
 use ldv_value::{CopyItem, List};
 use std::alloc::{AllocError, Global};
 
-/// Information goes from one node to another, by their places in the list of nodes, from 0. It does so in the
-/// step `first`, for the last time in the step `last`, and maybe between them.
+/// Information flows from one node to another, both by their places in the list of nodes, from 0. It flows
+/// first in the step `first`, for the last time in the step `last`, and maybe between them.
 #[derive(Clone, Copy)]
 pub struct Edge {
     pub source: usize,

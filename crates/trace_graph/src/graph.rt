@@ -44,7 +44,7 @@ impl Graph {
         graph_over_texts(alloc, &texts, events.items())
     }
 
-    /// The graph of well-formed lists of nodes and edges.
+    /// The graph of well-formed lists of nodes and edges (`is_well_formed` tests them).
     #[tactic(auto, using(crate::proofs::WellFormedParts::formed_between))]
     pub fn of_parts(nodes: Nodes, edges: Edges) -> Graph
         requires { IsWellFormed (record { nodes = nodes; edges = edges }) }
@@ -76,7 +76,8 @@ impl Graph {
         Ok(keys)
     }
 
-    /// The place of a node in the list of nodes, from 0. It looks at each node.
+    /// The place of a node in the list of nodes, from 0, or `None` if it isn't there. The time is linear in
+    /// the number of nodes.
     pub fn place(&self, node: &Node) -> Option<usize>
         ensures place { result ≡ position (same_node node.now) self.now.nodes }
         ensures within { IfSome result (λ place. place < length self.now.nodes) }

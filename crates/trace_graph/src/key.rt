@@ -13,17 +13,17 @@ use ldv_value::Utf8;
 use sql_model::Member;
 use std::alloc::{AllocError, Global};
 
-/// A node whose texts are where they came from. Keys are in the order of the report on what an output depends
-/// on: by kind, then by content.
+/// A node that borrows its texts. Keys are in the order of the report of `inspect depends`: by kind, then by
+/// content.
 #[derive(Clone, Copy, PartialEq, Eq, Hash, PartialOrd, Ord)]
 pub enum NodeKey<'a> {
     /// A path.
     Path(&'a str),
     /// A process, by creation number.
     Process(u32),
-    /// A table, a row and its version.
+    /// A row by its table, its number and its version, 0 for the initial one.
     Row(&'a str, u32, u32),
-    /// A statement, by its number.
+    /// A statement, by its number in the run, from 0.
     Ask(u32),
     /// The reply to a statement, by its number.
     Reply(u32),
@@ -88,7 +88,7 @@ pub(crate) fn keys_of<'a>(alloc: Global, nodes: &'a [Node]) -> Result<Vec<NodeKe
     Ok(keys)
 }
 
-/// A copy of keys, whose texts stay where they are.
+/// A copy of keys; their texts stay where they are.
 pub(crate) fn copy_keys<'a>(
     alloc: Global,
     keys: &[NodeKey<'a>],
@@ -113,7 +113,7 @@ fn names_path(key: &NodeKey<'_>, path: &str) -> bool
     }
 }
 
-/// The place of the first key that is that of a path.
+/// The place of the first key of a path.
 pub(crate) fn path_place(keys: &[NodeKey<'_>], path: &str) -> Option<usize>
     ensures place { result ≡ position (names_path path.now) keys.now }
     ensures within { IfSome result (λ place. place < length keys.now) }

@@ -4,10 +4,10 @@ ghost use Rattle.trace_graph.specs.GraphLaws.{NodesLaw, EdgesLaw, IntervalsLaw};
 ghost use Rattle.trace_graph.specs.VersionLaws.{VersionsLaw, MadeLaw};
 ghost use Rattle.trace_graph.specs.WellFormed.{WellFormedLaw, EndLaw};
 
-/// A graph has the nodes of its links and no other, goes from node to node exactly where they do, and has the
-/// time of each of them in an interval. So it has the row versions that statements read, make or change and
-/// no other, and an edge from a statement leads to those that statements make. The function has no body: its
-/// contract is the theorem.
+/// A graph has the nodes of its links and no others, has an edge between two nodes if and only if a link
+/// does, and the edge's interval contains the time of each of its links. So its row versions are those that
+/// statements read, make or change, and an edge leads from a statement to each version that a statement
+/// makes. The function has no body: its contract is the theorem.
 pub fn graph_law()
     ensures nodes { NodesLaw }
     ensures edges { EdgesLaw }
@@ -16,8 +16,8 @@ pub fn graph_law()
     ensures made { MadeLaw }
 {}
 
-/// The graph of a valid trace of at most 10,000,000 steps is well formed, and its edges end by the last of
-/// these. The function has no body: its contract is the theorem.
+/// The graph of a valid trace of at most 10,000,000 steps is well formed, and its edges end by step
+/// 10,000,000. The function has no body: its contract is the theorem.
 pub fn well_formed_law()
     ensures formed { WellFormedLaw }
     ensures end { EndLaw }

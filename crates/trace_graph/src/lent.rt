@@ -14,7 +14,7 @@ use crate::texts::NodeTexts;
 use run_model::Events;
 use std::alloc::{AllocError, Global};
 
-/// A graph that lends its texts: it has none of its own, and doesn't need the events that it was made of.
+/// A graph that borrows its texts from a `NodeTexts`. It doesn't need the events any more.
 #[derive(Drop)]
 pub struct LentGraph<'a> {
     /// The nodes, in the order in which they were first seen.
@@ -24,7 +24,7 @@ pub struct LentGraph<'a> {
 }
 
 impl<'a> LentGraph<'a> {
-    /// The graph of a trace, whose events are dropped one by one. `texts` have those of the trace, as
+    /// The graph of a trace; its events are dropped one by one. `texts` are those of the trace, as
     /// `NodeTexts::of_events` gives them. `AllocError` means out of memory only.
     pub fn of_events(
         alloc: Global,
@@ -41,7 +41,8 @@ impl<'a> LentGraph<'a> {
         lent_graph_in(alloc, &mut building, texts, events)
     }
 
-    /// The place of the node of a path, from 0. It looks at each node.
+    /// The place of the node of a path, from 0, or `None` if there is no such node. The time is linear in the
+    /// number of nodes.
     pub fn place(&self, path: &str) -> Option<usize>
         ensures place { result ≡ place_of (lent_parts self.now) path.now }
         ensures within { IfSome result (λ place. place < length self.now.nodes.items) }

@@ -1,11 +1,11 @@
 //! The provenance graph of a trace: what came from what. An edge goes from a source of information to its
-//! target, with the interval of steps in which it flows.
+//! target, with the interval of steps in which information flows.
 //!
-//! Nodes and edges are numbered by hash tables, so that time and memory are linear in the trace. Keys of
-//! nodes borrow their texts from a set of the paths and tables of the trace (`NodeTexts`), and so does a
-//! `LentGraph`; a `Graph` owns its texts. Each link is first noted by its nodes and its time.
-//! `Graph::of_events` keeps the events and makes an edge of each note at once; `LentGraph::of_events` drops
-//! each event once its links are noted, and makes the edges when all events are gone.
+//! Hash tables number nodes and edges, so time and memory are linear in the trace. Keys of nodes borrow their
+//! texts from a set of the paths and tables of the trace (`NodeTexts`), and so does a `LentGraph`; a `Graph`
+//! owns its texts. Each link is first noted by its nodes and its time. `Graph::of_events` keeps the events
+//! and makes an edge of each note at once; `LentGraph::of_events` drops each event once its links are noted,
+//! and makes the edges when all events are gone.
 //!
 //! Entry: `of_events` in `src/graph.rt`. Read first: `specs/Links.antt`.
 #![tactic(auto)]

@@ -1,4 +1,4 @@
-//! What each event links.
+//! The links of each event.
 
 ghost use Rattle.std.specs.Prelude.{◌≡◌, ◌++◌, ◌∷◌, [], map, option_to_list, IfOk, IsTrue, OnOk};
 ghost use Rattle.std.specs.List.{filter_map};
@@ -266,7 +266,7 @@ impl<'a> Building<'a> {
         self.link_changes(texts, event.step, made)
     }
 
-    /// What an event links, before which a number of processes was made.
+    /// Adds the links of an event. `made` processes were made before it.
     pub(crate) fn link_event(
         &mut self,
         texts: &'a NodeTexts,

@@ -4,16 +4,16 @@ use ldv_value::{CopyItem, List, Utf8};
 use sql_model::Member;
 use std::alloc::{AllocError, Global};
 
-/// What information comes from and goes to.
+/// A source or a target of information.
 #[derive(Drop)]
 pub enum Node {
-    /// What is at a path, and whether there is a file.
+    /// The content of a path, and whether there is a file.
     Path(Utf8),
-    /// A process, by its creation number.
+    /// A process, by its creation number, from 0.
     Process(u32),
     /// A row of a table at a version.
     Row(Member),
-    /// A statement that was asked, by its number.
+    /// A statement that was asked, by its number in the run, from 0.
     Ask(u32),
     /// The reply to a statement, by the statement's number.
     Reply(u32),

@@ -21,9 +21,9 @@ pub(crate) struct Note {
     pub(crate) time: u32,
 }
 
-/// Links in the order in which they were noted. A note takes half of what an edge and its entry in a table
-/// do. They are in pieces, for which an allocator has room where events lay that were dropped. For one long
-/// list it asks the system for more, as it does for all that takes more than some 128 KiB.
+/// Links, in the order in which they were noted. A note takes half the memory of an edge with its entry in a
+/// table. Notes are kept in pieces that fit into the memory of dropped events. For one long list the
+/// allocator would ask the system for more memory, as for everything above some 128 KiB.
 #[derive(Drop)]
 pub(crate) struct Notes {
     earlier: Vec<List<Note>>,
@@ -74,7 +74,7 @@ impl Notes {
         Ok(())
     }
 
-    /// Takes all notes out, and keeps the memory of the latest.
+    /// Takes all notes out, and keeps the memory of the latest piece.
     pub(crate) fn clear(&mut self)
         ensures { self.new ≡ [] }
     {

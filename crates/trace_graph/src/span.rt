@@ -35,7 +35,7 @@ fn span_with(span: Option<Span>, time: u32) -> Span
     }
 }
 
-/// Adds a time to the edge between two places. Most edges are new, and a new one is looked up once.
+/// Adds a time to the edge between two places. Most edges are new, and a new edge takes one look-up.
 pub(crate) fn add_time(
     spans: &mut Spans,
     source: usize,

@@ -16,8 +16,8 @@ use std::alloc::{AllocError, Global};
 
 type TextSet = IndexSet<Utf8>;
 
-/// The texts that the nodes of a trace have, each once: the paths that acts name, and the tables of the rows
-/// that statements read and make. A graph that lends them lends nothing of the events, which may be gone.
+/// The texts of the nodes of a trace, each once: the paths of acts, and the tables of the rows that
+/// statements read and make. A graph that borrows these texts doesn't need the events.
 #[derive(Drop)]
 pub struct NodeTexts {
     held: TextSet,
@@ -139,7 +139,7 @@ pub(crate) fn lent_path<'a>(texts: &'a NodeTexts, path: &Utf8) -> NodeKey<'a>
     NodeKey::Path(texts.lend(path))
 }
 
-/// The key of a row at a version, which needn't be its own.
+/// The key of a row at any version.
 pub(crate) fn lent_version<'a>(texts: &'a NodeTexts, member: &Member, version: u32) -> NodeKey<'a>
     requires { IsTrue (is_held texts.now.held.keys member.now.table) }
     ensures { node_of result ≡ Row (at_version member.now version) }

@@ -92,8 +92,8 @@ fn are_between(count: usize, edges: &[Edge]) -> bool
 }
 
 /// Whether nodes and edges make a well-formed graph: nodes differ, paths and names of tables meet their
-/// rules, edges are between places of nodes, no two of them between the same places, and the times of each
-/// rise and are steps that a run may have. `AllocError` means out of memory only.
+/// rules, edges are between places of nodes, no two edges have the same places, and each edge has
+/// `first <= last <= 10,000,000`. `AllocError` means out of memory only.
 pub fn is_well_formed(alloc: Global, nodes: &[Node], edges: &[Edge]) -> Result<bool, AllocError>
     ensures { IfOk result (λ formed. formed
         ≡ is_well_formed (record { nodes = nodes.now; edges = edges.now })) }

@@ -1,4 +1,4 @@
--- Over tables without foreign keys a statement needs no row by one, and leaves the tables without them.
+-- Over tables without foreign keys a statement needs no row by one, and adds none to the tables.
 use Rattle.std.proofs.Common.{◌≡◌, ℕ, suc, List, [], ◌∷◌, ◌++◌, refl, sym, ap, ◌∙◌, Bool, true, false, inl, inr}
 use Rattle.std.specs.Prelude.{length, ◌==◌, ◌&&◌, Option, Some, None, map, if◌then◌else◌, filter, option_map, option_to_list}
 use Rattle.std.specs.List.{list_all, filter_map, flat_map}

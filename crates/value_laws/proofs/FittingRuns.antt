@@ -1,4 +1,4 @@
--- What comes of foreign keys alone isn't in the package of a run over tables without them.
+-- The package of a run over tables without foreign keys has no rules of them.
 use Rattle.std.proofs.Common.{◌≡◌, ℕ, zero, suc, ◌+◌, List, [], ◌∷◌, ◌++◌, length, refl, sym, ap, ◌∙◌, subst, Bool, true, false, arith, inl, inr}
 use Rattle.std.specs.Prelude.{Option, Some, None, map, filter, slice_get, option_map, ◌&&◌, ◌==◌, IsTrue}
 use Rattle.std.specs.List.{list_all, filter_map, cons_option}

@@ -1,4 +1,4 @@
--- The value of an expression is good where its constants and the values of its columns are.
+-- The value of an expression is good if its constants and the values of its columns are.
 use Rattle.std.proofs.Common.{◌≡◌, ℕ, suc, zero, ◌^◌, List, [], ◌∷◌, refl, sym, subst, Bool, true, false, w64}
 use Rattle.std.specs.Prelude.{ℤ, pos, negsuc, neg_ℤ, ◌+ℤ◌, ◌-ℤ◌, ◌*ℤ◌, nat_lt, Some, None, map, fold, length, not, if◌then◌else◌, FitsSigned}
 use Rattle.std.specs.List.{AllByRecursion, reduce}

@@ -1,4 +1,4 @@
--- The rows of an answer are good and not too wide where the constants of the query and the tables are good.
+-- The rows of an answer are good and not too wide if the constants of the query and the tables are good.
 use Rattle.std.proofs.Common.{◌≡◌, ℕ, suc, ◌+◌, ◌*◌, ◌<◌, ◌≤◌, ◌^◌, arith, List, [], ◌∷◌, ◌++◌, sym, subst, Bool, true, false}
 use Rattle.std.specs.Prelude.{Option, Some, None, map, filter, find, length, not, ◌==◌, if◌then◌else◌}
 use Rattle.std.specs.declared.cmp.Ordering.{Ordering}

@@ -1,5 +1,5 @@
--- A refusal by a reference is good: the key that is named is made of the values of a good row, and the table is
--- a parent of a good table, or a good table.
+-- A refusal by a reference is good: the named key has the values of a good row, and the table is a good table
+-- or a parent of one.
 use Rattle.std.proofs.Common.{◌≡◌, ℕ, ◌<◌, ◌≤◌, arith, List, [], ◌∷◌, Bool, true, false}
 use Rattle.std.specs.Prelude.{Option, Some, None, option_map, map, filter, length, not, ◌&&◌, if◌then◌else◌}
 use Rattle.std.specs.List.{AllByRecursion, cons_option, filter_map, list_any}

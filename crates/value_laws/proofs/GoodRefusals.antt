@@ -1,4 +1,4 @@
--- A refusal is good: a key that is taken is that of a good row.
+-- A refusal is good: a key that is taken belongs to a good row.
 use Rattle.std.proofs.Common.{◌≡◌, ℕ, ◌<◌, ◌≤◌, arith, List, [], ◌∷◌, ◌++◌, refl, Bool, true, false}
 use Rattle.std.specs.Prelude.{Option, Some, None, length, find, if◌then◌else◌, IsTrue}
 use Rattle.std.specs.List.{AllByRecursion, list_all}

@@ -1,4 +1,4 @@
--- A statement by the grammar is good where its tokens are.
+-- A statement by the grammar is good if its tokens are.
 use Rattle.std.proofs.Common.{◌≡◌, ℕ, ◌+◌, ◌<◌, ◌≤◌, ◌^◌, List, [], ◌∷◌, ◌++◌, length, refl, sym, ap, subst, ◌∙◌, Some, None, inl, inr, arith, true, false}
 use Rattle.std.specs.Prelude.{Option, Bool, option_to_list, IsUtf8}
 use Rattle.std.specs.List.{AllByRecursion}

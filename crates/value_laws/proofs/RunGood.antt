@@ -1,5 +1,5 @@
--- What every state of a run meets: the values of each process are good, names are those of processes that were
--- made, and the tables are good. With it, what the processes ask and are told.
+-- Facts about every state of a run: the values of each process are good, names are those of processes that
+-- were made, and the tables are good. So the statements and the replies of the processes are good.
 use Rattle.std.proofs.Common.{◌≡◌, ℕ, zero, suc, ◌+◌, ◌<◌, ◌≤◌, List, [], ◌∷◌, ◌++◌, length, refl, sym, subst, true, arith, inl, inr, length-append}
 use Rattle.std.specs.Prelude.{pos, Option, Some, None, slice_get, slice_set, nat_lt, nat_le, ◌&&◌, option_and_then}
 use Rattle.std.specs.List.{list_all, AllByRecursion}

@@ -1,5 +1,5 @@
--- What every step of an instruction leaves of its process: good variables, good replies under its cursors, a good
--- script, and a status that is none or a byte.
+-- Facts about its process that every step of an instruction keeps: good variables, good replies under its
+-- cursors, a good script, and a status that is none or a byte.
 use Rattle.std.proofs.Common.{◌≡◌, ℕ, zero, suc, ◌+◌, ◌<◌, ◌≤◌, List, [], ◌∷◌, length, refl, sym, subst, Bool, true, false, arith, inl, inr}
 use Rattle.std.specs.Prelude.{pos, Option, Some, None, not, slice_get, ◌==◌, nat_lt}
 use Rattle.std.specs.List.{list_all, AllByRecursion}

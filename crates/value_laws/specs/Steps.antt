@@ -1,4 +1,4 @@
--- The law of steps: whatever a run asks and is told is good, and so its logs are those of a valid package.
+-- The law of steps: all statements and replies of a run are good, so its logs are those of a valid package.
 use Rattle.std.specs.Prelude.{◌≡◌, ℕ, List, true, IsTrue}
 use Rattle.std.specs.List.{AllByRecursion}
 use Rattle.std.specs.Str.{IsUtf8}

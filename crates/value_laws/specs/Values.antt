@@ -1,5 +1,5 @@
--- What every value that a run makes meets: a number of 64 bits, or a text of UTF-8 that isn't too long; and
--- so what statements, tables, replies and entries meet.
+-- Good values: NULL, a number of 64 bits, or a text of UTF-8 that isn't too long. Good statements, tables,
+-- replies and entries have good values only.
 use Rattle.std.specs.Prelude.{◌<◌, ◌≤◌, ◌^◌, List, [], ◌∷◌, ◌++◌, length, Option, Some, None, IsTrue}
 use Rattle.std.specs.List.{AllByRecursion}
 use Rattle.std.specs.Str.{IsUtf8}

@@ -1,6 +1,7 @@
 //! Laws of the values that a run makes: each is a number of 64 bits, or a text of UTF-8 within the limit.
 //!
-//! A law beside them says that what comes of foreign keys alone isn't there if no table has one.
+//! Another law says that a run over tables without foreign keys gives a package without rules or refusals of
+//! them.
 //!
 //! Entry: `steps_law` in `src/steps.rt`. Read first: `specs/Values.antt`.
 #![tactic(auto)]

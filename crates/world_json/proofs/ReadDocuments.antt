@@ -1,5 +1,5 @@
--- What every document that is read meets: its files are sorted by path, its tables by name, since the members of
--- an object go in one after another at their places; and the rows of a table are as wide as it.
+-- Facts about every document that is read: its files are sorted by path, its tables by name, since each
+-- member of an object is inserted at its place; and the rows of a table are as wide as it.
 use Rattle.std.proofs.Common.{◌≡◌, ℕ, List, [], ◌∷◌, map, length, codes, Bool, true, false, if◌then◌else◌, Option, Some, None, option_map, option_and_then, Ok, Ordering, Less, Equal, Greater, refl, sym, ap, ◌∙◌, subst}
 use Rattle.std.proofs.lemmas.Cmp.{nat_list_cmp_total}
 use Rattle.std.specs.List.{AllByRecursion}

@@ -1,4 +1,4 @@
--- What a document with a reading meets: no fault of it holds.
+-- A document that gives a world has no fault.
 use Rattle.std.proofs.Common.{◌≡◌, Bool, true, false, if◌then◌else◌, Option, Some, None, Result, Ok, Err, refl}
 use Rattle.run_model.specs.declared.world.World.{World}
 use Rattle.world_json.specs.declared.document.Document.{Document}

@@ -1,4 +1,4 @@
--- A document by the world that is made of it: its references, and the fault of its start.
+-- The references of a document, and the fault of its start, by the world made from it.
 use Rattle.std.proofs.Common.{◌≡◌, List, Bool, true, false, if◌then◌else◌, Option, Some, None, Ok, Err, sym, ap, subst, ◌∙◌}
 use Rattle.std.specs.Prelude.{option_and_then}
 use Rattle.ldv_value.proofs.Booleans.{and-first}

@@ -1,5 +1,5 @@
--- The faults of a document whose parts have their types, each a test over all of it. What valid columns,
--- keys, values and rows are is said in sql_model's `Tables`.
+-- The faults of a document whose parts have their types, each a test over all of it. `Tables` of `sql_model`
+-- defines valid columns, keys, values and rows.
 use Rattle.std.specs.Prelude.{ℕ, List, [], ◌∷◌, length, map, Bool, false, not, ◌&&◌, nat_le}
 use Rattle.std.specs.Prelude.{Option, option_and_then, slice_get}
 use Rattle.std.specs.List.{list_any, list_all}

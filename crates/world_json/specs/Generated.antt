@@ -1,5 +1,5 @@
--- The world that the generator makes: ten customers, a number of orders of theirs, and a script that reports
--- what each customer has ordered.
+-- The world that the generator makes: ten customers, a number of their orders, and a script that reports the
+-- orders of each customer.
 use Rattle.std.specs.Prelude.{ℕ, ◌*◌, ◌%◌, pos, List, [], ◌∷◌, ◌++◌, map, codes, Bool, true, false}
 use Rattle.std.specs.Fmt.{decimal}
 use Rattle.std.specs.List.{flat_map, range_with_len}

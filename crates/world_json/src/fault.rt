@@ -1,4 +1,4 @@
-//! Why a document is no world.
+//! The reasons why a document is no world.
 
 use std::alloc::AllocError;
 
@@ -9,10 +9,10 @@ pub enum WorldFault {
     NotJson,
     /// A member too many or too few, or of another JSON type.
     Shape,
-    /// A path, a table name or a column name outside its rule; a name twice; a key or a foreign key that
+    /// A path, a table name or a column name that breaks its rule; a name twice; a key or a foreign key that
     /// names no column, or a parent that is no table.
     Name,
-    /// A limit is passed.
+    /// A number of things or a length above its limit.
     Limit,
     /// A text in an INT column, or a number in a TEXT column.
     RowType,
@@ -20,8 +20,7 @@ pub enum WorldFault {
     NotNull,
     /// A key column that may be NULL, or two rows of one key.
     Key,
-    /// A foreign key whose parent has no key or one that it doesn't fit, or a row that refers to a key that
-    /// no row of the parent has.
+    /// A foreign key that fits no key of its parent, or a row that refers to no row of the parent.
     Reference,
     /// The first start word is no file.
     NoStart,
@@ -29,10 +28,10 @@ pub enum WorldFault {
     BadScript(u32),
 }
 
-/// Why bytes give no world.
+/// Why `world_of` gives no world.
 #[derive(Clone, Copy, Debug, PartialEq, Eq)]
 pub enum WorldStop {
-    /// They are none: the first fault.
+    /// The bytes describe no world: their first fault.
     Fault(WorldFault),
     /// Out of memory.
     NoMemory,

@@ -31,9 +31,9 @@ const SCRIPT: &str =
     print k\n\
     end:\n";
 
-/// A world to try out and to measure with: ten customers, a number of orders of theirs, 1 to 100,000, and a
-/// script that writes what each customer has ordered in small orders, deletes the large ones, and counts the
-/// small ones. It is valid, and it can be run.
+/// A world to try out and to measure with: ten customers, `n` orders, 1 to 100,000, and a script. The script
+/// writes what each customer has ordered in small orders, deletes the large ones, and counts the small ones.
+/// The world is valid, and it can be run. `AllocError` means out of memory only.
 pub fn generate(alloc: Global, n: u32) -> Result<World, AllocError>
     ensures world { IfOk result (λ world. world ≡ generated_world n) }
     ensures valid { IfOk result (λ world. ValidWorld world) }

@@ -40,7 +40,8 @@ fn table_meets_key(alloc: Global, table: &Draft) -> Result<bool, AllocError>
     Ok(!has_key_twice(alloc, &places, table.rows.items())?)
 }
 
-/// The places of the columns that a key names, from 0; the number of columns for a name that no column has.
+/// The places, from 0, of the columns that a key names. If no column has a name, its place is the number of
+/// columns.
 pub(crate) fn places_of_key(
     alloc: Global,
     columns: &Columns,
@@ -55,7 +56,7 @@ pub(crate) fn places_of_key(
     Ok(places)
 }
 
-/// The foreign keys of a table, whose columns are given by their names.
+/// The foreign keys of a table, made from the names of their columns.
 pub(crate) fn foreign_keys(
     alloc: Global,
     columns: &Columns,

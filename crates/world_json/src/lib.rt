@@ -1,8 +1,7 @@
-//! World documents: the world that a JSON document describes, or the first fault by which it describes none;
-//! and the worlds of `gen`.
+//! World documents: a JSON document gives a world or its first fault; and the worlds of `gen`.
 //!
 //! Bytes are read to a JSON value, the value to a `Document` of typed parts, the document to a world. Each
-//! step consumes what the one before made, so that memory is freed on the way.
+//! step consumes the result of the one before, so memory is freed on the way.
 //!
 //! Entry: `world_of` in `src/world.rt`. Read first: `specs/Reading.antt`.
 #![tactic(auto)]

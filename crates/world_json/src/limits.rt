@@ -1,4 +1,4 @@
-//! The fault Limit: how many and how long things are.
+//! The fault Limit: numbers of things and lengths.
 
 ghost use Rattle.std.specs.Prelude.{◌≡◌, length, nat_le};
 ghost use Rattle.std.specs.List.{list_all};

@@ -1,5 +1,5 @@
-//! The fault Name: a path or the name of a table or a column outside its rule, a name that is there twice, or
-//! a key, a foreign key or a parent that names nothing.
+//! The fault Name: a path or the name of a table or a column breaks its rule, a name comes twice, or a key, a
+//! foreign key or a parent names nothing.
 
 ghost use Rattle.std.specs.Prelude.{◌≡◌, ◌&&◌, ℕ, List, IfOk, map};
 ghost use Rattle.std.specs.List.{list_all, list_any};

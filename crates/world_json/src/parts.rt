@@ -187,7 +187,7 @@ fn table_of_parts(alloc: Global, name: Utf8, parts: TableParts) -> Result<Draft,
     })
 }
 
-/// The parts of a document, of their types.
+/// The parts of a document, with their types.
 pub(crate) fn read_document(alloc: Global, value: Value) -> Result<Document, ShapeStop>
     ensures ok { IfOk result (λ document. document_of (view value) ≡ Some document) }
     ensures shape { result ≡ Err ShapeStop.Shape → document_of (view value) ≡ None }

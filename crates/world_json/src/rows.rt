@@ -43,7 +43,7 @@ impl NumberedRows {
         }
     }
 
-    /// No rows, with room for a number of them.
+    /// No rows, with memory for `count` of them.
     pub(crate) fn with_capacity(alloc: Global, count: usize) -> Result<Self, AllocError>
         ensures { IfOk result (λ made. made ≡ []) }
     {
@@ -97,7 +97,7 @@ fn number_at(index: usize) -> u32
     }
 }
 
-/// The rows of a table, none where its member is missing.
+/// The rows of a table; none if its member is missing.
 pub(crate) fn read_rows(alloc: Global, value: Option<Value>) -> Result<NumberedRows, ShapeStop>
     ensures ok { IfOk result (λ rows.
         optional_member (array_of (array_of cell_of)) [] (option_map view value) ≡ Some rows) }

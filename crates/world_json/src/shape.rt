@@ -12,7 +12,7 @@ use ldv_value::{List, Utf8};
 use serde_json::{Map, Value};
 use std::alloc::{AllocError, AllocFailed, Global};
 
-/// Why a value has no reading.
+/// Why a value isn't read.
 #[derive(Clone, Copy, Debug, PartialEq, Eq)]
 pub(crate) enum ShapeStop {
     /// It has another shape.
@@ -32,7 +32,7 @@ impl From<AllocError> for ShapeStop {
     }
 }
 
-/// What an item of an array may be.
+/// Types that an item of an array is read as.
 pub(crate) trait FromItem: Drop + Sized {
     ghost of_item: { Data → Option Self };
     // What its type says of it.
@@ -44,7 +44,7 @@ pub(crate) trait FromItem: Drop + Sized {
         ensures typed { IfOk result (λ x. typed x) };
 }
 
-/// What a member of an object may be.
+/// Types that a member of an object is read as.
 pub(crate) trait FromMember: Drop + Sized {
     ghost of_member: { List ℕ → Data → Option Self };
     // What its type says of it.

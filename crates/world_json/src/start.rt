@@ -1,4 +1,4 @@
-//! The script of the file of the first start word, and the faults NoStart and BadScript of that file.
+//! The script of the file at the first start word, and the faults NoStart and BadScript.
 
 ghost use Rattle.std.specs.Prelude.{◌≡◌, ◌≤◌, ◌<◌, ◌^◌, Some, IfOk, IfErr, IfSome, length, true};
 ghost use Rattle.std.specs.Option.{option_and_then, option_map};
@@ -13,7 +13,7 @@ use ldv_value::{File, Files, Utf8, Words};
 use script_parse::{Script, ScriptStop, parse_script};
 use std::alloc::Global;
 
-/// The script of the file of the first start word, or the fault of that file.
+/// The script of the file at the first start word, or the fault NoStart or BadScript.
 pub(crate) fn parse_start(alloc: Global, start: &Words, files: &Files) -> Result<Script, WorldStop>
     requires { are_files_within files.now ≡ true }
     ensures parsed { IfOk result (λ script. option_and_then (λ file. script_of file.content)

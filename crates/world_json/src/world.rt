@@ -27,9 +27,9 @@ use serde_json::Value;
 use sql_model::{Schema, Table, Tables, have_parents, references_hold};
 use std::alloc::{AllocError, Global};
 
-/// The world that a document is. The faults are tried in the order of `WorldFault`, each over the whole
-/// document, and the first one that holds is returned; out of memory may come in its place. The files are
-/// sorted by path, the tables by name. The world is valid, and it can be run.
+/// The world that a document describes. `Fault`: it describes none; the faults are tried in the order of
+/// `WorldFault`, each over the whole document, and this is the first one that holds. `NoMemory` may come in
+/// place of either. The files are sorted by path, the tables by name. The world is valid, and it can be run.
 pub fn world_of(alloc: Global, bytes: &[u8]) -> Result<World, WorldStop>
     ensures world { IfOk result (λ world. world_reading bytes.now ≡ Ok world) }
     ensures fault { IfErr result (IsFaultOf (world_reading bytes.now)) }
@@ -46,7 +46,7 @@ pub fn world_of(alloc: Global, bytes: &[u8]) -> Result<World, WorldStop>
     }
 }
 
-/// The world that a document is, with the script that it starts with. The answers are those of `world_of`.
+/// The same as `world_of`, with the script of the file at the first start word.
 pub fn parsed_world_of(alloc: Global, bytes: &[u8]) -> Result<ParsedWorld, WorldStop>
     ensures world { IfOk result (λ p. world_reading bytes.now ≡ Ok p.world) }
     ensures fault { IfErr result (IsFaultOf (world_reading bytes.now)) }

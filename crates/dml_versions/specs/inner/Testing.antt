@@ -1,4 +1,4 @@
--- Tests of single columns that WHERE makes.
+-- Tests of single columns from WHERE.
 use Rattle.std.specs.Prelude.{◌≡◌, ℕ, List, true, Option}
 use Rattle.dml_versions.specs.Finding.{IsPickPlaced}
 use Rattle.dml_versions.specs.Types.{Column, Expr, TableRow}

@@ -1,4 +1,4 @@
--- Expressions over a group whose aggregates became constants.
+-- Expressions over a group, with their aggregates replaced by constants.
 use Rattle.std.specs.Prelude.{◌≡◌, ℕ, List, [], ◌∷◌, ◌++◌}
 use Rattle.lineage.specs.declared.answer.Pick.{Pick}
 use Rattle.group_eval.specs.Folding.{first_row, group_meaning}

@@ -1,4 +1,4 @@
--- What is evaluated over the groups of a core.
+-- The expressions that are evaluated over the groups of a core.
 use Rattle.std.specs.Prelude.{◌≡◌, List, map, Option, Some, None}
 use Rattle.core_parts.specs.Placing.{IsPlaced, AreAllPlaced}
 use Rattle.group_eval.specs.Types.{Core, Expr, Item}

@@ -1,5 +1,5 @@
--- How the processes of a trace lie in memory, without their names: where the parent of each is, and its
--- number among the parent's children. A name is made from these where a report has it.
+-- The processes of a trace in memory, without their names: the place of the parent of each, and its number
+-- among the parent's children. A name is made from these if a report has it.
 use Rattle.std.specs.Prelude.{ℕ, ◌+◌, ◌<◌, ◌^◌, List, [], ◌∷◌, ◌++◌, length, Option, Some, None}
 use Rattle.std.specs.Prelude.{slice_index_or, slice_set}
 use Rattle.std.specs.List.{All}

@@ -1,4 +1,4 @@
--- The first row whose key was seen before, by a test of the keys that were seen.
+-- The first row whose key was seen before, by a test of the seen keys.
 use Rattle.std.specs.Prelude.{ℕ, List, [], ◌∷◌, Bool, true, false, if◌then◌else◌, Option, Some, None}
 use Rattle.sql_model.specs.Keys.{same_values, values_at}
 use Rattle.joined_data.specs.Types.{TableRow, Value}

@@ -1,4 +1,4 @@
--- How rows are held in a list, or as a set.
+-- Rows that are stored as a list or as a set.
 use Rattle.std.specs.FinMap.{from_entries}
 use Rattle.lineage.specs.Lineage.{Lineage}
 use Rattle.lineage.specs.declared.held.Held.{Held}

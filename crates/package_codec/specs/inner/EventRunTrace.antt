@@ -1,4 +1,5 @@
--- The rules for traces over runs: what all events of a run meet, seen from its first and its last.
+-- The rules for traces over runs: the first and the last event of a run show whether all of its events meet
+-- them.
 use Rattle.std.specs.Prelude.{ℕ, ◌+◌, Bool, true, ◌&&◌, nat_le, if◌then◌else◌}
 use Rattle.ldv_value.specs.Limits.{max_processes}
 use Rattle.run_model.specs.declared.event.Act.{Act}

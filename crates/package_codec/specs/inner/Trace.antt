@@ -1,4 +1,4 @@
--- Traces: the definitions of run_model, and how far the events have come as the code counts it.
+-- Traces: the definitions of `run_model`, and how far the events have come as the code counts it.
 pub use Rattle.run_model.specs.ValidTrace.{Progress}
 use Rattle.package_codec.specs.declared.trace.Progress.{Progress as Counted}
 pub use Rattle.run_model.specs.ValidTrace.{act_rule, event_rule, made_after, is_asked, asked_after}

@@ -1,4 +1,4 @@
--- What every package in memory meets, but for its trace.
+-- Facts about every package in memory, without its trace.
 use Rattle.std.specs.Prelude.{◌<◌, ◌^◌}
 use Rattle.std.specs.List.{AllByRecursion}
 use Rattle.std.specs.Str.{IsUtf8}

@@ -1,4 +1,4 @@
--- The orders of what a package lists, which are those of run_model.
+-- The orders of the lists of a package: those of `run_model`.
 pub use Rattle.ldv_value.specs.Sorted.{precedes_first as is_below_next, is_strictly_sorted as rises}
 pub use Rattle.ldv_value.specs.Sorted.{text_precedes as is_below}
 pub use Rattle.run_model.specs.ValidPackage.{packed_file_precedes as file_below}

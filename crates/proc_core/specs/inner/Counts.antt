@@ -1,4 +1,4 @@
--- What a run counts, each below a number: a step makes one more of each at most.
+-- Bounds on the counts of a run: a step adds at most one to each count.
 use Rattle.std.specs.Prelude.{◌≡◌, ℕ, ◌+◌, ◌<◌, ◌≤◌, ◌^◌, List, length, slice_get, Option, Some, None}
 use Rattle.sql_model.specs.declared.reply.Reply.{Reply}
 use Rattle.proc_core.specs.declared.machine.Machine.{Machine}

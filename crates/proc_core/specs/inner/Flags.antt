@@ -1,4 +1,4 @@
--- Of each process of a run, whether it is runnable, and for which child it waits.
+-- Whether each process of a run is runnable, and for which child it waits.
 use Rattle.std.specs.Prelude.{ℕ, List, map, slice_get, Bool, Option, Some, None}
 use Rattle.script_parse.specs.declared.script.Instr.TheVariants as instr
 use Rattle.run_model.specs.Types.{Instr}

@@ -1,4 +1,4 @@
--- What a step of a process makes of a run in memory.
+-- How a step of a process changes a run in memory.
 use Rattle.std.specs.Prelude.{ℕ, ◌+◌, ◌≤◌, List, ◌++◌, map, Bool, Result, ⊤, OnOk, IfErr}
 use Rattle.run_model.specs.Core.{Core}
 use Rattle.run_model.specs.Database.{Base}

@@ -1,5 +1,5 @@
--- What a step asks, and what it leaves where it has a reply, over slots. What `sql` means by names is in
--- `StepReplies` of `run_model`.
+-- The statement that a step asks, and its result after the reply, over slots. `StepReplies` of `run_model`
+-- defines `sql` by names.
 use Rattle.std.specs.Prelude.{ℕ, List, [], ◌∷◌, ◌++◌, length, slice_get, slice_set, Option, Some}
 use Rattle.std.specs.Prelude.{None}
 use Rattle.sql_model.specs.declared.reply.Reply.{Reply}

@@ -1,4 +1,4 @@
--- What a copy between open files leaves, by how it ends.
+-- The result of a copy between open files, for each way that it may end.
 use Rattle.std.specs.Prelude.{◌≡◌, ℕ, List, [], ◌∷◌, length, true, false, Option, Some, None}
 use Rattle.ldv_value.specs.FileState.{FileState, has_room, rest_at, after_copy, copy_end}
 use Rattle.proc_core.specs.Types.{Act, Read, Wrote}

@@ -1,5 +1,5 @@
--- The steps of `open`, `readline`, `write`, `copy`, `remove` and `exists` over slots. What they mean by names
--- is in `StepFiles` of `run_model`.
+-- The steps of `open`, `readline`, `write`, `copy`, `remove` and `exists` over slots. `StepFiles` of
+-- `run_model` defines them by names.
 use Rattle.std.specs.Prelude.{◌≡◌, ℕ, pos, List, [], ◌∷◌, length, Bool, true, false}
 use Rattle.std.specs.Prelude.{Option, Some, None, option_and_then}
 use Rattle.ldv_value.specs.FileState.{FileState, is_there, FileRefusal, open_refusal, after_open}

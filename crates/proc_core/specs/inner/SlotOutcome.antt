@@ -1,4 +1,4 @@
--- The outcome of an ended run, over slots. What it is by names is in `Outcome` of `run_model`.
+-- The outcome of an ended run, over slots. `Outcome` of `run_model` defines it by names.
 use Rattle.std.specs.Prelude.{List, [], ◌∷◌, ◌++◌, unwrap_or}
 use Rattle.std.specs.Ordering.{nat_cmp}
 use Rattle.std.specs.declared.cmp.Ordering.{Ordering}

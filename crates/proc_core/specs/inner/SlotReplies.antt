@@ -1,5 +1,5 @@
--- The steps of `fetch`, `count`, `status` and `close` over slots. What they mean by names is in `StepReplies`
--- of `run_model`, and for `close` in `StepFiles`.
+-- The steps of `fetch`, `count`, `status` and `close` over slots. `StepReplies` of `run_model` defines them
+-- by names; `StepFiles` there defines `close`.
 use Rattle.std.specs.Prelude.{ℕ, ◌+◌, List, [], ◌∷◌, length, ◌==◌, if◌then◌else◌, Option, Some, None}
 use Rattle.std.specs.Prelude.{option_and_then}
 use Rattle.proc_core.specs.Types.{Value}

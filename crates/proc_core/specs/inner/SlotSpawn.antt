@@ -1,4 +1,4 @@
--- The step of `spawn` over slots. What it means by names is in `StepProcesses` of `run_model`.
+-- The step of `spawn` over slots. `StepProcesses` of `run_model` defines it by names.
 use Rattle.std.specs.Prelude.{◌≡◌, ℕ, ◌+◌, List, [], ◌∷◌, ◌++◌, length, slice_get, slice_set, nat_lt}
 use Rattle.std.specs.Prelude.{true}
 use Rattle.std.specs.Prelude.{if◌then◌else◌, Option, Some, None}

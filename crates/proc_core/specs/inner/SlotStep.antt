@@ -1,4 +1,4 @@
--- One step over slots, of any instruction. What it means by names is in `Step` of `run_model`.
+-- One step over slots, of any instruction. `Step` of `run_model` defines it by names.
 use Rattle.std.specs.Prelude.{ℕ, ◌+◌, ◌<◌, ◌^◌, pos, List, [], ◌∷◌, slice_get, Option, Some}
 use Rattle.std.specs.Prelude.{None}
 use Rattle.std.specs.Prelude.{option_and_then, Bool, true, false, not, ◌&&◌, is_none, if◌then◌else◌}

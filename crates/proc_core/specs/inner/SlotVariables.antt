@@ -1,5 +1,5 @@
--- The steps of `let`, `cut`, `goto`, `if`, `print` and `exit` over slots. What they mean by names is in
--- `StepVariables` of `run_model`.
+-- The steps of `let`, `cut`, `goto`, `if`, `print` and `exit` over slots. `StepVariables` of `run_model`
+-- defines them by names.
 use Rattle.std.specs.Prelude.{ℕ, ◌+◌, List, [], ◌∷◌, ◌++◌, length, nat_lt, if◌then◌else◌, Bool, true, false}
 use Rattle.std.specs.Prelude.{Option, Some, None}
 use Rattle.ldv_value.specs.Limits.{printed_limit}

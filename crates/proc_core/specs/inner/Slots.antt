@@ -1,4 +1,4 @@
--- Processes with slots in place of names: what one holds for a process of a run, and the changes that its
+-- Processes with slots in place of names: when one represents a process of a run, and the changes that its
 -- instructions are made of.
 use Rattle.std.specs.Prelude.{◌≡◌, ℕ, ◌+◌, List, [], ◌∷◌, map, slice_get, slice_set, Option, Some, None}
 use Rattle.std.specs.Prelude.{option_map}
@@ -12,6 +12,7 @@ use Rattle.run_model.specs.StepBase.{Computation, Yields, Misused}
 use Rattle.script_code.specs.declared.code.SlotOperand.{SlotOperand}
 use Rattle.script_code.specs.declared.code.SlotOperand.TheVariants.{Constant, Slot}
 use Rattle.script_code.specs.declared.code.Scope.{Scope}
+pub use Rattle.proc_core.specs.inner.Paged.{flatten_option}
 use Rattle.proc_core.specs.declared.computed.Computed.{Computed as Result}
 use Rattle.proc_core.specs.declared.computed.Computed.TheVariants as results
 use Rattle.proc_core.specs.declared.process.SlotCursor.{SlotCursor}
@@ -76,10 +77,6 @@ computation_of (results.Yields v) = Yields v
 computation_of (results.Misused status) = Misused status
 
 -- ---- what names mean
-
-abbrev pub flatten_option : {X : Type 0} → Option (Option X) → Option X
-flatten_option None = None
-flatten_option (Some o) = o
 
 abbrev pub open_at : ℕ → SlotProcess → Option OpenFile
 open_at slot r = flatten_option (slice_get r.files slot)

@@ -1,4 +1,4 @@
--- The names of members by the places that they have, as they lie in memory.
+-- The names of members by their places, as they lie in memory.
 use Rattle.std.specs.Prelude.{ℕ, List, Option, option_map}
 use Rattle.std.specs.Borrow.{Bor}
 use Rattle.std.specs.BTreeMap.{BTreeMap, get}

@@ -1,4 +1,4 @@
--- The members of an object, by what stands for their values, and their text.
+-- The members of an object, with nodes or edges for their values, and their text.
 use Rattle.std.specs.Prelude.{List, [], ◌∷◌, ◌++◌, ℕ, Bool, true, false, codes, String, string_bytes}
 use Rattle.std.specs.List.{list_all}
 use Rattle.std.specs.declared.alloc.Global.{Global}

@@ -1,4 +1,4 @@
--- A FROM list from left to right: what its steps give.
+-- The steps of a FROM list from left to right, and their results.
 use Rattle.std.specs.Prelude.{◌≡◌, ℕ, ◌+◌, ◌<◌, ◌⊎◌, List, [], ◌∷◌, ◌++◌, map, filter, length, drop, Bool}
 use Rattle.std.specs.Prelude.{true, false, not, nat_lt}
 use Rattle.std.specs.List.{flat_map, list_all, AllByRecursion}

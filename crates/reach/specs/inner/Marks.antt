@@ -1,4 +1,4 @@
--- Marks at places of nodes, and the nodes that are marked.
+-- Marks at places of nodes, and the marked nodes.
 use Rattle.std.specs.Prelude.{◌↔◌, ℕ, zero, suc, List, [], ◌++◌, Bool, true, false, Option, None, Contains}
 use Rattle.std.specs.Prelude.{slice_get, slice_set, slice_index_or, replicate, fold, option_to_list, if◌then◌else◌}
 use Rattle.reach.specs.Types.{Node, Edge}

@@ -1,5 +1,5 @@
 -- A binary tree of counts, kept in one list. Node 1 is the root, and the children of node i are nodes 2 i and
--- 2 i + 1; with room for some leaves, these are the nodes from that number on.
+-- 2 i + 1. If its capacity is n leaves, they are the nodes from n on.
 use Rattle.std.specs.Prelude.{◌≡◌, ◌≢◌, ◌==◌, ℕ, zero, suc, ◌+◌, ◌*◌, ◌^◌, ◌<◌, ◌≤◌, List, length}
 use Rattle.std.specs.Prelude.{slice_index, Bool, map}
 use Rattle.std.specs.List.{range_with_len}

@@ -1,5 +1,5 @@
--- How logs are made of what was kept: it is sorted by process, and those of a process that then stand one
--- after another are its log.
+-- Logs made from kept replies: these are sorted by process, and then the neighbours of one process are its
+-- log.
 use Rattle.std.specs.Prelude.{List, [], ◌∷◌, ◌++◌, Bool, bytes_eq, if◌then◌else◌}
 use Rattle.std.specs.Ordering.{nat_cmp}
 use Rattle.std.specs.declared.cmp.Ordering.{Ordering}

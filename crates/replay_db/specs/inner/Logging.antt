@@ -1,4 +1,4 @@
--- What is recorded of a run with its replies, and the excluded package that is made of it.
+-- The record of a run with its replies, and the excluded package made from it.
 use Rattle.std.specs.Prelude.{◌≡◌, ℕ, List, [], true}
 use Rattle.run_model.specs.RunLaw.{start_state_of}
 use Rattle.run_model.specs.Slice.{files_needed}

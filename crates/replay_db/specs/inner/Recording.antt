@@ -1,4 +1,4 @@
--- What is recorded of a run, and the package that is made of it.
+-- The record of a run, and the package made from it.
 use Rattle.std.specs.Prelude.{◌≡◌, ℕ, [], true, false}
 use Rattle.run_model.specs.Slice.{files_needed, tables_needed}
 use Rattle.run_model.specs.WorldRun.{ends_within, events_within, steps_by}

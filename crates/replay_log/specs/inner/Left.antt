@@ -1,5 +1,5 @@
--- What is left of logs whose first entries were used: how many, a list says by the index of the log. Of a log
--- without a number none was used.
+-- The logs without their used entries. A list has the number of used entries of each log, by its index; a log
+-- without a number has no used entry.
 use Rattle.std.specs.Prelude.{ℕ, List, [], ◌∷◌, drop, ◌&&◌, if◌then◌else◌, Option, Some, None}
 use Rattle.sql_model.specs.Keys.{same_values}
 use Rattle.sql_model.specs.Scope.{same_text}

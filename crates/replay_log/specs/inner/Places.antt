@@ -1,4 +1,4 @@
--- Where the log of a process is.
+-- The place of the log of a process.
 use Rattle.std.specs.Prelude.{◌≡◌, ℕ, zero, suc, List, [], ◌∷◌, true, false}
 use Rattle.replay_log.specs.Types.{Log}
 use Rattle.run_model.specs.LogDatabase.{is_log_of}

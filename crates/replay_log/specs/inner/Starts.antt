@@ -1,4 +1,4 @@
--- The script that a package starts with, by its own files.
+-- The first script of a package, by its own files.
 use Rattle.std.specs.Prelude.{List, find, bytes_eq, slice_get, Option, option_and_then}
 use Rattle.script_parse.specs.Script.{script_of}
 use Rattle.run_model.specs.Package.{or_empty}

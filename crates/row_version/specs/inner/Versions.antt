@@ -1,4 +1,4 @@
--- What the parts of a chain mean.
+-- The meaning of a chain's parts.
 use Rattle.std.specs.Prelude.{ℕ, ◌-◌, ◌<◌, ◌≤◌, ◌^◌, List, [], ◌∷◌, ◌++◌, Option, Some, None, length, map}
 use Rattle.std.specs.Prelude.{vec_len, vec_capacity, Bool, false, nat_le}
 use Rattle.row_version.specs.History.{Change, History, write_at, delete_at, IsSorted}

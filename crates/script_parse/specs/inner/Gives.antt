@@ -1,4 +1,4 @@
--- How a call that may run out of memory gives what a definition gives.
+-- The result of a call is the value of a definition, unless memory runs out.
 use Rattle.std.specs.Prelude.{◌≡◌, Option, Some, None, Result, Ok, Err}
 use Rattle.ldv_value.specs.Gives.{Gives as GivesOf, GivesBy as GivesByOf}
 use Rattle.script_parse.specs.declared.line_error.LineError.{LineError}

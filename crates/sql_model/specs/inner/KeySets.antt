@@ -37,4 +37,5 @@ abbrev pub holds_by : Table → Referring → Bool
 holds_by parent r = not (names parent r) || list_all (has_parent (Some parent) r.foreign) r.rows
 
 abbrev pub same_foreign : Foreign → Foreign → Bool
-same_foreign foreign other = pointwise nat_eq foreign.columns other.columns && same_text foreign.parent other.parent
+same_foreign foreign other =
+    pointwise nat_eq foreign.columns other.columns && same_text foreign.parent other.parent

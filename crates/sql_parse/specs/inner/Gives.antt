@@ -1,4 +1,4 @@
--- How a call that may run out of memory gives what a definition gives.
+-- Results of calls that may run out of memory, compared with a definition.
 use Rattle.std.specs.Prelude.{◌≡◌, List, Option, Some, None, Result, Ok, Err}
 use Rattle.ldv_value.specs.Gives.{Gives as GivesOf}
 use Rattle.sql_parse.specs.declared.error.ParseStop.{ParseStop}

@@ -1,4 +1,4 @@
--- Tokens that are lent from a text and from its parameters.
+-- Tokens that borrow from a text and from its parameters.
 use Rattle.sql_model.specs.declared.token.Token.{Token}
 use Rattle.sql_model.specs.declared.token.Token.TheVariants as token
 use Rattle.sql_parse.specs.declared.token.Lent.{Lent}

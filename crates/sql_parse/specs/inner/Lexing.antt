@@ -1,4 +1,4 @@
--- What is read at a place of a text: a token, and where the text goes on after it.
+-- Reading a token at a place in a text, and the place after it.
 use Rattle.std.specs.Prelude.{◌≡◌, ℕ, ◌+◌, List, [], ◌∷◌, length, drop, slice_index}
 use Rattle.std.specs.Prelude.{Bool, ◌&&◌, nat_lt, if◌then◌else◌, Option, Result, Ok, Err}
 use Rattle.ldv_value.specs.declared.value.Value.{Value}

@@ -1,5 +1,5 @@
--- What tables have once rows of one of them are given, new ones or other values for rows of some numbers:
--- which parents are missing then, and which keys are lost.
+-- The tables after rows of one of them are given, as new rows or as other values of rows: the parents that
+-- are missing then, and the keys that are lost.
 use Rattle.std.specs.Prelude.{ℕ, List, ◌&&◌, ◌||◌, ◌==◌, Bool, true, not, length, Option, Some}
 use Rattle.std.specs.Prelude.{None, if◌then◌else◌}
 use Rattle.std.specs.BTreeSet.{BTreeSet, contains}

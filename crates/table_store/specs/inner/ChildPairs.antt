@@ -1,8 +1,8 @@
--- The rows of a table under the keys to which they refer: pairs of a key and a row's number, by each foreign
+-- The rows of a table under the keys that they refer to: pairs of a key and a row's number, for each foreign
 -- key.
 --
--- There may be more pairs than that: those of rows that are gone or refer to another key now. Whoever looks
--- up a key looks at the row too.
+-- There may be more pairs: those of rows that are deleted or refer to another key now. So each look-up of a
+-- key checks the row too.
 use Rattle.std.specs.Prelude.{◌≡◌, ℕ, ℤ, ◌<◌, ◌≤◌, ◌&&◌, Bool, true, false, not, List, [], length}
 use Rattle.std.specs.Prelude.{Option, Some, None, IfSome, slice_index_or, if◌then◌else◌, min, find}
 use Rattle.std.specs.BTreeSet.{BTreeSet, contains}

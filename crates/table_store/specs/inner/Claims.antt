@@ -1,4 +1,4 @@
--- Keys of new rows, and of rows that take the place of others.
+-- Keys of new rows, and of rows that replace others.
 use Rattle.std.specs.Prelude.{◌≡◌, ◌==◌, ◌&&◌, ◌+◌, ◌^◌, ℕ, List, Option, Some, None, find, if◌then◌else◌}
 use Rattle.std.specs.Prelude.{nat_lt}
 use Rattle.std.specs.Option.{option_map}

@@ -1,5 +1,5 @@
--- The keys of given rows, once these took the place of those of their numbers: which are claimed, and which
--- two rows clash first.
+-- The keys of given rows after these have replaced the rows with their numbers: the keys that are claimed,
+-- and the first two rows that clash.
 use Rattle.std.specs.Prelude.{◌≡◌, ◌==◌, ◌&&◌, ℕ, ◌<◌, Bool, true, false, List, Option, Some, None}
 use Rattle.std.specs.Prelude.{find, map, nat_lt, is_some, if◌then◌else◌}
 use Rattle.std.specs.List.{list_any, AllByRecursion}

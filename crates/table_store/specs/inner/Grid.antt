@@ -1,4 +1,4 @@
--- The rows that columns hold, each in its slot.
+-- The rows in columns, each in its slot.
 use Rattle.std.specs.Prelude.{◌≡◌, ◌==◌, ℕ, ℤ, ◌+◌, ◌<◌, ◌≤◌, ◌^◌, Bool, true, false, ◌&&◌, List, [], ◌∷◌}
 use Rattle.std.specs.Prelude.{◌++◌, length, map, zip, slice_index, slice_index_or, slice_set}
 use Rattle.std.specs.List.{range_with_len, list_all}

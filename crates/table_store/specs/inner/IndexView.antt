@@ -1,4 +1,4 @@
--- What an index has: the number of a row, or none, at each key.
+-- The view of an index: the number of a row, or none, at each key.
 use Rattle.std.specs.Prelude.{ℕ, ℤ, Option, None, Some}
 use Rattle.std.specs.BTreeMap.{get}
 use Rattle.std.specs.Ordering.{int_cmp}

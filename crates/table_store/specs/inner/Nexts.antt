@@ -1,4 +1,4 @@
--- The numbers of a table's next row, as they are kept.
+-- The numbers of a table's next row, as they are stored.
 use Rattle.std.specs.Prelude.{ℕ, ◌≤◌, List, [], ◌∷◌, map}
 use Rattle.table_store.specs.Histories.{NextSince as Since}
 use Rattle.table_store.specs.declared.nexts.NextSince.{NextSince}

@@ -1,4 +1,5 @@
--- The parent rows of given rows, as they are looked up: by the numbers that keys have once rows are given.
+-- The parent rows of given rows, as they are looked up: by the numbers that keys have after the rows are
+-- given.
 use Rattle.std.specs.Prelude.{ℕ, List, [], ◌∷◌, ◌==◌, Option, Some, None, find, if◌then◌else◌}
 use Rattle.std.specs.BTreeMap.{BTreeMap, get}
 use Rattle.std.specs.List.{filter_map, list_any}

@@ -1,5 +1,5 @@
--- Rows through time, as they are kept: the last values of each in columns, and a chain where a row has
--- changed.
+-- Rows through time, as they are stored: the last values of each row in columns, and a chain for each row
+-- that has changed.
 use Rattle.std.specs.Prelude.{◌≡◌, ℕ, ◌-◌, ◌<◌, ◌≤◌, ◌^◌, Bool, true, cond, List, [], ◌∷◌, length, map}
 use Rattle.std.specs.Prelude.{Option, Some, None, slice_index_or, IsSome}
 use Rattle.std.specs.Ordering.{nat_cmp}

@@ -1,4 +1,4 @@
--- Changes that are given for rows, each by the number of its row.
+-- Changes of rows, each by the number of its row.
 use Rattle.std.specs.Prelude.{◌≡◌, ◌==◌, ℕ, ◌+◌, ◌<◌, ◌≤◌, Bool, true, false, List, [], ◌∷◌, length, map}
 use Rattle.std.specs.Prelude.{Option, Some, None, IsSome, slice_index_or}
 use Rattle.std.specs.Option.{option_map}

@@ -1,4 +1,4 @@
--- Sets of names, and what the fault Name asks, by the set of the columns of a table and that of all tables.
+-- The tests of the fault Name, by the set of the column names of a table and the set of all table names.
 use Rattle.std.specs.Prelude.{ℕ, List, Bool, not, ◌&&◌}
 use Rattle.std.specs.Borrow.{Bor}
 use Rattle.std.specs.List.{list_all}

@@ -1,5 +1,5 @@
--- Rows that are numbered as they are read. How many rows there may be is a rule of its own, tried later, so
--- that only the numbers of as many matter.
+-- Rows that are numbered as they are read. Another rule, tried later, limits the number of rows, so only the
+-- numbers below that limit matter.
 use Rattle.std.specs.Prelude.{◌≡◌, ℕ, ◌+◌, ◌≤◌, List, [], ◌∷◌}
 use Rattle.ldv_value.specs.Limits.{max_rows}
 use Rattle.sql_model.specs.declared.table.TableRow.{TableRow}

@@ -1,5 +1,5 @@
--- What every document in memory meets: its numbers are those of their types, and its texts are UTF-8. Clauses
--- range over all numbers and lists, so these facts are said here.
+-- Facts about every document in memory: its numbers fit their types, and its texts are UTF-8. Clauses range
+-- over all numbers and lists, so they assume these facts by name.
 use Rattle.std.specs.Prelude.{ℕ, ◌<◌, ◌^◌}
 use Rattle.std.specs.List.{AllByRecursion}
 use Rattle.std.specs.Str.{IsUtf8}

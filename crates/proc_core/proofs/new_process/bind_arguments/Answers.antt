@@ -6,6 +6,6 @@ use Rattle.proc_core.proofs.new_process.bind_arguments.Goals as goal
 
 pub loop-left-init : goal.loop-left-init
 loop-left-init c = record {
-  slots = none_yet c.args.names.now c.args.arguments.now c.in_ok-slots.slots (c.in_ok-slots.ensures ∙ ap (λ (n : ℕ). replicate n Null) c.len.ensures);
+  slots = none_yet c.args.names.now c.args.arguments.now c.of_count-slots.result (c.of_count-slots.ensures ∙ ap (λ (n : ℕ). replicate n Null) c.len.ensures);
   within = omega arith;
 }

@@ -5,7 +5,7 @@ use Rattle.proc_core.proofs.new_process.bind_first.Goals as goal
 pub returns-in-None : goal.returns-in-None
 returns-in-None c = λ bs is. is ∙ front_absent c.args.name.now c.args.value bs c.args.names.now c.in-None.ensures.found
 
-pub returns-then-slot-len : goal.returns-then-slot-len
-returns-then-slot-len c = λ bs is.
-    c.replace.ensures ∙ (λ i. slice_set (is i) (c.in-Some.ensures.found.0 i) c.args.value)
+pub returns-in_ok-set-in-Some : goal.returns-in_ok-set-in-Some
+returns-in_ok-set-in-Some c = λ bs is.
+    c.in_ok-set-in-Some.ensures ∙ (λ i. slice_set (is i) (c.in-Some.ensures.found.0 i) c.args.value)
     ∙ front_set c.args.name.now c.args.value bs c.args.names.now c.in-Some.ensures.distinct c.in-Some.ensures.found.1

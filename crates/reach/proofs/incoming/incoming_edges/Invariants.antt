@@ -1,4 +1,4 @@
--- The edges that were looked at, which are those from a place on, are chained.
+-- The edges from a place on, all of which were looked at, are chained.
 use Rattle.std.proofs.Common.{◌≡◌, ◌≤◌, length}
 use Rattle.reach.specs.inner.Incoming.{AreChains}
 use Rattle.reach.proofs.incoming.incoming_edges.Given as goal

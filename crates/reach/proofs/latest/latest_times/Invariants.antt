@@ -1,4 +1,4 @@
--- The search stands as it is to, and each turn takes a place out of the queue.
+-- The state of the search is valid, and each turn takes a place out of the queue.
 use Rattle.std.proofs.Common.{◌≡◌, [], length}
 use Rattle.std.specs.BinaryHeap.{heap_items}
 use Rattle.reach.specs.Search.{IsSearch, IsWithin, work_left}

@@ -1,4 +1,4 @@
--- The truth by places is the truth by names.
+-- The truth of a condition by places is its truth by names.
 use Rattle.sql_model.proofs.Evaluations.{truth_by_places}
 use Rattle.sql_model.proofs.value.truth_of.Goals as goal
 

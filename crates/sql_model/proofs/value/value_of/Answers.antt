@@ -1,4 +1,4 @@
--- The value by places is the value by names.
+-- The value of an expression by places is its value by names.
 use Rattle.sql_model.proofs.Evaluations.{value_by_places}
 use Rattle.sql_model.proofs.value.value_of.Goals as goal
 

@@ -1,4 +1,4 @@
--- The edges that were found, with those that are left of the chain, are the edges to the place.
+-- The found edges, with the rest of the chain, are the edges to the place.
 use Rattle.std.proofs.Common.{◌-◌, length}
 use Rattle.reach.specs.Search.{edges_into}
 use Rattle.reach.proofs.ChainLaws.{IsLeft}

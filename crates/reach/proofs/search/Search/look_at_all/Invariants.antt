@@ -1,4 +1,4 @@
--- What the edges that are left make of the search is what all edges make of it.
+-- The search after the edges that are left is the search after all edges.
 use Rattle.std.proofs.Common.{◌≡◌, drop, length}
 use Rattle.std.specs.List.Sorted.{IsPermutation}
 use Rattle.std.specs.BinaryHeap.{heap_items}

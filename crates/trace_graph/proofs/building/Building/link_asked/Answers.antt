@@ -1,4 +1,4 @@
--- The statement stays where it is while reads are linked, and all texts are held.
+-- The statement keeps its place while reads are linked, and all texts are held.
 use Rattle.std.proofs.Common.{map}
 use Rattle.trace_graph.specs.Types.{Ask}
 use Rattle.trace_graph.specs.Links.{read_link}

@@ -1,4 +1,4 @@
--- What a set finds is what it was asked for, and it finds what is there.
+-- A set finds each text that it has, and finds no other.
 use Rattle.std.proofs.Common.{◌≡◌, ◌∙◌, sym, ap, subst, ℕ, List}
 use Rattle.std.specs.Prelude.{Option, IfSome, option_copied, is_some}
 use Rattle.std.proofs.lemmas.Map.Made.{IfSome-find_same}

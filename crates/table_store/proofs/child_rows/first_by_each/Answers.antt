@@ -4,7 +4,7 @@ use Rattle.table_store.specs.inner.ChildPairs.{first_number, is_child_in, no_for
 use Rattle.table_store.specs.Histories.{last_next_number, rows_now}
 use Rattle.table_store.specs.Types.{Foreign, Schema}
 use Rattle.table_store.proofs.ChildRowLaws.{foreigns_more, foreigns_none, rising_rows}
-use Rattle.table_store.proofs.child_rows.first_child_in.Goals as goal
+use Rattle.table_store.proofs.child_rows.first_by_each.Goals as goal
 
 pub loop-place-init : goal.loop-place-init
 loop-place-init c = foreigns_none c.args.given.now c.args.target.now c.args.keys.now.keys (rows_now c.args.table.now.slots)
