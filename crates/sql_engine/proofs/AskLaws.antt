@@ -1,6 +1,6 @@
 -- The reply to a statement, and the lists that are recorded of it, by the definitions of databases.
 use Rattle.std.proofs.Common.{◌≡◌, ◌∙◌, sym, ap, subst, refl, ℕ, suc, length, List, [], ◌∷◌, ◌++◌, map, Bool, true, false, Option, Some, None, IsTrue, inl, inr}
-use Rattle.std.specs.Prelude.{Ok, Err, filter, find, if◌then◌else◌}
+use Rattle.std.specs.Prelude.{Result, Ok, Err, IfOk, OnErr, filter, find, if◌then◌else◌}
 use Rattle.std.specs.List.{flat_map}
 use Rattle.std.proofs.lemmas.Bool.{cases_Bool}
 use Rattle.std.proofs.lemmas.List.{map-append}
@@ -24,7 +24,9 @@ use Rattle.sql_engine.specs.inner.Listing.{is_in, names_first, tables_asked, nee
 use Rattle.sql_laws.proofs.DatabaseLaws.{database_law}
 use Rattle.sql_engine.specs.Types.{Catalog, Checked, H, L, Member, Need, Query, Reply, Rows, SqlRefusal, Statement, StoreHistory, Syntax, Table, TheQuery, TheInsert, TheUpdate, TheDelete, Value}
 use Rattle.sql_engine.specs.declared.answer.QueryAnswer.{QueryAnswer}
+use Rattle.sql_engine.specs.declared.cache.Cache.{Cache}
 use Rattle.sql_engine.specs.declared.recorded.Recorded.{Recorded}
+use Rattle.sql_engine.specs.inner.Keeping.{IsCacheOf}
 use Rattle.sql_model.proofs.Equations.{reply_is, need_is, made_is, updated_is, after_is, table_schema}
 use Rattle.sql_model.specs.Changes.{or_else, change_refusal}
 use Rattle.sql_model.specs.ForeignKeys.{with_parents}
@@ -298,3 +300,25 @@ pub never_kept : (b k : Bool) → b ≡ false → b ≡ k → IsTrue k → ⊥
 never_kept true k none same kept = cc
 never_kept false true none same kept = cc
 never_kept false false none same kept = cc
+
+-- ---- what stays
+
+-- a text leaves the names and schemas
+pub recorded_catalog : (statement : Option Statement) (keep : Bool) (old new : StoreHistory) (done : Recorded) → AreWellFormed (tables_now old)
+    → IsRecorded statement keep old new done → catalog_of (tables_now new) ≡ catalog_of (tables_now old)
+recorded_catalog statement keep old new done formed is =
+    ap catalog_of (ap (λ (d : SqlDatabase). d.tables) is.after)
+    ∙ (database_law statement (tables_now old) formed.database formed.distinct).catalog
+
+-- also where memory is out
+pub kept_catalog : {E : Type 0} (result : Result Recorded E) (statement : Option Statement) (keep : Bool) (old new : StoreHistory)
+    → AreWellFormed (tables_now old) → IfOk result (IsRecorded statement keep old new) → OnErr result (new ≡ old)
+    → catalog_of (tables_now new) ≡ catalog_of (tables_now old)
+kept_catalog (Ok done) statement keep old new formed is same = recorded_catalog statement keep old new done formed is
+kept_catalog (Err stop) statement keep old new formed is same = ap (λ (s : StoreHistory). catalog_of (tables_now s)) same
+
+pub kept_cache : {E : Type 0} (result : Result Recorded E) (statement : Option Statement) (keep : Bool) (old new : StoreHistory) (cache : Cache)
+    → AreWellFormed (tables_now old) → IfOk result (IsRecorded statement keep old new) → OnErr result (new ≡ old)
+    → IsCacheOf (catalog_of (tables_now old)) cache → IsCacheOf (catalog_of (tables_now new)) cache
+kept_cache result statement keep old new cache formed is same kept =
+    subst (λ (catalog : Catalog). IsCacheOf catalog cache) (sym (kept_catalog result statement keep old new formed is same)) kept

@@ -1,5 +1,6 @@
 pub mod AnswerLaws
 pub mod AskLaws
+pub mod CacheLaws
 pub mod LeastTables
 pub mod MarkLaws
 pub mod Named

@@ -7,6 +7,7 @@ ghost use Rattle.sql_engine.specs.Asking.{database, lists_in};
 ghost use Rattle.sql_model.specs.Tables.{have_distinct_columns};
 ghost use Rattle.sql_model.specs.Tables.{is_database};
 
+use crate::cache::Cache;
 use crate::execute::execute;
 use crate::recorded::Recorded;
 use ldv_value::{Utf8, Values};
@@ -21,14 +22,19 @@ use table_store::Store;
 pub struct Engine {
     alloc: Global,
     store: Store,
+    cache: Cache,
 }
 
 impl Model for Engine {
-    ghost use Rattle.table_store.specs.Histories.{StoreHistory};
+    ghost use Rattle.sql_engine.specs.inner.Keeping.{IsCacheOf};
+    ghost use Rattle.sql_model.specs.Scope.{catalog_of};
+    ghost use Rattle.table_store.specs.Histories.{StoreHistory, tables_now};
 
     ghost Value = { StoreHistory };
 
     ghost view = { λ a. a.store };
+
+    ghost invariant = { λ a. IsCacheOf (catalog_of (tables_now a.store)) a.cache };
 }
 
 impl Engine {
@@ -43,6 +49,7 @@ impl Engine {
         Ok(Engine {
             alloc,
             store: Store::of_tables(alloc, tables)?,
+            cache: Cache::new(alloc),
         })
     }
 
@@ -99,6 +106,7 @@ impl Database for Engine {
     ) -> Result<Reply, Stop> {
         let done = execute(
             self.alloc,
+            &mut self.cache,
             &mut self.store,
             text.as_str(),
             params,

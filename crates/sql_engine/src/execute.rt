@@ -1,9 +1,11 @@
-//! Statements over a store: a text is parsed, checked and executed, and its lists are recorded.
+//! Statements over a store: a text is found in the cache, or parsed and checked; then it is executed, and its
+//! lists are recorded.
 
 ghost use Rattle.std.specs.Prelude.{◌≡◌, ◌<◌, ◌≤◌, length, Some, Ok, IfOk, OnOk, OnErr, IsTrue, Bool};
 ghost use Rattle.core_parts.specs.Checking.{IsQuery};
 ghost use Rattle.dml_versions.specs.Changing.{IsCheckedOver};
 ghost use Rattle.sql_engine.specs.Asking.{IsRecorded, IsOutcome, recorded_of};
+ghost use Rattle.sql_engine.specs.inner.Keeping.{IsCacheOf};
 ghost use Rattle.sql_engine.specs.inner.Listing.{tables_asked};
 ghost use Rattle.sql_check.specs.Gives.{Stops};
 ghost use Rattle.sql_engine.specs.inner.Taking.{AreDistinct, IsFresh};
@@ -15,6 +17,7 @@ ghost use Rattle.table_store.specs.Histories.{StoreHistory, tables_now};
 
 use crate::answer::{QueryAnswer, query_answer};
 use crate::asked_tables::tables_asked;
+use crate::cache::Cache;
 use crate::marks::{TableMarks, marks_for};
 use crate::needs::needs_of;
 use crate::recorded::{Recorded, refusal_change};
@@ -136,64 +139,62 @@ fn change_of_stop(alloc: Global, stop: CheckStop) -> Result<Change, AllocError>
     }
 }
 
-// Executes a statement that was checked, and gives it back.
-fn execute_and_return(
-    alloc: Global,
-    checked: Checked,
-    store: &mut Store,
-    time: u32,
-    keep: bool,
-) -> Result<(Change, Statement), AllocError>
-    requires checked { IsCheckedOver (tables_now store.old) checked }
-    requires later { store.old.time < time }
-    ensures outcome { IfOk result (λ r. IsOutcome checked.statement keep store.old store.new r.0) }
-    ensures statement { IfOk result (λ r. r.1 ≡ checked.statement) }
-    ensures latest { OnOk result (store.new.time ≤ time) }
-    ensures err { OnErr result (store.new ≡ store.old) }
-{
-    let change = execute_checked(alloc, &checked, store, time, keep)?;
-    Ok((change, checked.statement))
-}
-
-// Checks a statement, and executes it where it isn't refused. The statement is given back.
-fn execute_or_refuse(
-    alloc: Global,
-    statement: Statement,
-    store: &mut Store,
-    time: u32,
-    keep: bool,
-) -> Result<(Change, Statement), AllocError>
-    requires later { store.old.time < time }
-    ensures outcome { IfOk result (λ r. IsOutcome statement keep store.old store.new r.0) }
-    ensures statement { IfOk result (λ r. r.1 ≡ statement) }
-    ensures latest { OnOk result (store.new.time ≤ time) }
-    ensures err { OnErr result (store.new ≡ store.old) }
-{
-    match check_places(alloc, &statement, store.catalog()) {
-        Ok(places) => execute_and_return(alloc, Checked { statement, places }, store, time, keep),
-        Err(stop) => Ok((change_of_stop(alloc, stop)?, statement)),
-    }
-}
-
 // What a statement gave, with the tables that it asks.
 fn list_asked(
     room: TableMarks,
-    statement: Statement,
+    statement: &Statement,
     change: Change,
     store: &Store,
     keep: bool,
 ) -> Recorded
-    requires { IsTrue keep → IsFresh statement (catalog_of (tables_now store.now)).names room }
+    requires { IsTrue keep → IsFresh statement.now (catalog_of (tables_now store.now)).names room }
     ensures given { result ≡ recorded_of change result.tables }
     ensures tables { IsTrue keep
-        → result.tables ≡ tables_asked statement change.needs (catalog_of (tables_now store.now)) }
+        → result.tables ≡ tables_asked statement.now change.needs (catalog_of (tables_now store.now)) }
 {
     store.tell_formed();
-    let tables = tables_of(room, &statement, &change.needs, store.catalog(), keep);
+    let tables = tables_of(room, statement, &change.needs, store.catalog(), keep);
     recorded_of(change, tables)
 }
 
-// Executes a statement, and lists the tables that it asks. Once it has run, nothing can fail.
+// Executes a statement that was checked, and lists the tables that it asks. Once it has run, nothing can
+// fail.
+fn execute_and_list(
+    alloc: Global,
+    checked: &Checked,
+    store: &mut Store,
+    time: u32,
+    keep: bool,
+) -> Result<Recorded, AllocError>
+    requires checked { IsCheckedOver (tables_now store.old) checked.now }
+    requires later { store.old.time < time }
+    ensures done { IfOk result (IsRecorded (Some checked.now.statement) keep store.old store.new) }
+    ensures latest { OnOk result (store.new.time ≤ time) }
+    ensures err { OnErr result (store.new ≡ store.old) }
+{
+    store.tell_formed();
+    let room = room_for(alloc, &store.catalog().names, &checked.statement, keep)?;
+    let change = execute_checked(alloc, checked, store, time, keep)?;
+    Ok(list_asked(room, &checked.statement, change, store, keep))
+}
+
+// What is recorded of a statement that the check refuses.
+fn record_refusal(
+    alloc: Global,
+    statement: &Statement,
+    stop: CheckStop,
+    store: &Store,
+    keep: bool,
+) -> Result<Recorded, AllocError>
+    requires { Stops stop (checked_of statement.now (catalog_of (tables_now store.now))) }
+    ensures { IfOk result (IsRecorded (Some statement.now) keep store.now store.now) }
+{
+    let room = room_for(alloc, &store.catalog().names, statement, keep)?;
+    let change = change_of_stop(alloc, stop)?;
+    Ok(list_asked(room, statement, change, store, keep))
+}
+
+// Checks a statement, and executes it if it isn't refused.
 fn execute_statement(
     alloc: Global,
     statement: Statement,
@@ -206,15 +207,14 @@ fn execute_statement(
     ensures latest { OnOk result (store.new.time ≤ time) }
     ensures err { OnErr result (store.new ≡ store.old) }
 {
-    store.tell_formed();
-    let room = room_for(alloc, &store.catalog().names, &statement, keep)?;
-    let (change, asked) = execute_or_refuse(alloc, statement, store, time, keep)?;
-    Ok(list_asked(room, asked, change, store, keep))
+    match check_places(alloc, &statement, store.catalog()) {
+        Ok(places) => execute_and_list(alloc, &Checked { statement, places }, store, time, keep),
+        Err(stop) => record_refusal(alloc, &statement, stop, store, keep),
+    }
 }
 
-/// Answers a text with its parameters over the tables of a store, at a time later than the store's last
-/// change. If `keep` is false, no lineage is made. On `AllocError` the store is as it was.
-pub(crate) fn execute(
+// Answers a text that no entry serves.
+fn execute_text(
     alloc: Global,
     store: &mut Store,
     text: &str,
@@ -234,5 +234,65 @@ pub(crate) fn execute(
             List::new(alloc),
         )),
         Err(ParseStop::NoMemory) => Err(AllocError),
+    }
+}
+
+// Whether a reply says that the text was a statement which the check accepts.
+fn is_accepted(reply: &Reply) -> bool {
+    match reply {
+        Reply::Refused(SqlRefusal::Syntax) => false,
+        Reply::Refused(SqlRefusal::NoTable) => false,
+        Reply::Refused(SqlRefusal::NoColumn) => false,
+        Reply::Refused(SqlRefusal::TypeClash) => false,
+        _ => true,
+    }
+}
+
+// Answers a text that no entry serves, and notes in the cache whether it was accepted.
+fn execute_and_note(
+    alloc: Global,
+    cache: &mut Cache,
+    store: &mut Store,
+    text: &str,
+    params: &Values,
+    time: u32,
+    keep: bool,
+) -> Result<Recorded, AllocError>
+    requires later { store.old.time < time }
+    ensures done { IfOk result (IsRecorded (statement_of text.now params.now) keep store.old store.new) }
+    ensures latest { OnOk result (store.new.time ≤ time) }
+    ensures err { OnErr result (store.new ≡ store.old) }
+    ensures entries { cache.new.entries.items ≡ cache.old.entries.items }
+{
+    let done = execute_text(alloc, store, text, params, time, keep)?;
+    if is_accepted(&done.reply) {
+        cache.accept();
+    }
+    Ok(done)
+}
+
+/// Answers a text with its parameters over the tables of a store, at a time later than the store's last
+/// change. If `keep` is false, no lineage is made. On `AllocError` the store is as it was.
+pub(crate) fn execute(
+    alloc: Global,
+    cache: &mut Cache,
+    store: &mut Store,
+    text: &str,
+    params: &Values,
+    time: u32,
+    keep: bool,
+) -> Result<Recorded, AllocError>
+    requires later { store.old.time < time }
+    requires cache { IsCacheOf (catalog_of (tables_now store.old)) cache.old }
+    ensures done { IfOk result (IsRecorded (statement_of text.now params.now) keep store.old store.new) }
+    ensures latest { OnOk result (store.new.time ≤ time) }
+    ensures err { OnErr result (store.new ≡ store.old) }
+    ensures cache { IsCacheOf (catalog_of (tables_now store.new)) cache.new }
+{
+    store.tell_formed();
+    let found = cache.find(alloc, text, params, store.catalog())?;
+    match found {
+        Some(checked) => execute_and_list(alloc, &checked, store, time, keep),
+        None => execute_and_note(alloc, cache, store, text, params, time, keep),
     }
 }

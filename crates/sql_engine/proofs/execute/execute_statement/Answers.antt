@@ -1,32 +1,16 @@
-use Rattle.std.proofs.Common.{◌≡◌, ◌∙◌, ap, subst, sym, List, ℕ, Some}
-use Rattle.sql_engine.proofs.AskLaws.{outcome_done, same_catalog}
-use Rattle.sql_engine.specs.Asking.{IsRecorded}
-use Rattle.sql_engine.specs.inner.Listing.{tables_asked}
-use Rattle.sql_engine.specs.inner.Taking.{IsFresh}
-use Rattle.sql_engine.specs.Types.{Catalog, Statement}
-use Rattle.sql_engine.specs.declared.recorded.Recorded.{Recorded}
-use Rattle.sql_model.specs.Scope.{catalog_of}
+use Rattle.std.proofs.Common.{subst}
+use Rattle.sql_check.specs.Gives.{Stops}
+use Rattle.sql_engine.proofs.AskLaws.{checked_over}
+use Rattle.sql_engine.specs.Types.{Catalog, Checked}
+use Rattle.sql_model.specs.Places.{checked_of}
 use Rattle.table_store.specs.Histories.{tables_now}
 use Rattle.sql_engine.proofs.execute.execute_statement.Goals as goal
 
-pub list_asked-requires : goal.list_asked-requires
-list_asked-requires c = λ kept.
-    let old = c.args.store.now in
-    let new = c.execute_or_refuse.new.store in
-    let same : c.catalog.result.now ≡ catalog_of (tables_now new) =
-    c.catalog.ensures ∙ sym (same_catalog c.args.statement c.args.keep old new c.in_ok-change.change c.tell_formed.ensures c.in_ok-change.ensures.outcome) in
-    subst (λ (s : Statement). IsFresh s (catalog_of (tables_now new)).names c.in_ok-room.room) (sym c.in_ok-change.ensures.statement)
-    (subst (λ (names : List (List ℕ)). IsFresh c.args.statement names c.in_ok-room.room) (ap (λ (catalog : Catalog). catalog.names) same)
-    (c.in_ok-room.ensures kept))
+pub execute_and_list-requires-clause-checked : goal.execute_and_list-requires-clause-checked
+execute_and_list-requires-clause-checked c =
+    let checked : Checked = record { statement = c.args.statement; places = c.in-Ok.places } in
+    (checked_over c.args.statement (tables_now c.args.store.now) c.catalog.result.now checked c.catalog.ensures c.in-Ok.ensures).0
 
-pub returns-clause-done : goal.returns-clause-done
-returns-clause-done c =
-    let old = c.args.store.now in
-    let new = c.execute_or_refuse.new.store in
-    let is = c.in_ok-change.ensures.outcome in
-    let same : catalog_of (tables_now new) ≡ catalog_of (tables_now old) =
-    same_catalog c.args.statement c.args.keep old new c.in_ok-change.change c.tell_formed.ensures is in
-    subst (λ (d : Recorded). IsRecorded (Some c.args.statement) c.args.keep old new d) (sym c.list_asked.ensures.given)
-    (outcome_done c.args.statement c.args.keep old new c.in_ok-change.change c.list_asked.result.tables is
-    (λ kept. c.list_asked.ensures.tables kept
-    ∙ ap (λ (s : Statement). tables_asked s c.in_ok-change.change.needs (catalog_of (tables_now new))) c.in_ok-change.ensures.statement ∙ ap (tables_asked c.args.statement c.in_ok-change.change.needs) same))
+pub record_refusal-requires : goal.record_refusal-requires
+record_refusal-requires c =
+    subst (λ (catalog : Catalog). Stops c.in-Err.stop (checked_of c.args.statement catalog)) c.catalog.ensures c.in-Err.ensures

@@ -1,0 +1,7 @@
+use Rattle.std.proofs.Common.{◌≡◌, ◌++◌, drop, map}
+use Rattle.sql_template.specs.Filling.{filled_exprs}
+use Rattle.sql_template.specs.Preparing.{given_in}
+use Rattle.sql_template.proofs.filling.rows.Given as goal
+
+abbrev pub invariant-loop-one : goal.invariant-loop-one
+invariant-loop-one l = l.made ++ map (filled_exprs (given_in l.params)) (drop l.one-index l.one-items) ≡ map (filled_exprs (given_in l.params)) l.template
