@@ -1,7 +1,4 @@
-#!/usr/bin/env python3
-"""Makes the worlds of package.sh and inspect.sh, on standard output.
-
-usage: package_worlds.py NAME SIZE
+"""The worlds of the runs that record, replay, join and look into packages.
 
 Worlds of one table with SIZE rows, each with an id, a number below 100 and a text:
 
@@ -9,6 +6,7 @@ Worlds of one table with SIZE rows, each with an id, a number below 100 and a te
     change      three processes that take turns: one inserts 100 rows, one by one, one updates a hundredth of
                 the rows and deletes another, one writes counts of groups to a file
     groups      one SELECT with sums over all rows, in 100 groups
+    sums        fifty SELECTs in a loop, each with a sum over all rows
     low, high   one SELECT of a half of the rows. Both worlds have both scripts, and no row is of both halves
 
 Worlds whose run has about SIZE events. The last event is that `out` is opened for writing:
@@ -19,11 +17,22 @@ Worlds whose run has about SIZE events. The last event is that `out` is opened f
     loop        after a SELECT of one row each turn tests the same file a thousand times. 9,980,004 events
                 take 9,999,963 steps, and a run has at most 10,000,000
 """
+from __future__ import annotations
+
 import json
-import sys
+from typing import Any, Dict, Tuple
+
+Files = Dict[str, str]
+Tables = Dict[str, Any]
 
 PICK = {"main": 'sql q "SELECT * FROM t WHERE part = 7"\n'}
 GROUPS = {"main": 'sql q "SELECT part, COUNT(*), SUM(id) FROM t GROUP BY part"\n'}
+SUMS = {"main": """let n = 0
+next:
+sql q "SELECT SUM(id) FROM t"
+let n = n + 1
+if n < 50 goto next
+"""}
 
 HALVES = {"low": 'sql q "SELECT SUM(id) FROM t WHERE part < 50"\n',
           "high": 'sql q "SELECT SUM(id) FROM t WHERE part >= 50"\n'}
@@ -97,24 +106,24 @@ EVENTS = {"files": (2, 4), "one": (1, 3), "rows": (1, 3), "loop": (TESTS, 4)}
 WITH_TABLE = ("rows", "loop")
 
 
-def change(size):
+def change(size: int) -> Files:
     files = {"main": "".join(f'spawn {child} "{child}" else end\n' for child in CHILDREN)
                      + "".join(f"wait s {child}\n" for child in CHILDREN) + "end:\n"}
     texts = {"load": LOAD.format(size=size, last=size + 100), "fix": FIX, "report": REPORT}
     return {**files, **texts}
 
 
-def parts(size):
+def parts(size: int) -> Dict[str, Any]:
     return {"columns": [["id", "INT NOT NULL"], ["part", "INT"], ["name", "TEXT"]], "key": ["id"],
             "rows": [[n, n % 100, f"name {n}"] for n in range(size)]}
 
 
-def counters():
+def counters() -> Dict[str, Any]:
     return {"columns": [["k", "INT NOT NULL"], ["v", "INT"]], "key": ["k"],
             "rows": [[n, 0] for n in range(1000)]}
 
 
-def made(name, size):
+def made(name: str, size: int) -> Tuple[Files, Tables]:
     """The files and the tables of a world."""
     if name in EVENTS:
         each, beside = EVENTS[name]
@@ -123,15 +132,13 @@ def made(name, size):
         return {"main": text}, {"t": counters()} if name in WITH_TABLE else {}
     if name in HALVES:
         return HALVES, {"t": parts(size)}
-    return {"pick": PICK, "groups": GROUPS}.get(name) or change(size), {"t": parts(size)}
+    scripts = {"pick": PICK, "groups": GROUPS, "sums": SUMS}
+    return scripts.get(name) or change(size), {"t": parts(size)}
 
 
-def main():
-    name, size = sys.argv[1], int(sys.argv[2])
+def write_world(path: str, name: str, size: int) -> None:
+    """Writes the document of a world."""
     files, tables = made(name, size)
     start = name if name in HALVES else "main"
-    json.dump({"start": [start], "files": files, "tables": tables}, sys.stdout, separators=(",", ":"))
-
-
-if __name__ == "__main__":
-    main()
+    with open(path, "w", encoding="utf-8") as out:
+        json.dump({"start": [start], "files": files, "tables": tables}, out, separators=(",", ":"))

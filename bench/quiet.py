@@ -2,25 +2,29 @@
 
 Linux tells how long a processor had work while the host ran something else, the eighth number of the first
 line of /proc/stat (proc(5), `steal`). A host can also run slower without telling, so that a fixed loop is
-timed after each run. A run is made again where more than 2 % of a processor was withheld, or where the loop
-took more than 1.25 times the least that it ever took here, at most ten times as often as runs are wanted; the
-rest is taken as it comes, and a line on standard error says so. PACE gives the least seconds of the loop so
-far to a process that is started for a single measure.
+timed after each run. A run is made again if more than 2 % of a processor was withheld, or if the loop took
+more than 1.25 times the least that it ever took here, at most ten times as often as runs are wanted; the
+rest is taken as it comes, and a line on standard error says so.
 """
+from __future__ import annotations
+
 import os
 import sys
 import time
+from typing import Callable, List, TypeVar
 
 SHARE = 0.02
 PACE = 1.25
 TRIES = 10
 TURNS = 200_000
 
+T = TypeVar('T')
+
 # The least seconds of the loop, of all calls.
-least = [float(os.environ.get('PACE', 'inf'))]
+least = [float('inf')]
 
 
-def withheld(path='/proc/stat'):
+def withheld(path: str = '/proc/stat') -> float:
     """Seconds of a processor that the host withheld since the machine began, or 0 where it isn't told."""
     try:
         with open(path, encoding='ascii') as file:
@@ -29,7 +33,7 @@ def withheld(path='/proc/stat'):
         return 0.0
 
 
-def pace():
+def pace() -> float:
     """Seconds of a processor for a loop that is always the same; the lesser of two tries."""
     took = []
     for _ in range(2):
@@ -41,15 +45,16 @@ def pace():
     return min(took)
 
 
-def is_quiet(share, loop):
+def is_quiet(share: float, loop: float) -> bool:
     """Whether a run counts, by the share that was withheld and the seconds of the loop after it."""
     least[0] = min(least[0], loop)
     return share <= SHARE and loop <= PACE * least[0]
 
 
-def counted(run, runs, told=withheld, looped=pace):
+def counted(run: Callable[[], T], runs: int, told: Callable[[], float] = withheld,
+            looped: Callable[[], float] = pace) -> List[T]:
     """What so many runs gave that count; `run` makes one of them."""
-    took = []
+    took: List[T] = []
     left = TRIES * runs
     while len(took) < runs:
         before, start = told(), time.monotonic()

@@ -3,7 +3,7 @@ import sqlite3
 import sys
 
 
-def main(rows):
+def main(rows: int) -> None:
     base = sqlite3.connect(":memory:", isolation_level=None)
     base.execute("CREATE TABLE t (id INTEGER PRIMARY KEY, note TEXT)")
     for n in range(rows):

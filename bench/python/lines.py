@@ -2,7 +2,7 @@
 import sys
 
 
-def main(source, target):
+def main(source: str, target: str) -> None:
     n = 0
     with open(source, encoding="utf-8") as lines, open(target, "w", encoding="utf-8") as out:
         for line in lines:

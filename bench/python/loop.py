@@ -2,7 +2,7 @@
 import sys
 
 
-def main(turns):
+def main(turns: int) -> None:
     n = 0
     total = 0
     while n < turns:
