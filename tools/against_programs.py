@@ -7,17 +7,12 @@
     tools/against_programs.py --ldv PROGRAM              another program ldv
 
 Each program asks an SQLite database by Python's `sqlite3`: the tables and most of the statements are those of
-against_sqlite.py, spelled in other ways at random (quoted names, `==`, named parameters,
-                                                    aliases without AS), with
-statements of SQLite beside them that the dialect hasn't (BETWEEN, IN, LIKE, AVG, COUNT in a join, OFFSET, '
-'an order by
-what isn't asked for), executemany and transactions that are rolled back. It prints each answer. The '
-'program runs by
-itself, under tools/capture.py, and by tools/playback.py over the package with its rows or with its replies,
-where the
-database isn't there any more. All three have to print the same, and capture.py has to find that each '
-'statement
-has the answer that SQLite gave.
+against_sqlite.py, spelled in other ways at random (quoted names, `==`, named parameters, aliases without AS),
+with statements of SQLite beside them that the dialect hasn't (BETWEEN, IN, LIKE, AVG, COUNT in a join,
+OFFSET, an order by what isn't asked for), executemany and transactions that are rolled back. It prints each
+answer. The program runs by itself, under tools/capture.py, and by tools/playback.py over the package with its
+rows or with its replies, when the database isn't there any more. All three have to print the same, and
+capture.py has to find that each statement has the answer that SQLite gave.
 
 What is left out is what against_sqlite.py leaves out, and statements in which a number leaves 64 bits.
 

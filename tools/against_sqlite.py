@@ -1,15 +1,15 @@
 #!/usr/bin/env python3
 """Compares the program with SQLite on random databases and statements.
 
-    tools/against_sqlite.py                            100 databases with 40 statements each
+    tools/against_sqlite.py                            100 databases with 40 statements each, some asked again
     tools/against_sqlite.py --databases 2500           100,000 statements
     tools/against_sqlite.py --seed 7 --databases 1     the same database and statements again
     tools/against_sqlite.py --program 'CMD ..'         another program that runs a world
 
-Each database becomes a world whose script asks the statements one by one. `ldv run` runs it, and Python's
-`sqlite3` asks the same statements of the same rows. Replies are compared one by one: rows, numbers of changed
-rows, and refusals. After the last statement all tables are asked whole. Where a reply differs, the world is
-kept in a file and the statement is shown.
+Each database becomes a world whose script asks the statements one by one, a third of them three times more
+with other parameters. `ldv run` runs it, and Python's `sqlite3` asks the same statements of the same rows.
+Replies are compared one by one: rows, numbers of changed rows, and refusals. After the last statement all
+tables are asked whole. If a reply differs, the world is kept in a file and the statement is shown.
 
 What is left out, as the two don't mean the same there (docs/SQL.md):
 - the order of an answer without ORDER BY, and that of rows whose sorting keys are the same. Rows are then
@@ -400,6 +400,26 @@ class Maker:
             return self.insert(tables)
         return self.update(tables) if kind < 0.95 else self.delete(tables)
 
+    # ---- the same text again
+
+    def other_value(self, value):
+        """A parameter of the same kind, or NULL. NULL stays, since it doesn't tell the kind of its place."""
+        if value is None or self.perhaps(0.1):
+            return None
+        return self.number() if isinstance(value, int) else self.chance.choice(TEXTS)
+
+    def with_others(self, asked):
+        """A statement with other parameters. What stands after LIMIT stays a number of rows."""
+        params = [self.other_value(value) for value in asked.params]
+        if asked.text.endswith("LIMIT ?"):
+            params[-1] = self.chance.randint(0, 8)
+        return asked._replace(params=params)
+
+    def repeated(self, asked):
+        """Each statement, and a third of them three times more."""
+        return [again for each in asked
+                for again in [each] + [self.with_others(each) for _ in range(self.chance.choice([0, 0, 3]))]]
+
 
 # ---- the program
 
@@ -509,7 +529,7 @@ def made(seed, statements):
     maker = Maker(random.Random(seed))
     tables = [maker.table(name) for name in ("t", "u", "v")[:maker.chance.randint(1, 3)]]
     tables = maker.with_foreign(tables) if maker.perhaps(0.5) else tables
-    asked = [maker.statement(tables) for _ in range(statements)]
+    asked = maker.repeated([maker.statement(tables) for _ in range(statements)])
     return tables, asked + [Asked(f"SELECT * FROM {table.name}", []) for table in tables]
 
 

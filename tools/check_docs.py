@@ -16,11 +16,14 @@ docs/internals/ARCHITECTURE.md anew. Checked are
 - the map of crates in docs/internals/ARCHITECTURE.md, which is made from crates.txt and the heads of the
   crates (crate_map.py), and that the entry function and the first definition are where a head says;
 - its table of the kit's libraries against crates.txt, and that docs/internals/GUARANTEES.md names each of
-  these among what is trusted;
+  these among what is trusted, and in the table of each crate that uses it;
 - the table of meanings in docs/internals/DEFINITIONS.md: that what it names are files of specs, and that each
   file of specs that the sources or the specs of another crate cite is among them, and that these cite no file
   of specs/inner;
 - each relative link of each document, with its heading where it names one;
+- the pages of docs/ that a program names, in a message, its help or a comment;
+- the lengths of README.md, docs/internals/ARCHITECTURE.md and docs/internals/notes/gate.md, and that the
+  index of a folder of docs/ has each of its pages;
 - each path in a document that begins with a folder of this repository or with a crate, such as
   `crates/ldv_top/specs/Due.antt` or `ldv_top/specs/Due.antt`;
 - the tables of docs/internals/DEFINITIONS.md: that each name is defined in the file of its row;
@@ -29,7 +32,9 @@ docs/internals/ARCHITECTURE.md anew. Checked are
   as the name of a clause or as a definition that it cites, or is a field of such a definition;
 - the manual page docs/ldv.1: that it has the commands of docs/COMMANDS.md, and its statuses with their
   messages;
-- that CHANGELOG.md, README.md, CITATION.cff, the manual page and tools/pyproject.toml have one version.
+- that CHANGELOG.md, README.md, CITATION.cff, the manual page and tools/pyproject.toml have one version;
+- the figures that bench/figures.txt lists: that the documents have their words, and that each is the value of
+  the results from which bench/README.md is made, and that these are of this version.
 
 It prints a line for each difference, and ends with status 1 where there is one.
 """
@@ -43,6 +48,9 @@ from typing import Dict, Iterator, List, Optional, Set, Tuple, Union
 import check_names
 import crate_map
 
+sys.path.append(os.path.join(os.path.dirname(os.path.dirname(os.path.abspath(__file__))), 'bench'))
+import figures                                                               # noqa: E402
+
 CRATES = 'crates.txt'
 ARCHITECTURE = 'docs/internals/ARCHITECTURE.md'
 README = 'README.md'
@@ -53,16 +61,24 @@ MANUAL = 'docs/ldv.1'
 CHANGELOG = 'CHANGELOG.md'
 PROJECT = 'tools/pyproject.toml'
 CITATION = 'CITATION.cff'
-FOLDERS = ('crates', 'docs', 'tools', 'examples', 'bench', '.ci')
+GATE = 'docs/internals/notes/gate.md'
+# The lines that these documents have at most.
+MOST_LINES = {README: 130, ARCHITECTURE: 350, GATE: 100}
+INDEXES = ('docs', 'docs/internals')
+FOLDERS = ('crates', 'docs', 'tools', 'tests', 'examples', 'bench', '.ci')
 LINK = re.compile(r'\[[^\]\n]*\]\(([^)\s]+)\)')
 CODE = re.compile(r'`([^`\n]+)`')
 PATH = re.compile(r'(?<![\w./-])(?:%s)/[\w./+*-]*' % '|'.join(re.escape(f) for f in FOLDERS))
 CRATE_PATH = re.compile(r'(?<![\w./-])\w+/(?:src|specs|proofs|must-fail)/[\w./+*-]*')
+PAGE = re.compile(r'(?<![\w./-])docs/[\w/]+\.(?:md|1)(?:#[\w-]+)?')
+PROGRAMS = ('.py', '.js', '.sh')
 # A path with such a mark stands for several, or for one that a build makes.
 PLACEHOLDER = re.compile(r'\*|\bNAME\b|/out\b|[A-Z]{3,}\b(?!\.md)')
 
 # How many crates may stand on one another.
 LONGEST = 8
+# The libraries of which no clause depends, so that nothing is assumed of them.
+UNASSUMED = ('thiserror',)
 
 COMMENT = re.compile(r'^\s*(?://|--).*$', re.M)
 # The first name of a path in antt, and in Rust.
@@ -70,8 +86,6 @@ USED = re.compile(r'\bRattle\.(\w+)|\b(\w+)::')
 
 COLUMNS = 110
 LAID_OUT = re.compile(r'\s*(?:(?:pub |ghost )?use |#!?\[)')
-# How many longer lines of a file are broken only when its crate changes next, since many stand on it.
-LATER = {'crates/sql_model/src/references.rt': 1, 'crates/sql_model/specs/inner/KeySets.antt': 1}
 
 # The number of a line, its cells, and those of the head of its table.
 Row = Tuple[int, List[str], List[str]]
@@ -194,8 +208,7 @@ def longer_lines(text: str) -> Iterator[Tuple[int, int]]:
 def check_lines(root: str, differ: Differences) -> None:
     for crate in crates_in(root):
         for file in files_of(root, crate, ('src', 'specs')):
-            longer = list(longer_lines(read(root, file)))
-            for number, length in longer[LATER.get(file, 0):]:
+            for number, length in longer_lines(read(root, file)):
                 differ.add(file, number, f'a line of {length} columns')
 
 
@@ -337,6 +350,22 @@ def check_kit(crates: Dict[str, List[str]], differ: Differences, root: str) -> N
     trusted = read(root, GUARANTEES).partition('## Trusted')[2].partition('\n## ')[0]
     for library in sorted(set(used) - set(codes(trusted.replace('\n', ' ')))):
         differ.add(GUARANTEES, 1, f'the library {library} is missing among what is trusted')
+    assumed = assumed_in(read(root, GUARANTEES))
+    for library, users in sorted(used.items()):
+        for crate in users:
+            if library not in assumed.get(crate, set()) and library not in UNASSUMED:
+                differ.add(GUARANTEES, 1, f'the table of {crate} assumes nothing of {library}')
+
+
+def assumed_in(text: str) -> Dict[str, Set[str]]:
+    """The names in the rows of each crate that say what is assumed."""
+    found: Dict[str, Set[str]] = {}
+    sections, kind = sections_in(text), ''
+    for number, cells, _ in tables(text):
+        kind = cells[0] or kind
+        if kind == 'Assumed':
+            found.setdefault(sections[number], set()).update(codes(cells[1]))
+    return found
 
 
 # ---- links and paths
@@ -368,6 +397,42 @@ def check_paths(root: str, document: str, differ: Differences) -> None:
             path = path.rstrip('.')
             if not PLACEHOLDER.search(path) and '..' not in path and not exists(root, path):
                 differ.add(document, number, f'there is no {path}')
+
+
+def programs(root: str) -> List[str]:
+    """The files whose texts may name a page, but for the tests of the tools and what a build makes."""
+    found = [name for name in ('ldv', 'Makefile', '.ci/run') if exists(root, name)]
+    for top in ('tools', 'bench', 'tests'):
+        for folder, folders, files in os.walk(os.path.join(root, top)):
+            inside = os.path.relpath(folder, root)
+            folders[:] = sorted(f for f in folders if f != 'out' and (inside, f) != ('tools', 'tests'))
+            found += [os.path.join(inside, file) for file in files if file.endswith(PROGRAMS)]
+    return sorted(found)
+
+
+def check_pages(root: str, differ: Differences) -> None:
+    """The pages that programs name are there, each with the heading that is named."""
+    for file in programs(root):
+        for number, line in enumerate(read(root, file).splitlines(), 1):
+            for page in PAGE.findall(line):
+                check_link(root, file, number, os.path.relpath(page, os.path.dirname(file) or '.'), differ)
+
+
+def check_lengths(root: str, differ: Differences) -> None:
+    for name, most in MOST_LINES.items():
+        count = len(read(root, name).splitlines())
+        if count > most:
+            differ.add(name, most + 1, f'{count} lines, and {most} are the most')
+
+
+def check_indexes(root: str, differ: Differences) -> None:
+    """The README of a folder leads to each page beside it."""
+    for folder in INDEXES:
+        index = folder + '/README.md'
+        linked = {target.partition('#')[0] for target in LINK.findall(read(root, index))}
+        for name in sorted(os.listdir(os.path.join(root, folder))):
+            if name.endswith(('.md', '.1')) and name != 'README.md' and name not in linked:
+                differ.add(index, 1, f'{name} is missing')
 
 
 # ---- definitions
@@ -444,14 +509,20 @@ def check_promise(contract: str, fields: Dict[str, Set[str]], names: List[str]) 
     return [name for name in names if name not in known]
 
 
-def check_guarantees(root: str, differ: Differences) -> None:
-    text = read(root, GUARANTEES)
+def sections_in(text: str) -> Dict[int, str]:
+    """The lines of GUARANTEES by their numbers, each with the crate that it is about, if any."""
     crate, sections = '', {}
     for number, line in enumerate(text.splitlines(), 1):
         if line.startswith('#'):
             found = SECTION.match(line)
             crate = found[1] if found else ''
         sections[number] = crate
+    return sections
+
+
+def check_guarantees(root: str, differ: Differences) -> None:
+    text = read(root, GUARANTEES)
+    sections = sections_in(text)
     for name in sorted(set(crates_in(root)) - set(codes(text.replace('\n', ' ')))):
         differ.add(GUARANTEES, 1, f'{name} is missing')
     known = {name: promises_of(root, name) for name in set(sections.values()) & set(crates_in(root))}
@@ -531,6 +602,13 @@ def check_version(root: str, differ: Differences) -> None:
                        f'version {version[1]}, and {due[1]} in {CHANGELOG}')
 
 
+def check_figures(root: str, differ: Differences) -> None:
+    """The figures of documents beside the results of this version."""
+    version = VERSION[CITATION].search(read(root, CITATION))
+    for document, line, text in figures.differences(root, version[1] if version else ''):
+        differ.add(document, line, text)
+
+
 def main(words: List[str]) -> int:
     rest = [word for word in words if word != '--fill']
     root = rest[0] if rest else os.path.dirname(os.path.dirname(os.path.abspath(__file__)))
@@ -542,10 +620,14 @@ def main(words: List[str]) -> int:
     check_names.check_names(root, differ.add)
     for document in documents(root):
         check_paths(root, document, differ)
+    check_pages(root, differ)
+    check_lengths(root, differ)
+    check_indexes(root, differ)
     check_definitions(root, differ)
     check_guarantees(root, differ)
     check_manual(root, differ)
     check_version(root, differ)
+    check_figures(root, differ)
     return 1 if differ.count else 0
 
 

@@ -47,7 +47,7 @@ DATA = re.compile(r"`(examples/[\w./]+\.csv)`")
 PROGRAM = os.path.join(ROOT, "crates", "ldv", "out", "ldv")
 INDENT = "    "
 PROMPT = INDENT + "$ "
-SECONDS = 60
+SECONDS = 600
 
 
 class Shown:

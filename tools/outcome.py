@@ -3,7 +3,6 @@
 import sys
 
 from ldvtools.outcome import main
-from ldvtools.outcomes import read_outcome  # noqa: F401 (bench/run_result.py takes it from here)
 
 if __name__ == "__main__":
     sys.exit(main())

@@ -211,7 +211,8 @@ def verdict_of(source: Source, run: int, package: Package) -> Optional[str]:
     """What `audit` says of a package with rows; it reads no joined one."""
     if package.mode == "excluded" or run:
         return None
-    return answered(source.program, ["audit", *replay_words(run, package)[1:]], source.data).decode().strip()
+    said = answered(source.program, ["audit", *replay_words(run, package)[1:]], source.data)
+    return page.verdict_in(said, f"the answer of {source.program} audit")
 
 
 def all_parts(source: Source, given: argparse.Namespace, description: Description) -> List[Part]:

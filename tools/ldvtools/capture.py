@@ -4,23 +4,23 @@
     ldv record < study.json > study.package
     tools/playback.py study.package -- python3 analysis.py --year 2019
 
-The program runs as ever: with its words, its standard streams and its exit status. A recorder notes what it
-asks by sqlite3 or by psycopg2, and what comes of it. The world has the tables that its statements name, as
-they were before the first one, and a script that asks these statements in the order in which they took
-effect. `ldv run` runs that world, and each reply is compared with what the program saw.
+The program runs as ever: with its arguments, its standard streams and its exit status. A recorder in it
+notes each statement that it asks by sqlite3 or by psycopg2, and the result. The world has the tables that the
+statements name, as they were before the first one, and a script that asks the statements in the order in
+which they took effect. `ldv run` runs the world, and each reply is compared with what the program saw.
 
-A statement of another dialect is put into the one of docs/SQL.md where that is exact. What isn't is named
-with its line in the program, the reason and a way around, and no world is made; with --skip-unreadable it
-is left out, and is played back from what was seen. docs/PROGRAMS.md says what is exact, and what each
-message means.
+A statement of another dialect is translated into that of docs/SQL.md if the translation is exact. Each other
+one is named with its line in the program, the reason and a way around, and no world is made. With
+--skip-unreadable these are left out, and played back as they were seen. docs/PROGRAMS.md says what is exact,
+and what each message means.
 
---scale, --kind, --rename, --leave-out, --key and --foreign are those of tools/world.py: decimals are
-carried as whole numbers, and the program gets them back as decimals. Names are made names of a world as by
---tidy.
+The options from --scale to --unit are those of tools/world.py. Decimals are carried as whole numbers, and the
+program gets them back as decimals. A file of the world says so of each column, by which the other tools show
+decimals with their units. Names become names of a world as --tidy makes them.
 
-Statuses: that of the program where it isn't 0; else 0 where each statement has the answers that the
-database gave; 1 where one has others, can't be asked here or nothing was captured; 2 the words of the
-command line are wrong. """
+Statuses: that of the program if it isn't 0; else 0 if each statement has the answers that the database gave;
+1 if one has others, if one can't be asked here, or if nothing was captured; 2 if the words of the command
+line are wrong. """
 from __future__ import annotations
 
 import argparse
@@ -35,17 +35,33 @@ from .captured_order import in_order
 from .captured_plan import Fates, Planner, fates_of, named_tables
 from .captured_postgres import Before, server_tables
 from .captured_report import different_lines, report, seen_lines, unreadable_lines, verdict
-from .captured_run import has_foreign_keys, program_of, replies_of, run_program
+from .captured_run import check_program, has_foreign_keys, program_of, replies_of, run_program
 from .captured_tables import Taken, copy_database, names_there, related, tables_taken
 from .captured_world import REPORT_FILE, SEEN_FILE, counts_of, script_of, seen_file
+from .columns import FOLDER
 from .dialects import POSTGRES, SQLITE
 from .documents import document, write_file
 from .errors import Misused, Refused, command, words_of
 from .language import MAX_FILE
+from .values import plain_count
 from .world import MAIN, check_file, summary, table_of
 from .world_csv import named_file, read_file
+from .world_hints import quoted_word
+from .world_known import known_files
 
-FORWARDED = ("scale", "kind", "rename", "leave_out", "key", "foreign", "date")
+# The options that are those of world.py, each with what its word looks like and what it says.
+FORWARDED = {
+    "scale": ("TABLE.COLUMN=N", "a column of decimals: with N = 1, 3.4 is carried as 34, and the program "
+              "gets 3.4"),
+    "kind": ("TABLE.COLUMN=KIND", "INT, TEXT, 'INT NOT NULL' or 'TEXT NOT NULL'"),
+    "rename": ("OLD=NEW", "another name in the world for the table OLD, or for the column TABLE.OLD"),
+    "leave_out": ("NAME", "not the table OLD, or not the column TABLE.COLUMN"),
+    "key": ("TABLE=COLUMN,..", "the key: NOT NULL, and no two rows have the same; or TABLE=none"),
+    "foreign": ("TABLE.COLUMN,..=PARENT", "a foreign key: each row refers to the key of a row of PARENT; or "
+                "TABLE=none, which takes none from the database"),
+    "date": ("TABLE.COLUMN=FORM", "its dates are made texts that compare as dates: dmy (31.1.2019), mdy "
+             "(1/31/2019) or ymd become 2019-01-31"),
+    "unit": ("TABLE.COLUMN=TEXT", "its numbers have this unit, such as %% or €")}
 
 
 class Capture(NamedTuple):
@@ -72,23 +88,28 @@ def options_of(words: argparse.Namespace) -> List[str]:
 
 def files_of(words: argparse.Namespace, log: Log) -> Dict[str, bytes]:
     """The source of the program, where it is one file, and the files of --file."""
-    found: Dict[str, bytes] = {}
     sources = [path for path in log.files if os.path.isfile(path)]
-    if len(sources) == 1:
-        found[os.path.basename(sources[0])] = read_file(sources[0])
+    paths = {os.path.basename(path): path for path in sources[:1]} if len(sources) == 1 else {}
     for word in words.file:
         name, path = named_file(word)
-        found[name or os.path.basename(path)] = read_file(path)
-    for name, content in found.items():
-        check_file(name, content)
-        if name in (MAIN, SEEN_FILE, REPORT_FILE):
-            raise Refused(f"the world has a file {name} of its own; give --file NAME={name}")
+        paths[name or os.path.basename(path)] = path
+    found: Dict[str, bytes] = {}
+    for name, path in paths.items():
+        if name in (MAIN, SEEN_FILE, REPORT_FILE) or name.startswith(FOLDER):
+            raise Refused(f"the world has a file {name} of its own; give "
+                          f"--file NAME={quoted_word(path)}")
+        found[name] = read_file(path)
+        check_file(name, found[name])
     return found
 
 
 def captured(words: argparse.Namespace, log: Log, base: str, before: Optional[Before]) -> Capture:
     """What becomes of a log, with the database as it was before."""
     driver = SQLITE if before is None else POSTGRES
+    if before is None:
+        name_others(log, words.sqlite)
+    else:
+        name_other_databases(log, before.name)
     log.events = [event for event in log.events if event.connection.driver == driver]
     ordered = in_order(log.events)
     names = {name.lower() for name in named_tables(ordered.events)}
@@ -100,7 +121,30 @@ def captured(words: argparse.Namespace, log: Log, base: str, before: Optional[Be
         there, views = known["there"], known["views"]
         taken = server_tables(base, known, options_of(words))
     fates = fates_of(ordered.events, ordered.undone, Planner(taken.shapes, there, views))
-    return Capture(log, driver, taken, fates, files_of(words, log))
+    return Capture(log, driver, taken, fates, {**files_of(words, log), **columns_of(words, taken)})
+
+
+def name_others(log: Log, path: str) -> None:
+    """Names the other database files of connections, and those in memory."""
+    for connection in log.connections:
+        if connection.driver == SQLITE and os.path.realpath(connection.where or "") != os.path.realpath(path):
+            connection.away = os.path.basename(connection.where) or "one in memory"
+
+
+def name_other_databases(log: Log, name: str) -> None:
+    """Names the other databases of servers. One server may have several addresses, so the name of a database
+    alone counts."""
+    for connection in log.connections:
+        if connection.driver == POSTGRES and connection.where.rpartition(" at ")[0] != name:
+            connection.away = connection.where
+
+
+def columns_of(words: argparse.Namespace, taken: Taken) -> Dict[str, bytes]:
+    """The files that say what the columns are in the database. The program changes that, so they don't have
+    its digest."""
+    for table in taken.tables:
+        table.path, table.digest = words.sqlite or "", ""
+    return known_files(taken.tables)
 
 
 def file_tables(words: argparse.Namespace, events: Sequence[Event], base: str, named: List[str]) -> Taken:
@@ -186,6 +230,9 @@ def say_verdict(words: argparse.Namespace, capture: Capture, judged: Dict[int, J
     for line in different:
         say(line)
     say(verdict(capture.fates, judged, capture.driver))
+    unreadable = counts_of(capture.fates).unreadable
+    if unreadable:
+        say(f"{plain_count(unreadable, 'statement')} not packed, and played back as seen")
     return 1 if different else 0
 
 
@@ -193,24 +240,26 @@ def say_verdict(words: argparse.Namespace, capture: Capture, judged: Dict[int, J
 
 def read_words(given: Optional[Sequence[str]]) -> argparse.Namespace:
     parser = words_of("capture.py", __doc__)
-    parser.add_argument("--sqlite", metavar="FILE", help="the database file that the program asks")
-    parser.add_argument("--postgres", metavar="DSN", help="the PostgreSQL database that it asks, as "
-                        "psycopg2 has it")
-    parser.add_argument("-o", "--output", metavar="FILE", required=True, help="the world document")
-    parser.add_argument("--report", metavar="FILE", help="what became of each statement; the world has it "
-                        "too")
+    parser.add_argument("--sqlite", metavar="FILE", help="the SQLite file that the program asks")
+    parser.add_argument("--postgres", metavar="DSN", help="the PostgreSQL database that the program asks, as "
+                        "psycopg2.connect takes it: 'host=db.example.org dbname=study user=ada'")
+    parser.add_argument("-o", "--output", metavar="FILE", required=True,
+                        help="the world document that is made")
+    parser.add_argument("--report", metavar="FILE", help="write what became of each statement; the world has "
+                        "the same in capture.txt")
     parser.add_argument("--ldv", metavar="PROGRAM", help="the program ldv (default: that of this checkout, "
-                        "or on PATH)")
+                        "or the one on PATH)")
     parser.add_argument("--skip-unreadable", action="store_true",
-                        help="leave out what can't be asked here, and play it back from what was seen")
+                        help="leave out the statements that can't be asked here; the playback gives them the "
+                        "answers that were seen")
     parser.add_argument("--file", metavar="[PATH=]FILE", action="append", default=[],
-                        help="one more file that the package is to have")
-    for name in FORWARDED:
-        parser.add_argument("--" + name.replace("_", "-"), metavar="WORD", action="append", default=[],
-                            help="as in world.py")
+                        help="one more file for the package")
+    for name, (metavar, told) in FORWARDED.items():
+        parser.add_argument("--" + name.replace("_", "-"), metavar=metavar, action="append", default=[],
+                            help=told)
     parser.add_argument("-q", "--quiet", action="store_true", help="say nothing of the tables")
     parser.add_argument("program", nargs=argparse.REMAINDER, metavar="-- PROGRAM ..",
-                        help="the program with its words")
+                        help="the Python program and its arguments")
     words = parser.parse_args(given)
     if words.program[:1] == ["--"]:
         del words.program[0]
@@ -223,6 +272,8 @@ def read_words(given: Optional[Sequence[str]]) -> argparse.Namespace:
 
 def work(given: Optional[Sequence[str]]) -> int:
     words = read_words(given)
+    check_program(words.program[0])
+    program_of(words.ldv)
     driver = SQLITE if words.sqlite is not None else POSTGRES
     with tempfile.TemporaryDirectory() as folder:
         base = os.path.join(folder, "before.db")

@@ -4,22 +4,25 @@ from __future__ import annotations
 import marshal
 import os
 import re
-import struct
 from dataclasses import dataclass, field
-from typing import Any, Dict, Iterator, List, Optional, Tuple
+from typing import Any, Dict, Iterator, List, Optional, Sequence, Tuple
 
+from .inside.kept import kept_records
+from .inside.record import HAS_KEY, HAS_ROWS, STATEMENT
 
-HEAD = struct.Struct(">I")
+ACTS = ("commit", "rollback", "close", "other")
 
 
 @dataclass
 class Connection:
-    """A connection: the number of its process, its own number there, and what it is connected to."""
+    """A connection: the number of its process, its own number there, and what it is connected to. `away` is
+    the name of that where it isn't the database that is captured."""
 
     process: int
     number: int
     driver: str
     where: str
+    away: str = ""
 
 
 @dataclass
@@ -66,18 +69,16 @@ class Log:
 
 def records_of(data: bytes) -> Iterator[Tuple[Any, ...]]:
     """The records of a file. The last one may be cut off, where the program was killed."""
-    place = 0
-    while place + HEAD.size <= len(data):
-        length, = HEAD.unpack_from(data, place)
-        place += HEAD.size
-        if place + length > len(data):
-            return
-        rows, record = marshal.loads(data[place:place + length])
-        if rows:
-            yield ("rows", rows)
-        if record:
-            yield record
-        place += length
+    for kept in kept_records(data):
+        yield statement_of(kept) if kept[0] <= HAS_KEY | HAS_ROWS else marshal.loads(kept)
+
+
+def statement_of(kept: bytes) -> Tuple[Any, ...]:
+    """The record of one statement as that of any event."""
+    form, number, event, time, changed, last = STATEMENT.unpack_from(kept)
+    found = marshal.loads(kept[STATEMENT.size:])
+    params, rows = found if form & HAS_ROWS else (found, ())
+    return (number, event, time, params, changed, last if form & HAS_KEY else None, rows)
 
 
 class Process:
@@ -87,15 +88,20 @@ class Process:
         self.number, self.log = number, log
         self.names: Dict[Tuple[str, int], Any] = {}
         self.connections: Dict[int, Connection] = {}
+        self.contexts: Dict[int, Tuple[Any, ...]] = {}
         self.events: Dict[int, Event] = {}
 
     def read(self, record: Tuple[Any, ...]) -> None:
         kind, *rest = record
-        if kind == "process":
+        if isinstance(kind, int):
+            self.asked(self.contexts[kind], *rest)
+        elif kind == "context":
+            self.contexts[rest[0]] = tuple(rest[1:])
+        elif kind == "process":
             self.log.processes.append(rest[1])
         elif kind == "driver":
             self.log.drivers.append(rest[0])
-        elif kind in ("text", "site", "head"):
+        elif kind in ("text", "site"):
             self.names[kind, rest[0]] = rest[1]
             if kind == "site" and rest[1][0] not in self.log.files:
                 self.log.files.append(rest[1][0])
@@ -103,43 +109,38 @@ class Process:
             number, driver, where = rest[:3]
             self.connections[number] = Connection(self.number, number, driver, where)
             self.log.connections.append(self.connections[number])
-        elif kind == "act":
-            self.act(*rest)
-        elif kind == "asked":
-            self.asked(*rest)
         elif kind == "rows":
             self.rows(rest[0])
+        elif kind == "fault":
+            self.events[rest[0]].fault = rest[1]
 
-    def act(self, connection: int, act: str, what: str, in_transaction: bool, thread: int, site: int,
-            time: int,
-            fault: Optional[Tuple[Any, ...]]) -> None:
+    def asked(self, context: Tuple[Any, ...], number: int, time: int, params: Any, changed: int,
+              last: Optional[int] = None, rows: Any = ()) -> None:
+        pairs: List[Any] = [rows] if rows and isinstance(rows, tuple) else list(rows)
+        self.rows(pairs)
+        connection, way, text, in_transaction, thread, site, head = context
         file, line = self.names["site", site]
-        self.log.events.append(Event(self.connections[connection], "act", time, self.thread(thread), file,
-                                     line, act,
-                                     in_transaction, fault, way=what))
-
-    def asked(self, number: int, connection: int, way: str, text: int, params: Any, head: Optional[int],
-              changed: int,
-              last: Optional[int], in_transaction: bool, thread: int, site: int, time: int,
-              fault: Optional[Tuple[Any, ...]]) -> None:
-        file, line = self.names["site", site]
-        columns = None if head is None else self.names["head", head]
-        event = Event(self.connections[connection], "asked", time, self.thread(thread), file, line,
-                      self.names["text",
-                                 text], in_transaction, fault, way, params, columns, None, changed, last)
-        if columns and isinstance(columns[0], tuple):
-            event.head = tuple(name for name, _ in columns)
-            event.types = tuple(kind for _, kind in columns)
-        self.events[number] = event
+        what = self.names["text", text]
+        kind = "act" if way in ACTS else "asked"
+        event = Event(self.connections[connection], kind, time, self.thread(thread), file, line,
+                      way if kind == "act" else what, in_transaction, None, what if kind == "act" else way,
+                      params, head, None, changed, last)
+        if head and isinstance(head[0], tuple):
+            event.head = tuple(name for name, _ in head)
+            event.types = tuple(kind for _, kind in head)
+        if number:
+            self.events[number] = event
         self.log.events.append(event)
 
-    def rows(self, rows: List[Tuple[int, Any]]) -> None:
+    def rows(self, rows: Sequence[Tuple[int, Any]]) -> None:
         for number, row in rows:
             event = self.events.get(number)
             if event is None or event.head is None:
                 continue
             if row is None:
                 event.is_whole = True
+            elif isinstance(row, list):
+                event.rows += row
             else:
                 event.rows.append(row)
 

@@ -70,7 +70,11 @@ class Orderer:
             self.roll_back(own, 0) if event.fault is not None else self.commit(own)
 
     def act(self, event: Event, own: Open) -> None:
-        if event.text == "commit":
+        """An act that ended with an exception leaves the transaction open, or undoes it."""
+        if event.fault is not None:
+            if not event.in_transaction:
+                self.roll_back(own, 0)
+        elif event.text == "commit":
             self.commit(own)
         elif event.text in ("rollback", "close"):
             self.roll_back(own, 0)

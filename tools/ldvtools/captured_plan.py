@@ -138,6 +138,9 @@ class Planner:
         reason = apart(event, self.tables)
         if reason is not None:
             return Fate(SEEN, reason)
+        if event.connection.away:
+            return Fate(UNREADABLE, f"it asks another database, {event.connection.away}",
+                        "put the tables into one database")
         if any(isinstance(value, tuple) and value[:1] == ("other",)
                for row in event.rows[:100] for value in row):
             return Fate(UNREADABLE, "a converter of the program's own makes its values",
@@ -241,9 +244,11 @@ def returned_keys(event: Event, name: str, rows: int) -> Optional[List[int]]:
 
 
 def named_tables(events: Sequence[Event]) -> List[str]:
-    """The tables that statements name, in lower case, as far as these can be read."""
+    """The tables of the captured database that statements name, in lower case, as far as these can be
+    read."""
     found: Dict[str, None] = {}
-    texts: Dict[str, None] = {event.text: None for event in events if event.kind == "asked"}
+    texts: Dict[str, None] = {event.text: None for event in events
+                              if event.kind == "asked" and not event.connection.away}
     for text in texts:
         try:
             found.update((name.lower(), None) for name in tables_named(read_statement(text)))

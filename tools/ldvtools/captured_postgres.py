@@ -33,7 +33,7 @@ def python_with_driver(program: Sequence[str]) -> str:
 
 
 class Before:
-    """The database as it was before the program."""
+    """The database as it was before the program, and its name."""
 
     def __init__(self, dsn: str, path: str, program: Sequence[str]) -> None:
         words = [python_with_driver(program), "-m", "ldvtools.inside.snapshot", dsn, path]
@@ -41,9 +41,11 @@ class Before:
         self.process = subprocess.Popen(words, stdin=subprocess.PIPE, stdout=subprocess.PIPE, env=environment,
                                         start_new_session=True)
         line = self.line()
-        if line.strip() != "ready":
+        found = json.loads(line) if line.strip() else {"fault": "the server wasn't read"}
+        if "fault" in found:
             self.end()
-            raise Refused(json.loads(line)["fault"] if line.strip() else "the server wasn't read")
+            raise Refused(found["fault"])
+        self.name = str(found["ready"])
 
     def line(self) -> str:
         assert self.process.stdout is not None

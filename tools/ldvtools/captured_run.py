@@ -1,6 +1,7 @@
 """Runs a program with the recorder or the player in it, and the world of what it asked."""
 from __future__ import annotations
 
+import errno
 import os
 import re
 import shutil
@@ -29,6 +30,13 @@ def environment(mode: str, folder: str) -> Dict[str, str]:
     return {**os.environ, "PYTHONPATH": path, "LDV_INSIDE": mode, "LDV_FOLDER": folder}
 
 
+def check_program(name: str) -> None:
+    """Refuses a program that isn't there, before anything is done for it."""
+    if shutil.which(name) is None:
+        is_there = os.sep in name and os.path.exists(name)
+        raise Refused(f"{name}: {os.strerror(errno.EACCES if is_there else errno.ENOENT)}")
+
+
 def run_program(program: Sequence[str], mode: str, folder: str, output: Optional[Any] = None) -> int:
     """Runs a program to its end: its status, or 128 and the number of the signal that killed it. What the
     keyboard sends to both is for the program."""
@@ -49,6 +57,7 @@ def program_of(given: Optional[str]) -> str:
     found = given or (BUILT if os.access(BUILT, os.X_OK) else shutil.which("ldv"))
     if found is None:
         raise Refused("the program ldv isn't built: ./ldv builds it, and --ldv PROGRAM names another one")
+    check_program(found)
     return found
 
 

@@ -6,13 +6,14 @@ import contextlib
 import os
 import re
 import sqlite3
-from typing import Dict, List, NamedTuple, Sequence, Tuple
+from typing import Dict, Iterator, List, NamedTuple, Sequence, Tuple
 
 from . import world
 from .dialect_rules import Shape
 from .errors import Refused
 from .progress import Progress
 from .world_columns import Table
+from .world_sqlite import FAULTS, schema_text, told_fault
 
 SECONDS = 30
 COLLATED = r"(?:^|[(,])\s*[\"`\[]?{0}[\"`\]]?\s[^,]*?\bCOLLATE\s+(\w+)"
@@ -38,13 +39,24 @@ def copy_database(path: str, copy: str) -> None:
                 contextlib.closing(sqlite3.connect(copy)) as other:
             base.execute("SELECT COUNT(*) FROM sqlite_master").fetchone()
             base.backup(other)
-    except sqlite3.Error as fault:
-        raise Refused(f"{path}: {fault}") from None
+    except FAULTS as fault:
+        raise Refused(f"{path}: {told_fault(fault)}") from None
+
+
+@contextlib.contextmanager
+def reading(copy: str) -> Iterator[sqlite3.Connection]:
+    """A connection to the copy of a database. What is wrong with it is said of the database."""
+    try:
+        with contextlib.closing(sqlite3.connect(copy)) as base:
+            base.text_factory = schema_text
+            yield base
+    except FAULTS as fault:
+        raise Refused(f"the database: {told_fault(fault)}") from None
 
 
 def names_there(copy: str) -> Tuple[List[str], List[str]]:
     """The tables and the views of a database."""
-    with contextlib.closing(sqlite3.connect(copy)) as base:
+    with reading(copy) as base:
         rows = base.execute(
             "SELECT name, type FROM sqlite_master WHERE name NOT LIKE 'sqlite\\_%' ESCAPE '\\'")
         found = rows.fetchall()
@@ -56,7 +68,7 @@ def related(copy: str, names: Sequence[str]) -> List[str]:
     """The tables that are named, and those that are their parents or children, again and again."""
     tables, _ = names_there(copy)
     by_name = {table.lower(): table for table in tables}
-    with contextlib.closing(sqlite3.connect(copy)) as base:
+    with reading(copy) as base:
         pairs = [(table.lower(), str(row[2]).lower()) for table in tables
                  for row in base.execute(f'PRAGMA foreign_key_list("{table}")')]
     found = {name.lower() for name in names if name.lower() in by_name}
@@ -78,7 +90,7 @@ def tables_taken(copy: str, names: Sequence[str], options: Sequence[str], collat
     hints: List[str] = []
     tables = world.world_tables(world.read_words(words), notes, hints, Progress("capture.py", True))
     shapes = {}
-    with contextlib.closing(sqlite3.connect(copy)) as base:
+    with reading(copy) as base:
         for table in tables:
             shapes[table.old.lower()] = shape_of(base, table, collation)
     return Taken(tables, shapes, notes, hints)

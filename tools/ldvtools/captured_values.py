@@ -21,6 +21,8 @@ def kind_of(values: Sequence[Any], part: Part, driver: str) -> str:
         value).__name__ for value in values if value is not None}
     if len(found) == 1:
         name = found.pop()
+        if name == "datetime":
+            return ";".join(["datetime", *zone_marks(values)])
         if name in ("float", "decimal", "bool", "bytes") or name in TEXTS:
             return str(name)
     elif found == {"int", "float"}:
@@ -28,6 +30,27 @@ def kind_of(values: Sequence[Any], part: Part, driver: str) -> str:
     elif not found:
         return declared_kind(part, driver)
     return PLAIN
+
+
+def zone_marks(values: Sequence[Any]) -> List[str]:
+    """Of times with a zone the first ones of each offset, in their order; none where all are those of UTC or
+    have no zone. A session's zone has one offset from such a time to the next."""
+    times = {datetime.datetime.fromisoformat(value[1]) for value in values if value is not None}
+    if not any(time.utcoffset() for time in times):
+        return []
+    found: List[datetime.datetime] = []
+    for time in sorted(times):
+        if not found or time.utcoffset() != found[-1].utcoffset():
+            found.append(time)
+    return [time.isoformat(" ") for time in found]
+
+
+def in_zone(kind: str, text: str) -> str:
+    """A time of UTC as the zone of a session shows it."""
+    time = datetime.datetime.fromisoformat(text)
+    marks = list(map(datetime.datetime.fromisoformat, kind.split(";")[1:]))
+    mark = next((each for each in reversed(marks) if each <= time), marks[0])
+    return time.astimezone(mark.tzinfo).isoformat(" ")
 
 
 def declared_kind(part: Part, driver: str) -> str:
@@ -47,6 +70,8 @@ def made_value(kind: str, scale: int, value: Value) -> Any:
     """A value of a reply as the program gets it, in the form of a log."""
     if value is None or kind == PLAIN and not scale:
         return value
+    if isinstance(value, str) and kind.startswith("datetime;"):
+        return ("datetime", in_zone(kind, value))
     if isinstance(value, str):
         return value.encode() if kind == BYTES else (kind, value) if kind in TEXTS else value
     number = decimal_of(value, scale)

@@ -123,6 +123,12 @@ def event_json(event: Event, fate: Fate, judged: Optional[Judged], texts: Texts)
     return found
 
 
+def act_json(event: Event, texts: Texts) -> Dict[str, Any]:
+    """What the file has of an act that ended with an exception."""
+    return {"text": texts.number(event.text), "way": event.text, "params": [], "in": event.in_transaction,
+            "fault": fault_json(event.fault)}
+
+
 def answer_json(plan: Plan, judged: Judged) -> Dict[str, Any]:
     """How the rows of an answer are made of those of a reply."""
     parts = [[part.way, part.place, part.other] for part in plan.parts or []]
@@ -139,9 +145,9 @@ def seen_file(log: Log, fates: Mapping[int, Fate], judged: Mapping[int, Judged])
     texts = Texts()
     connections = []
     for connection in log.connections:
-        events = [event_json(event, fates[event.number], judged.get(event.number),
-                             texts) for event in log.events
-                  if event.connection is connection and event.kind == "asked"]
+        events = [event_json(event, fates[event.number], judged.get(event.number), texts)
+                  if event.kind == "asked" else act_json(event, texts) for event in log.events
+                  if event.connection is connection and (event.kind == "asked" or event.fault is not None)]
         connections.append({"process": connection.process, "driver": connection.driver, "events": events})
     members = [f'"form": {FORM}', f'"texts": {as_json(list(texts.places))}']
     lines = ",\n".join(json.dumps(each, ensure_ascii=True, separators=(",", ":")) for each in connections)

@@ -30,7 +30,8 @@ class Known(NamedTuple):
     `kind` is one of KINDS. A decimal is carried times 10 ** `scale`, and its source writes `decimal` before
     the decimals. `order` says which part of a date of the source comes first, and `form` how all its dates
     are written, where they are alike. `nulls` are the texts of the source that are NULL here, the empty one
-    for an empty cell. `declared` is the type that a database gives the column.
+    for an empty cell. `declared` is the type that a database gives the column, and `collation` how it
+    compares its texts there, where that isn't by their bytes.
     """
 
     name: str
@@ -43,6 +44,7 @@ class Known(NamedTuple):
     form: str = ""
     nulls: Tuple[str, ...] = ()
     declared: str = ""
+    collation: str = ""
 
     @property
     def head(self) -> str:
@@ -100,7 +102,7 @@ def column_members(column: Known) -> Dict[str, object]:
         found["scale"] = column.scale
     if column.kind == "decimal" and column.decimal != ".":
         found["decimal"] = column.decimal
-    for name in ("unit", "order", "form", "declared"):
+    for name in ("unit", "order", "form", "declared", "collation"):
         if getattr(column, name):
             found[name] = getattr(column, name)
     if column.nulls:
@@ -144,7 +146,8 @@ def column_of(given: Any) -> Known:
     found = Known(member(given, "name", str), member(given, "source", str, ""), member(given, "kind", str),
                   member(given, "scale", int, 0), member(given, "decimal", str, "."),
                   member(given, "unit", str, ""), member(given, "order", str, ""),
-                  member(given, "form", str, ""), tuple(nulls), member(given, "declared", str, ""))
+                  member(given, "form", str, ""), tuple(nulls), member(given, "declared", str, ""),
+                  member(given, "collation", str, ""))
     for is_right, what in (
             (NAME.match(found.name), f"{found.name!r} is no name"),
             (found.kind in KINDS, f"the kind {found.kind!r} is none of {', '.join(KINDS)}"),

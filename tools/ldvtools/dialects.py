@@ -386,9 +386,10 @@ class Reader:
         if self.skip("*"):
             return Expr("star", source=first)
         second = self.name()
-        if self.skip("."):
-            second = self.name()
-        return Expr("column", second, source=first if second else "")
+        if not self.skip("."):
+            return Expr("column", second, source=first)
+        source = self.in_schema([first], second)
+        return Expr("star", source=source) if self.skip("*") else Expr("column", self.name(), source=source)
 
     def call(self, word: str) -> Expr:
         self.want("(")
@@ -516,12 +517,17 @@ class Reader:
 
     def table(self) -> str:
         """A table, without the name of its schema where that is the usual one."""
-        name = self.name()
-        if not self.skip("."):
-            return name
-        if name not in ("main", "public"):
-            raise Unreadable(f"a table of {name}", "only the tables of the database itself are carried")
-        return self.name()
+        names = [self.name()]
+        while self.skip("."):
+            names.append(self.name())
+        return self.in_schema(names[:-1], names[-1])
+
+    def in_schema(self, schema: List[str], name: str) -> str:
+        """The name of a table without that of its schema."""
+        if schema and schema not in (["main"], ["public"]):
+            raise Unreadable(f"a table of {'.'.join(schema)}",
+                             "only the tables of the database itself are carried")
+        return name
 
     # ---- changes
 

@@ -209,7 +209,8 @@ def package_differences(before: Package, after: Package, limit: int) -> Iterator
     for what in ("mode", "start", "seed", "steps"):
         one, other = getattr(before, what), getattr(after, what)
         if one != other:
-            yield f"{what}: {one}, and {other}"
+            texts = [" ".join(map(escaped, each)) if what == "start" else each for each in (one, other)]
+            yield f"{what}: {texts[0]}, and {texts[1]}"
     yield from files_differences(dict(before.files), dict(after.files), limit)
     left, right = ({table.name: table for table in package.tables} for package in (before, after))
     for name in sorted({*left, *right}):

@@ -4,7 +4,7 @@ from __future__ import annotations
 import argparse
 import os
 import sys
-from typing import Callable, Optional, Sequence
+from typing import Callable, NoReturn, Optional, Sequence
 
 
 class Malformed(Exception):
@@ -87,11 +87,17 @@ def leave_output() -> None:
         pass
 
 
+class Words(argparse.ArgumentParser):
+    """Reads the words of a command. What is wrong with them is one line, and not the list of all words."""
+
+    def error(self, message: str) -> NoReturn:
+        self.exit(2, f"{self.prog}: {message} ({self.prog} --help says more)\n")
+
+
 def words_of(name: str, told: Optional[str], given: str = "", what: str = "") -> argparse.ArgumentParser:
     """What reads the words of a command. Its --help shows `told` as it stands. `given` names the file that it
     reads, where it reads one or else standard input, and `what` says what that is."""
-    parser = argparse.ArgumentParser(prog=name, description=told,
-                                     formatter_class=argparse.RawDescriptionHelpFormatter)
+    parser = Words(prog=name, description=told, formatter_class=argparse.RawDescriptionHelpFormatter)
     if given:
         parser.add_argument(given, nargs="?", help=f"{what}; standard input where it isn't given")
     return parser

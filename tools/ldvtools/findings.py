@@ -2,6 +2,7 @@
 from __future__ import annotations
 
 import collections
+import os
 import re
 from typing import Dict, Iterator, List, Mapping, NamedTuple, Optional, Sequence, Set, Tuple
 
@@ -171,12 +172,31 @@ def scripts_of(files: Mapping[str, bytes],
                 due.append(child)
 
 
+# Programs in other languages, by the endings of their names and by their first lines.
+PROGRAMS = {".py": "Python", ".r": "R", ".sql": "SQL", ".sh": "a shell", ".pl": "Perl", ".jl": "Julia",
+            ".js": "JavaScript"}
+INSTEAD = {"Python": "tools/capture.py makes a world of what a Python program asks",
+           "SQL": "tools/world.py --sql takes statements"}
+
+
+def other_program(path: str, content: bytes) -> str:
+    """What is said of a file that is a program in another language."""
+    begin = re.match(rb"#!.*?\b(python|sh|perl|Rscript)[0-9.]*\s*\n", content)
+    ending = {b"python": ".py", b"sh": ".sh", b"perl": ".pl", b"Rscript": ".r"}[begin[1]] if begin else ""
+    language = PROGRAMS.get(ending or os.path.splitext(path)[1].lower())
+    if language is None:
+        return ""
+    said = (f"; it looks like a program in {language}, and a script is in a language of its own "
+            "(docs/SCRIPTS.md)")
+    return said + (f": {INSTEAD[language]}" if language in INSTEAD else "")
+
+
 def findings_of(files: Mapping[str, bytes], start: str, schemas: Optional[Schemas]) -> List[Finding]:
     """What is wrong in the scripts of a world. Without schemas, tables and columns aren't judged."""
     found: List[Finding] = []
     for path, script, bad in scripts_of(files, start):
         if bad is not None:
-            found.append(Finding(path, bad.line, 0, bad.rule))
+            found.append(Finding(path, bad.line, 0, bad.rule + other_program(path, files[path])))
         elif script is not None:
             found += statement_findings(path, script, schemas)
             found += width_findings(path, script, schemas)

@@ -11,10 +11,11 @@
 
 docs/FORMATS.md has the format. Replies are counted from 1 within their process. An outcome has no statements
 and no names of columns. With --world or --package, of which it is the outcome, each reply has its statement
-and its columns' names; else columns are counted. Whether it is the outcome of this world is told by what the
-scripts print, write and end with, by the number of statements, and of each statement by whether it is
-refused, whether it asks or changes, and how many columns it has, and of which kinds. With another limit in a
-WHERE it could be either: make the outcome anew where the questions change.
+and its columns' names; else columns are counted. The outcome of a world that world.py made of statements
+names this world, and any other one is refused. Else it is told by what the scripts print, write and end with,
+by the number of statements, and of each statement by whether it is refused, whether it asks or changes, and
+how many columns it has, and of which kinds. With another number in a WHERE it could then be either: make the
+outcome anew if the questions change.
 
 In CSV the first line has the columns' names, or their places where these aren't known. A change is a column
 `changed` with the number of changed rows. A refused statement has no data: --reply K of it ends with status

@@ -7,7 +7,7 @@ from typing import Dict, List, NamedTuple, NoReturn, Optional, Tuple
 from .errors import Malformed
 from .file_kinds import told_kind
 from .language import MAX_FILE, MAX_PATH, MAX_PROCESSES, MAX_TEXT
-from .values import Reply, Row, Value, changed_reply, refused_reply, rows_reply
+from .values import Reply, Row, Value, changed_reply, escaped, refused_reply, rows_reply
 
 NATURAL = r"(0|[1-9][0-9]*)"
 PROCESS = rf"process (0(?:\.(?:0|[1-9][0-9]{{0,9}}))*) {NATURAL} {NATURAL} {NATURAL}"
@@ -51,7 +51,8 @@ class Reader:
         found = self.data[self.place:end]
         match = re.fullmatch(pattern.encode(), found)
         if match is None:
-            self.refuse(f"{found[:60]!r} where {expected} is due")
+            shown = escaped(found[:60].decode(errors="backslashreplace"))
+            self.refuse(f"'{shown}' where {expected} is due")
         self.place = end + 1
         return [part.decode() for part in match.groups() if part is not None]
 

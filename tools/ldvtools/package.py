@@ -6,7 +6,8 @@
     tools/package.py --files FOLDER world.package         its files, in a new folder
     tools/package.py --world world.package > new.json     a world of its files and rows, to be run again
     tools/package.py --world --ask "SELECT .." ..         the same, whose script asks this and nothing else;
-                                                          it is looked at as tools/check.py does
+                                                          it is looked at as tools/check.py does, and put into
+                                                          the dialect as tools/world.py does
     tools/package.py --csv FOLDER world.package           a file for each table: FOLDER/orders.csv
     tools/package.py --sqlite FILE world.package          a new SQLite database of the tables
     tools/package.py --reasons ..                         with --csv or --sqlite: three columns before the
@@ -26,9 +27,9 @@ compared, and the rest is read as far as it is needed here: that a package is va
 In CSV, NULL is an empty field and the empty text is "".
 
 A package that says what its columns are where they were read (docs/FORMATS.md) gives its cells back so by
-itself: decimals and dates as they were, REAL in SQLite with the types of the source, words for NULL in CSV,
-units in the heads. --raw gives them as they are carried, whole numbers and texts. In the world of --world the
-rows of a table are numbered anew, from 0.
+itself: decimals and dates as they were, REAL in SQLite with the types and names of the source, words for
+NULL in CSV, units in the heads. --raw gives them as they are carried, whole numbers and texts. In the world
+of --world the rows of a table are numbered anew, from 0.
 
 Statuses: 0 shown; 1 the input is no package, it hasn't what was asked for,
 or a file can't be read or written; 2 wrong words.
@@ -40,7 +41,6 @@ import os
 import sys
 from typing import Dict, Iterator, List, Optional, Sequence, Tuple, Union
 
-from .findings import check_joins, findings_of, warning_lines
 from .columns import FOLDER, UNKNOWN, Columns, path_of, script_lines
 from .documents import as_json, document, row_lines, table_json, write_file
 from .errors import Refused, command, words_of
@@ -50,8 +50,9 @@ from .package_bytes import package_bytes
 from .package_places import byte_lines
 from .package_tables import check_rows, columns_of, tables_as_read, write_csv, write_sqlite
 from .packages import Asked, Joined, Package, PackedRow, PackedTable, read_any, read_package
-from .scripts_of_statements import script_of
+from .packed_questions import asked_of_rows
 from .values import Row, cell, counted, escaped, reply_title, table_lines
+from .world_hints import quoted_word
 from .worlds import have_numbers
 
 
@@ -177,8 +178,8 @@ def place_in(folder: str, path: str) -> str:
     """Where a file of the package goes, which is within the folder."""
     parts = path.split("/")
     if any(part in ("", ".", "..") for part in parts):
-        raise Refused(f"the file {path!r} can't be written: its path leads out of a folder; --file {path!r} "
-                      "writes it")
+        raise Refused(f"the file {escaped(path)} can't be written: its path leads out of a folder; "
+                      f"--file {quoted_word(path)} writes it")
     return os.path.join(folder, *parts)
 
 
@@ -227,15 +228,7 @@ def has_parents(table: PackedTable, package: Package) -> bool:
     return True
 
 
-def warnings_of(package: Package, files: Dict[str, bytes], places: Sequence[str]) -> List[str]:
-    """What is wrong with statements over the packed tables. A join of another dialect is refused."""
-    schemas = {table.name: table.columns for table in package.tables}
-    found = [finding.placed("main", places) for finding in findings_of(files, "main", schemas)]
-    check_joins(found)
-    return warning_lines(found)
-
-
-def world_of(package: Package, asks: Sequence[str]) -> Tuple[bytes, List[str]]:
+def world_of(package: Package, given: argparse.Namespace) -> Tuple[bytes, List[str]]:
     """A world document of the package's files and rows, and what is otherwise in it."""
     check_rows(package, "world")
     notes, tables = [], []
@@ -249,15 +242,15 @@ def world_of(package: Package, asks: Sequence[str]) -> Tuple[bytes, List[str]]:
             notes.append(f"{table.name}: its rows get the numbers 0 to {len(table.rows) - 1}")
         rows = row_lines((as_json(row.values)[1:-1] for row in table.rows), len(table.rows))
         tables.append((table.name, table_json(table.columns, table.key, rows, table.next, foreign)))
-    if asks:
-        made = script_of([(text, f"--ask {place}") for place, text in enumerate(asks, 1)], {})
+    if given.ask:
+        asked = asked_of_rows(package, columns_of(package), given.ask, given.as_read, given.as_written)
         known = {path: content for path, content in package.files
                  if path.startswith(FOLDER) and content is not None}
         lines = script_lines(name for name, _ in tables if path_of(name) in known)
         lines += ["known:"] if lines else []
-        files = {"main": made.data + "".join(line + "\n" for line in lines).encode(), **known}
+        files = {"main": asked.script + "".join(line + "\n" for line in lines).encode(), **known}
         notes.append("counts and sums are over these packed rows alone")
-        return document(["main"], 0, files, tables), notes + warnings_of(package, files, made.places)
+        return document(["main"], 0, files, tables), notes + asked.notes
     return document(package.start, package.seed, {path: content or b"" for path, content in package.files},
                     tables), notes
 
@@ -282,6 +275,10 @@ def given_words(words: Optional[Sequence[str]]) -> argparse.Namespace:
                       help="the rows, each with the statement that needed it first and the rule why")
     parser.add_argument("--ask", metavar="STATEMENT", action="append", default=[],
                         help="with --world: a statement for its script, which asks these only")
+    parser.add_argument("--as-read", action="store_true",
+                        help="with --ask: constants are as the source has them")
+    parser.add_argument("--as-written", action="store_true",
+                        help="with --ask: put no statement otherwise")
     parser.add_argument("-o", "--output", metavar="FILE",
                         help="with --world or --package: what is made (default: standard output)")
     parser.add_argument("--reasons", action="store_true",
@@ -293,6 +290,8 @@ def given_words(words: Optional[Sequence[str]]) -> argparse.Namespace:
         parser.error("--reasons goes with --csv or --sqlite")
     if given.ask and not given.world:
         parser.error("--ask goes with --world")
+    if (given.as_read or given.as_written) and not given.ask:
+        parser.error("--as-read and --as-written go with --ask")
     if given.output and not (given.world or given.package_out):
         parser.error("-o goes with --world or --package")
     return given
@@ -326,7 +325,7 @@ def show(data: bytes, given: argparse.Namespace) -> None:
     elif given.package_out:
         write_file(package_bytes(package), given.output)
     elif given.world:
-        world, notes = world_of(package, given.ask)
+        world, notes = world_of(package, given)
         say(notes)
         write_file(world, given.output)
     else:

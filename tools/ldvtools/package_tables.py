@@ -5,13 +5,15 @@ import os
 import re
 import sqlite3
 from decimal import Decimal
-from typing import Iterator, List, Optional, Sequence, Union
+from typing import Dict, Iterator, List, NamedTuple, Optional, Sequence, Union
 
 from .columns import UNKNOWN, Columns, Known, columns_in, heads_shown, shown_row
 from .errors import Refused
 from .packages import Joined, Package, PackedTable
 from .values import Row, Scaled, Value, csv_field
 
+# The collations that each database of SQLite has, beside that by bytes.
+COLLATIONS = ("NOCASE", "RTRIM")
 REASON_COLUMNS = ["ldv_row", "ldv_statement", "ldv_rule"]
 # A type of SQLite as a table may declare it, with nothing else in it.
 DECLARED = re.compile(r"[A-Za-z][A-Za-z0-9_ ]*(?:\([0-9]+(?:, ?[0-9]+)?\))?\Z")
@@ -90,19 +92,86 @@ def type_of(kind: str, column: Optional[Known]) -> str:
     plain = "REAL" if column is not None and column.kind == "decimal" else kind.split()[0].replace(
         "INT", "INTEGER")
     is_type = DECLARED.match(declared) and not NO_TYPES.search(declared)
-    return (declared if is_type else plain) + (" NOT NULL" if kind.endswith("NOT NULL") else "")
+    collation = column.collation if column is not None and column.collation in COLLATIONS else ""
+    return ((declared if is_type else plain) + (" NOT NULL" if kind.endswith("NOT NULL") else "")
+            + (f" COLLATE {collation}" if collation else ""))
 
 
-def make_table(table: PackedTable, reasons: bool, known: Sequence[Optional[Known]]) -> str:
-    types = (["INTEGER", "INTEGER", "TEXT"] if reasons else []) + [
-        type_of(kind, column) for (_, kind), column in zip(table.columns, known)]
-    parts = [f"{quoted(name)} {kind}" for name, kind in zip(names_of(table, reasons), types)]
+def other_collations(target: "Target") -> Iterator[str]:
+    """The columns that their source compares in a way that a new database hasn't."""
+    for column in target.known:
+        if column is not None and column.collation and column.collation not in COLLATIONS:
+            yield (f"{target.table.name}.{column.name} is COLLATE {column.collation} in its source, and "
+                   "compares by its bytes there")
+
+
+def is_name(text: str) -> bool:
+    """Whether SQLite takes a text as a name between quotes."""
+    is_kept = text.lower().startswith("sqlite_")
+    is_odd = any(char == "\0" or "\ud800" <= char <= "\udfff" for char in text)
+    return bool(text) and not is_kept and not is_odd
+
+
+def are_apart(names: Sequence[str]) -> bool:
+    """Names that SQLite tells apart, which it does without their case."""
+    return len({name.lower() for name in names}) == len(names) and all(map(is_name, names))
+
+
+def source_columns(table: PackedTable, known: Sequence[Optional[Known]]) -> List[str]:
+    """The names of columns as they were read, with their units. Where these can't be names of one table,
+    those of the package."""
+    names = [name if column is None else
+             (column.source or name) + (f" ({column.unit})" if column.unit else "")
+             for name, column in zip(table.names(), known)]
+    return names if are_apart([*REASON_COLUMNS, *names]) else table.names()
+
+
+def source_tables(tables: Sequence[PackedTable], columns: Columns) -> Dict[str, str]:
+    """The names of tables where they were read, by those of the package."""
+    names = {table.name: table.name for table in tables}
+    for name in names:
+        if name in columns.tables:
+            names[name] = columns.tables[name].source.table or name
+    return names if are_apart(list(names.values())) else {name: name for name in names}
+
+
+class Target(NamedTuple):
+    """A table as the database has it: its name and those of its columns, by the names of the package."""
+
+    table: PackedTable
+    known: Sequence[Optional[Known]]
+    names: Dict[str, str]
+    columns: Dict[str, Dict[str, str]]
+
+    @property
+    def name(self) -> str:
+        return self.names[self.table.name]
+
+    def listed(self, columns: Sequence[str]) -> str:
+        return ", ".join(quoted(self.columns[self.table.name][name]) for name in columns)
+
+
+def targets_of(package: Package, columns: Columns) -> List[Target]:
+    known = {table.name: columns.of_table(table.name, table.names()) for table in package.tables}
+    names = source_tables(package.tables, columns)
+    own = {table.name: dict(zip(table.names(), source_columns(table, known[table.name])))
+           for table in package.tables}
+    return [Target(table, known[table.name], names, own) for table in package.tables]
+
+
+def make_table(target: Target, reasons: bool) -> str:
+    table, own = target.table, target.columns[target.table.name]
+    types = dict(zip(table.names(), (type_of(kind, column)
+                                     for (_, kind), column in zip(table.columns, target.known))))
+    parts = [f"{quoted(name)} {kind}" for name, kind in zip(REASON_COLUMNS, ("INTEGER", "INTEGER", "TEXT"))
+             if reasons]
+    parts += [f"{quoted(own[name])} {types[name]}" for name in table.names()]
     if table.key:
-        parts.append(f"PRIMARY KEY ({', '.join(map(quoted, table.key))})")
+        parts.append(f"PRIMARY KEY ({target.listed(table.key)})")
     for foreign in table.foreign:
-        columns = ", ".join(map(quoted, foreign.columns))
-        parts.append(f"FOREIGN KEY ({columns}) REFERENCES {quoted(foreign.parent)}")
-    return f"CREATE TABLE {quoted(table.name)} ({', '.join(parts)})"
+        parts.append(f"FOREIGN KEY ({target.listed(foreign.columns)}) REFERENCES "
+                     f"{quoted(target.names.get(foreign.parent, foreign.parent))}")
+    return f"CREATE TABLE {quoted(target.name)} ({', '.join(parts)})"
 
 
 def sqlite_value(value: Value) -> Union[Value, float]:
@@ -147,13 +216,12 @@ def fill_database(package: Package, path: str, reasons: bool, columns: Columns, 
         # A package may have a row without the rows to which it refers.
         database.execute("PRAGMA foreign_keys = OFF")
         with database:
-            for table in package.tables:
-                known = columns.of_table(table.name, table.names())
-                database.execute(make_table(table, reasons, known))
-                marks = ", ".join("?" * len(names_of(table, reasons)))
-                shown = table._replace(rows=tables_as_read([table], columns)[0].rows)
-                notes += inexact(shown)
-                database.executemany(f"INSERT INTO {quoted(table.name)} VALUES ({marks})",
+            for target in targets_of(package, columns):
+                database.execute(make_table(target, reasons))
+                marks = ", ".join("?" * len(names_of(target.table, reasons)))
+                shown = target.table._replace(rows=tables_as_read([target.table], columns)[0].rows)
+                notes += [*inexact(shown), *other_collations(target)]
+                database.executemany(f"INSERT INTO {quoted(target.name)} VALUES ({marks})",
                                      (list(map(sqlite_value, row)) for row in rows_of(shown, reasons)))
     finally:
         database.close()

@@ -70,7 +70,7 @@ function paged(heads, rows, make, perPage = ROWS) {
     bar.hidden = rows.length <= perPage;
   }
   put(holder, [bar, el("div", {class: "wide"}, el("table", {}, el("thead", {}, el("tr", {}, heads.map(head =>
-    el("th", {}, head)))), body))]);
+    el("th", {scope: "col"}, head)))), body))]);
   show();
   holder.use = found => { rows = found; page = 0; show(); };
   holder.refresh = show;
@@ -105,11 +105,11 @@ function contentOf(path, content) {
   if (content === null) return null;
   const text = content.text !== undefined ? content.text : hex(content.base64);
   const shown = el("pre", {}, text.slice(0, SHOWN));
-  return el("details", {}, el("summary", {}, "content"), shown,
+  return el("details", {}, el("summary", {"aria-label": "content of " + path}, "content"), shown,
     text.length > SHOWN && el("button",
       {onclick: event => { shown.textContent = text; event.target.remove(); }},
       `show all ${counted(text.length, "character")}`),
-    el("button", {onclick: () => save(path, bytes(content))}, "save"));
+    el("button", {"aria-label": "save " + path, onclick: () => save(path, bytes(content))}, "save"));
 }
 
 function hex(base64) {
@@ -189,7 +189,7 @@ function outcomeSection() {
   }
   add();
   return section("outcome", "Outcome", note, cards, more, el("h3", {}, "Files that it wrote or removed"),
-    D.touched.length ? paged(["file", "", "by", ""], D.touched, touchedRow)
+    D.touched.length ? paged(["file", "size", "by", "content"], D.touched, touchedRow)
       : el("p", {class: "soft"}, "none"));
 }
 
@@ -214,22 +214,35 @@ function statementRow(number) {
   const count = statement.needs.reduce((sum, [, rows]) => sum + rows.length, 0);
   const tables = "tables: " + (statement.tables.join(", ") || "none");
   const chosenClass = number === chosen ? "chosen" : "";
-  const onkeydown = event => { if (event.key === "Enter" || event.key === " ") {
-    event.preventDefault();
-    choose(number);
-    document.querySelector(`tr[data-statement="${number}"]`).focus();
-  } };
-  return el("tr", {"data-statement": number, class: chosenClass, tabindex: 0, onkeydown,
-    "aria-expanded": String(number === chosen), onclick: () => choose(number)},
-    el("td", {class: "number"}, number), el("td", {}, statement.process),
+  // A click anywhere in the row; for the keyboard and for a screen reader the button in it.
+  const onclick = event => { choose(number); if (event.target.closest("button")) focusOn(number); };
+  const button = el("button", {class: "plain", "aria-label": `statement ${number}`,
+    "aria-expanded": String(number === chosen)}, number);
+  return el("tr", {"data-statement": number, class: chosenClass, onclick},
+    el("td", {class: "number"}, button), el("td", {}, statement.process),
     el("td", {class: "number"}, statement.step),
-    el("td", {}, statement.text === null ? el("span", {class: "soft"}, tables)
+    el("td", {}, statement.text === null ? writtenTexts(statement) || el("span", {class: "soft"}, tables)
       : el("code", {}, statement.text.slice(0, 300)),
       statement.params.length > 0 && el("div", {class: "soft params"},
         "with " + statement.params.join(", "))),
     el("td", {class: isRefused ? "reply red" : "reply"}, statement.reply ? statement.reply.title : "",
       preview(statement)),
     el("td", {class: "number"}, count));
+}
+
+function focusOn(number) {
+  const row = document.querySelector(`tr[data-statement="${number}"]`);
+  if (row) row.querySelector("button").focus();
+}
+
+// Without a replay: the statements of its script that it may be, with their parameters as they are written.
+function writtenTexts(statement) {
+  const found = statement.written.map(place => D.written[place]);
+  return found.length > 0 && found.map(([path, line, text, params], place) => el("div", {class: "written"},
+    place > 0 && el("div", {class: "soft"}, "or"),
+    el("code", {}, text === null ? "a text that the script computes" : text.slice(0, 300)),
+    params.length > 0 && el("div", {class: "soft params"}, "with " + params.join(", ")),
+    el("div", {class: "soft"}, `as written in ${path}, line ${line}`)));
 }
 
 // The first rows of a reply, in the list of statements.
@@ -241,7 +254,8 @@ function preview(statement) {
   const names = Array.from({length: width}, (_, place) => statement.columns[place] || String(place + 1));
   const more = rows.length > FIRST_ROWS || rows[0].length > FIRST_COLUMNS;
   const short = value => typeof value === "string" && value.length > 40 ? value.slice(0, 39) + "…" : value;
-  return [el("table", {class: "preview"}, el("tr", {}, names.map(name => el("th", {}, name))),
+  const heads = names.map(name => el("th", {scope: "col"}, name));
+  return [el("table", {class: "preview"}, el("tr", {}, heads),
     rows.slice(0, FIRST_ROWS).map(row => el("tr", {}, row.slice(0, width).map(value => cell(short(value)))))),
     more && el("span", {class: "soft"}, "and more: a click shows all")];
 }
@@ -279,7 +293,7 @@ function detail(number) {
   rules.sort((a, b) => RULES.indexOf(a) - RULES.indexOf(b));
   const asked = `which process ${statement.process} asked at step ${statement.step}`;
   return [el("h3", {id: "detail"}, `Statement ${number}, ${asked}`),
-    statement.text !== null && el("pre", {}, statement.text),
+    statement.text !== null ? el("pre", {}, statement.text) : writtenTexts(statement),
     statement.params.length > 0 && el("p", {}, "with ", el("code", {}, statement.params.join(", "))),
     replyOf(statement),
     statement.needs.map(([name, rows]) => needTable(name, rows)),
@@ -306,14 +320,14 @@ function choose(number) {
 
 function statementSection() {
   const numbers = D.statements.map((_, number) => number);
-  const heads = ["", "process", "step", "statement", "reply", "rows needed"];
+  const heads = ["number", "process", "step", "statement", "reply", "rows needed"];
   statementList = paged(heads, numbers, statementRow, 50);
   const refused = numbers.filter(n => D.statements[n].reply && D.statements[n].reply.kind === "refused");
   const onchange = event => statementList.use(event.target.checked ? refused : numbers);
   const only = el("input", {type: "checkbox", onchange});
   return section("statements", "Statements", el("p", {class: "soft"},
-    "Each with the first rows of its reply. A click on a statement shows all of it and marks the rows " +
-    "that it needed."),
+    (D.replies > 0 ? "Each with the first rows of its reply. A click on a statement shows all of it and " :
+      "A click on a statement shows it and ") + "marks the rows that it needed."),
     refused.length > 0 && el("label", {class: "bar"}, only, "refused ones alone"),
     statementList, statementPanel);
 }
@@ -401,7 +415,7 @@ function timeSection() {
     Math.round(part * steps).toLocaleString("en"))));
   const key = (color, text) => { const mark = el("i"); mark.style.background = color; return [mark, text]; };
   const leftOut = lanes.length - limit;
-  return section("time", "Processes and files over steps",
+  return section("steps", "Processes and files over steps",
     el("p", {class: "soft key"}, key("#b9cbe6", "a process is there"), key("#1f5fa8", "an act"),
       key("#c77700", "a statement"), key("#7d9a66", "a file is read or looked for"),
       key("#b3261e", "a file is changed")),
@@ -489,7 +503,9 @@ function showCame() {
   const [kind, ...rest] = cameSelect.value.split(":"), wanted = rest.join(":");
   const target = D.graph.nodes.findIndex(node => node[0] === kind && String(node[1]) === wanted);
   if (target < 0) return;
-  const found = cameFrom(target), places = [...found.keys()].sort(nodeOrder);
+  const found = cameFrom(target);
+  // A reply isn't told of itself, though its process may have asked again at the same step.
+  const places = [...found.keys()].filter(place => kind === "path" || place !== target).sort(nodeOrder);
   if (!places.length) {
     put(camePanel, [el("p", {id: "came-none"}, "It came from nothing: the run never wrote it.")]);
     return;
@@ -560,7 +576,7 @@ function layout(groups, edges, target) {
   const width = 20 + (Math.max(...[...spots.values()].map(spot => spot.x)) + boxWidth);
   const tip = svg("marker", {id: "tip", viewBox: "0 0 8 8", refX: 7, refY: 4, markerWidth: 7, markerHeight: 7,
     orient: "auto"}, svg("path", {d: "M0 0L8 4L0 8z", fill: "#7c8995"}));
-  const picture = svg("svg", {width, height: 4 * laneHigh - 30, id: "graph", role: "img",
+  const picture = svg("svg", {width, height: 4 * laneHigh - 30, id: "graph", role: "group",
     "aria-label": "what had a part in it, as a picture; the list below has the same"},
     svg("defs", {}, tip));
   for (const edge of edges.values()) put(picture, [drawnEdge(edge, spots, boxWidth, high)]);
@@ -604,12 +620,21 @@ function drawnBox(name, group, {x, y}, boxWidth, high, target) {
   const kind = group.kind, lines = linesOf(name, group);
   const fit = text => text.length > 22 ? text.slice(0, 21) + "…" : text;
   const middle = x + boxWidth / 2, top = y + high / 2 + 4 - (lines.length - 1) / 2 * 15;
-  const box = svg("g", {class: `node ${kind}${name === target ? " target" : ""}`, "data-box": name},
+  // A click shows a file or a statement; processes and rows have nothing more to show.
+  const isButton = kind === "path" || kind === "ask";
+  const box = svg("g", {class: `node ${kind}${name === target ? " target" : ""}`, "data-box": name,
+    ...(isButton ? {role: "button", tabindex: 0} : {role: "img"}), "aria-label": lines.join(": ")},
     svg("rect", {x, y, width: boxWidth, height: high, rx: kind === "path" ? 18 : kind === "ask" ? 9 : 2}),
     lines.map((line, place) =>
       svg("text", {x: middle, y: top + place * 15, "text-anchor": "middle"}, fit(line))),
     svg("title", {}, lines.join(": ")));
+  if (!isButton) return box;
   box.addEventListener("click", () => showGroup(name));
+  box.addEventListener("keydown", event => { if (event.key === "Enter" || event.key === " ") {
+    event.preventDefault();
+    showGroup(name);
+    if (kind === "path") cameSelect.focus(); else focusOn(Number(name.split(" ")[1]));
+  } });
   return box;
 }
 
@@ -622,7 +647,8 @@ function cameSection() {
   const wrote = new Set(D.touched.map(file => file.path));
   const option = (kind, name, text) => el("option", {value: `${kind}:${name}`}, text);
   const asked = D.graph.nodes.filter(node => node[0] === "reply").map(node => node[1]);
-  const told = number => `reply ${number}: ${(D.statements[number].text || "").slice(0, 60)}`;
+  const textOf = ({text, written}) => text || written.length === 1 && D.written[written[0]][2] || "";
+  const told = number => `reply ${number}: ${textOf(D.statements[number]).slice(0, 60)}`;
   const others = paths.filter(path => !wrote.has(path) && !path.startsWith("ldv-world/"));
   const written = paths.filter(path => wrote.has(path));
   put(cameSelect, [written.map(path => option("path", path, path + " (written)")),
@@ -641,19 +667,20 @@ function fileSection() {
   const sizeOf = content => content === null ? "only present" : counted(content.size, "byte");
   const fileRow = file => el("tr", {}, el("td", {}, file.path), el("td", {}, sizeOf(file.content)),
     el("td", {}, contentOf(file.path, file.content)));
-  return section("files", "Files of the package", paged(["file", "", ""], D.files, fileRow));
+  return section("files", "Files of the package", paged(["file", "size", "content"], D.files, fileRow));
 }
 
 // ---- the page
 
 function page() {
-  const titles = {outcome: "Outcome", statements: "Statements", tables: "Tables", time: "Over steps",
+  const titles = {outcome: "Outcome", statements: "Statements", tables: "Tables", steps: "Over steps",
     came: "What a file or a reply came from", files: "Files"};
   onlyNeeded = el("input", {type: "checkbox"});
   const sections = [outcomeSection(), statementSection(), tableSection(), timeSection(), null, fileSection()];
   sections[4] = cameSection();
   const links = Object.entries(titles).map(([id, title]) => el("a", {href: "#" + id}, title));
-  put(document.body, [head(), el("nav", {}, links), el("main", {}, sections)]);
+  const nav = el("nav", {"aria-label": "parts of the page"}, links);
+  put(document.body, [head(), nav, el("main", {}, sections)]);
 }
 
 page();

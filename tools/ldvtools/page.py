@@ -93,7 +93,8 @@ def asked_program(program: str, data: bytes, package: Package, run: Optional[int
     verdict: Optional[str] = None
     if package.mode == "included":
         status, said, error = answer_of(program, ["audit", *budget], data)
-        verdict = said.decode().strip() if status == 0 else f"not audited: {error}"
+        verdict = (verdict_in(said, f"the answer of {program} audit") if status == 0
+                   else f"not audited: {error}")
     return read_outcome(output), verdict
 
 

@@ -6,7 +6,6 @@ from typing import Any, Dict, Iterable, List, Optional, Set, Tuple
 
 from .agreement import check_replies
 from .columns import UNKNOWN, Columns
-from .findings import operands_known, text_of
 from .language import ACTS, ASKED, MISUSES, RULE_TEXTS
 from .outcome import column_names
 from .outcomes import Outcome
@@ -14,11 +13,11 @@ from .package_tables import columns_of, tables_as_read
 from .packages import Asked, Entry, Package
 from .reply_columns import answers_of, heads_of_answers, shown_reply
 from .rerun import Question, questions_of
-from .scripts import BadLine, read_script
 from .trace import graph_of, lives
 from .values import Reply, Scaled, Value, cell, heads_of, reply_title
 from .world_digest import FOLDER, without_digest
 from .worlds import Document, world_of_package
+from .written_statements import Written, asked_in_order, candidates, parents_of, scripts_in, written_in
 
 # What a number of JavaScript carries exactly.
 EXACT = 2**53 - 1
@@ -64,6 +63,8 @@ class Statement:
         self.params: List[Value] = []
         self.columns: List[str] = []
         self.reply: Optional[Reply] = None
+        # Where the text isn't known: the statements of its script that it may be.
+        self.written: List[Written] = []
 
     def know(self, question: Question, document: Document, is_raw: bool = True) -> None:
         self.text, self.params, self.reply = question.text, question.params, question.reply
@@ -73,45 +74,36 @@ class Statement:
             self.reply = shown_reply(self.reply, answers)
             self.columns = heads_of_answers(heads_of(self.columns, len(answers)), answers)
 
-    def json(self) -> Json:
+    def json(self, places: Dict[Written, int]) -> Json:
+        """`places` has the place of each statement as it is written, in the page's list of these."""
         needs = [[table, [[need.row, need.version, need.rule] for need in rows]]
                  for table, rows in self.asked.reads]
         made = [[table, [[each.row, each.version] for each in rows]] for table, rows in self.asked.made]
         return {"step": self.step, "process": self.process, "text": self.text,
                 "params": [cell(v) for v in self.params],
+                "written": [places.setdefault(each, len(places)) for each in self.written],
                 "columns": self.columns, "reply": reply_json(self.reply), "tables": self.asked.tables,
                 "needs": needs, "made": made}
 
 
-def written_texts(package: Package) -> Dict[str, List[Tuple[str, List[Value]]]]:
-    """The statements of each process whose script asks them one by one, with their parameters: nothing but
-    its lines says in which order."""
-    files, found = dict(package.files), {}
-    for name, path, _, _, _ in lives(package):
-        try:
-            script = read_script(files.get(path) or b"")
-        except BadLine:
-            continue
-        known = operands_known(script)
-        asked, is_plain = [], True
-        last = max((place for place, each in enumerate(script.instructions) if each.word == "sql"),
-                   default=-1)
-        for each in script.instructions[:last + 1]:
-            if each.word == "sql":
-                text = text_of(each.operands[0], known)
-                values = [operand for operand in each.operands[1:]]
-                is_plain = is_plain and text is not None and not any(operand.name for operand in values)
-                asked.append((text or "", [operand.value for operand in values]))
-            elif each.word not in ("print", "let"):
-                is_plain = False
-        if is_plain and asked:
-            found[name] = asked
-    return found
+def know_written(package: Package, statements: List["Statement"]) -> None:
+    """Texts from the scripts, where nothing else has them."""
+    scripts, parents = scripts_in(package), parents_of(package)
+    paths = {name: path for name, path, _, _, _ in lives(package)}
+    in_order = {path: asked_in_order(script) for path, script in scripts.items()}
+    written = {path: written_in(path, script) for path, script in scripts.items()}
+    left = {name: list(reversed(in_order.get(path) or [])) for name, path in paths.items()}
+    for statement in statements:
+        path = paths[statement.process]
+        if left[statement.process]:
+            statement.text, statement.params = left[statement.process].pop()
+        elif in_order.get(path) is None:
+            statement.written = candidates(written.get(path, []), statement.asked, parents)
 
 
 def statements_of(package: Package, outcome: Optional[Outcome], is_raw: bool = True) -> List[Statement]:
     """The statements of the trace; their texts from the outcome of the replay, from the recorded replies, or
-    from scripts that ask one statement after the other."""
+    from the scripts."""
     names = package.process_names()
     found = [Statement(run.first.step, names[run.first.process], run.first.asked) for run in package.runs
              if run.first.act == ASKED and run.first.asked is not None]
@@ -130,10 +122,7 @@ def statements_of(package: Package, outcome: Optional[Outcome], is_raw: bool = T
                                         entry.reply),
                                document, is_raw)
     else:
-        texts = {name: list(reversed(asked)) for name, asked in written_texts(package).items()}
-        for statement in found:
-            if texts.get(statement.process):
-                statement.text, statement.params = texts[statement.process].pop()
+        know_written(package, found)
     return found
 
 
@@ -230,6 +219,8 @@ def page_json(package: Package, name: str, size: int, outcome: Optional[Outcome]
     statements = statements_of(package, outcome, is_raw)
     replies = [statement.reply for statement in statements if statement.reply is not None]
     processes = process_json(package, outcome)
+    written: Dict[Written, int] = {}
+    asked = [statement.json(written) for statement in statements]
     return {
         "name": name, "size": size, "kind": package.mode, "version": package.version,
         "digest": package.digest, "fileDigest": file_digest, "notes": list(columns.faults),
@@ -241,7 +232,8 @@ def page_json(package: Package, name: str, size: int, outcome: Optional[Outcome]
         "processes": processes,
         "files": [{"path": path, "content": bytes_json(content)} for path, content in package.files],
         "touched": touched_json(package, outcome),
-        "statements": [statement.json() for statement in statements],
+        "statements": asked,
+        "written": [[each.path, each.line, each.text, list(each.params)] for each in written],
         "tables": table_json(package, columns),
         "marks": marks_of(package),
         "graph": graph_json(package),

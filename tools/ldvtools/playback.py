@@ -3,26 +3,26 @@
     tools/playback.py study.package -- python3 analysis.py --year 2019
     tools/playback.py --expect study.out study.package -- python3 analysis.py --year 2019
 
-The package is one of `ldv record`, of either kind, of a world that tools/capture.py made. `ldv replay`
-gives its replies, and the program gets them: connecting opens nothing, and each statement has to be the one
-that was captured, with its parameters, in the order of its connection. Another one, and one more than were
-captured, is an exception of the driver's own kind that says `diverged`, with both.
+The package comes from `ldv record`, with rows or with replies, of a world that tools/capture.py made.
+`ldv replay` gives its replies, and the program gets them. Connecting opens nothing. Each statement has to be
+the captured one, with its parameters, in the order of its connection. If it is another one, or one more than
+were captured, the program gets an exception of the driver's own kind that says `diverged`, with both.
 
-Statuses: that of the program; 9 where it diverged; 1 where its standard output isn't that of --expect, or
-the package can't be played; 2 the words of the command line are wrong. """
+Statuses: that of the program; 9 if it diverged; 1 if its standard output isn't that of --expect, or if the
+package can't be played; 2 if the words of the command line are wrong. """
 from __future__ import annotations
 
 import argparse
-import json
 import marshal
 import os
 import sys
 import tempfile
 from typing import Any, Dict, List, Optional, Sequence
 
+from .captured_file import read_seen
 from .captured_run import program_of, run_program
 from .captured_values import from_json, made_rows, params_from_json
-from .captured_world import FORM, SEEN_FILE
+from .captured_world import SEEN_FILE
 from .dialect_queries import Part, Plan
 from .errors import Malformed, Misused, Refused, command, words_of
 from .outcomes import read_outcome
@@ -54,8 +54,11 @@ def rows_of(event: Dict[str, Any], reply: Reply) -> List[Any]:
     """The rows of an answer, made of those of a reply, in the order in which the program saw them."""
     parts = [Part(str(way), int(place), int(other)) for way, place, other in event["parts"]]
     plan = Plan("", [], parts, event["scales"], (), event.get("skip", 0))
-    rows = made_rows(plan, event["kinds"], reply.rows)
-    return [rows[place] for place in event["order"]] if "order" in event else rows
+    try:
+        rows = made_rows(plan, event["kinds"], reply.rows)
+        return [rows[place] for place in event["order"]] if "order" in event else rows
+    except (ValueError, TypeError, IndexError, ArithmeticError):
+        raise Malformed("the rows of an answer can't be made of those of its reply") from None
 
 
 def played(event: Dict[str, Any], texts: Sequence[str], replies: Sequence[Reply]) -> Dict[str, Any]:
@@ -86,14 +89,12 @@ def played(event: Dict[str, Any], texts: Sequence[str], replies: Sequence[Reply]
 def connections_of(seen: bytes, replies: Sequence[Reply]) -> List[Dict[str, Any]]:
     """The connections of what was captured, with their events."""
     try:
-        given = json.loads(seen)
-        if given["form"] != FORM:
-            raise Malformed(f"{SEEN_FILE} has the form {given['form']}; this tool plays {FORM}")
+        given = read_seen(seen)
         return [{"driver": connection["driver"], "process": connection["process"],
                  "events": [played(event, given["texts"], replies) for event in connection["events"]]}
                 for connection in given["connections"]]
-    except (ValueError, KeyError, TypeError, IndexError) as fault:
-        raise Malformed(f"{SEEN_FILE} in it isn't what capture.py writes: {fault!r}") from None
+    except Malformed as fault:
+        raise Malformed(f"{SEEN_FILE} in it isn't what capture.py writes: {fault}") from None
 
 
 def write_replies(folder: str, words: argparse.Namespace) -> int:
@@ -135,7 +136,7 @@ def conclude(folder: str, status: int, count: int) -> int:
     """Says where the program diverged, and how much it asked."""
     path = os.path.join(folder, "diverged")
     if os.path.exists(path):
-        for line in read_file(path).decode().splitlines():
+        for line in dict.fromkeys(read_file(path).decode().splitlines()):
             say(f"diverged: {line}")
         return DIVERGED
     asked = sum(int(read_file(os.path.join(folder, name))) for name in os.listdir(folder)
@@ -149,13 +150,13 @@ def conclude(folder: str, status: int, count: int) -> int:
 
 def read_words(given: Optional[Sequence[str]]) -> argparse.Namespace:
     parser = words_of("playback.py", __doc__)
-    parser.add_argument("package", help="the package")
+    parser.add_argument("package", help="the package of a captured program")
     parser.add_argument("--expect", metavar="FILE", help="compare the standard output of the program with "
                         "this file")
     parser.add_argument("--ldv", metavar="PROGRAM", help="the program ldv (default: that of this checkout, "
-                        "or on PATH)")
+                        "or the one on PATH)")
     parser.add_argument("program", nargs=argparse.REMAINDER, metavar="-- PROGRAM ..",
-                        help="the program with its words")
+                        help="the Python program and its arguments")
     words = parser.parse_args(given)
     if words.program[:1] == ["--"]:
         del words.program[0]

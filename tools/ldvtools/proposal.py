@@ -7,7 +7,7 @@ from __future__ import annotations
 
 import re
 import shlex
-from typing import Callable, List, NamedTuple, Sequence, Tuple
+from typing import Callable, List, NamedTuple, Optional, Sequence, Tuple
 
 from .errors import Misused, Refused
 from .world_columns import Remark, Table
@@ -51,6 +51,20 @@ def options_in(message: str) -> List[str]:
 Made = Callable[[Sequence[str], List[str], List[str]], List[Table]]
 
 
+def stale_choice(found: Sequence[Choice], given: Sequence[str], make: Made) -> Optional[int]:
+    """The place of a choice before the last one, without which the others fit."""
+    for place in range(len(found) - 1):
+        others = [word for number, choice in enumerate(found) if number != place for word in choice.words]
+        try:
+            make([*given, *others], [], [])
+        except Misused:
+            continue
+        except Refused:
+            pass
+        return place
+    return None
+
+
 def choices(given: Sequence[str], make: Made) -> Tuple[List[Choice], List[str], List[Table]]:
     """The options that carry what some words name; what is left to be done by hand, and the tables."""
     found: List[Choice] = []
@@ -67,9 +81,14 @@ def choices(given: Sequence[str], make: Made) -> Tuple[List[Choice], List[str], 
         except Misused:
             if not found:
                 raise
-            # An option that fits nothing after another one is taken back.
-            words = words[:-len(found.pop().words)]
-            break
+            # An option that fits nothing after another one is taken back: a table has another name by then.
+            stale = stale_choice(found, given, make)
+            if stale is None:
+                words = words[:-len(found.pop().words)]
+                break
+            del found[stale]
+            words = [*given, *(word for choice in found for word in choice.words)]
+            continue
         news = [(message, options_in(message)) for message in ([refusal] if refusal else hints)
                 if not isinstance(message, Remark)]
         news = [(message, without(options, words)) for message, options in news]

@@ -483,3 +483,9 @@ def rewritten_text(text: str, tables: Tables, renamed: Mapping[str, str],
 
 def columns_by_table(tables: Sequence[Table]) -> Dict[str, Dict[str, Column]]:
     return {table.name: {column.name: column for column in table.columns} for table in tables}
+
+
+def renamed_columns(tables: Sequence[Table]) -> Dict[str, str]:
+    """The names of columns that have another one where they were read, by that."""
+    return {column.old: column.name for table in tables for column in table.columns
+            if column.old != column.name}

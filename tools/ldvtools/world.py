@@ -76,7 +76,7 @@ from .progress import Progress
 from .proposal import accepted, proposal
 from .scripts_of_statements import Made, escaped, script_of
 from .sql_check import Schemas
-from .sql_rewrite import columns_by_table, rewritten_text
+from .sql_rewrite import columns_by_table, renamed_columns, rewritten_text
 from .world_carried import carried_findings
 from .world_columns import Remark, Table
 from .world_digest import NO_DIGEST, digest_line, digest_of
@@ -175,12 +175,6 @@ def statement_texts(words: argparse.Namespace) -> List[Tuple[str, str]]:
         utf8_length(text, f"--ask {place}")
         texts.append((text, f"--ask {place}"))
     return texts
-
-
-def renamed_columns(tables: Sequence[Table]) -> Dict[str, str]:
-    """The names of columns that have another one where they were read, by that."""
-    return {column.old: column.name for table in tables for column in table.columns
-            if column.old != column.name}
 
 
 def put_otherwise(text: str, name: str, tables: Sequence[Table], renamed: Dict[str, str],

@@ -7,7 +7,8 @@ warning; of a number that meets a column of decimals it is said what it means, s
 from __future__ import annotations
 
 import itertools
-from typing import Dict, Iterator, List, Mapping, NamedTuple, Optional, Sequence, Tuple, Union
+from typing import (AbstractSet, Dict, Iterator, List, Mapping, NamedTuple, Optional, Sequence, Set, Tuple,
+                    Union)
 
 from .findings import Finding, operands_known, scripts_of, text_of
 from .errors import Unfit
@@ -49,6 +50,8 @@ class Unwritten:
 UNWRITTEN = Unwritten()
 # A comparison with its sides changed.
 TURNED = {"<": ">", "<=": ">=", ">": "<", ">=": "<="}
+# The word between comparisons of one column with several texts, and of how many of them all are shown.
+CHAINED, MOST_SPELLED = {"=": "OR", "<>": "AND"}, 8
 Written = Union[Value, Unwritten]
 # A column of an answer: what it is carried as, and its expression where it has one.
 AnswerColumn = Tuple[Optional[Carrier], Optional[Expr]]
@@ -85,14 +88,16 @@ def zeros_of(number: int) -> int:
     return zeros if number == 10 ** zeros else 0
 
 
-def said_of_text(carrier: Carrier, text: str, compare: str) -> Optional[str]:
-    """What to write in place of a text that isn't in the form of its column."""
+def said_of_text(carrier: Carrier, text: str, compare: str, spelled: AbstractSet[str]) -> Optional[str]:
+    """What to write in place of a text that isn't in the form of its column. `spelled` has the texts with
+    which the column is compared in the same chain of OR, or of AND for <>."""
     column, name = carrier.column, carrier.name
     if column.kind == "INT":
         number = number_of_text(column, text)
         return None if number is None else f"{name} is {times(carrier.scale)}: '{text}' is written {number}"
     return (said_of_date(name, column, text, compare) or said_of_separators(name, column, text)
-            or said_of_escapes(name, column, text) or said_of_looks(name, column, text, compare))
+            or said_of_escapes(name, column, text) or said_of_case(name, column, text, compare, spelled)
+            or said_of_looks(name, column, text, compare))
 
 
 def said_of_separators(name: str, column: Column, text: str) -> Optional[str]:
@@ -109,15 +114,30 @@ def said_of_separators(name: str, column: Column, text: str) -> Optional[str]:
     return f"{name} has texts such as '{found[0][0]}': {what}"
 
 
+def said_of_case(name: str, column: Column, text: str, compare: str,
+                 spelled: AbstractSet[str]) -> Optional[str]:
+    """That a database takes other texts for the one with which a column is compared, with all of them written
+    out if that is as exact."""
+    if column.collation != "NOCASE":
+        return None
+    others = [cell for cell in column.cells if isinstance(cell, str) and cell != text
+              and folded(cell) == folded(text)]
+    texts = list(dict.fromkeys([text, *others]))
+    if not others or compare in CHAINED and set(texts) <= spelled:
+        return None
+    word = CHAINED.get(compare, "")
+    each = [f"{name} {compare} " + "'" + one.replace("'", "''") + "'" for one in texts]
+    way = "write them in one way in a copy of the database first"
+    if word:
+        way = "write " + (f" {word} ".join(each) if len(each) <= MOST_SPELLED and "".join(texts).isprintable()
+                          else f"each, with {word} between them")
+    return (f"{name} is COLLATE NOCASE in its database, and compares by its bytes here: "
+            f"{plain_count(len(others), 'cell')} such as {shown_cell(others[0])} would be equal to "
+            f"'{text}' there; {way}")
+
+
 def said_of_looks(name: str, column: Column, text: str, compare: str) -> Optional[str]:
     """That a column has texts that look like one that it is compared with, and are other ones."""
-    if column.collation == "NOCASE":
-        others = [cell for cell in column.cells if isinstance(cell, str) and cell != text
-                  and folded(cell) == folded(text)]
-        if others:
-            return (f"{name} is COLLATE NOCASE in its database, and compares by its bytes here: "
-                    f"{plain_count(len(others), 'cell')} such as {shown_cell(others[0])} would be equal to "
-                    f"'{text}' there; write each, with OR between them")
     if compare not in ("=", "<>"):
         return None
     look = plain_text(text)
@@ -193,6 +213,9 @@ class Scope:
         self.sources = [(source.name, columns.get(source.table, {})) for source in sources]
         self.parameters = parameters
         self.found: List[Meeting] = []
+        # The chain of AND or OR that is looked at, with the comparisons of columns with texts in it.
+        self.chain = ""
+        self.compared: List[Tuple[Column, str, str]] = []
 
     def column(self, expr: Expr) -> Optional[Column]:
         there = [columns[expr.word] for name, columns in self.sources
@@ -201,6 +224,33 @@ class Scope:
 
     def look(self, expr: Expr) -> Optional[Carrier]:
         """Looks for meetings in an expression. Gives what its value is carried as."""
+        if expr.form != "logic" or expr.word == self.chain:
+            return self.look_within(expr)
+        before, self.chain = (self.chain, self.compared), expr.word
+        self.compared = list(self.comparisons(expr))
+        found = self.look_within(expr)
+        self.chain, self.compared = before
+        return found
+
+    def comparisons(self, expr: Expr) -> Iterator[Tuple[Column, str, str]]:
+        """The columns that are compared with texts in a chain, each with how, and with the text."""
+        if expr.form == "logic" and expr.word == self.chain:
+            for part in expr.parts:
+                yield from self.comparisons(part)
+        elif expr.form == "compare":
+            for one, other in (expr.parts, expr.parts[::-1]):
+                column = self.column(one) if one.form == "column" else None
+                value = written(other, self.parameters)
+                if column is not None and isinstance(value, str):
+                    yield column, expr.word, value
+
+    def spelled(self, column: Column, compare: str) -> Set[str]:
+        """The texts with which a column is compared in the chain in which a comparison says so."""
+        if self.chain != CHAINED.get(compare, "").lower():
+            return set()
+        return {text for each, word, text in self.compared if each is column and word == compare}
+
+    def look_within(self, expr: Expr) -> Optional[Carrier]:
         if expr.form == "column":
             column = self.column(expr)
             return Carrier(shown(expr), column, column.scale or 0) if column else None
@@ -276,7 +326,8 @@ class Scope:
             self.add(other.at, f"{what} of {carrier.name} is NULL here, and no comparison with NULL is true; "
                                f"write {carrier.name} {test}", False)
         elif isinstance(value, str):
-            self.add(other.at, said_of_text(carrier, value, compare), False)
+            spelled = self.spelled(carrier.column, compare)
+            self.add(other.at, said_of_text(carrier, value, compare, spelled), False)
 
     def factors(self, expr: Expr) -> Optional[Tuple[int, int]]:
         """The two numbers of a product that is written, such as 20 * 10."""

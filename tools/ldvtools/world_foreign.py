@@ -90,11 +90,14 @@ def fitting_key(table: Table, pairs: Sequence[Tuple[Column, Column]], parent: Ta
         raise Unfit("it has a column twice")
     for own, other in pairs:
         if own.kind != other.kind:
+            number = table.full_name(own) if own.kind == "INT" else parent.full_name(other)
             raise Unfit(f"{table.full_name(own)} is {own.kind}, and {parent.full_name(other)} is "
-                        f"{other.kind}; --kind gives them one kind")
+                        f"{other.kind}; --kind {number}=TEXT gives both one kind")
         if (own.scale or 0) != (other.scale or 0):
+            most = max(own.scale or 0, other.scale or 0)
+            fewer = parent.full_name(other) if own.scale == most else table.full_name(own)
             raise Unfit(f"{table.full_name(own)} and {parent.full_name(other)} have different decimals; "
-                        "--scale gives them the same")
+                        f"--scale {fewer}={most} gives both the same")
     columns = [own.name for name in parent.key for own, other in pairs if other.name == name]
     return Foreign(columns, parent.name)
 

@@ -413,8 +413,12 @@ def hint_of_decimals(table: Table, column: Column) -> Optional[str]:
     are_numbers = sum(times[cell] for cell, each in decimals.items() if each is not None)
     if 2 * are_numbers <= count or are_numbers < count and table.from_text:
         return None
-    row, first = next((row, cell) for row, cell in enumerate(column.cells)
-                      if cell is not None and not is_canonical(cell))
+    odd = next(((row, cell) for row, cell in enumerate(column.cells)
+                if cell is not None and not is_canonical(cell)), None)
+    if odd is None:
+        # A column of a database whose texts are all spelled as whole numbers.
+        return None
+    row, first = odd
     scale, name = max(numbers, default=0), table.full_name(column)
     how = "--null, --kind or --scale say otherwise"
     if are_numbers == count and 0 < scale <= MAX_SCALE:

@@ -32,7 +32,8 @@ def kind_of(column: Column) -> str:
 def known_column(column: Column) -> Known:
     return Known(column.name, column.old, kind_of(column), column.scale or 0,
                  column.form.decimal if column.scale is not None else ".", column.form.unit,
-                 column.date or "", column.date_form, tuple(sorted(column.nulls)), column.declared)
+                 column.date or "", column.date_form, tuple(sorted(column.nulls)), column.declared,
+                 column.collation)
 
 
 def known_table(table: Table) -> KnownTable:

@@ -101,22 +101,26 @@ def halves(value: Any, where: str) -> Iterator[str]:
             yield from halves(each, f"{where}.{name}" if where else name)
 
 
+def other_kind(data: bytes) -> Optional[str]:
+    """What else than a world a file is. A world document that is broken isn't called one."""
+    kind = told_kind(data)
+    return None if kind is not None and kind.startswith("a world") else kind
+
+
 def json_of(data: bytes) -> Any:
     """The value of a JSON text, with what is no whole number as NotWhole."""
     try:
         text = data.decode()
     except UnicodeDecodeError as fault:
-        raise Fault("not json", f"it is {told_kind(data)}" if told_kind(data)
-                    else f"byte {fault.start} isn't UTF-8") from None
+        kind = other_kind(data)
+        raise Fault("not json", f"it is {kind}" if kind else f"byte {fault.start} isn't UTF-8") from None
     if text[:1] == "\ufeff":
         raise Fault("not json", "it begins with a byte order mark: save it without one")
     check_depth(text)
     try:
         found = json.loads(text, parse_int=whole, parse_float=decimal, parse_constant=no_number)
     except json.JSONDecodeError as fault:
-        kind = told_kind(data)
-        # One that is broken isn't one.
-        kind = None if kind is not None and kind.startswith("a world") else kind
+        kind = other_kind(data)
         where = f"line {fault.lineno} column {fault.colno}: {said_of_json(fault.msg)}"
         raise Fault("not json", f"it is {kind}" if kind else where) from None
     if HALF.search(text):

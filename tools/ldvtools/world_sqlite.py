@@ -22,6 +22,14 @@ from .world_tables import keep_columns
 Shape = Tuple[int, str, str, int, Any, int, int]
 
 
+# What comes of a file that is damaged. A message of SQLite that has bytes of it may be no UTF-8.
+FAULTS = (sqlite3.Error, UnicodeDecodeError)
+
+
+def told_fault(fault: Exception) -> str:
+    return "its schema is damaged" if isinstance(fault, UnicodeDecodeError) else str(fault)
+
+
 def read_database(path: str, only: Sequence[str], settings: Settings, notes: List[str]) -> List[Table]:
     """The tables of a database that aren't settled yet: all, or those that `only` names."""
     read_file(path, 0)
@@ -29,8 +37,8 @@ def read_database(path: str, only: Sequence[str], settings: Settings, notes: Lis
     is_logged = os.path.exists(log)
     try:
         return tables_of(path, only, settings, notes)
-    except sqlite3.Error as fault:
-        raise Refused(f"{path}: {fault}")
+    except FAULTS as fault:
+        raise Refused(f"{path}: {told_fault(fault)}") from None
     finally:
         if not is_logged and os.path.exists(log):
             drop_log(path)
@@ -41,7 +49,7 @@ def drop_log(path: str) -> None:
     try:
         with contextlib.closing(connected(path, "rw")) as base:
             base.execute("SELECT 1 FROM sqlite_master").fetchall()
-    except sqlite3.Error:
+    except FAULTS:
         pass
 
 
@@ -51,11 +59,13 @@ def connected(path: str, mode: str) -> sqlite3.Connection:
 
 def tables_of(path: str, only: Sequence[str], settings: Settings, notes: List[str]) -> List[Table]:
     base = connected(path, "ro")
-    base.text_factory = decoded
+    base.text_factory = schema_text
     try:
-        everything = "SELECT type, name, tbl_name, sql FROM sqlite_master ORDER BY rowid"
-        entries = base.execute(everything).fetchall()
+        entries = entries_of(base)
         there = [name for kind, name, _, _ in entries if kind == "table" and not name.startswith("sqlite_")]
+        if not there and not only:
+            raise Refused(f"{path} has no table" + ("" if entries else ": it is an empty database, as SQLite "
+                                                    "makes one of a name that isn't there"))
         views = [name for kind, name, _, _ in entries if kind == "view"]
         for name in only:
             if name in views:
@@ -81,6 +91,28 @@ def tables_of(path: str, only: Sequence[str], settings: Settings, notes: List[st
         base.close()
 
 
+def entries_of(base: sqlite3.Connection) -> List[Tuple[str, str, str, str]]:
+    """The kind, the name, the table and the statement of all that a database has."""
+    found = base.execute("SELECT type, name, tbl_name, sql FROM sqlite_master ORDER BY rowid").fetchall()
+    return [(checked_name(kind), checked_name(name), checked_name(on), sql if isinstance(sql, str) else "")
+            for kind, name, on, sql in found]
+
+
+def checked_name(name: object) -> str:
+    """A name of the schema, which statements can have. Within quotes SQLite takes another one for a text."""
+    if not isinstance(name, str):
+        raise sqlite3.DatabaseError("the schema has an entry without a name: the file is damaged")
+    if any("\ud800" <= char <= "\udfff" for char in name):
+        raise sqlite3.DatabaseError(f"the name {name!r} isn't UTF-8; ALTER TABLE .. RENAME in a copy of the "
+                                    "database gives it another one")
+    return name
+
+
+def schema_text(data: bytes) -> str:
+    """A text of the schema, with half a surrogate pair for each byte that isn't UTF-8."""
+    return data.decode(errors="surrogateescape")
+
+
 def in_uri(path: str) -> str:
     # What stands between the first two slashes and the next one would be a host.
     path = "//" + path if path.startswith("/") else path
@@ -102,7 +134,7 @@ def shadow_tables(base: sqlite3.Connection) -> Set[str]:
     """The tables in which virtual tables keep their data. SQLite before 3.37 doesn't report them."""
     try:
         return {row[1] for row in base.execute("PRAGMA table_list") if row[2] == "shadow"}
-    except sqlite3.Error:
+    except FAULTS:
         return set()
 
 
@@ -113,6 +145,8 @@ def read_table(base: sqlite3.Connection, name: str, sql: str, settings: Settings
         return []
     new = settings.new_name(name, tidy_name(name) if settings.tidy else name)
     shape: List[Shape] = [row for row in base.execute(f"PRAGMA table_xinfo({quoted(name)})") if row[6] != 1]
+    for row in shape:
+        checked_name(row[1])
     columns = []
     collations = collations_of(sql)
     plain = tidy_names([row[1] for row in shape]) if settings.tidy else [row[1] for row in shape]
@@ -124,7 +158,7 @@ def read_table(base: sqlite3.Connection, name: str, sql: str, settings: Settings
     key = [columns[place].name for _, place in sorted((row[5], row[0]) for row in shape if row[5])]
     chosen = ", ".join(quoted(row[1]) for row in shape)
     order = row_order(base, name, shape)
-    rows = base.execute(f"SELECT {chosen} FROM {quoted(name)} ORDER BY {order}").fetchall()
+    rows = rows_of(base, f"SELECT {chosen} FROM {quoted(name)} ORDER BY {order}")
     for place, column in enumerate(columns):
         column.cells = [row[place] for row in rows]
     table = Table(new, keep_columns(new, columns, settings), len(rows), key=key)
@@ -132,6 +166,14 @@ def read_table(base: sqlite3.Connection, name: str, sql: str, settings: Settings
     note_columns(new, [row for row in shape if row[1] in {column.old for column in table.columns}], notes)
     note_constraints(base, name, new, sql, notes)
     return [table]
+
+
+def rows_of(base: sqlite3.Connection, query: str) -> List[Tuple[Any, ...]]:
+    base.text_factory = decoded
+    try:
+        return base.execute(query).fetchall()
+    finally:
+        base.text_factory = schema_text
 
 
 NAME = r"(?:\"(?:[^\"]|\"\")*\"|`[^`]*`|\[[^]]*\]|\w+)"
@@ -177,7 +219,7 @@ def row_order(base: sqlite3.Connection, name: str, shape: Sequence[Shape]) -> st
             try:
                 base.execute(f"SELECT {word} FROM {quoted(name)} LIMIT 0")
                 return word
-            except sqlite3.Error:
+            except FAULTS:
                 break
     keys = sorted((row[5], row[1]) for row in shape if row[5])
     return ", ".join(quoted(column) for _, column in keys) or "1"

@@ -340,8 +340,9 @@ def settle_cells(table: Table, column: Column, is_given: bool, settings: Setting
 
 
 def hint_of_unit(table: Table, column: Column, hints: List[str]) -> None:
-    """Says that some cells haven't the unit of --unit."""
-    unit, cells = column.form.unit, [cell for cell in column.cells if cell is not None]
+    """Says that some cells haven't the unit of --unit. A number of a database has none in its cell."""
+    unit = column.form.unit
+    cells = [cell for cell in column.cells if isinstance(cell, str) or table.from_text and cell is not None]
     missing = sum(unit not in str(cell) for cell in cells)
     if missing:
         hints.append(f"{table.full_name(column)}: {missing} of {len(cells)} cells have no {unit}, and "

@@ -88,6 +88,7 @@ def column_in(columns: Columns, table: str, place: int, name: str, kind: str) ->
         found.scale = known.scale if known.kind == "decimal" else None
         found.date, found.date_form = known.order or None, known.form
         found.form, found.nulls = Form(known.decimal, "", known.unit), set(known.nulls)
+        found.collation = known.collation
     return found
 
 

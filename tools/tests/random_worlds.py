@@ -15,7 +15,7 @@ from ldvtools.sql_check import judge
 
 from .support import ROOT
 
-sys.path.append(os.path.join(ROOT, "bench"))
+sys.path.append(os.path.join(ROOT, "tests", "robustness"))
 import hostile                                                               # noqa: E402
 
 WORDS = hostile.SQL + ["left", "JOIN", "ON", "a.b", "1a", "?", "AS", "!=", "SET", "'it''s'", ";", "--"]

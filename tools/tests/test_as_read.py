@@ -3,6 +3,7 @@ import csv
 import io
 import json
 import os
+import re
 import sqlite3
 
 import spelling
@@ -165,11 +166,12 @@ class Shown(InFolder):
                          '1,27.7.2024,"1890,75",0.500,3\r\n2,3.12.2024,"12,50",,4\r\n3,,n/a,1.500,5\r\n')
         self.assertEqual(tool(package, "--sqlite", path, self.package), (0, b"", ""))
         base = sqlite3.connect(path)
-        self.assertEqual(base.execute("SELECT *, typeof(cost) FROM t").fetchall(), [
+        self.assertEqual(base.execute('SELECT *, typeof("Cost (€)") FROM t').fetchall(), [
             (1, "27.7.2024", 1890.75, 0.5, 3, "real"), (2, "3.12.2024", 12.5, None, 4, "real"),
             (3, None, None, 1.5, 5, "null")])
-        self.assertEqual([row[2] for row in base.execute("PRAGMA table_info(t)")],
-                         ["INTEGER", "TEXT", "REAL", "REAL", "INTEGER"])
+        self.assertEqual([row[1:3] for row in base.execute("PRAGMA table_info(t)")],
+                         [("Id", "INTEGER"), ("Day", "TEXT"), ("Cost (€)", "REAL"), ("Kilo", "REAL"),
+                          ("N", "INTEGER")])
         base.close()
         shown = tool(package, "--rows", self.package)[1].decode()
         self.assertIn("  row | why | id | day       | cost (€) | kilo  | n\n", shown)
@@ -201,6 +203,81 @@ class Shown(InFolder):
         self.assertEqual(set(made["files"]), {"main", path_of("t")})
         self.assertTrue(made["files"]["main"].endswith('open columns r "ldv-columns/t.json" else known\n'
                                                        "readline line columns else known\nknown:\n"))
+
+    def test_source_names(self):
+        """A database has the names of the source, of tables, of columns, in keys and in references; where
+        these would be one name twice, those of the package. --raw has the package's."""
+        number = spelling.column("k", "INT NOT NULL")
+        tables = [spelling.table("c", [number, spelling.column("p")], [0], 1, [spelling.row(0, 1, 7)],
+                                 [spelling.foreign([1], "p")]),
+                  spelling.table("p", [number, spelling.column("g")], [0], 1, [spelling.row(0, 7, 3)])]
+        child = KnownTable("c", Source("f.db", table="Line Items"), (
+            Known("k", 'the "Key"', "integer"), Known("p", "Order", "integer")))
+        for name, names in (("Sum", ["Nr", "Sum (kg)"]), ("NR", ["k", "g"]), ("a\0b", ["k", "g"])):
+            unit = "kg" if name == "Sum" else ""
+            parent = KnownTable("p", Source("f.db", table="Orders"), (
+                Known("k", "Nr", "integer"), Known("g", name, "integer", unit=unit)))
+            files = [spelling.file(path_of(each.table), columns_file(each).decode())
+                     for each in (child, parent)]
+            data = spelling.encode(spelling.package(2, files=[*files, spelling.file("main", "exit 0")],
+                                                    tables=tables))
+            path = os.path.join(self.folder, f"{names[0]}{len(name)}.db")
+            self.assertEqual(tool(package, "--sqlite", path, given=data), (0, b"", ""))
+            base = sqlite3.connect(path)
+            self.addCleanup(base.close)
+            self.assertEqual([row[1] for row in base.execute("PRAGMA table_info(Orders)")], names)
+            self.assertEqual(base.execute('SELECT "the ""Key""", "Order" FROM "Line Items"').fetchall(),
+                             [(1, 7)])
+            self.assertEqual([row[2:5] for row in base.execute('PRAGMA foreign_key_list("Line Items")')],
+                             [("Orders", "Order", None)])
+            self.assertEqual(base.execute("PRAGMA foreign_key_check").fetchall(), [])
+        path = os.path.join(self.folder, "raw.db")
+        self.assertEqual(tool(package, "--raw", "--sqlite", path, given=data), (0, b"", ""))
+        base = sqlite3.connect(path)
+        self.addCleanup(base.close)
+        self.assertEqual(base.execute("SELECT c.k, p.g FROM c JOIN p ON c.p = p.k").fetchall(), [(1, 3)])
+
+    def asked(self, *words):
+        """The statements of the world that asks something else of the packed rows, and what is said."""
+        status, out, err = tool(package, "--world", *words, self.package)
+        self.assertEqual(status, 0, err)
+        script = json.loads(out)["files"]["main"]
+        return [json.loads(f'"{text}"') for text in re.findall(r'(?m)^sql q "(.*)"$', script)], err
+
+    def test_asked(self):
+        """What people write is put into the dialect: over the carried rows it gives what SQLite gives for it
+        over the rows as they were read."""
+        bases = []
+        for words, name in (([], "read.db"), (["--raw"], "carried.db")):
+            path = os.path.join(self.folder, name)
+            self.assertEqual(tool(package, "--sqlite", path, *words, self.package)[0], 0)
+            bases.append(sqlite3.connect(path))
+            self.addCleanup(bases[-1].close)
+        bases[0].execute('ALTER TABLE t RENAME COLUMN "Cost (€)" TO cost')
+        for text in ("SELECT id FROM t WHERE cost BETWEEN 12.5 AND 2000.75 ORDER BY id",
+                     "SELECT id FROM t WHERE kilo IN (0.5, 1.5) ORDER BY id",
+                     'SELECT "id" number FROM t WHERE "n" == 4', "SELECT id FROM t WHERE kilo > 0.4999",
+                     "SELECT id FROM t WHERE cost NOT BETWEEN 12.51 AND 1890.745"):
+            (asked,), err = self.asked("--ask", text)
+            self.assertNotEqual(asked, text)
+            self.assertIn(f"package.py: note: --ask 1 is asked as: {asked}\n", err)
+            self.assertNotIn("warning", err)
+            self.assertEqual(bases[1].execute(asked).fetchall(), bases[0].execute(text).fetchall(), text)
+        asked, err = self.asked("--ask", "SELECT id FROM t", "--ask", "SELECT AVG(n) AS mean FROM t")
+        self.assertEqual(asked, ["SELECT id FROM t",
+                                 "SELECT SUM(n) AS mean_sum, COUNT(n) AS mean_count FROM t"])
+        self.assertIn("note: --ask 2: AVG(n) is two columns, SUM(n) and COUNT(n)", err)
+        # What a number and a date mean is said, and with --as-read both are as they were read.
+        text = "SELECT id FROM t WHERE cost > 20 AND day > '1.8.2024'"
+        (asked,), err = self.asked("--ask", text)
+        self.assertEqual(asked, text)
+        self.assertIn("so 20 means 0.20", err)
+        self.assertIn("warning: --ask 1: ", err)
+        (asked,), err = self.asked("--as-read", "--ask", text)
+        self.assertEqual(asked, "SELECT id FROM t WHERE cost > 2000 AND day > '2024-08-01'")
+        (asked,), err = self.asked("--as-written", "--ask", "SELECT id FROM t WHERE n BETWEEN 1 AND 2")
+        self.assertIn("will be refused with code 1", err)
+        self.assertEqual(tool(package, "--world", "--as-read", self.package)[0], 2)
 
     def test_diff(self):
         changed = [[1, "2024-07-27", 320, 500, 3], *ROWS[1:]]

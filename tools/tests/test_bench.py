@@ -1,68 +1,39 @@
-"""The benches, with answers and programs that are given to them."""
-import collections
+"""The benches, with programs and results that are given to them."""
+import contextlib
+import io
 import json
 import os
-import random
-import shutil
 import subprocess
 import sys
 import tempfile
 import unittest
 from unittest import mock
 
-import join_cases
-import package_versions
-import spelling
-import packages_joined
+from .support import ROOT, InFolder, command, read, tool
 
-from ldvtools.errors import Malformed
-from ldvtools.packages import read_package
-from ldvtools.provenance import Edge, Node, Provenance, document_text
-
-from .support import EXAMPLES, ROOT, InFolder, command, read, tool
-from .test_documents import INSTRUCTIONS
-
-sys.path.append(os.path.join(ROOT, "bench"))
+BENCH = os.path.join(ROOT, "bench")
+sys.path.append(BENCH)
 import aims                                                                  # noqa: E402
-import hard_worlds                                                           # noqa: E402
-import hostile                                                               # noqa: E402
-import hostile_documents                                                     # noqa: E402
-import hostile_joins                                                         # noqa: E402
-import hostile_packages                                                      # noqa: E402
+import bench                                                                 # noqa: E402
+import compare                                                               # noqa: E402
+import events                                                                # noqa: E402
+import figures                                                               # noqa: E402
+import gen                                                                   # noqa: E402
+import harness                                                               # noqa: E402
+import plots                                                                 # noqa: E402
 import quiet                                                                 # noqa: E402
-import refused                                                               # noqa: E402
+import report                                                                # noqa: E402
+import results                                                               # noqa: E402
+import statements                                                            # noqa: E402
+from harness import Took                                                     # noqa: E402
+from results import Line, Results                                            # noqa: E402
 
-# What a bench says where the machine is a slow host's: that is no fault.
-WITHHELD = "the host withheld processors: not each run is quiet"
-# A process that read `main` and wrote `g`.
-PROVENANCE = document_text(Provenance(
-    [Node("path", "main"), Node("process", "0"), Node("path", "g")],
-    [Edge(0, 1, 0, 0), Edge(1, 2, 1, 1)])).encode()
-# Two runs of a world with rows.
-TWO = read_package(spelling.encode(spelling.BASES["rows"]))
-JOINED = packages_joined.joined(TWO, TWO._replace(seed=5))
-# Two runs over tables with a foreign key.
-WITH_PARENTS = packages_joined.encode_joined(join_cases.BOTH)
-
-
-# A program that asks for memory in each way, five times, and says so where it gets none.
-ASKER = """
-#include <stdio.h>
-#include <stdlib.h>
-int main(void) {
-    char *a = malloc(10), *b = a ? calloc(3, 4) : 0, *c = b ? realloc(a, 100) : 0;
-    void *d = 0;
-    if (!c || posix_memalign(&d, 64, 10) || !aligned_alloc(64, 64)) {
-        fputs("ldv: out of memory\\n", stderr);
-        return 11;
-    }
-    return 0;
-}
-"""
+# Uses no processor and no memory to speak of.
+NOTHING = ["true"]
 
 
 class QuietRuns(unittest.TestCase):
-    """bench/quiet.py, with what the host is said to withhold and what a loop takes."""
+    """quiet.py, with what the host is said to withhold and what a loop takes."""
 
     def counted(self, runs, told, looped):
         """The numbers of the runs that count, and how many were made."""
@@ -98,396 +69,401 @@ class QuietRuns(unittest.TestCase):
         self.assertGreater(quiet.pace(), 0.0)
 
 
-class RefusedMemory(InFolder):
-    """bench/refused.py, with answers that are given to it."""
+class Harness(InFolder):
+    """What commands take."""
 
-    def setUp(self):
-        super().setUp()
-        rows = {"s": [spelling.row(0, 1)], "t": [spelling.row(3, 1), spelling.row(5, 2)], "u": []}
-        tables = [spelling.table(name, [spelling.column("k")], rows=rows[name]) for name in rows]
-        trace = [spelling.started(), spelling.act("wrote", "f"), spelling.act("opened append", "g"),
-                 spelling.asked(), spelling.ended()]
-        self.package = spelling.encode(spelling.package(steps=8, tables=tables, trace=trace))
+    def measured(self, text, source=os.devnull):
+        return harness.measure([sys.executable, "-c", text], source, os.path.join(self.folder, "out"))
 
-    def answered(self, number="3\n", other=None):
-        """What refused.py ends with and prints where each command has so many requests,
-        perhaps with one other answer."""
-        def call(_, words, data, at=0, count=""):
-            with open(count or os.devnull, "w", encoding="ascii") as file:
-                file.write(number)
-            if at == 0:
-                return 0, self.package, b""
-            return other if at == 2 and other else (11, b"", b"ldv: out of memory\n")
-        path = self.put("any", "")
-        with mock.patch("refused.Program.call", call):
-            return tool(refused, path, path, "--jobs", "1")
+    def test_took(self):
+        """Time and memory are the command's own, its files are read and written, its status is told."""
+        took = self.measured("import sys; x = 'a' * 150_000_000; print(sys.stdin.read()); sys.exit(7)",
+                             self.put("in", "words"))
+        self.assertEqual((took.status, read(os.path.join(self.folder, "out"))), (7, b"words\n"))
+        self.assertGreater(took.memory * 1024, 150_000_000)
+        self.assertLess(harness.measure(NOTHING, os.devnull, os.devnull).memory * 1024, 150_000_000)
+        busy = self.measured("import time\nwhile time.process_time() < 0.2: pass")
+        self.assertGreaterEqual(busy.processor, 0.2)
+        asleep = self.measured("import time; time.sleep(0.3)")
+        self.assertGreaterEqual(asleep.clock, 0.3)
+        self.assertLess(asleep.processor, asleep.clock)
 
-    def test_answers(self):
-        status, out, err = self.answered()
-        self.assertEqual((status, err), (0, ""))
-        for words in ("record --excluded", "inspect depends f", "inspect why t 3", "table t 8", "join",
-                      "replay --run 2", "gen 2"):
-            self.assertIn(f"{words}: 3 requests, 0 done without, 0 answered otherwise\n", out.decode())
-        status, out, _ = self.answered(other=(0, self.package, b""))
-        self.assertEqual(status, 0)
-        self.assertIn("run: 3 requests, 1 done without, 0 answered otherwise\n", out.decode())
-        for other in ((0, b"", b""), (11, b"x", b"ldv: out of memory\n"), (None, b"", b"")):
-            status, out, _ = self.answered(other=other)
-            self.assertEqual(status, 1)
-            self.assertIn(f"request 2: status {other[0]}", out.decode())
-        self.assertIn("no request of memory", self.answered(number="0\n")[0])
+    def test_signals(self):
+        """A command that a signal ends is told, and no measure of one that has to end well."""
+        text = "import os; os.kill(os.getpid(), 9)"
+        self.assertEqual(self.measured(text).status, -9)
+        with self.assertRaisesRegex(SystemExit, "ended with -9"):
+            harness.measure_well([sys.executable, "-c", text], os.devnull, os.devnull)
 
-    def test_no_rows(self):
-        items = refused.items_of(read_package(spelling.encode(spelling.package())))
-        self.assertEqual(list(items), [["inspect", "depends", "main"]])
+    def test_turns(self):
+        """Each turn has each run once, every second one in the other order."""
+        made = []
 
-    @unittest.skipUnless(shutil.which("cc") and sys.platform == "linux", "there is no cc")
-    def test_shim(self):
-        """The request of a number is refused, and all are counted. A shim that isn't one is found."""
-        asker, shim = os.path.join(self.folder, "asker"), os.path.join(self.folder, "refuse.so")
-        self.assertEqual(command(["cc", "-fno-builtin", "-w", "-o", asker, self.put("asker.c", ASKER)])[0], 0)
-        self.assertEqual(command(["cc", "-shared", "-fPIC", "-Wall", "-Werror", "-o", shim,
-                                  os.path.join(ROOT, "bench", "refuse.c")])[0], 0)
-        program = refused.Program(asker, shim, self.folder)
-        self.assertEqual(program.requests([], b""), (5, b""))
-        for number in range(1, 6):
-            self.assertEqual(program.call([], b"", number), refused.REFUSED, number)
-        self.assertEqual(program.call([], b"", 6), (0, b"", b""))
-        program.shim = self.put("none.so", "")
-        with self.assertRaisesRegex(SystemExit, "was not taken in"):
-            program.requests([], b"")
+        def run(name):
+            made.append(name)
+            return name + str(len(made))
+
+        taken = harness.in_turn([lambda: run("a"), lambda: run("b")], 3, as_it_comes=True)
+        self.assertEqual("".join(made), "abbaab")
+        self.assertEqual(taken, [["a1", "a4", "a5"], ["b2", "b3", "b6"]])
+
+    def test_turns_that_count(self):
+        """A turn that isn't quiet is made again, whole."""
+        numbers = iter(range(10))
+        with mock.patch.object(quiet, "is_quiet", side_effect=[False, True, True]), \
+                mock.patch.object(quiet, "pace", return_value=1.0):
+            self.assertEqual(harness.in_turn([lambda: next(numbers)], 2), [[1, 2]])
+
+    def test_apart(self):
+        """Work in another process gives its value, and its memory isn't this one's."""
+        self.assertEqual(harness.apart(lambda each: [each, len("x" * 100_000_000)], "a"), ["a", 100_000_000])
+        self.assertLess(harness.measure(NOTHING, os.devnull, os.devnull).memory * 1024, 100_000_000)
+        with contextlib.redirect_stderr(io.StringIO()), self.assertRaisesRegex(SystemExit, "failed"):
+            harness.apart(lambda: [][0])
+
+    def test_host(self):
+        told = self.put("cpuinfo", "processor\t: 0\nmodel name\t: A Processor @ 1 GHz\nmodel name\t: Other\n")
+        self.assertEqual(harness.processor_name(told), "A Processor @ 1 GHz")
+        self.assertNotEqual(harness.processor_name(os.path.join(self.folder, "none")), "")
+        self.assertEqual(harness.said(["no-such-command"]), "")
+        with mock.patch.object(harness, "said", lambda words: {"rt": "kit", "git": "0" * 40}[words[0]]):
+            self.assertEqual(harness.host()[-2:], ("kit", "0" * 40 + "+"))
+
+    def test_pinned(self):
+        """A process is on one processor afterwards, if that is allowed."""
+        script = ("import harness, os; p = harness.pinned(); "
+                  "print(p is None or os.sched_getaffinity(0) == {p})")
+        done = subprocess.run([sys.executable, "-c", script], cwd=BENCH, stdout=subprocess.PIPE, check=True)
+        self.assertEqual(done.stdout, b"True\n")
+        with mock.patch.object(os, "sched_setaffinity", side_effect=PermissionError, create=True):
+            self.assertIsNone(harness.pinned())
 
 
-class Comparison(InFolder):
-    """bench/compare.py, with two programs that always write the same."""
+def line(run, name, size, program="ldv", **values):
+    return Line(run, name, size, program, [(1.0, 2.0, 2048)],
+                {"seconds": 1.0, "median": 1.0, "clock": 2.0, "MiB": 2.0, **values})
 
-    def program(self, name, text):
-        path = self.put(name, f"#!/bin/sh\ncat > /dev/null\n{text}\n")
+
+FACTS = {"version": "1.0.0", "date": "2026-01-01", "runs": 5, "as_it_comes": False, "pinned": True,
+         "host": {"name": "h", "system": "Linux 6", "processor": "P", "processors": 4, "kit": "kit",
+                  "commit": "c" * 40}, "programs": {"ldv": "0"}, "pace": {"before": 80.0, "after": 81.5}}
+MEASURED = Results(FACTS, [
+    line("engine", "join2", 1000000, all=3.0, load=1.0, asked=2.0, of_sqlite3=1.68,
+         **{"MiB beyond load": 146}),
+    line("engine", "join2", 1000000, "sqlite3", all=2.0, load=1.0, asked=1.0),
+    line("engine", "join2", 1000, all=0.1, load=0.05, asked=0.05, of_sqlite3=9.0, **{"MiB beyond load": 1}),
+    line("engine", "update", 1000000, asked=0.3, of_sqlite3=2.4, **{"MiB beyond load": 5}),
+    line("worlds", "rows", 60, of_input=9.06, **{"MB/s": 37.0}),
+])
+
+
+class Data(InFolder):
+    """The files of results."""
+
+    def test_written(self):
+        """What is read is what was written, and a key leads to its value."""
+        path = os.path.join(self.folder, "r.json")
+        results.write(path, MEASURED)
+        found = results.read(path)
+        self.assertEqual((found.facts, found.lines), (FACTS, MEASURED.lines))
+        self.assertEqual(json.loads(read(path))["lines"][1]["values"]["asked"], 1.0)
+        self.assertEqual(found.value("engine/join2/1000000/sqlite3/asked"), 1.0)
+        self.assertEqual(found.value("worlds/rows/60/ldv/MB/s"), 37.0)
+        for key in ("engine/join2/1000/sqlite3/asked", "engine/join2/1000000/ldv/none", "engine"):
+            self.assertIsNone(found.value(key), key)
+
+    def test_merged(self):
+        """A later line stands for an earlier one."""
+        later = Results({}, [line("worlds", "rows", 60, of_input=5.0), line("worlds", "hex", 60)])
+        found = results.merged([MEASURED, later])
+        self.assertEqual(len(found.lines), len(MEASURED.lines) + 1)
+        self.assertEqual(found.value("worlds/rows/60/ldv/of_input"), 5.0)
+        self.assertEqual(found.facts, FACTS)
+
+    def test_line(self):
+        """Of some runs the least, the median, and the greatest memory."""
+        each = [Took(3.0, 4.0, 1024, 0), Took(1.0, 5.0, 3072, 0), Took(2.0, 6.0, 2048, 0)]
+        made = results.line_of("run", "name", 7, "ldv", each, more=8.0)
+        self.assertEqual(made.values, {"seconds": 1.0, "median": 2.0, "clock": 4.0, "MiB": 3.0, "more": 8.0})
+        self.assertEqual(made.key(), "run/name/7/ldv")
+
+    def test_path(self):
+        self.assertEqual(os.path.relpath(results.path_of("1.0.0", "a host.x"), BENCH),
+                         "results/1.0.0-a_host_x.json")
+
+
+class Aims(unittest.TestCase):
+    """What the benches aim at."""
+
+    def test_met(self):
+        """A value meets its aim by its two decimals; of a rate the aim is the least."""
+        most = aims.Aim("engine", "join2", 1000000, "of_sqlite3", 1.68)
+        self.assertEqual([most.is_met(each) for each in (1.0, 1.684, 1.686)], [True, True, False])
+        least = aims.Aim("worlds", "rows", 60, "MB/s", 120, is_least=True)
+        self.assertEqual([least.is_met(each) for each in (130.0, 119.996, 119.0)], [True, True, False])
+
+    def test_judged(self):
+        """Each aim that has a line is judged, and misses are counted."""
+        judged = aims.of_results(MEASURED)
+        self.assertEqual([(each.aim.name, each.aim.value, each.is_met) for each in judged],
+                         [("join2", "of_sqlite3", True), ("update", "of_sqlite3", False),
+                          ("rows", "MB/s", False), ("rows", "of_input", False)])
+        self.assertEqual(aims.counted(judged), "aims missed: 3 of 4")
+        self.assertIsNone(aims.counted([]))
+        self.assertEqual([len(aims.of_line(each)) for each in MEASURED.lines], [1, 0, 0, 1, 2])
+
+    def test_lines(self):
+        """Each aim is of a run, of one of its sizes, and stands once."""
+        keys = [each.key() for each in aims.AIMS]
+        self.assertEqual(len(keys), len(set(keys)))
+        for each in aims.AIMS:
+            sizes = bench.RUNS[each.run].sizes + ((10000,) if each.run == "prov" else ())
+            self.assertIn(each.size, sizes, each)
+            self.assertIn(each.value, report.WORDS)
+            self.assertIn(each.run, report.UNITS)
+
+
+# A program that knows some commands. A package is the world after a head; `replay` of it writes the outcome.
+PROGRAM = """#!/usr/bin/env python3
+import hashlib, json, sys
+data = sys.stdin.buffer.read()
+OUTCOME = b"outcome 1 0\\nprocess 0 0 0 0\\n\\n"
+if sys.argv[1] == "run":
+    sys.stdout.buffer.write(OUTCOME + b"{said}\\n")
+elif sys.argv[1] == "record":
+    sys.stdout.buffer.write(b"LDV" + data)
+elif sys.argv[1] == "replay":
+    sys.stdout.buffer.write(OUTCOME + b"{replayed}\\n")
+else:
+    sys.exit(2)
+"""
+
+
+class Runs(InFolder):
+    """bench.py and compare.py, with programs that know some commands."""
+
+    def program(self, name, said="a", replayed=None):
+        path = self.put(name, PROGRAM.replace("{said}", said).replace("{replayed}", replayed or said))
         os.chmod(path, 0o755)
         return path
 
-    def compared(self, before, after):
-        words = ["--sizes", "10", "--runs", "2", "--cases", "union", "--worlds", "pick"]
-        return command([sys.executable, os.path.join(ROOT, "bench/compare.py"), before, after, *words])
+    def called(self, module, *words):
+        with mock.patch("recorded.of_needed", return_value=1.0):
+            return tool(module, *words)
 
-    def test_rows(self):
-        same = self.program("same", "echo outcome")
-        status, out, err = self.compared(same, same)
-        self.assertEqual((status, err), (0, b""))
-        rows = [line.split()[:3] for line in out.decode().splitlines()[1:]]
-        self.assertEqual(rows, [["load", "t", "10"], ["union", "10", "run"], ["union", "10", "run,"],
-                                ["pick", "10", "run"], ["pick", "10", "record"], ["pick", "10", "replay"],
-                                ["pick", "10", "record"], ["pick", "10", "replay"]])
+    def test_worlds(self):
+        """Lines and values of a run, as they are printed and written."""
+        path = os.path.join(self.folder, "r.json")
+        words = ["worlds", "--least", "--lines", "hex,rows", "--program", self.program("ldv"), "-o", path]
+        status, out, err = self.called(bench, *words)
+        self.assertEqual((status, err), (0, ""))
+        self.assertEqual([line.split()[0] for line in out.decode().splitlines() if line],
+                         ["worlds:", "line", "rows", "hex", "pace:"])
+        found = results.read(path)
+        self.assertEqual([each.key() for each in found.lines], ["worlds/rows/1/ldv", "worlds/hex/1/ldv"])
+        self.assertEqual((found.facts["runs"], found.facts["as_it_comes"], found.facts["version"]),
+                         (1, True, harness.version()))
+        for each in found.lines:
+            self.assertLess(abs(each.values["bytes"] - 2**20), 1000)
+            self.assertAlmostEqual(each.values["of_input"],
+                                   each.values["MiB"] * 2**20 / each.values["bytes"], 3)
+        # Another run is added to the file.
+        words[3] = "texts"
+        self.called(bench, *words)
+        self.assertEqual(len(results.read(path).lines), 3)
+        # Those of another program aren't.
+        said = self.called(bench, "worlds", "--least", "--program", self.program("other", "b"), "-o", path)[0]
+        self.assertIn("has results of another program", said)
+        self.assertEqual(len(results.read(path).lines), 3)
 
-    def test_differences(self):
-        """Two outcomes, and a program that fails."""
-        same = self.program("same", "echo outcome")
-        status, _, err = self.compared(same, self.program("other", "echo other"))
-        self.assertEqual((status, err), (1, b"compare: union: the two programs wrote other bytes\n"))
-        status, _, err = self.compared(same, self.program("failing", "exit 7"))
-        self.assertEqual((status, err), (1, f"compare: {self.folder}/failing run ended with 7\n".encode()))
-
-
-class Aims(InFolder):
-    """What the benches aim at."""
-
-    def test_aims(self):
-        """A value meets its aim by its two decimals, and the last line counts those that don't."""
-        tally = os.path.join(self.folder, "aims")
-        self.assertEqual(aims.count(tally), "no line has an aim")
-        self.assertEqual(aims.noted("run", "loop 3000000", 1.004, tally), "1.00")
-        self.assertEqual(aims.noted("run", "loop 30", 9.0, tally), "-")
-        self.assertEqual(aims.count(tally), "aims missed: 0 of 1")
-        self.assertEqual(aims.noted("hard", "group text last", 2.01, tally), "2.00")
-        self.assertEqual(aims.noted("depends us", "rows 1000000", 4.51, tally), "4.50")
-        self.assertEqual(aims.count(tally), "aims missed: 2 of 3")
-
-    def test_words(self):
-        words = [sys.executable, os.path.join(ROOT, "bench/aims.py")]
-        tally = os.path.join(self.folder, "aims")
-        self.assertEqual(command([*words, "engine", "union 1000000", "2.5", tally]), (0, b"2.00\n", b""))
-        self.assertEqual(command([*words, "--count", tally]), (0, b"aims missed: 1 of 1\n", b""))
-        self.assertEqual(command([*words, "engine"])[:2], (1, b""))
-
-    def test_hard_values(self):
-        """Each case of hard.py is asked over each form of values; that a program fails or refuses is said."""
-        program = self.put("program", "#!/bin/sh\ncat > /dev/null\n")
-        os.chmod(program, 0o755)
-        words = [sys.executable, os.path.join(ROOT, "bench/hard.py"), program, self.folder,
-                 "--size", "10", "--runs", "1"]
-        status, out, err = command(words)
-        self.assertEqual((status, set(err.decode().splitlines()) - {WITHHELD}), (0, set()))
-        rows = [line.split()[:3] for line in out.decode().splitlines()]
-        forms = {"number": ["usual", "falling", "equal"], "text": ["usual", "falling", "equal", "last"]}
-        cases = ("group", "distinct", "union", "order", "join", "update", "insert")
-        asked = [[case, kind, form] for case in cases for kind, those in forms.items() for form in those
-                 if form != "equal" or case not in ("join", "insert")]
-        self.assertEqual(rows[1:-1], asked)
-        self.assertEqual(rows[-1][:2], ["aims", "missed:"])
-        self.put("program", "#!/bin/sh\ncat > /dev/null\nexit 7\n")
-        self.assertEqual(command([*words, "--cases", "join"])[0], 1)
-        self.put("program", "#!/bin/sh\ncat > /dev/null\necho refused 3\n")
-        status, _, err = command([*words, "--cases", "order"])
-        self.assertEqual(status, 1)
-        self.assertIn(b"hard: a statement is refused", err)
-
-
-    def test_hard_worlds(self):
-        """Each pair of hard_worlds.py is two worlds; that a program fails or tells them apart is said."""
-        program = self.put("program", "#!/bin/sh\ncat > /dev/null\n")
-        os.chmod(program, 0o755)
-        words = [sys.executable, os.path.join(ROOT, "bench/hard_worlds.py"), program, self.folder,
-                 "--scale", "0.001", "--runs", "1"]
-        status, out, err = command(words)
-        self.assertEqual((status, set(err.decode().splitlines()) - {WITHHELD}), (0, set()))
-        self.assertEqual([line.split()[0] for line in out.decode().splitlines()],
-                         ["world", *hard_worlds.PAIRS, "aims"])
-        for name, (make, _, _) in hard_worlds.PAIRS.items():
-            hard, usual = make(4)
-            self.assertTrue(hard != usual, name)
-            for text in (hard, usual):
-                self.assertTrue("main" in json.loads(text)["files"], name)
-        self.put("program", "#!/bin/sh\ncat > /dev/null\nexit 7\n")
-        self.assertEqual(command([*words, "--worlds", "cut"])[0], 1)
-        self.put("program", "#!/bin/sh\ngrep -q 'ab\\\\\"' && exit 6\nexit 0\n")
-        status, _, err = command([*words, "--worlds", "cut"])
-        self.assertEqual(status, 1)
-        self.assertIn(b"hard_worlds: cut ended with 6, and the usual one with 0", err)
-
-
-class FakeCalls:
-    """In place of the calls of hostile.py: each gets the same answer, and what is asked is kept."""
-
-    def __init__(self, answer, asked_here):
-        self.answer, self.asked = answer, asked_here
-
-    def call(self, words, data):
-        self.asked.append((words, data))
-        return self.answer if words[0] != "record" else (6, b"", b"ldv: not a world: shape\n")
-
-
-class HostileInputs(InFolder):
-    """bench/hostile.py, with answers that are given to it."""
-
-    def test_complaints(self):
-        line = b"ldv: a line\n"
-        for words, right, answer in (
-                (["run"], True, (0, b"x", b"")), (["run"], True, (6, b"", line)),
-                (["run"], True, (11, b"", line)), (["table", "order", "0"], False, (2, b"", line)),
-                (["inspect", "rows"], True, (0, b"", b"")),
-                (["prov"], True, (8, b"", line)), (["prov", "depends", "q"], True, (16, b"", line)),
-                (["join"], True, (15, b"", line)), (["replay", "--run", "1"], True, (7, b"", line)),
-                (["prov", "depends", "q"], True, (0, b"", b"")), (["prov", "depends"], False, (2, b"", line)),
-                (["inspect", "depends", "q"], True, (0, b"", b"")), (["replay"], True, (9, b"", line))):
-            self.assertIsNone(hostile.complaint(words, right, answer), (words, answer))
-        for words, right, answer in (
-                (["run"], True, (2, b"", line)), (["run", "run"], False, (0, b"x", b"")),
-                (["run", "run"], False, (6, b"", line)), (["run"], True, (0, b"", b"")),
-                (["inspect", "files"], True, (0, b"", b"")), (["run"], True, (0, b"x", line)),
-                (["run"], True, (6, b"x", line)), (["run"], True, (6, b"", line + line)),
-                (["run"], True, (6, b"", b"")), (["run"], True, (-11, b"", b"")),
-                (["prov"], True, (16, b"", line)), (["prov", "depends", "q"], True, (8, b"", line)),
-                (["replay"], True, (15, b"", line)), (["replay", "--run", "1"], True, (9, b"", line)),
-                (["run"], True, (8, b"", line)), (["run"], True, (None, b"", b""))):
-            self.assertIsNotNone(hostile.complaint(words, right, answer), (words, answer))
-
-    def test_other_values(self):
-        """A document whose parts are of other types has no cells and no scripts."""
-        for rows in (5, True, 2 ** 64, "ab", None, {"a": [1]}):
-            self.assertEqual(hostile.inner_places({"files": {}, "tables": {"t": {"rows": rows}}}), [])
-        self.assertEqual(hostile.inner_places({"files": {}, "tables": {"t": {"rows": [5, [1]]}}}), [([1], 0)])
-
-    def asked(self, answer):
-        """The calls of a few inputs where each but `record` gets this answer."""
-        asked_here, document = [], read(f"{EXAMPLES}/orders.json")
-        made = spelling.encode(spelling.package())
-        job = ("program", {"modes": [[], ["--excluded"]]}, 1, 200, self.folder, list(hostile.STATUSES),
-               self.folder)
-        with mock.patch("hostile.Calls", lambda *_: FakeCalls(answer, asked_here)), \
-                mock.patch("hostile.replays", lambda *_: None), \
-                mock.patch("hostile.migrates", lambda *_: None), \
-                mock.patch("hostile.reads", lambda *_: None), \
-                mock.patch("hostile.judges", lambda *_: None), \
-                mock.patch("hostile.is_joined_with", lambda *_: None), \
-                mock.patch("hostile.corpus",
-                           lambda: ([document], [document], [made], [made], [PROVENANCE], [JOINED])):
-            hostile.work(job)
-        return asked_here
-
-    def test_same_inputs(self):
-        """The inputs don't depend on the answers."""
-        asked_here = self.asked((0, b"x", b""))
-        self.assertEqual(len(asked_here), 201)
-        self.assertEqual(asked_here, self.asked((6, b"", b"ldv: not a world: shape\n")))
-
-    def test_provenance(self):
-        """Documents are made that are some and that are none, and each answer is compared with the tools."""
-        chance, counts = hostile.random.Random(1), collections.Counter()
-        for _ in range(400):
-            made = hostile_documents.mutated_provenance(chance, PROVENANCE)
-            kinds = [status for status, output in ((0, b"path main\nprocess 0\n"), (10, b""), (16, b""))
-                     if hostile_documents.reads(made, "g", (status, output, b"")) is None]
-            counts.update(kinds)
-            self.assertLessEqual(len(kinds), 1)
-        for status in (0, 10, 16):
-            self.assertGreater(counts[status], 4)
-        self.assertIsNotNone(hostile_documents.reads(PROVENANCE, "g", (0, b"process 0\n", b"")))
-
-    def test_pairs(self):
-        """Pairs are made that are joined, that clash in each way, and that are none."""
-        chance, counts = hostile.random.Random(1), collections.Counter()
-        names = ("rows", "picked", "plain in runs", "logs")
-        bases = [spelling.encode(spelling.BASES[name]) for name in names]
-        bases += map(spelling.encode, (join_cases.FIRST, join_cases.SECOND))
-        for _ in range(1500):
-            made = hostile_joins.mutated_pair(chance, bases, bases)
-            pair = hostile_joins.pair_in(made)
-            if pair is None:
-                counts["no pair"] += 1
-                continue
-            try:
-                first, second = map(read_package, pair)
-            except Malformed:
-                counts["no packages"] += 1
-                continue
-            if max(first.event_count(), second.event_count()) > 1000:
-                continue
-            clash = hostile_joins.clash_of(first, second)
-            if clash is None:
-                both = packages_joined.joined(first, second)
-                self.assertIsNone(hostile_joins.judges(made, (0, both, b"")))
-                self.assertIsNotNone(hostile_joins.judges(made, (0, both + b"x", b"")))
-                self.assertIsNotNone(hostile_joins.judges(made, (15, b"", b"ldv: clash: file main\n")))
-            else:
-                said = f"ldv: clash: {clash.name}\n".encode()
-                self.assertIsNone(hostile_joins.judges(made, (15, b"", said)))
-                self.assertIsNotNone(hostile_joins.judges(made, (15, b"", b"ldv: clash: table none\n")))
-                self.assertIsNotNone(hostile_joins.judges(made, (0, b"LDVJOIN1", b"")))
-            counts["joined" if clash is None else clash.name.split(" ")[0]] += 1
-            counts["foreign keys"] += clash is not None and clash.lines[0].startswith("foreign keys: ")
-        for each in ("no pair", "no packages", "joined", "file", "table", "row", "key", "foreign keys"):
-            self.assertGreater(counts[each], 4, each)
-        self.assertIsNone(hostile_joins.judges(b"", (8, b"", b"ldv: damaged: form\n")))
-        self.assertIsNotNone(hostile_joins.judges(b"", (15, b"", b"ldv: clash: file main\n")))
-
-    def test_joined(self):
-        """Joined packages are made with right digests and wrong ones, and with their runs exchanged."""
-        chance, counts = hostile.random.Random(1), collections.Counter()
-        for _ in range(500):
-            made = hostile_joins.mutated_joined(chance, [JOINED, WITH_PARENTS])
-            counts["read" if hostile_joins.is_joined(made) else "not read"] += 1
-            counts["exchanged"] += made == packages_joined.joined(TWO._replace(seed=5), TWO)
-            counts["as it is"] += made == JOINED
-        for each in ("read", "not read", "exchanged", "as it is"):
-            self.assertGreater(counts[each], 4, each)
-
-    def test_joins(self):
-        """Of two runs of a world each has to be replayed as it is run."""
-        answers = {"join": (0, JOINED, b""), "1": (0, b"x", b""), "2": (0, b"y", b"")}
-
-        def told(**others):
-            calls = mock.Mock(call=lambda words, data: {**answers, **others}[words[-1]])
-            return hostile_joins.joins(calls, b"a", b"x", b"b", b"y")
-
-        self.assertIsNone(told())
-        self.assertIsNone(told(join=(12, b"", b"ldv: package longer than 67108864 bytes\n")))
-        self.assertIn("status 15", told(join=(15, b"", b"ldv: clash: key t 1\n")))
-        self.assertIn("run 2", told(**{"2": (0, b"x", b"")}))
+    def test_wrong_words(self):
+        self.assertIn("there is no run none", self.called(bench, "none")[2])
+        self.assertIn("is no program", str(self.called(bench, "worlds", "--program", self.folder)[0]))
 
     def test_packages(self):
-        """Packages are made of both versions, with right digests and wrong ones; of runs those at the limits
-        of their numbers, and those that could be longer."""
-        chance, counts = hostile.random.Random(1), collections.Counter()
-        loop = spelling.encode(spelling.BASES["loop"])
-        for base in (loop, spelling.encode(spelling.BASES["rows"])) * 1000:
-            made = hostile.package_input(chance, base)
-            try:
-                found = read_package(made)
-            except Malformed as fault:
-                counts["its digest is another one" if "digest" in str(fault) else made[:8]] += 1
-                continue
-            counts[found.version] += 1
-            counts["as many as may be"] += found.event_count() == 20_000_001
-            if found.version == 2 and found.event_count() < 100:
-                longest = spelling.cut(package_versions.event_of(each) for each in found.events)
-                counts["could be longer"] += longest != hostile_packages.runs_of(found)
-        for each in (1, 2, b"LDVPACK1", b"LDVPACK2", "its digest is another one", "as many as may be",
-                     "could be longer"):
-            self.assertGreater(counts[each], 4, each)
+        """A replay that doesn't write what the run wrote ends the bench."""
+        words = ["package", "--sizes", "3", "--lines", "pick", "--least", "--program"]
+        status, out, _ = self.called(bench, *words, self.program("right"))
+        self.assertEqual(status, 0)
+        self.assertEqual(out.decode().count("memory_of_run"), 6)
+        self.assertIn("other bytes", str(self.called(bench, *words, self.program("wrong", replayed="b"))[0]))
 
-    def test_other_version(self):
-        """A package in the other version is the same package; what is none stays."""
-        for base in ("rows", "acts in runs", "logs"):
-            given = spelling.encode(spelling.BASES[base])
-            other = hostile_packages.in_other_version(given)
-            self.assertNotEqual(other[:8], given[:8])
-            self.assertEqual(list(read_package(other).events), list(read_package(given).events))
-            self.assertEqual(hostile_packages.in_other_version(other), given)
-        self.assertEqual(hostile_packages.in_other_version(b"LDVPACK1"), b"LDVPACK1")
-        # What only a program with foreign keys takes for a package.
-        rule = {"trace.1.reads.0.rows.0.rule": 4, "trace.1.reads.0.rows.1.rule": 5, "tables.0.rows.0.rule": 4}
-        given = spelling.encode(spelling.changed("rows", rule))
-        self.assertEqual(hostile_packages.in_other_version(hostile_packages.in_other_version(given)), given)
-        # The second event's step has no spelling in 32 bits.
-        runs = [spelling.run(spelling.started()), spelling.run(spelling.act("tested", "f", 2**32 - 1), 2, 1)]
-        given = spelling.encode(spelling.package(2, runs=runs))
-        self.assertEqual([event.step for event in read_package(given).events], [0, 2**32 - 1, 2**32])
-        self.assertEqual(hostile_packages.in_other_version(given), given)
+    def test_against(self):
+        """Two programs are measured in turn, and have to write the same."""
+        words = ["--lines", "pick", "--sizes", "3", "--least"]
+        same, other = self.program("same"), self.program("other", "b")
+        status, out, _ = self.called(compare, same, self.program("also"), "package", *words)
+        self.assertEqual(status, 0)
+        rows = out.decode().partition(compare.HEAD)[2].splitlines()[1:]
+        self.assertEqual([row.split()[:3] for row in rows],
+                         [["package", "pick", word]
+                          for word in ("run", "record", "replay", "record", "replay", "replay")])
+        self.assertIn("other bytes", str(self.called(compare, same, other, "package", *words)[0]))
+        failing = self.put("failing", "#!/bin/sh\nexit 7\n")
+        os.chmod(failing, 0o755)
+        self.assertIn("ended with 7", str(self.called(compare, same, failing, "package", *words)[0]))
 
-    def test_no_other_runs(self):
-        """Steps that go down aren't those of runs, so that the package has no other runs."""
-        trace = [spelling.started(), spelling.act("tested", "f", 9), spelling.act("tested", "f", 2)]
-        given = spelling.encode(spelling.package(trace=trace))
-        self.assertEqual([event.step for event in read_package(given).events], [0, 9, 2])
-        for seed in range(50):
-            other = hostile_packages.with_other_runs(random.Random(seed), given)
-            self.assertTrue(other is None or other.startswith(b"LDVPACK2"))
-            self.assertTrue(hostile_packages.mutated_package(random.Random(seed), given))
+    def test_files(self):
+        """Two files are compared line by line; a statement has two rows."""
+        before, after = (os.path.join(self.folder, name) for name in ("a.json", "b.json"))
+        results.write(before, MEASURED)
+        values = {"seconds": 0.5, "median": 0.5, "clock": 1.0, "MiB": 4.0, "asked": 0.5}
+        results.write(after, Results(FACTS, [Line("engine", "join2", 1000000, "ldv", [], values)]))
+        status, out, _ = tool(compare, before, after)
+        self.assertEqual(status, 0)
+        self.assertEqual([row.split() for row in out.decode().splitlines()[2:]],
+                         [["engine", "join2", "1000000", "1.000", "0.500", "0.50", "2.0", "4.0", "2.00"],
+                          ["engine", "join2,", "asked", "1000000", "2.000", "0.500", "0.25", "2.0", "4.0",
+                           "2.00"]])
 
-    def test_migrated(self):
-        """What `migrate` wrote is judged by its version, by what it becomes again and by its replay."""
-        old, new = (spelling.encode(spelling.BASES[name]) for name in ("plain", "plain in runs"))
-        right = {("migrate", new): (0, new, b""),
-                 ("replay", old): (0, b"x", b""), ("replay", new): (0, b"x", b"")}
+    def test_csv(self):
+        """world.py takes each of the files."""
+        status, out, err = tool(bench, "csv", "--sizes", "20", "--least", "--program", sys.executable)
+        self.assertEqual((status, err), (0, ""))
+        self.assertEqual([row.split()[:3] for row in out.decode().splitlines()[2:5]],
+                         [[form, "20", "world.py"] for form in ("plain", "excel", "guessed")])
 
-        def told(package, **others):
-            answers = {**right, **{(word, new): answer for word, answer in others.items()}}
-            calls = mock.Mock(call=lambda words, data: answers[words[0], data])
-            return hostile.migrates(calls, old, package)
 
-        self.assertIsNone(told(new))
-        self.assertIsNone(told(new, replay=(11, b"", b"ldv: out of memory\n")))
-        self.assertIn("no package of version 2", told(old))
-        self.assertIn("something else", told(new, migrate=(0, old, b"")))
-        self.assertIn("something else", told(new, migrate=(8, b"", b"ldv: damaged: form\n")))
-        self.assertIn("replay", told(new, replay=(0, b"y", b"")))
+class Worlds(InFolder):
+    """What the runs read off outcomes and documents, beside what was worked out by hand."""
 
-    def test_tools(self):
-        """The bench of the tools makes its files and its worlds."""
-        # The first call of the script may build the program, and says so.
-        subprocess.run(["./ldv", "run"], cwd=ROOT, stdin=subprocess.DEVNULL, stdout=subprocess.DEVNULL,
-                       stderr=subprocess.DEVNULL, check=False)
-        done = subprocess.run(["bench/tools.py"], cwd=ROOT, stdout=subprocess.PIPE, stderr=subprocess.PIPE,
-                              check=False, env={**os.environ, "SIZES": "20", "RUNS": "1", "CALLS": "1"})
-        self.assertEqual((done.returncode, set(done.stderr.decode().splitlines()) - {WITHHELD}), (0, set()))
-        rows = [line.split() for line in done.stdout.decode().split("\n")]
-        self.assertEqual([row[:2] for row in rows[:4]],
-                         [["file", "rows"], ["plain", "20"], ["excel", "20"], ["guessed", "20"]])
+    def test_found(self):
+        """Rows and changed rows, the sum of their numbers, and refusals, whose key isn't summed."""
+        path = self.put("outcome", "outcome 1 1\nprocess 0 0 0 3\n\nrows 2\nrow 1\nint 5\nrow 1\nint -2\n"
+                                   "refused 5\nint 40\nchanged 3\n")
+        self.assertEqual(statements.found_in(path), (5, 3, 1))
 
-    def test_scripts(self):
-        """The scripts of both benches find their folder, and say where the program isn't there."""
-        program = os.path.join(self.folder, "none")
-        for name in ("hostile", "refused") if shutil.which("cc") else ("hostile",):
-            done = subprocess.run([f"bench/{name}.sh"], cwd=ROOT, stdout=subprocess.PIPE,
-                                  stderr=subprocess.PIPE, check=False,
-                                  env={**os.environ, "CDPATH": ROOT, "LDV": program, "TMPDIR": self.folder})
-            self.assertEqual((done.returncode, done.stdout), (2, b""), done.stderr)
-            said = f" {program}\n".encode() if name == "refused" else b" is no program\n"
-            self.assertTrue(done.stderr.endswith(said))
-            self.assertEqual(os.listdir(self.folder), [])
+    def test_edges(self):
+        path = self.put("document", '{"a":{"ldv:first":1},"b":{"ldv:first":2}}\n{"ldv:first":3}')
+        self.assertEqual(events.count_edges(path), 3)
 
-    def test_lines(self):
-        """Each instruction of the language is in the lines that scripts are given."""
-        chance = hostile.random.Random(1)
-        found = {(hostile.script_line(chance).split(" ") + [""])[0] for _ in range(2000)}
-        self.assertEqual(set(INSTRUCTIONS) - found, set())
+    def test_gen(self):
+        """The length of the outcome that has what sqlite3 found."""
+        outcome = ("outcome 1 1\nprocess 0 0 2 3\n7\n\nrows 1\nrow 2\ntext 2\nc0\nint 10\nchanged 4\nrows 1\n"
+                   "row 1\nint 7\nfile 10 6\nreport.txt\nc0 10\n\n")
+        self.assertEqual(gen.length_of(["c0,10", "4", "7"]), len(outcome))
+
+    def test_sqlite(self):
+        """sqlite3 finds what a statement has: of 20 rows two have g = 3, and v is 7,919 times the key."""
+        done = command([sys.executable, os.path.join(BENCH, "statements_sqlite.py"), "update", "20"])
+        self.assertEqual((done[0], json.loads(done[1])[2:]), (0, [2, 0, 0]))
+        done = command([sys.executable, os.path.join(BENCH, "statements_sqlite.py"), "join2", "2"])
+        # Two rows, of the keys 1 and 2 and of w: 104,729 and 209,458, both without their thousands.
+        self.assertEqual(json.loads(done[1])[2:], [2, 1 + 2 + 729 + 458, 0])
+        done = command([sys.executable, os.path.join(BENCH, "statements_sqlite.py"), "orphans", "20"])
+        self.assertEqual(json.loads(done[1])[2:], [0, 0, 1])
+
+
+PAGE = "# Benches\n\n<!-- begin: report.py --fill made this of no results yet -->\nNone.\n" \
+       "<!-- end: report.py --fill -->\n\nMore.\n"
+LIST = ("# DOCUMENT | KEY | WORDS\n"
+        "A.md | worlds/rows/60/ldv/of_input | takes {} times its bytes\n"
+        "A.md | worlds/rows/60/ldv/MB/s | at {} MB a second\n")
+
+
+class Reports(InFolder):
+    """report.py, and the figures of documents."""
+
+    def setUp(self):
+        super().setUp()
+        os.makedirs(os.path.join(self.folder, "bench", "results"))
+        self.put("bench/README.md", PAGE)
+        self.put("bench/figures.txt", LIST)
+        self.put("A.md", "A world\ntakes 9.1\ntimes its bytes, at 37 MB a second.\n")
+        self.path = os.path.join(self.folder, "bench", "results", "1.0.0-h.json")
+        results.write(self.path, MEASURED)
+
+    def test_tables(self):
+        """Aims with their misses and causes, memory, and growth."""
+        status, out, err = tool(report, self.path, "--all")
+        self.assertEqual((status, err), (0, ""))
+        lines = out.decode().splitlines()
+        for due in ("| `engine`, 1,000,000 rows | of sqlite3 | join2 1.68 (1.68), **update 2.40 (1.20)** |",
+                    "| `worlds`, 60 MiB | MB a second, at least | **rows 37.00 (120.00)** |",
+                    "| `worlds`, 60 MiB | times the bytes | **rows 9.06 (5.00)** |",
+                    "Aims missed: 3 of 4. Causes:",
+                    "| `worlds`, 60 MiB | rows 2 (9.1 times the bytes) |",
+                    "| `engine`, 1,000,000 rows | join2 2 (146 beyond the load) |",
+                    "| Statement | 1,000 | 1,000,000 |",
+                    "| `join2` | 0.050 / - | 2.000 / 1.000 |", "| `update` | - / - | 0.300 / - |",
+                    "### worlds"):
+            self.assertIn(due, lines)
+        causes = [line for line in lines if line.startswith("- `")]
+        self.assertEqual([line.partition(":")[0] for line in causes], ["- `update`", "- `rows`"])
+        self.assertIn("each row that changes gets a history", causes[0])
+
+    def test_filled(self):
+        """--fill writes the page and the figures, and then nothing differs."""
+        self.put("A.md", "A world\ntakes 1.0\ntimes its bytes, at 2 MB a second.\n")
+        with mock.patch.object(harness, "ROOT", self.folder), mock.patch.object(plots, "drawn"), \
+                mock.patch.object(harness, "HERE", os.path.join(self.folder, "bench")):
+            self.assertEqual(tool(report, self.path, "--fill")[::2], (0, ""))
+        page = read(os.path.join(self.folder, "bench/README.md")).decode()
+        self.assertTrue(page.startswith("# Benches\n\n<!-- begin: report.py --fill made this of "
+                                        "results/1.0.0-h.json -->\nVersion 1.0.0, commit"))
+        self.assertTrue(page.endswith(" |\n<!-- end: report.py --fill -->\n\nMore.\n"))
+        self.assertEqual(read(os.path.join(self.folder, "A.md")).decode(),
+                         "A world\ntakes 9.1\ntimes its bytes, at 37 MB a second.\n")
+        self.assertEqual(self.differences(), [])
+
+    def test_length(self):
+        """The page of a release has at most 150 lines, also if it misses all aims."""
+        lines = [line(aim.run, aim.name, aim.size, aim.program, asked=1.0, memory_of_run=1.0,
+                      **{"MiB beyond load": 1.0, "of_input": 9.0, "of_bytes": 9.0,
+                         aim.value: 0.0 if aim.is_least else 99999.0}) for aim in aims.AIMS]
+        lines += [line("engine", case, size, asked=1.0) for case in statements.CASES for size in (1, 2)]
+        made = report.report(Results(FACTS, lines), "results/growth.svg")
+        self.put("bench/README.md", read(os.path.join(BENCH, "README.md")))
+        figures.fill_page(self.folder, self.path, made)
+        self.assertLessEqual(read(os.path.join(self.folder, "bench/README.md")).count(b"\n"), 150)
+
+    def differences(self, version="1.0.0"):
+        return [f"{document}:{number}: {text}"
+                for document, number, text in figures.differences(self.folder, version)]
+
+    def test_differences(self):
+        """A figure that is another one, words that aren't there, and results that aren't of the version."""
+        self.assertEqual(self.differences(), [])
+        self.put("A.md", "A world takes 9.1 times its bytes.\n")
+        gone = "bench/figures.txt:3: A.md has no such words: at {} MB a second"
+        self.assertEqual(self.differences(), [gone])
+        self.put("bench/README.md", PAGE.replace("no results yet", "results/1.0.0-h.json"))
+        self.put("A.md", "A world\ntakes 9.2\ntimes its bytes.\n")
+        self.assertEqual(self.differences(),
+                         ["A.md:2: 9.2 should be 9.1 (worlds/rows/60/ldv/of_input)", gone])
+        self.put("A.md", "A world takes 9 times its bytes, at 37.0 MB a second.\n")
+        self.assertEqual(self.differences(), [])
+        self.assertEqual(self.differences("1.0.1"),
+                         ["bench/results/1.0.0-h.json:1: are no results of version 1.0.1, measured on a "
+                          "quiet host"])
+        results.write(self.path, Results({**FACTS, "as_it_comes": True}, MEASURED.lines))
+        self.assertEqual(len(self.differences()), 1)
+        results.write(self.path, Results(FACTS, []))
+        self.assertEqual(self.differences()[0],
+                         "bench/figures.txt:2: worlds/rows/60/ldv/of_input is no value of the results")
+        os.remove(self.path)
+        self.assertEqual(self.differences(), ["bench/README.md:1: bench/results/1.0.0-h.json is missing"])
+        self.put("bench/README.md", "no marks")
+        self.assertEqual(self.differences(), ["bench/README.md:1: has no marks of report.py"])
+
+    def test_plots(self):
+        """A plot is an SVG with a line for each program, or it is said why there is none."""
+        path = os.path.join(self.folder, "plots", "1.0.0-h-growth.svg")
+        status, _, err = tool(report, self.path, "--plots", os.path.join(self.folder, "plots"))
+        self.assertEqual(status, 0)
+        if "matplotlib isn't installed" in err:
+            self.skipTest("python3-matplotlib isn't installed")
+        text = read(path).decode()
+        for word in ("<svg", "join2", "update", "sqlite3", "seconds asked"):
+            self.assertIn(word, text)
+        again = os.path.join(self.folder, "again.svg")
+        plots.drawn(again, *report.growth_of(MEASURED))
+        self.assertEqual(read(again).decode(), text)
+
+    def test_no_plots(self):
+        """Without matplotlib in either Python there is no plot, which is said."""
+        with mock.patch.dict(sys.modules, {"matplotlib": None}), \
+                mock.patch.object(plots, "DEBIAN", os.path.join(self.folder, "none")):
+            status, _, err = tool(report, self.path, "--plots", self.folder)
+        said = "report: matplotlib isn't installed (python3-matplotlib), so there is no plot\n"
+        self.assertEqual((status, err), (0, said))

@@ -4,6 +4,7 @@ import hashlib
 import json
 import os
 import shutil
+import sqlite3
 import stat
 import subprocess
 import sys
@@ -15,7 +16,7 @@ from urllib.parse import unquote
 import check_page
 import spelling
 
-from ldvtools import __version__, bundle, bundle_parts, ro_crate
+from ldvtools import __version__, bundle, bundle_parts, package, ro_crate, world
 from ldvtools.errors import Misused, Refused
 from ldvtools.packages import Joined, read_any, read_package
 from ldvtools.program import least_libc
@@ -107,8 +108,10 @@ class Archives(Bundles):
     def test_replay(self):
         """The archive replays elsewhere, where nothing is set and nothing else is."""
         folder = self.unpacked(self.made())
+        files = 14 if shutil.which("dot") else 13
         self.assertEqual(self.replayed(folder), (
-            0, "all 14 files are as they were made\nrecorded.outcome is replayed\nthe same bytes\n", ""))
+            0, f"all {files} files are as they were made\n"
+            "recorded.outcome is replayed\nthe same bytes\n", ""))
         self.assertEqual(read(os.path.join(folder, "recorded.package")), orders())
         self.assertEqual(read(os.path.join(folder, "recorded.outcome")), self.outcome)
         self.assertEqual(read(os.path.join(folder, "ldv")), read(self.program))
@@ -345,7 +348,7 @@ class Refusals(Bundles):
         plain = self.put("plain", "#!/bin/sh\n")
         self.refused("Permission denied", program=plain)
         os.chmod(plain, 0o755)
-        self.refused("no outcome", program=plain)
+        self.refused("isn't what ldv audit writes", program=plain)
         self.refused("ends with 7: ldv: not ended", program=self.failing(7, "ldv: not ended after 28 steps"))
 
     def failing(self, status, said):
@@ -603,6 +606,31 @@ class Examples(Bundles):
         for run, text in enumerate(worlds, 1):
             self.assertEqual(read(os.path.join(folder, f"run-{run}/recorded.outcome")), ldv(["run"], text)[1])
         self.assertEqual(self.replayed(folder)[1].splitlines()[-1], "the same bytes")
+
+    def test_columns(self):
+        """Replies as CSV and as a text have decimals with their mark, and heads with their unit; the page and
+        the package in it have them too."""
+        table = self.put("t.csv", "id;cost;kilo\n1;1.890,75 €;0.5\n2;12,50 €;1.25\n")
+        path = os.path.join(self.folder, "w.json")
+        words = ["--csv", table, "--delimiter", ";", "--unit", "t.cost=€", "--thousands", "t.cost=.",
+                 "--scale", "t.cost=2", "--scale", "t.kilo=2", "--ask", "SELECT id, cost, kilo FROM t",
+                 "--ask", "SELECT SUM(cost) AS total, COUNT(*) AS n FROM t", "-o", path]
+        self.assertEqual(tool(world, *words)[0], 0)
+        status, data, err = ldv(["record"], read(path))
+        self.assertEqual(status, 0, err)
+        folder = self.unpacked(self.made(package=self.put("p", data), program=support.PROGRAM))
+        self.assertEqual(read(os.path.join(folder, "tables/0-1.csv")).decode(),
+                         'id,cost (€),kilo\n1,"1890,75",0.50\n2,"12,50",1.25\n')
+        self.assertEqual(read(os.path.join(folder, "tables/0-2.csv")).decode(),
+                         'total (€),n\n"1903,25",2\n')
+        self.assertIn(" 1890,75 | 0.50\n", read(os.path.join(folder, "outcome.txt")).decode())
+        self.assertIn('"total (€)"', read(os.path.join(folder, "page.html")).decode())
+        base = os.path.join(self.folder, "t.db")
+        self.assertEqual(tool(package, "--sqlite", base, os.path.join(folder, "recorded.package"))[0], 0)
+        found = sqlite3.connect(base)
+        self.addCleanup(found.close)
+        self.assertEqual(found.execute('SELECT "cost (€)", kilo FROM t').fetchall(),
+                         [(1890.75, 0.5), (12.5, 1.25)])
 
     def test_command(self):
         """The command of examples/README.md."""

@@ -9,7 +9,7 @@ import subprocess
 import sys
 import textwrap
 
-from ldvtools import capture, package, playback
+from ldvtools import capture, playback
 from ldvtools.captured import read_logs
 from ldvtools.captured_run import run_program
 
@@ -330,7 +330,6 @@ class Whole(Programs):
                                   "package"])[1],
                          read("program.py"))
         self.assertEqual(read("report.txt").decode(), self.world()["files"]["capture.txt"])
-        self.assertTrue(package)
 
     def test_many_rows(self):
         """An answer of many rows, of which the program reads some or all."""
@@ -372,7 +371,8 @@ class Named(Programs):
             self.assertIn(line, said)
         self.assertFalse(os.path.exists("world.json"))
         out, said = self.capture(words, *SCALES, "--skip-unreadable")
-        self.assertIn("1 of 1 statement has the answer that SQLite gave", said)
+        self.assertTrue(said.endswith("capture.py: 1 of 1 statement has the answer that SQLite gave\n"
+                                      "capture.py: 7 statements not packed, and played back as seen\n"), said)
         self.record("--excluded")
         self.assertEqual(self.play(words)[0], expected)
         world = self.world()
@@ -430,7 +430,8 @@ class Named(Programs):
         from ldvtools import captured_tables
         before, captured_tables.SECONDS = captured_tables.SECONDS, 0
         self.addCleanup(setattr, captured_tables, "SECONDS", before)
-        return support.tool(capture, "--sqlite", "study.db", "-o", "world.json", "--", *words)[::2]
+        return support.tool(capture, "--ldv", support.PROGRAM, "--sqlite", "study.db", "-o", "world.json",
+                            "--", *words)[::2]
 
     def test_nothing(self):
         """Nothing was asked: why that may be."""
@@ -445,6 +446,21 @@ class Named(Programs):
         self.assertIn("duckdb, which isn't watched", self.capture([sys.executable, "program.py"],
                                                                   status=1)[1])
         self.assertIn("No such file", self.capture(["./nothing"], status=1)[1])
+
+    def test_no_program(self):
+        """A program or an ldv that isn't there is said before a database is looked at."""
+        self.put("plain", b"")
+        ldv = ["--ldv", support.PROGRAM]
+        for words, message in ((["./nothing"], "./nothing: No such file"),
+                               (["nothing-of-this-name"], "nothing-of-this-name: No such file"),
+                               (["./plain"], "./plain: Permission denied")):
+            for base in (["--sqlite", "nowhere.db"], ["--postgres", "host=/nowhere"]):
+                status, _, err = support.tool(capture, *ldv, *base, "-o", "world.json", "--", *words)
+                self.assertEqual((status, err.count("\n")), (1, 1), err)
+                self.assertIn(message, err)
+        status, _, err = support.tool(capture, "--ldv", "./nothing", "--sqlite", "nowhere.db", "-o",
+                                      "world.json", "--", "true")
+        self.assertEqual((status, err), (1, "capture.py: ./nothing: No such file or directory\n"))
 
     def test_words(self):
         for words in (["--sqlite", "study.db", "-o", "w"], ["-o", "w", "--", "true"],
@@ -514,9 +530,29 @@ class Diverged(Programs):
     def test_parameter(self):
         out, said = self.play([*self.words, "2", "2"], status=9)
         self.assertEqual(out, b"diverged:\n")
-        self.assertIn("program.py line 8: the program asks 'SELECT name FROM people WHERE id = ?' with "
-                      "(2,), and what was "
-                      "captured is 'SELECT name FROM people WHERE id = ?' with (1,)", said)
+        self.assertIn("playback.py: diverged: program.py line 8: the program asks 'SELECT name FROM people "
+                      "WHERE id = ?' with (2,), and it was captured with (1,)\n", said)
+        self.assertEqual(said.count("SELECT"), 1)
+
+    def test_again(self):
+        """A program that asks it again and again: each line of the report stands once."""
+        self.put("program.py", read("program.py") + textwrap.dedent("""
+            for _ in range(50):
+                try:
+                    con.execute(text, (9,))
+                except sqlite3.OperationalError as fault:
+                    print(str(fault)[:8])
+            """).encode())
+        out, said = self.play([*self.words, "2", "1"], status=9)
+        self.assertEqual((out, said.count("diverged: ")),
+                         (b"('Ada',)\n('Bo',)\n" + b"diverged\n" * 50, 1))
+
+    def test_call(self):
+        """The same statement by another call."""
+        text = read("program.py").replace(b"con.execute(", b"con.executemany(")
+        self.put("program.py", text)
+        self.assertIn("by executemany, and it was captured by execute\n",
+                      self.play([*self.words, "2", "1"], status=9)[1])
 
     def test_statement(self):
         text = read("program.py").replace(b"SELECT name", b"SELECT born")
@@ -596,6 +632,82 @@ class Log(Programs):
         lines = [re.sub(rb" at 0x[0-9a-f]+", b"", text).decode().split("\n") for text in (out, plain[1])]
         self.assertEqual(*lines)
         self.assertGreater(len(log.events), 8)
+
+    def test_again(self):
+        """The same text from several lines, connections and threads, in and out of a transaction, and with
+        other columns: each event has its own."""
+        words = self.program("""
+            from concurrent.futures import ThreadPoolExecutor
+            pools = [ThreadPoolExecutor(1), ThreadPoolExecutor(1)]
+            shared = sqlite3.connect("study.db", check_same_thread=False)
+            shared.row_factory = sqlite3.Row
+            text = "SELECT * FROM other"
+            for turn in range(3):
+                con.execute(text)
+                con.execute(text); con.execute("INSERT INTO other (x) VALUES (1)")
+                con.execute(text).fetchone()
+                con.rollback()
+                def ask():
+                    shared.execute(text)
+                for pool in pools:
+                    pool.submit(ask).result()
+                if turn == 1:
+                    con.execute("ALTER TABLE other ADD COLUMN y INT")
+            """)
+        status, _, log = self.log(words)
+        self.assertEqual(status, 0)
+        found = [(event.line, event.connection.number, event.in_transaction, event.thread, event.head,
+                  len(event.rows)) for event in log.events if event.text == "SELECT * FROM other"]
+        one, two = ("x",), ("x", "y")
+        expected = []
+        for head in (one, one, two):
+            expected += [(10, 1, False, 1, head, 0), (11, 1, False, 1, head, 0), (12, 1, True, 1, head, 1),
+                         (15, 2, False, 2, head, 0), (15, 2, False, 3, head, 0)]
+        self.assertEqual(found, expected)
+
+    def test_kinds(self):
+        """Rows are noted as the database gave them, whatever converters and factories make of them, also
+        where these change between two questions."""
+        words = self.program("""
+            text = "SELECT name FROM people WHERE id = 1"
+            print(con.execute(text).fetchone(), con.text_factory, con.row_factory)
+            con.text_factory = bytearray
+            print(con.execute(text).fetchone(), con.execute(text).fetchall())
+            con.text_factory = lambda data: [data]
+            print(con.execute(text).fetchmany(5))
+            con.text_factory = str
+            con.row_factory = lambda cursor, row: row
+            print(con.execute(text).fetchone(), list(con.execute(text)))
+            con.row_factory = sqlite3.Row
+            print(tuple(con.execute(text).fetchone()), con.row_factory)
+            dated = sqlite3.connect("study.db", 5, sqlite3.PARSE_DECLTYPES)
+            print(dated.execute("SELECT day FROM visits WHERE id = 1").fetchone())
+            """)
+        self.make()
+        expected = command(words)[1]
+        status, out, log = self.log(words)
+        self.assertEqual((status, out), (0, expected))
+        text = ("Ada",)
+        self.assertEqual([event.rows for event in log.events], [
+            [text], [(b"Ada",)], [(b"Ada",)], [(("list", [b"Ada"]),)], [text], [text], [text],
+            [(("date", "2019-01-02"),)]])
+
+    def test_memory(self):
+        """The recorder keeps nothing of a statement that is over."""
+        words = self.program("""
+            import gc
+            def ask():
+                for number in range(3_000):
+                    con.execute("SELECT id FROM people WHERE id = ?", (number,)).fetchone()
+                    con.execute("UPDATE other SET x = ?", (number,))
+                gc.collect()
+                return len(gc.get_objects())
+            ask()
+            print(ask() - ask())
+            """)
+        status, out, log = self.log(words)
+        self.assertEqual((status, len(log.events)), (0, 18_000))
+        self.assertLess(abs(int(out)), 100)
 
     def test_places(self):
         """Each statement has the line of the program that asks it, also through a library."""

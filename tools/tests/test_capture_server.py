@@ -17,7 +17,8 @@ TABLES = """import psycopg2, sys
 con = psycopg2.connect(sys.argv[1])
 con.autocommit = True
 cursor = con.cursor()
-cursor.execute("DROP SCHEMA public CASCADE; CREATE SCHEMA public")
+cursor.execute("DROP SCHEMA public CASCADE; CREATE SCHEMA public; DROP SCHEMA IF EXISTS away CASCADE; "
+               "CREATE SCHEMA away; CREATE TABLE away.people (id int)")
 cursor.execute('''
 CREATE TABLE people (id serial PRIMARY KEY, name text NOT NULL, born int, height numeric(4,2),
                      site varchar(10),
@@ -26,6 +27,10 @@ CREATE TABLE visits (id serial PRIMARY KEY, person integer REFERENCES people (id
                      at timestamp,
     weight double precision, note jsonb);
 CREATE TABLE other (x int);
+CREATE TABLE calls (id int PRIMARY KEY, at timestamptz);
+INSERT INTO calls VALUES (1, '2019-01-02 10:00+00'), (2, '2019-07-01 10:00+00');
+CREATE TABLE kinds (id int PRIMARY KEY);
+CREATE TABLE later (id int PRIMARY KEY, kind int REFERENCES kinds (id) DEFERRABLE INITIALLY DEFERRED);
 CREATE VIEW seen AS SELECT name FROM people;
 INSERT INTO people (name, born, height, site, joined) VALUES ('Ada', 1985, 1.7, 'north', '2019-01-02'),
     ('Bo', 1990, 1.82, 'south', '2020-05-06'), ('Cy', NULL, 1.65, 'north', NULL);
@@ -170,6 +175,39 @@ class Whole(Programs):
         self.assertIn("statements have the answers", said)
         self.assertNotIn("DELETE FROM visits WHERE id = 1", "".join(self.statements()))
 
+    def test_zones(self):
+        """Times come back in the zone of the session, in summer and in winter, and one that the program gives
+        in a third zone is the same instant."""
+        out, _ = self.whole("""
+            cursor = con.cursor()
+            cursor.execute("SET TIME ZONE 'Europe/Berlin'")
+            tokyo = datetime.timezone(datetime.timedelta(hours=9))
+            eve = datetime.datetime(2019, 12, 24, 18, tzinfo=tokyo)
+            cursor.execute("INSERT INTO calls VALUES (3, %s)", (eve,))
+            con.commit()
+            since = datetime.datetime(2019, 1, 2, 10, tzinfo=datetime.timezone.utc)
+            cursor.execute("SELECT id, at FROM calls WHERE at >= %s ORDER BY at", (since,))
+            for number, at in cursor:
+                print(number, at.isoformat())
+            """)
+        self.assertEqual(out, "1 2019-01-02T11:00:00+01:00\n2 2019-07-01T12:00:00+02:00\n"
+                         "3 2019-12-24T10:00:00+01:00\n")
+
+    def test_deferred(self):
+        """A commit that a deferred foreign key refuses undoes the transaction."""
+        out, _ = self.whole("""
+            cursor = con.cursor()
+            cursor.execute("INSERT INTO later VALUES (1, 77)")
+            try:
+                con.commit()
+            except psycopg2.IntegrityError as fault:
+                print(type(fault).__name__, fault.pgcode, con.get_transaction_status())
+            cursor.execute("SELECT COUNT(*) FROM later")
+            print(cursor.fetchone())
+            """)
+        self.assertEqual(out, "ForeignKeyViolation 23503 0\n(0,)\n")
+        self.assertFalse([line for line in self.statements() if "INSERT" in line])
+
     def test_named(self):
         """A view, a column that isn't carried, and what the dialect hasn't."""
         words = self.program("""
@@ -190,6 +228,30 @@ class Whole(Programs):
         self.record()
         self.assertEqual(self.play(words)[0], expected)
 
+    def test_elsewhere(self):
+        """A table of another schema, and another database of the server."""
+        words = self.program("""
+            cursor = con.cursor()
+            cursor.execute("SELECT people.name FROM public.people WHERE public.people.id = 1")
+            print(cursor.fetchall())
+            cursor.execute("SELECT id FROM away.people")
+            cursor.execute("SELECT id FROM postgres.away.people")
+            other = psycopg2.connect(sys.argv[1].replace("dbname=postgres", "dbname=template1")).cursor()
+            other.execute("SELECT * FROM generate_series(1, 3)")
+            print(other.fetchall())
+            """)
+        expected = self.plain(words)[1]
+        _, said = self.capture(words, status=1)
+        for line in ("program.py line 7: a table of away: SELECT id FROM away.people",
+                     "program.py line 8: a table of postgres.away: SELECT id FROM postgres.away.people",
+                     "program.py line 10: it asks another database, template1 at ",
+                     "3 of 4 statements can't be asked here"):
+            self.assertIn(line, said)
+        _, said = self.capture(words, "--skip-unreadable")
+        self.assertIn("3 statements not packed, and played back as seen\n", said)
+        self.record()
+        self.assertEqual(self.play(words)[0], expected)
+
     def test_diverged(self):
         words = self.program("""
             cursor = con.cursor()
@@ -204,9 +266,9 @@ class Whole(Programs):
 
     def test_no_server(self):
         words = self.program("pass\n")
-        done = subprocess.run([sys.executable, os.path.join(TOOLS, "capture.py"), "--postgres",
-                               "host=/nowhere", "-o",
-                               "world.json", "--", *words], stderr=subprocess.PIPE, check=False)
+        done = subprocess.run([sys.executable, os.path.join(TOOLS, "capture.py"), "--ldv", support.PROGRAM,
+                               "--postgres", "host=/nowhere", "-o", "world.json", "--", *words],
+                              stderr=subprocess.PIPE, check=False)
         self.assertEqual(done.returncode, 1)
         self.assertIn(b"/nowhere", done.stderr)
 

@@ -20,6 +20,22 @@ SCHEMAS = {"t": [("k", "INT NOT NULL"), ("g", "TEXT"), ("v", "INT")],
            "u": [("k", "INT"), ("w", "TEXT NOT NULL")]}
 BAD_LINE = re.compile(r"ldv: not a world: bad script line (\d+)\n")
 
+# Where each rule of a world is broken: what the place begins with.
+PLACES = {
+    "not json": r"line \d+ column \d+: |byte \d+ |it begins with a byte order mark|it is (?!a world)|"
+                r"the number \S+ is beyond|\w+\.\w+ has half a surrogate pair",
+    "shape": r"the document |files |start |seed |tables |(start|files)\[\d+\]|the (file|table) \"|"
+             r"(row|column|foreign key) \d+ of the table \"|(the kind of |the name of )?column \d+ |"
+             r"\w+ of the (file|table) \"|the (columns|parent) of foreign",
+    "name": r"the (path|table) \"|a (column|foreign key) of \w+ |the key of \w+ |\w+ has two columns |"
+            r"start has|the first start word ",
+    "limit": r"(bytes of .+|start words|tables|files|(columns|rows|foreign keys) of \w+): \d+; the limit is "
+             r"\d+$|\w+ has no column|next of \w+ is ",
+    "row type": r"row \d+ of \w+, column \w+, is ", "not null": r"row \d+ of \w+, column \w+, is null",
+    "key": r"row \d+ of \w+ has the key of row \d+: |the key of \w+ names \w+, ",
+    "reference": r"the foreign key \(.*\) of \w+ to \w+: |row \d+ of \w+ refers by ",
+    "no start": r"the first start word, \""}
+
 
 def bytes_of(text):
     return bytes.fromhex(text["hex"]) if isinstance(text, dict) else text.encode("utf-8", "surrogatepass")
@@ -78,6 +94,30 @@ class AgainstCases(InFolder):
                 questions_of(world_of_package(read_package(data)).world, read_outcome(output))
                 count += 1
         self.assertGreater(count, 50)
+
+    def test_worlds(self):
+        """Each world that the program refuses is refused by the same rule, with a place; each that it takes
+        is taken."""
+        refused, taken, seen = set(), 0, set()
+        for words, data, status, _, error in cases():
+            if words[:1] not in (["run"], ["record"]) or status == 2 or data in seen:
+                continue
+            seen.add(data)
+            found = re.fullmatch(r"ldv: not a world: (.*)\n", error)
+            got, out, err = tool(check, given=data)
+            said = re.search(r"(?m)^check\.py: no world: (.*)$", err)
+            if found is None:
+                self.assertIsNone(said, data)
+                taken += 1
+            elif BAD_LINE.fullmatch(error):
+                self.assertRegex(out.decode(), rf" line {found[1].split()[-1]}: bad: ..")
+                refused.add("bad script line")
+            else:
+                self.assertEqual((got, out), (1, b""), data)
+                self.assertRegex(said[1], rf"^{found[1]}: ({PLACES[found[1]]})", data)
+                refused.add(found[1])
+        self.assertEqual(refused, {*PLACES, "bad script line"})
+        self.assertGreater(taken, 2000)
 
     def test_other_outcomes(self):
         """An outcome of another world is found."""

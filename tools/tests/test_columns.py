@@ -154,6 +154,14 @@ class Files(InFolder):
 }
 """ % ("ab" * 32))
 
+    def test_collation(self):
+        """How a database compares the texts of a column is in the file."""
+        path = os.path.join(self.folder, "f.db")
+        make_database(path, "CREATE TABLE t (a TEXT COLLATE NOCASE, b TEXT, c TEXT COLLATE rtrim);")
+        made = json.loads(tool(world, "--sqlite", path, "--ask", "SELECT a FROM t")[1])
+        known = read_columns(made["files"][path_of("t")].encode())
+        self.assertEqual([column.collation for column in known.columns], ["NOCASE", "", "RTRIM"])
+
     def test_faults(self):
         """Each rule that a file can break; what isn't known is left alone."""
         plain = {"table": "t", "columns": [{"name": "a", "kind": "decimal", "scale": 1}]}

@@ -64,7 +64,8 @@ class Dialects(unittest.TestCase):
                 ("v NOTNULL AND v != ?", "v IS NOT NULL AND v <> ?"), ("v ISNULL OR v > ?",
                                                                        "v IS NULL OR v > ?"),
                 ('"v" = ? -- a comment', "v = ?"), ("[V] = ?", "v = ?"), ("`v` = ?", "v = ?"),
-                ("t.v = ?", "v = ?"), ("v", "v <> 0"), ("CAST(v AS INTEGER) = ?", "v = ?"),
+                ("t.v = ?", "v = ?"), ("main.t.v = ?", "v = ?"), ("v", "v <> 0"),
+                ("CAST(v AS INTEGER) = ?", "v = ?"),
                 ("v + 2 * 3 < -?", "v + 2 * 3 < -?"), ("v > ? AND TRUE", "v > ? AND 1 = 1")):
             with self.subTest(condition):
                 params = (4,) if "?" in condition else ()
@@ -212,7 +213,9 @@ class Dialects(unittest.TestCase):
                 ("SELECT id FROM t WHERE CAST(v AS TEXT) = '3'", "CAST"), ("SELECT ^ FROM t",
                                                                            "parts of values"),
                 ("SELECT MAX(v, 1) FROM t", "MAX of several"), ("SELECT id FROM other.t",
-                                                                "a table of other")):
+                                                                "a table of other"),
+                ("SELECT id FROM other.main.t", "a table of other.main"),
+                ("SELECT other.t.id FROM t", "a table of other")):
             with self.subTest(statement):
                 self.named(statement, reason)
 

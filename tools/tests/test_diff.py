@@ -60,6 +60,7 @@ class Differences(InFolder):
         self.assertEqual(self.compared(before, before), (0, b"", ""))
         for change, said in (
                 (dict(seed=7), b"seed: 0, and 7\n"),
+                (dict(start=["main", "a"]), b"start: main, and main a\n"),
                 (dict(files=[spelling.file("main", "exit 1")]), b"file main: 6 bytes, and 6 bytes\n"),
                 (dict(tables=[spelling.table("t", columns, next=5, rows=[spelling.row(0, 2)])]),
                  b"table t: 2 packed rows, and 1\n  - row 0: 1\n  + row 0: 2\n  - row 2: 3\n"),

@@ -197,6 +197,44 @@ class Documents(InFolder):
         self.assertEqual(printed.getvalue(), "docs/HERE.md:1: there is no docs/NONE.md\n"
                                              "docs/HERE.md:1: there is no docs/none\n")
 
+    def told(self, check):
+        with contextlib.redirect_stdout(io.StringIO()) as printed:
+            check(self.folder, check_docs.Differences())
+        return printed.getvalue()
+
+    def test_pages(self):
+        """A page or a heading that a program names and that isn't there is found, but for tests of tools."""
+        for folder in ("docs", "tools/tests", "bench"):
+            os.makedirs(os.path.join(self.folder, folder))
+        self.put("docs/HERE.md", "# A page\n\n## One part\n")
+        self.put("ldv", "# docs/HERE.md\n# docs/GONE.md\n")
+        self.put("tools/a.py", '"docs/HERE.md#one-part docs/HERE.md. https://a.org/docs/GONE.md"\n')
+        self.put("bench/b.sh", "# \n# docs/HERE.md#two\n")
+        self.put("tools/tests/test_a.py", '"docs/GONE.md"\n')
+        self.assertEqual(self.told(check_docs.check_pages),
+                         "bench/b.sh:2: docs/HERE.md has no heading two\n"
+                         "ldv:2: the link docs/GONE.md leads nowhere\n")
+
+    def test_lengths(self):
+        """A document that is longer than it may be is found, and one that is just as long isn't."""
+        os.makedirs(os.path.join(self.folder, "docs/internals/notes"))
+        for name, most in (("README.md", 130), ("docs/internals/ARCHITECTURE.md", 350),
+                           ("docs/internals/notes/gate.md", 100)):
+            self.put(name, "line\n" * most)
+        self.assertEqual(self.told(check_docs.check_lengths), "")
+        self.put("README.md", "line\n" * 131)
+        self.assertEqual(self.told(check_docs.check_lengths),
+                         "README.md:131: 131 lines, and 130 are the most\n")
+
+    def test_indexes(self):
+        """A page that the index of its folder doesn't lead to is found."""
+        os.makedirs(os.path.join(self.folder, "docs/internals"))
+        for name in ("SQL.md", "ldv.1", "internals/CASES.md"):
+            self.put("docs/" + name, "text\n")
+        self.put("docs/README.md", "[SQL](SQL.md#texts), [ldv.1](ldv.1), [engineers](internals/README.md)\n")
+        self.put("docs/internals/README.md", "[SQL](../SQL.md), `CASES.md`\n")
+        self.assertEqual(self.told(check_docs.check_indexes),
+                         "docs/internals/README.md:1: CASES.md is missing\n")
 
     def test_versions(self):
         """The files that name the version name one."""

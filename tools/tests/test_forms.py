@@ -43,6 +43,13 @@ class Numbers(Forms):
         self.assertEqual(self.words_said(["80 kg", "7 kg"], "--unit t.a=kg"), [80, 7])
         err = self.said(self.column(["5%", "7", ""]), "--delimiter", ";", "--unit", "t.a=%")
         self.assertIn("t.a: 1 of 2 cells have no %, and are read as if they had it", err)
+        path = os.path.join(self.folder, "f.db")
+        make_database(path, "CREATE TABLE t (a REAL, b TEXT); INSERT INTO t VALUES (1.5, '2 m'), (2.5, '3');")
+        words = ["--sqlite", path, "--scale", "t.a=1", "--unit", "t.a=kg", "--unit", "t.b=m", *ASK]
+        status, out, err = tool(world, *words)
+        self.assertEqual((status, json.loads(out)["tables"]["t"]["rows"]), (0, [[15, 2], [25, 3]]), err)
+        self.assertNotIn("have no kg", err)
+        self.assertIn("t.b: 1 of 2 cells have no m, and are read as if they had it", err)
         self.csv_refused("column a: '5x' is no whole number", "a\n5%\n5x\n", "--unit", "t.a=%")
         for cells in (["5%", "7 kg"], ["A12", "B7"], ["12a", "13b"], ["1.2.3", "1.2.4"], ["Bergen 1", "Oslo"],
                       ["0150", "0170", "NA"]):

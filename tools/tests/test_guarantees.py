@@ -33,6 +33,25 @@ class Guarantees(InFolder):
             check_docs.check_guarantees(self.folder, check_docs.Differences())
         return printed.getvalue()
 
+    def test_assumed(self):
+        """A library that a crate uses is in its table, in a row of what is assumed."""
+        def told(row):
+            self.put(check_docs.GUARANTEES, "## [`low`](../crates/low/src/lib.rt)\n\n| | | |\n|---|---|---|\n"
+                                            f"| Proved | sums | |\n{row}\n\n## Trusted\n\n`itoa`, `hex`\n")
+            with contextlib.redirect_stdout(io.StringIO()) as printed:
+                check_docs.check_kit({"low": ["itoa", "hex"]}, check_docs.Differences(), self.folder)
+            return printed.getvalue()
+        self.put(check_docs.ARCHITECTURE, "| Library | For | Used by |\n|---|---|---|\n| `itoa` | a | low |\n"
+                                          "| `hex` | b | low |\n")
+        for row in ("| Assumed | what `itoa` and `hex` say | |",
+                    "| Assumed | what `itoa` says | |\n| | what `hex` says | |\n| Tested only | sums | |"):
+            self.assertEqual(told(row), "", row)
+        for row in ("| Assumed | what `itoa` says | |",
+                    "| Assumed | what `itoa` says | |\n| Tested only | `hex` | |",
+                    "| Assumed | what `itoa` says | `hex` |"):
+            self.assertEqual(told(row), f"{check_docs.GUARANTEES}:1: the table of low assumes nothing of "
+                                        "hex\n", row)
+
     def test_promises(self):
         """A function is one of the crate; in brackets are clauses, what they cite, and fields of that."""
         for cell in ("`Sum::add` (`ok`, `small`, `IsSum`)", "`law` (`SumLaw`, `same`, `one`), `add`", "`Sum`",

@@ -118,6 +118,145 @@ class Mess(InFolder):
         base.close()
         other.close()
 
+    def test_sites(self):
+        """Two files, one with a byte order mark: cells with line feeds, delimiters and quotes, clock times, a
+        station that isn't in the other file."""
+        chance, remarks = random.Random(3), ["trüb; Ölfilm", 'sagt "klar"', "siehe\nProtokoll", "ok"]
+        rows = [(number, f"S{chance.randint(1, 6)}", f"{chance.randint(0, 23)}:{chance.randint(0, 59):02}",
+                 remarks[number % 4]) for number in range(1, 101)]
+        sites = [(f"S{number}", town, 10 * number) for number, town in
+                 enumerate(["Köln", "Bonn", "Mainz", "Köln", "Trier", "Worms", "Speyer"], 1) if number != 6]
+        text = io.StringIO(newline="")
+        writer = csv.writer(text, delimiter=";", lineterminator="\r\n")
+        writer.writerows([("Nr", "Stelle", "Zeit", "Bemerkung"), *rows])
+        samples = self.put("Proben.csv", text.getvalue().encode("cp1252"))
+        text = "".join(";".join(map(str, row)) + "\r\n" for row in [("Id", "Ort", "Km"), *sites])
+        stations = self.put("Messstellen.csv", text.encode("utf-8-sig"))
+        words = ["--csv", samples, "--csv", stations]
+        options = world.accepted(tool(world, "--propose", *words)[1].decode(), "p")
+        options.remove("--look")
+        base = sqlite3.connect(":memory:")
+        self.addCleanup(base.close)
+        base.execute("CREATE TABLE proben (nr INT, stelle TEXT, zeit TEXT, bemerkung TEXT)")
+        base.execute("CREATE TABLE messstellen (id TEXT, ort TEXT, km INT)")
+        base.executemany("INSERT INTO proben VALUES (?, ?, ?, ?)", [
+            (number, site, time.rjust(5, "0"), remark) for number, site, time, remark in rows])
+        base.executemany("INSERT INTO messstellen VALUES (?, ?, ?)", sites)
+        sql = ["SELECT m.ort, COUNT(*) AS n, SUM(m.km) AS s FROM proben p JOIN messstellen m ON p.stelle = "
+               "m.id GROUP BY m.ort ORDER BY ort",
+               "SELECT nr FROM proben WHERE zeit < '07:30' ORDER BY nr",
+               "SELECT nr FROM proben WHERE bemerkung IN ('trüb; Ölfilm', 'sagt \"klar\"') ORDER BY nr",
+               "SELECT nr FROM proben WHERE bemerkung LIKE 'tr%' OR stelle = 'S6' ORDER BY nr",
+               "SELECT bemerkung, COUNT(*) FROM proben GROUP BY bemerkung ORDER BY bemerkung"]
+        found, err = self.replies(*options, sql=sql)
+        self.compared(base, found, sql)
+        self.assertNotIn("warning", err)
+        # Times are given back as they were written.
+        shown = self.shown(*options, sql="SELECT nr, zeit FROM proben ORDER BY nr")
+        self.assertEqual([row[1] for row in shown], [time for _, _, time, _ in rows])
+        # What would be another number is named: the one with a line feed, the join of others, the station.
+        for condition, said in (
+                ("bemerkung = 'siehe Protokoll'", "look like 'siehe Protokoll' and are other"),
+                ("zeit < '7:30'", "'07:30'")):
+            _, err = self.replies(*options, sql=[f"SELECT COUNT(*) FROM proben WHERE {condition}"])
+            self.assertIn(said, err)
+        query = self.put("q.sql", "SELECT id FROM messstellen ANTI JOIN proben ON stelle = id")
+        self.refused("this is an inner join", *options, "--sql", query)
+        place = next(place for place, row in enumerate(rows) if row[1] == "S6")
+        line = 2 + place + sum("\n" in row[3] for row in rows[:place])
+        self.refused(f"Proben.csv line {line} ", *options, "--key", "messstellen=id", "--foreign",
+                     "proben.stelle=messstellen", "--ask", "SELECT nr FROM proben")
+
+    def shown(self, *words, sql):
+        """The cells of a reply, as they are shown."""
+        path = os.path.join(self.folder, "w.json")
+        status, _, err = tool(world, *words, "--ask", sql, "-o", path)
+        self.assertEqual(status, 0, err)
+        result = self.put("w.outcome", ldv(["run"], read(path))[1])
+        out = tool(outcome, "--csv", "--reply", "1", "--world", path, result)[1].decode()
+        return list(csv.reader(io.StringIO(out)))[1:]
+
+    def test_program(self):
+        """A program of its own gives the same over the database and over that which its package makes."""
+        path, chance = os.path.join(self.folder, "field.db"), random.Random(4)
+        make_database(path, """
+            CREATE TABLE site (id INTEGER PRIMARY KEY, name TEXT UNIQUE, area NUMERIC, twice INT AS (id * 2));
+            CREATE TABLE "Survey" (id INTEGER PRIMARY KEY, site INT REFERENCES site (id) ON DELETE CASCADE,
+                dist REAL, "Order" TEXT, red_list TEXT COLLATE NOCASE, seen DATE);
+            CREATE TABLE note (site INT, at TEXT, text TEXT, PRIMARY KEY (site, at)) WITHOUT ROWID;
+            CREATE VIEW far AS SELECT * FROM "Survey" WHERE dist > 100;
+            CREATE TRIGGER g AFTER INSERT ON note BEGIN DELETE FROM note WHERE text = ''; END;
+            """ + "".join(f"INSERT INTO site (id, name, area) VALUES ({n}, 'site {n}', {n * 25 / 2});"
+                          for n in range(1, 8)) + "".join(
+            f"INSERT INTO Survey VALUES ({n}, {chance.randint(1, 6)}, {chance.randint(1, 99999) / 1000}, "
+            f"'o{n % 3}', '{chance.choice(['LC', 'lc', 'VU'])}', '2024-{chance.randint(1, 12):02}-03');"
+            for n in range(90)) + "".join(f"INSERT INTO note VALUES ({n % 4}, 'at {n}', 'n');"
+                                          for n in range(9)))
+        program = [
+            "SELECT s.name, COUNT(DISTINCT v.\"Order\"), AVG(v.dist) FROM site s LEFT JOIN Survey v ON "
+            "v.site = s.id GROUP BY s.name ORDER BY s.name",
+            "SELECT strftime('%m', seen), SUM(dist) FROM Survey GROUP BY 1 ORDER BY 1",
+            "SELECT site, RANK() OVER (ORDER BY AVG(dist) DESC) FROM Survey GROUP BY site ORDER BY site",
+            "SELECT COUNT(*) FROM Survey WHERE red_list = 'LC'", "SELECT SUM(area), MAX(area) FROM site",
+            "SELECT red_list, COUNT(*) FROM Survey GROUP BY upper(red_list), red_list ORDER BY 2, 1",
+            "SELECT id FROM Survey WHERE dist BETWEEN 10.5 AND 50.25 ORDER BY id",
+            "SELECT site, at, text FROM note ORDER BY site, at", "SELECT name, twice FROM site ORDER BY name"]
+        words = ["--sqlite", path, "--tidy", "--scale", "survey.dist=3", "--scale", "site.area=1"]
+        asks = [word for name in ("site", "survey", "note") for word in ("--ask", f"SELECT * FROM {name}")]
+        status, _, err = tool(world, *words, *asks, "-o", os.path.join(self.folder, "w.json"))
+        self.assertEqual(status, 0, err)
+        for said in ("the view far isn't carried", "the trigger g of note isn't carried",
+                     "twice is GENERATED", "UNIQUE (name) isn't carried", "COLLATE NOCASE isn't carried"):
+            self.assertIn(said, err)
+        packed = self.put("w.package", ldv(["record"], read(os.path.join(self.folder, "w.json")))[1])
+        again = os.path.join(self.folder, "again.db")
+        self.assertEqual(tool(package, "--sqlite", again, packed), (0, b"", ""))
+        one, other = sqlite3.connect(path), sqlite3.connect(again)
+        self.addCleanup(one.close)
+        self.addCleanup(other.close)
+        for text in program:
+            self.assertEqual(other.execute(text).fetchall(), one.execute(text).fetchall(), text)
+
+    def test_authors(self):
+        """Three files of two delimiters: a word among the years, quotes and backslashes, blanks that aren't
+        seen."""
+        odd = ["O'Neil", 'the "best"', "back\\slash", "a\u00a0b", "ze\u200bro", "soft\u00ady", "Иванов", "王",
+               "عمر"]
+        pubs = [(number, odd[number % 9], "in press" if number % 30 == 0 else str(2000 + number % 7))
+                for number in range(1, 91)]
+        self.put("pubs.tsv", "id\tauthor\tyear\n" + "".join("\t".join(map(str, row)) + "\n" for row in pubs))
+        lands = [(name, f"C{number % 3}") for number, name in enumerate(odd)]
+        self.put("authors.tsv", "name\tcountry\n" + "".join(f"{name}\t{land}\n" for name, land in lands))
+        self.put("done.csv", "id,ok\n" + "".join(f"{number},{number % 2}\n" for number in range(1, 91, 4)))
+        words = [word for name in ("pubs.tsv", "authors.tsv", "done.csv")
+                 for word in ("--csv", os.path.join(self.folder, name))]
+        proposed = tool(world, "--propose", *words)[1].decode()
+        options = world.accepted(proposed, "p")
+        options.remove("--look")
+        base = sqlite3.connect(":memory:")
+        self.addCleanup(base.close)
+        base.executescript("CREATE TABLE pubs (id INT, author TEXT, year INT); CREATE TABLE authors (name "
+                           "TEXT, country TEXT); CREATE TABLE done (id INT, ok INT);")
+        base.executemany("INSERT INTO pubs VALUES (?, ?, ?)", [
+            (number, name, None if year == "in press" else int(year)) for number, name, year in pubs])
+        base.executemany("INSERT INTO authors VALUES (?, ?)", lands)
+        base.executemany("INSERT INTO done VALUES (?, ?)", [
+            (number, number % 2) for number in range(1, 91, 4)])
+        sql = ["SELECT year, COUNT(*) FROM pubs WHERE year BETWEEN 2001 AND 2004 GROUP BY year ORDER BY year",
+               "SELECT COUNT(*) FROM pubs WHERE year IS NULL",
+               "SELECT a.country, COUNT(*) AS n FROM pubs p JOIN authors a ON p.author = a.name GROUP BY "
+               "a.country ORDER BY country",
+               "SELECT p.id FROM pubs p JOIN done d ON p.id = d.id WHERE d.ok == 1 AND p.year > 2002 ORDER "
+               "BY 1",
+               "SELECT id FROM pubs WHERE author = 'O''Neil' ORDER BY id",
+               "SELECT id FROM pubs WHERE author = 'the \"best\"' OR author = 'back\\slash' ORDER BY id",
+               "SELECT author, MIN(year) FROM pubs GROUP BY author ORDER BY author"]
+        self.assertIn("'pubs.year=in press'", proposed)
+        found, err = self.replies(*options, sql=sql)
+        self.compared(base, found, sql)
+        _, err = self.replies(*options, sql=["SELECT COUNT(*) FROM pubs WHERE author = 'a b'"])
+        self.assertIn("look like 'a b' and are other texts", err)
+
     def test_texts(self):
         """A table of several scripts, with two spellings of a name: groups are named, and --plain joins
         them."""

@@ -4,13 +4,14 @@ import json
 import os
 import random
 
-from ldvtools import check, diff, join, outcome, package, page, prov, world
+from ldvtools import check, diff, join, orders, outcome, package, page, picture, prov, world
 from ldvtools.provenance import Edge, Node, Provenance, document_text
 from ldvtools.packages import read_package
 from ldvtools.trace import graph_of
 
-from .support import InFolder, tool
+from .support import InFolder, make_database, read, tool
 from .test_as_read import FILES, KINDS, OUTCOME, ROWS, SCRIPT, packed
+from .test_picture import TRACE
 from .test_proposal import SAMPLES
 
 COUNT = int(os.environ.get("LDV_MUTATED", "1000"))
@@ -18,6 +19,14 @@ BITS = [b"", b"\0", b"\xff", b"{", b"}", b'"', b"'", b";", b",", b"\n", b"\r", b
         b"null",
         b"[[[[", b"\xc3", "ü".encode(), b"1e999", b"NaN", b"\\ud800", b"AVG(", b"BETWEEN", b"%", b"0.5",
         b"\t"]
+# A database with what a world has not: a view, a trigger, a column that is computed, a collation.
+BASE = """PRAGMA page_size = 512;
+CREATE TABLE a (id INTEGER PRIMARY KEY, lat REAL, name TEXT COLLATE NOCASE, part BLOB, day DATE);
+CREATE TABLE b (a INT REFERENCES a (id) ON DELETE CASCADE, "Order" TEXT, twice INT AS (a * 2) STORED);
+CREATE VIEW v AS SELECT id, lat FROM a;
+CREATE TRIGGER g AFTER INSERT ON b BEGIN DELETE FROM b WHERE a < 0; END;
+INSERT INTO a VALUES (1, 1.25, 'Müller', NULL, '2024/03/11'), (2, 0.5, 'a b', x'00ff', '2024/04/11');
+INSERT INTO b (a, "Order") VALUES (1, 'x'), (2, NULL);"""
 
 
 def mutated(data, chance):
@@ -105,6 +114,34 @@ class Mutated(InFolder):
             yield join, [one,
                          self.put("c", (sealed if number % 2 else mutated)(self.packed, self.chance))], b""
             yield prov, ["--replies"], mutated(text.encode(), self.chance)
+
+        self.tried(calls)
+
+    def test_reports(self):
+        """picture.py over the reports of a trace, orders.py over packages."""
+        rows, depends = "t 0 0 L\nt 7 0 H\n", "path main\nprocess 0.0\nrow t 0 0\nask 0\nreply 0\n"
+
+        def calls(number):
+            given = [mutated(text.encode(), self.chance) if number % 3 == place else text
+                     for place, text in enumerate((TRACE, rows, depends))]
+            names = [self.put(f"report {place}", text) for place, text in enumerate(given)]
+            yield picture, ["--rows", names[1], "--depends", names[2], names[0]], b""
+            yield orders, [], (sealed if number % 2 else mutated)(self.packed, self.chance)
+
+        self.tried(calls)
+
+    def test_databases(self):
+        """world.py over a database of SQLite whose bytes were changed, whole or at its pages alone."""
+        path = os.path.join(self.folder, "whole.db")
+        make_database(path, BASE)
+        whole, shown = read(path), ["--no-check", "--propose", "--tidy", "--lower"]
+
+        def calls(number):
+            # The first 100 bytes say what the file is; with them changed nothing behind them is read.
+            begin = 0 if number % 4 == 0 else 100
+            name = self.put("f.db", whole[:begin] + mutated(whole[begin:], self.chance))
+            yield world, ["--sqlite", name, *shown[number % 4:number % 4 + 1], "--scale", "a.lat=2", "--ask",
+                          "SELECT id FROM a", "-o", os.path.join(self.folder, "w.json")], b""
 
         self.tried(calls)
 

@@ -102,7 +102,7 @@ file bb was removed
         for old, new, message in (
                 (b"outcome 3", b"outcom 3", "byte 0 (line 1)"),
                 (b"outcome 3", b"outcome 0", "the number of processes"),
-                (b"outcome 3", b"outcome 03", "outcome P F is due"),
+                (b"outcome 3", b"outcome 03", "'outcome 03 2' where outcome P F is due"),
                 (b"outcome 3", b"outcome 2", "file A N"),
                 (b"outcome 3 2", b"outcome 3 1", "more bytes follow"),
                 (b"outcome 3 2", b"outcome 3 3", "the input ends"),

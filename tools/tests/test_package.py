@@ -407,7 +407,7 @@ it made 1 version of rows of t
                            ("SELECT k FROM u", "will be refused with code 2: there is no table u"),
                            ("SELECT h FROM t", "will be refused with code 3: there is no column h"),
                            ("SELECT k FROM t WHERE g = 1", "will be refused with code 4")):
-            status, out, err = tool(package, "--world", "--ask", text, self.path)
+            status, out, err = tool(package, "--world", "--as-written", "--ask", text, self.path)
             self.assertEqual((status, json.loads(out)["start"]), (0, ["main"]))
             self.assertIn("package.py: warning: --ask 1: the statement " + said, err)
             self.assertIn(f"\n    {text}\n    ", err)

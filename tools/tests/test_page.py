@@ -219,6 +219,41 @@ class Browsers(PageMaker):
         self.assertEqual(browser.texts("#came-none"), ["It came from nothing: the run never wrote it."])
         self.assertEqual(browser.problems(), [])
 
+    def test_came_first(self):
+        """Files that the run wrote are the first that can be chosen, then come replies, then other files; and
+        what the first of all came from is there without a click."""
+        browser = self.opened(orders(), outcome=read(f"{EXAMPLES}/orders.outcome"))
+        found = browser.texts("#came-path option")
+        self.assertEqual(found[:1], ["report.txt (written)"])
+        self.assertEqual([text[:9] for text in found[1:4]], [f"reply {number}: " for number in range(3)])
+        self.assertEqual(found[4:], ["main.ldv", "new.csv", "report.ldv"])
+        self.assertEqual(browser.value("document.getElementById('came-path').value"), "path:report.txt")
+        self.assertEqual(browser.named("li[data-node]", "data-node"),
+                         graph_of(read_package(orders())).depends("report.txt"))
+        self.assertEqual(browser.problems(), [])
+
+    def test_came_replies(self):
+        """Where no file was written, it is shown of each reply what it came from: its statement and rows, the
+        replies that its process had before, and what these came from."""
+        rows = [spelling.row(number, number, statement=number // 2) for number in range(3)]
+        needs = [[spelling.read(0), spelling.read(1)], [spelling.read(2)]]
+        trace = [spelling.started(), *(spelling.asked(place, 1 + place, tables=["t"],
+                                                      reads=[spelling.group("t", *each)])
+                                       for place, each in enumerate(needs)), spelling.ended(3)]
+        data = spelling.encode(spelling.package(
+            steps=3, files=[spelling.file("main", 'sql q "SELECT k FROM t WHERE k < 2"\n'
+                                          'sql q "SELECT k FROM t WHERE k = 2"\n')],
+            tables=[spelling.table("t", [spelling.column("k")], next=3, rows=rows)], trace=trace))
+        browser = self.opened(data)
+        self.assertEqual(browser.texts("#came-path option"), [
+            "reply 0: SELECT k FROM t WHERE k < 2", "reply 1: SELECT k FROM t WHERE k = 2", "main"])
+        first = ["path main", "process 0", "row t 0 0", "row t 1 0", "ask 0"]
+        self.assertEqual(browser.named("li[data-node]", "data-node"), first)
+        browser.value("document.getElementById('came-path').selectedIndex = 1; showCame()")
+        self.assertEqual(browser.named("li[data-node]", "data-node"),
+                         [*first[:4], "row t 2 0", "ask 0", "ask 1", "reply 0"])
+        self.assertEqual(browser.problems(), [])
+
     def test_saved(self):
         """Tables and files are saved as they are."""
         browser = self.opened(orders(), outcome=read(f"{EXAMPLES}/orders.outcome"))
@@ -260,23 +295,60 @@ class Browsers(PageMaker):
         self.assertEqual(browser.problems(), [])
 
 
+    def test_without_program(self):
+        """Without the program the page shows statements as they are written, and rows; of a package of
+        replies each statement as it was asked, and its reply."""
+        browser = self.opened(orders())
+        texts = browser.texts('tr[data-statement="0"] div.written > *')
+        self.assertEqual(texts, ["INSERT INTO orders VALUES (?, ?, ?, 1)", "with id, who, line",
+                                 "as written in main.ldv, line 9"])
+        self.assertEqual(len(browser.texts("tr[data-statement] code")), 3)
+        browser.click('tr[data-statement="2"]')
+        self.assertEqual(browser.texts("#detail ~ div.written div.params"), ["with arg1"])
+        self.assertEqual(browser.texts("tr[data-row] td")[:3], ["0", "1", "Ada"])
+        self.assertEqual(browser.problems(), [])
+        browser = self.opened(orders(2))
+        self.assertEqual(browser.texts('tr[data-statement="2"] .params'), ["with 1"])
+        self.assertEqual(browser.texts('tr[data-statement="2"] table.preview tr')[1:], ["Ada14"])
+        self.assertEqual(browser.texts("div.written"), [])
+
+    def test_order(self):
+        """Processes stand in the order in which they were made, whoever of them acts first."""
+        trace = [spelling.started(), *(spelling.spawned(step, 0) for step in range(1, 12)),
+                 *(spelling.act("read", "f", 12 + 11 - child, child) for child in range(11, 0, -1)),
+                 spelling.ended(30)]
+        browser = self.opened(spelling.encode(spelling.package(steps=30, trace=trace)))
+        names = ["0", *(f"0.{number}" for number in range(11))]
+        lanes = [name for name in browser.named("svg#time text[data-lane]", "data-lane")
+                 if name.startswith("process ")]
+        self.assertEqual(lanes, [f"process {name}" for name in names])
+        tops = browser.value("[...document.querySelectorAll('svg#time text[data-lane^=process]')]"
+                             ".map(each => each.getBoundingClientRect().top)")
+        self.assertEqual(tops, sorted(tops))
+        self.assertEqual(browser.named("div[data-process]", "data-process"), names)
+
+
 @unittest.skipUnless(chromium.program(), "chromium isn't installed")
 class Looks(PageMaker):
     """How a page looks: a package that says what its columns are, with its replies, at three widths."""
 
     # Which cells have numbers or short texts over several lines; which lie beyond their picture or the page.
     BROKEN = """[...document.querySelectorAll('td.number, td.short')].filter(cell => {
-      const range = document.createRange(); range.selectNodeContents(cell);
-      const tops = new Set([...range.getClientRects()].filter(r => r.width > 0).map(r => Math.round(r.top)));
+      const range = document.createRange(), tops = new Set();
+      const walker = document.createTreeWalker(cell, NodeFilter.SHOW_TEXT);
+      while (walker.nextNode()) {
+        range.selectNodeContents(walker.currentNode);
+        for (const box of range.getClientRects()) if (box.width > 0) tops.add(Math.round(box.top));
+      }
       return tops.size > 1; }).map(cell => cell.textContent)"""
     CUT = """[...document.querySelectorAll('svg#time text.axis')].filter(text => {
       const box = text.getBoundingClientRect(), all = text.ownerSVGElement.getBoundingClientRect();
       return box.right > all.right + 1 || box.left < all.left - 1; }).map(text => text.textContent)"""
-    NAMELESS = """[...document.querySelectorAll('button, a[href], input, select, svg[role=img]')]
-      .filter(each =>
-      !(each.textContent.trim() && each.tagName !== 'SELECT' && each.tagName !== 'svg')
-      && !each.getAttribute('aria-label') && !each.closest('label'))
-      .map(each => each.outerHTML.slice(0, 80))"""
+    # What a key reaches, in the order of the page.
+    REACHED = "a[href], button:enabled, input:enabled, select, summary, [tabindex='0']"
+    # The roles that a screen reader reads out by their names, as Chromium calls them.
+    NAMED = {"button", "link", "checkbox", "spinbutton", "combobox", "ComboBoxSelect", "textbox", "image",
+             "img", "columnheader", "DisclosureTriangle", "navigation", "heading", "option"}
 
     def page_at(self, width):
         path = self.made(self.data, outcome=self.outcome)
@@ -315,17 +387,69 @@ class Looks(PageMaker):
                                                                 "n FROM t")
         self.assertIn("3 rows", browser.texts("#came-count")[0])
 
+    def press(self, browser, key, code):
+        for kind in ("rawKeyDown", "char", "keyUp"):
+            text = {"text": "\r"} if kind == "char" and key == "Enter" else {}
+            if kind != "char" or text:
+                browser.send("Input.dispatchKeyEvent", type=kind, key=key, code=key,
+                             windowsVirtualKeyCode=code, **text)
+
     def test_keyboard(self):
-        """A statement is chosen by the keyboard alone, and each control has a name that can be read out."""
+        """By the keyboard alone: Tab reaches each control, in the order of the page and with a frame around
+        it; Enter shows a statement, and what a file came from."""
         browser = self.page_at(1280)
-        browser.value("document.querySelector('tr[data-statement=\"0\"]').focus()")
-        browser.send("Input.dispatchKeyEvent", type="keyDown", key="Enter", code="Enter",
-                     windowsVirtualKeyCode=13,
-                     text="\r")
-        self.assertEqual(browser.named("tr[aria-expanded=true]", "data-statement"), ["0"])
+        browser.send("Emulation.setFocusEmulationEnabled", enabled=True)
+        browser.value(f"window.controls = [...document.querySelectorAll({json.dumps(self.REACHED)})]"
+                      ".filter(each => each.checkVisibility()); 1")
+        count, reached, framed = browser.value("controls.length"), [], set()
+        for _ in range(2 * count):
+            self.press(browser, "Tab", 9)
+            place, style = browser.value("[controls.indexOf(document.activeElement), "
+                                         "getComputedStyle(document.activeElement).outlineStyle]")
+            if place >= 0:
+                reached.append(place)
+                framed.add(style)
+            if place == count - 1:
+                break
+        self.assertEqual(reached, list(range(count)))
+        self.assertGreater(count, 10)
+        self.assertEqual(framed, {"solid"})
+        browser.value("document.querySelector('tr[data-statement=\"0\"] button').focus()")
+        self.press(browser, "Enter", 13)
+        self.assertEqual(browser.named("tr:has(button[aria-expanded=true])", "data-statement"), ["0"])
         self.assertEqual(len(browser.texts("#detail")), 1)
-        self.assertEqual(browser.value(self.NAMELESS), [])
-        self.assertEqual(browser.value("document.documentElement.lang"), "en")
+        self.assertEqual(browser.value("document.activeElement.getAttribute('aria-label')"), "statement 0")
+        self.press(browser, "Enter", 13)
+        self.assertEqual(browser.texts("#detail"), [])
+        browser.value("document.querySelector('g[data-box^=\"path main\"]').focus()")
+        self.press(browser, "Enter", 13)
+        self.assertEqual(browser.value("document.getElementById('came-path').value"), "path:main")
+        self.assertEqual(browser.value("document.activeElement.id"), "came-path")
+        self.assertEqual(browser.problems(), [])
+
+    def names_of(self, browser):
+        """The role and the name of all that a screen reader finds, as the browser gives them to it."""
+        found = browser.send("Accessibility.getFullAXTree")["nodes"]
+        return [(node["role"]["value"], node.get("name", {}).get("value", "").strip())
+                for node in found if not node["ignored"]]
+
+    def test_read_out(self):
+        """Each control, picture and head has a name that is read out, and no two buttons for other things
+        have one; and the rules of read_out.js hold, before and after a statement is chosen."""
+        rules = read(os.path.join(os.path.dirname(__file__), "read_out.js")).decode()
+        for data, outcome in ((self.data, self.outcome), (orders(), None), (orders(2), None)):
+            browser = chromium.Browser(self.made(data, outcome=outcome))
+            self.addCleanup(browser.close)
+            browser.send("Accessibility.enable")
+            for selector in ("h1", 'tr[data-statement="0"]'):
+                browser.click(selector)
+                self.assertEqual(browser.value(rules), [])
+                found = self.names_of(browser)
+                self.assertEqual([role for role, name in found if role in self.NAMED and not name], [])
+                names = {name for role, name in found if role == "button"}
+                self.assertIn("statement 0", names)
+                self.assertFalse(names & {"save", "content"}, names)
+            self.assertEqual(browser.problems(), [])
 
 
 class WithoutProgram(PageMaker):
@@ -343,3 +467,33 @@ class WithoutProgram(PageMaker):
         self.assertEqual([each["text"] for each in self.data_of(path)["statements"]], [None])
         shown = self.data_of(self.made(packed(ROWS), "--raw"))
         self.assertEqual(shown["tables"][0]["rows"][1][3:6], [2, "2024-12-03", 1250])
+
+    def test_loops(self):
+        """Of a script that loops the statements are shown that it has, each with its parameters as they are
+        written; a statement of other tables is none of them."""
+        shown = self.data_of(self.made(orders()))
+        files = json.loads(read(f"{EXAMPLES}/orders.json"))["files"]
+        written = [shown["written"][place] for each in shown["statements"] for place in each["written"]]
+        self.assertEqual([(path, params) for path, _, _, params in written],
+                         [("main.ldv", ["id", "who", "line"])] * 2 + [("report.ldv", ["arg1"])])
+        for path, line, text, params in written:
+            self.assertRegex(files[path].split("\n")[line - 1].strip(),
+                             rf'^sql \w+ "{re.escape(text)}" {" ".join(params)}$')
+        self.assertEqual({each["text"] for each in shown["statements"]}, {None})
+
+    def test_several(self):
+        """Where a statement may be one of several, it is told which: of the tables that the trace names."""
+        number = spelling.column("k", "INT NOT NULL")
+        tables = [spelling.table("c", [number], foreign=[spelling.foreign([0], "p")]),
+                  spelling.table("p", [number], [0]), spelling.table("t", [number])]
+        lines = ["a:", 'sql q "SELECT k FROM t"', 'sql q "SELECT k FROM t WHERE k = ?" x',
+                 'sql q "DELETE FROM t"', 'sql q "SELECT k FROM p"', 'sql q "SELECT k FROM absent"',
+                 'sql q "SELEC"', "sql q x", 'sql q "SELECT k FROM c"', 'sql q "SELECT k FROM t"', "goto a"]
+        trace = [spelling.started(), spelling.asked(0, 2, tables=["t"]), spelling.asked(1, 3, tables=["p"]),
+                 spelling.asked(2, 4), spelling.asked(3, 5, tables=["c", "p"]), spelling.ended(6)]
+        data = spelling.encode(spelling.package(2, steps=6, files=[spelling.file("main", "\n".join(lines))],
+                                                tables=tables, trace=trace))
+        shown = self.data_of(self.made(data))
+        found = [[shown["written"][place][1] for place in each["written"]] for each in shown["statements"]]
+        # The one of a computed text, on line 8, may be each.
+        self.assertEqual(found, [[2, 3, 4, 8], [5, 8], [6, 7, 8], [8, 9]])

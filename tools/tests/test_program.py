@@ -376,12 +376,18 @@ class Program(InFolder):
             lines += block.split("\n")
         self.assertGreaterEqual(len(lines), 20)
         path = self.folder + os.pathsep + os.environ["PATH"]
+        no_dot = not shutil.which("dot")
         for line in lines:
+            if line.startswith("unzip ") and not shutil.which("unzip"):
+                line = "python3 -m zipfile -e orders.zip orders"
+            if no_dot:
+                line = line.replace(" --svg report.svg", "")
             done = subprocess.run(["sh", "-c", line], cwd=self.folder, stdout=subprocess.PIPE,
                                   stderr=subprocess.PIPE, env={**os.environ, "PATH": path}, check=False)
             # Of a package that says nothing of its columns, or has refusals, that is said.
             said = [each for each in done.stderr.splitlines()
-                    if not re.search(rb": nothing says what the c|\d of \d+ statements was refused$", each)]
+                    if not re.search(rb": nothing says what the c|\d of \d+ statements was refused$", each)
+                    and not (no_dot and b": no picture: dot isn't installed" in each)]
             self.assertEqual((done.returncode, said), (0, []), line)
 
     def test_packages_page(self):

@@ -505,11 +505,10 @@ class Documents(InFolder):
             self.assertRegex(pages[name], "browser with JavaScript", name)
         for words in ("in the other forms that it knows", "A form that isn't there is a text, and nothing is "
                                                           "said",
-                      "can't be told from the one before", "outcome.py --scale` shows replies alone as "
-                                                           "decimals",
+                      "can't be told from the one before", "only replies and tables are shown as decimals",
                       "in a script write `\\\\`"):
             self.assertIn(words, pages["docs/TUTORIAL.md"])
-        self.assertIn("Of `C:\\temp` alone nothing is said.", pages["docs/DUMPS.md"])
+        self.assertIn("Nothing is said of `C:\\temp` alone.", pages["docs/DUMPS.md"])
         self.assertIn("how many columns it has, and of which kinds", " ".join(
             tool(outcome, "--help")[1].decode().split()))
         text = " ".join(tool(world, "--help")[1].decode().split())

@@ -254,9 +254,36 @@ class Statements(Silence):
         base.close()
         err = self.said("--sqlite", path, "--ask", "SELECT COUNT(*) FROM t WHERE red_list = 'LC'")
         self.assertIn("--ask 1: red_list is COLLATE NOCASE in its database, and compares by its bytes here: "
-                      "2 cells "
-                      "such as 'lc' would be equal to 'LC' there; write each, with OR between them", err)
+                      "2 cells such as 'lc' would be equal to 'LC' there; write red_list = 'LC' OR "
+                      "red_list = 'lc' OR red_list = 'Lc'\n", err)
         err = self.said("--sqlite", path, "--ask", "SELECT red_list, COUNT(*) FROM t GROUP BY red_list")
         self.assertIn("here 'LC' and 'lc' are two in GROUP BY", err)
         for text in ("SELECT id FROM t WHERE b = 'x'", "SELECT id FROM t WHERE red_list = 'VU'"):
             self.assertNotIn("--ask 1", tool(world, "--sqlite", path, "--ask", text)[2])
+
+    def test_spelled(self):
+        """All spellings of a text, as they are advised, give what the database gives, and nothing is said."""
+        path = os.path.join(self.folder, "f.db")
+        make_database(path, "CREATE TABLE t (id INTEGER PRIMARY KEY, a TEXT COLLATE NOCASE); INSERT INTO t "
+                            "VALUES (1, 'LC'), (2, 'lc'), (3, 'it''s'), (4, 'IT''S'), (5, 'VU'), (6, NULL);")
+        base = sqlite3.connect(path)
+        self.addCleanup(base.close)
+        plain = sqlite3.connect(":memory:")
+        self.addCleanup(plain.close)
+        plain.execute("CREATE TABLE t (id INTEGER PRIMARY KEY, a TEXT)")
+        plain.executemany("INSERT INTO t VALUES (?, ?)", base.execute("SELECT * FROM t").fetchall())
+        for condition in ("a = 'LC'", "a <> 'lc'", "a = 'It''s'", "'lc' = a AND id > 1",
+                          "a <> 'LC' OR id = 1"):
+            text = f"SELECT id FROM t WHERE {condition} ORDER BY id"
+            err = self.said("--sqlite", path, "--ask", text)
+            mended = re.search(r"there; write (.*)\n", err)[1]
+            asked = re.sub(r"a (=|<>) '(?:[^']|'')*'|'lc' = a", lambda _: f"({mended})", text, count=1)
+            self.assertEqual(plain.execute(asked).fetchall(), base.execute(text).fetchall(), asked)
+            made, err = self.through_shell(f'--sqlite f.db --ask "{asked}"')
+            self.assertNotIn("warning", err, asked)
+        # A spelling that is left out, or that stands in another chain, is said.
+        for condition in ("a = 'LC' AND a = 'lc'", "a <> 'LC' OR a <> 'lc'", "a = 'LC' OR id = 2",
+                          "a < 'LC'"):
+            err = self.said("--sqlite", path, "--ask", f"SELECT id FROM t WHERE {condition}")
+            self.assertIn("a is COLLATE NOCASE", err)
+        self.assertIn("write them in one way in a copy of the database first", err)

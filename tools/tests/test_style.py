@@ -34,7 +34,7 @@ class Style(unittest.TestCase):
     def test_lines(self):
         """No line is longer than 110 columns, and no file than 800 lines."""
         for folder in ("tools", "tools/ldvtools", "tools/ldvtools/inside", "tools/tests", "bench",
-                       "bench/python"):
+                       "bench/python", "tests/robustness"):
             for name in sorted(os.listdir(os.path.join(ROOT, folder))):
                 if name.endswith((".py", ".js", ".css")):
                     text = read(os.path.join(ROOT, folder, name)).decode()

@@ -106,8 +106,12 @@ class OtherFiles(InFolder):
                                                                                       "0 1 0 0"
                                                                                 "\n\n")
         self.assertEqual(tool(diff, one, other)[0], 1)
+        asked = ["--csv", self.put("t.csv", "a\n1\n"), "--ask", "SELECT a FROM t"]
         for name, words, due in (("diff.py", [one, other], 2), ("outcome.py", [one], 1),
-                                 ("package.py", [packed], 1)):
+                                 ("package.py", [packed], 1), ("package.py", ["--sizes", packed], 1),
+                                 ("page.py", [packed], 1), ("join.py", [packed, packed], 1),
+                                 ("orders.py", [packed], 2), ("world.py", ["-q", *asked], 1),
+                                 ("world.py", ["--propose", *asked], 1)):
             here = os.path.join(support.TOOLS, name)
             status, _, err = command(["sh", "-c", '"$@" > /dev/full', "sh", here, *words])
             self.assertEqual((status, err.decode()), (due, f"{name}: standard output: No space left on "

@@ -252,11 +252,13 @@ class CsvFiles(InFolder):
         self.assertEqual(tool(world, "--csv", path, *ASK, "-q", "-o", "/dev/null")[0], 0)
 
     def test_progress(self):
-        """What takes long says so."""
-        path = self.put("t.csv", "a\n1\n")
+        """What takes long says so on a terminal, and there alone."""
+        path, line = self.put("t.csv", "a\n1\n"), "world.py: t: 1 rows are settled\n"
         with mock.patch("ldvtools.progress.SECONDS", 0.0):
-            self.assertIn("world.py: t: 1 rows are settled\n", tool(world, "--csv", path, *ASK)[2])
-            self.assertEqual(tool(world, "--csv", path, *ASK, "-q")[2], "")
+            self.assertNotIn(line, tool(world, "--csv", path, *ASK)[2])
+            with mock.patch("ldvtools.progress.is_terminal", return_value=True):
+                self.assertIn(line, tool(world, "--csv", path, *ASK)[2])
+                self.assertEqual(tool(world, "--csv", path, *ASK, "-q")[2], "")
 
     def test_decimals(self):
         table = self.table("a\n3.4\n-0.05\n7\n.5\n+1.250\n\n-.5\n", "--scale", "t.a=2")
@@ -457,6 +459,14 @@ class Databases(InFolder):
             self.assertIn(f"world.py: note: {note}", err)
         self.assertEqual(err.count("note:"), 11, err)
 
+    def test_texts_of_digits(self):
+        """Texts of a database that are all spelled as whole numbers are texts."""
+        words = self.database("CREATE TABLE t (a TEXT, b); INSERT INTO t VALUES ('2', '3'), ('10', NULL);")
+        status, out, err = tool(world, *words)
+        self.assertEqual((status, err.count("warning:")), (0, 0), err)
+        self.assertEqual(json.loads(out)["tables"], {"t": {
+            "columns": [["a", "TEXT"], ["b", "TEXT"]], "rows": [["2", "3"], ["10", None]]}})
+
     def test_options(self):
         words = self.database(SHOP)
         status, out, err = tool(world, *words, "--table", "lines", "--leave-out", "lines.twice",
@@ -515,7 +525,7 @@ class Databases(InFolder):
         self.refused("--foreign u.n: nothing", *words, "--foreign", "u.n=p", status=2)
         self.refused("--foreign c=p: give", *words, "--foreign", "c=p", status=2)
         self.refused("c.of is INT, and p.id is TEXT", *words, "--kind", "p.id=TEXT", "--foreign", "c.of=p")
-        self.refused("--scale gives them the same", *words, "--scale", "p.id=1", "--foreign", "c.of=p")
+        self.refused("--scale c.of=1 gives both the same", *words, "--scale", "p.id=1", "--foreign", "c.of=p")
 
     def test_values(self):
         words = self.database("CREATE TABLE t (a REAL);"

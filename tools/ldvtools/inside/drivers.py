@@ -3,25 +3,31 @@ players of what was recorded. LDV_INSIDE says which, `record` or `play`, and LDV
 replies are."""
 from __future__ import annotations
 
-import importlib.abc
 import importlib.machinery
-import importlib.util
 import os
 import sys
-import types
-from typing import Callable, Dict, Optional, Sequence
+
+# For a check of types alone: a program starts sooner without.
+TYPE_CHECKING = False
+if TYPE_CHECKING:
+    import types
+    from importlib.abc import Loader as PlainLoader, MetaPathFinder as PlainFinder
+    from typing import Callable, Dict, Optional, Sequence
+
+    Change = Callable[[types.ModuleType], None]
+else:
+    PlainLoader = PlainFinder = object
 
 # Drivers that aren't watched: the report names one that a program imports.
 OTHERS = ("psycopg", "asyncpg", "pg8000", "MySQLdb", "pymysql", "mysql.connector", "duckdb", "apsw",
           "oracledb",
           "pyodbc", "pymssql")
-Change = Callable[[types.ModuleType], None]
 
 
-class Loader(importlib.abc.Loader):
+class Loader(PlainLoader):
     """Loads a module as another loader does, and changes it then."""
 
-    def __init__(self, inner: importlib.abc.Loader, change: Change) -> None:
+    def __init__(self, inner: PlainLoader, change: Change) -> None:
         self.inner, self.change = inner, change
 
     def create_module(self, spec: importlib.machinery.ModuleSpec) -> Optional[types.ModuleType]:
@@ -35,7 +41,7 @@ class Loader(importlib.abc.Loader):
         self.change(module)
 
 
-class Finder(importlib.abc.MetaPathFinder):
+class Finder(PlainFinder):
     """Finds the modules that are to be changed."""
 
     def __init__(self, changes: Dict[str, Change]) -> None:

@@ -2,10 +2,14 @@
 their kind and a text. A log and a program's parameters are compared in this form."""
 from __future__ import annotations
 
-import datetime
-import decimal
-import uuid
-from typing import Any, Callable, Mapping, Tuple
+from collections.abc import Mapping
+
+# For a check of types alone: a program starts sooner without.
+TYPE_CHECKING = False
+if TYPE_CHECKING:
+    from typing import Any, Callable, Dict, List, Tuple
+
+    Form = Callable[[Any], Any]
 
 PLAIN = frozenset((type(None), bool, int, float, str, bytes))
 
@@ -14,7 +18,7 @@ def noted(value: Any) -> Any:
     """A value as a log has it."""
     if type(value) in PLAIN:
         return value
-    for kind, form in FORMS:
+    for kind, form in FORMS or add_forms():
         if isinstance(value, kind):
             return form(value)
     if hasattr(value, "adapted") and hasattr(value, "getquoted"):
@@ -39,17 +43,25 @@ def noted_all(values: Any, adapt: Callable[[Any], Any] = noted) -> Any:
         return ("other", type(values).__name__, repr(values)[:200])
 
 
-# A subclass stands before what it is one of.
-FORMS: Tuple[Tuple[type, Callable[[Any], Any]], ...] = (
-    (bool, bool), (int, int), (float, float), (str, str.__str__), (bytes, bytes), (bytearray, bytes),
-    (memoryview, bytes),
-    (decimal.Decimal, lambda value: ("decimal", str(value))),
-    (datetime.datetime, lambda value: ("datetime", value.isoformat(" "))),
-    (datetime.date, lambda value: ("date", value.isoformat())),
-    (datetime.time, lambda value: ("time", value.isoformat())),
-    (uuid.UUID, lambda value: ("uuid", str(value))),
-    (list, noted_list), (tuple, noted_list),
-)
+# The kinds of values with their forms, once one that isn't plain was seen.
+FORMS: List[Tuple[type, Form]] = []
+
+
+def add_forms() -> List[Tuple[type, Form]]:
+    """The kinds with their forms: a subclass stands before what it is one of."""
+    import datetime
+    import decimal
+    import uuid
+    FORMS.extend((
+        (bool, bool), (int, int), (float, float), (str, str.__str__), (bytes, bytes), (bytearray, bytes),
+        (memoryview, bytes),
+        (decimal.Decimal, lambda value: ("decimal", str(value))),
+        (datetime.datetime, lambda value: ("datetime", value.isoformat(" "))),
+        (datetime.date, lambda value: ("date", value.isoformat())),
+        (datetime.time, lambda value: ("time", value.isoformat())),
+        (uuid.UUID, lambda value: ("uuid", str(value))),
+        (list, noted_list), (tuple, noted_list)))
+    return FORMS
 
 
 # ---- from a log
@@ -58,15 +70,24 @@ def as_list(value: Any) -> Any:
     return [plain(each) for each in value]
 
 
-MAKERS: Mapping[str, Callable[[Any], Any]] = {
-    "decimal": decimal.Decimal, "date": datetime.date.fromisoformat,
-    "datetime": datetime.datetime.fromisoformat,
-    "time": datetime.time.fromisoformat, "uuid": uuid.UUID, "list": as_list}
+MAKERS: Dict[str, Form] = {}
+
+
+def add_makers() -> Dict[str, Form]:
+    """Of each kind in a log how its text becomes a value."""
+    import datetime
+    import decimal
+    import uuid
+    MAKERS.update({
+        "decimal": decimal.Decimal, "date": datetime.date.fromisoformat,
+        "datetime": datetime.datetime.fromisoformat,
+        "time": datetime.time.fromisoformat, "uuid": uuid.UUID, "list": as_list})
+    return MAKERS
 
 
 def plain(value: Any) -> Any:
     """A value of a log as the program had it."""
-    if type(value) is tuple and value[0] in MAKERS:
+    if type(value) is tuple and value[0] in (MAKERS or add_makers()):
         return MAKERS[value[0]](value[1])
     return value
 

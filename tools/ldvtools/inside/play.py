@@ -28,6 +28,20 @@ def shown(text: str, params: Any) -> str:
     return f"{line!r}" + (f" with {params!r}" if params else "")
 
 
+# The calls by which a statement is asked.
+CALLS = {"one": "execute", "many": "executemany", "script": "executescript"}
+
+
+def difference(event: Event, way: str, text: str, params: Any) -> str:
+    """How a statement differs from the captured one, with each text once."""
+    asked, captured = f"the program asks {shown(text, params)}", event["params"]
+    if event["text"] != text:
+        return f"{asked}, and what was captured is {shown(event['text'], captured)}"
+    if event["way"] != way:
+        return f"{asked} by {CALLS[way]}, and it was captured by {CALLS.get(event['way'], event['way'])}"
+    return f"{asked}, and it was captured with {captured!r}"
+
+
 class Player:
     """What was captured, and what of it is played."""
 
@@ -106,12 +120,20 @@ class Line:
             raise error(self.player.diverged(what))
         event = events[self.place]
         if not is_same(event, way, text, params):
-            what = (f"the program asks {shown(text, params)}, and what was captured is "
-                    f"{shown(event['text'], event['params'])}")
-            raise error(self.player.diverged(what))
+            raise error(self.player.diverged(difference(event, way, text, params)))
         self.place += 1
         self.player.asked += 1
         return event
+
+
+    def act(self, act: str) -> Optional[Event]:
+        """What was captured of an act, where it ended with an exception."""
+        events = self.events or []
+        if self.place >= len(events) or events[self.place]["way"] != act:
+            return None
+        self.place += 1
+        self.player.asked += 1
+        return events[self.place - 1]
 
 
 def is_same(event: Event, way: str, text: str, params: Any) -> bool:

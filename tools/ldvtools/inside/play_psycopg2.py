@@ -51,8 +51,7 @@ class cursor:
         event = self.connection.ldv_line.next(way, text, params, driver().OperationalError)
         self.connection.ldv_status = IN_TRANSACTION if event["in"] else IDLE
         if event.get("fault"):
-            raise fault_of(event["fault"], {"psycopg2": driver(), "psycopg2.errors": driver(".errors"),
-                                            "psycopg2.extensions": driver(".extensions")})
+            raise ldv_fault(event)
         self.ldv_show(event)
 
     def ldv_show(self, event: Event) -> None:
@@ -148,6 +147,12 @@ class cursor:
         self.close()
 
 
+def ldv_fault(event: Event) -> BaseException:
+    """The exception that an event was captured with."""
+    return fault_of(event["fault"], {"psycopg2": driver(), "psycopg2.errors": driver(".errors"),
+                                     "psycopg2.extensions": driver(".extensions")})
+
+
 def literal(value: Any) -> str:
     """A value as a statement has it."""
     return str(driver(".extensions").adapt(value).getquoted().decode())
@@ -210,15 +215,20 @@ class connection:
         return 0
 
     def commit(self) -> None:
-        self.ldv_done()
+        self.ldv_done("commit")
 
     def rollback(self) -> None:
-        self.ldv_done()
+        self.ldv_done("rollback")
 
-    def ldv_done(self) -> None:
+    def ldv_done(self, act: str) -> None:
+        """Ends a transaction, and raises what that was captured with."""
         if self.closed:
             raise driver().InterfaceError("connection already closed")
         self.ldv_status = IDLE
+        event = self.ldv_line.act(act)
+        if event is not None:
+            self.ldv_status = IN_TRANSACTION if event["in"] else IDLE
+            raise ldv_fault(event)
 
     def close(self) -> None:
         self.closed, self.ldv_status = 1, IDLE
@@ -235,7 +245,7 @@ class connection:
         self.encoding = encoding
 
     def reset(self) -> None:
-        self.ldv_done()
+        self.ldv_done("rollback")
 
     def cancel(self) -> None:
         """There is nothing to be cancelled."""

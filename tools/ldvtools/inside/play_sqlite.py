@@ -152,17 +152,31 @@ class Connection(PlainConnection):
     def total_changes(self) -> int:
         return self.ldv_total
 
+    def ldv_act(self, act: str) -> None:
+        """Raises what an act was captured with."""
+        event = self.ldv_line.act(act)
+        if event is not None:
+            self.ldv_in = event["in"]
+            raise fault_of(event["fault"], {"sqlite3": sqlite3})
+
     def commit(self) -> None:
+        self.ldv_act("commit")
         super().commit()
         self.ldv_in = False
 
     def rollback(self) -> None:
+        self.ldv_act("rollback")
         super().rollback()
         self.ldv_in = False
 
     def __exit__(self, kind: Any, value: Any, trace: Any) -> Any:
+        self.ldv_act("commit" if kind is None else "rollback")
         self.ldv_in = False
         return super().__exit__(kind, value, trace)
+
+    def backup(self, target: Any, *words: Any, **named: Any) -> None:
+        self.ldv_act("other")
+        super().backup(target, *words, **named)
 
 
 def change(module: Any, player: Player) -> None:

@@ -5,10 +5,13 @@ derives its own from them. """
 from __future__ import annotations
 
 import importlib
-from typing import Any, Iterable, List, Optional, Tuple, Type
+from typing import TYPE_CHECKING, Any, Iterable, List, Optional, Tuple, Type
 
 from .noted import noted, noted_all
-from .record import Log, fault_of
+from .record import Log, Place, fault_of, frame_at
+
+if TYPE_CHECKING:
+    from .record import Frame
 
 LOG: Log
 
@@ -47,27 +50,27 @@ def classes_of(plain_cursor: Type[Any], plain_connection: Type[Any]) -> Tuple[Ty
         ldv_event = 0
         ldv_waits: Any = None
 
-        def ldv_note(self, way: str, text: str, params: Any, site: int,
+        def ldv_note(self, way: str, text: str, params: Any, frame: Frame,
                      fault: Optional[BaseException]) -> None:
             connection = self.connection
             in_transaction = not connection.closed and connection.get_transaction_status() != 0
             head = None if fault is not None else heads_of(self.description)
             changed = -1 if fault is not None else self.rowcount
             self.ldv_event = LOG.asked(connection.ldv_number, way, text, params, head, changed, None,
-                                       in_transaction, site, None if fault is None else fault_of(fault))
+                                       in_transaction, frame, None if fault is None else fault_of(fault))
 
         def execute(self, query: Any, vars: Any = None) -> Any:
-            site = LOG.site()
+            frame = frame_at(1)
             params = params_of(vars)
             try:
                 found = super().execute(query, vars)
             except BaseException as fault:
-                self.ldv_note("one", text_of(query, self), params, site, fault)
+                self.ldv_note("one", text_of(query, self), params, frame, fault)
                 raise
             if self.name is None:
-                self.ldv_note("one", text_of(query, self), params, site, None)
+                self.ldv_note("one", text_of(query, self), params, frame, None)
             else:
-                self.ldv_waits = ("one", text_of(query, self), params, site, None)
+                self.ldv_waits = ("one", text_of(query, self), params, Place(LOG.outer(frame)), None)
             return found
 
         def executemany(self, query: Any, vars_list: Iterable[Any]) -> Any:
@@ -77,20 +80,20 @@ def classes_of(plain_cursor: Type[Any], plain_connection: Type[Any]) -> Tuple[Ty
                 for values in vars_list:
                     found.append(params_of(values))
                     yield values
-            site = LOG.site()
+            frame = frame_at(1)
             try:
                 done = super().executemany(query, each())
             except BaseException as fault:
-                self.ldv_note("many", text_of(query, self), found, site, fault)
+                self.ldv_note("many", text_of(query, self), found, frame, fault)
                 raise
-            self.ldv_note("many", text_of(query, self), found, site, None)
+            self.ldv_note("many", text_of(query, self), found, frame, None)
             return done
 
         def ldv_other(self, what: str, words: Tuple[Any, ...], named: Any) -> Any:
             """What is no statement of SQL, or a call of a procedure."""
-            site = LOG.site()
+            frame = frame_at(2)
             done = getattr(super(), what)(*words, **named)
-            self.ldv_note("one", f"{'CALL' if what == 'callproc' else 'COPY'} {words[:1]!r}", (), site, None)
+            self.ldv_note("one", f"{'CALL' if what == 'callproc' else 'COPY'} {words[:1]!r}", (), frame, None)
             return done
 
         def callproc(self, *words: Any, **named: Any) -> Any:
@@ -144,28 +147,37 @@ def classes_of(plain_cursor: Type[Any], plain_connection: Type[Any]) -> Tuple[Ty
         def __init__(self, *words: Any, **named: Any) -> None:
             super().__init__(*words, **named)
             info = self.info
-            self.ldv_number = LOG.connect("psycopg2", f"{info.dbname} at {info.host}:{info.port}", LOG.site())
+            self.ldv_number = LOG.connect("psycopg2", f"{info.dbname} at {info.host}:{info.port}",
+                                          frame_at(1))
 
         def cursor(self, *words: Any, **named: Any) -> Any:
             if len(words) < 2:
                 named["cursor_factory"] = named.get("cursor_factory") or self.cursor_factory or cursor
             return super().cursor(*words, **named)
 
-        def ldv_act(self, act: str, site: int) -> None:
+        def ldv_act(self, act: str, frame: Frame, fault: Optional[BaseException] = None) -> None:
             is_open = not self.closed and self.get_transaction_status() != 0
-            LOG.act(self.ldv_number, act, "", is_open, site)
+            LOG.act(self.ldv_number, act, "", is_open, frame, None if fault is None else fault_of(fault))
 
         def commit(self) -> None:
-            super().commit()
-            self.ldv_act("commit", LOG.site())
+            try:
+                super().commit()
+            except BaseException as fault:
+                self.ldv_act("commit", frame_at(1), fault)
+                raise
+            self.ldv_act("commit", frame_at(1))
 
         def rollback(self) -> None:
-            super().rollback()
-            self.ldv_act("rollback", LOG.site())
+            try:
+                super().rollback()
+            except BaseException as fault:
+                self.ldv_act("rollback", frame_at(1), fault)
+                raise
+            self.ldv_act("rollback", frame_at(1))
 
         def close(self) -> None:
             super().close()
-            self.ldv_act("close", LOG.site())
+            self.ldv_act("close", frame_at(1))
 
     return cursor, connection
 

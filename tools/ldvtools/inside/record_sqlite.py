@@ -6,23 +6,43 @@ from __future__ import annotations
 
 import importlib
 import sqlite3
-from typing import TYPE_CHECKING, Any, Iterable, List, Optional
 
+from .kept import pack, sum_of
 from .noted import PLAIN, noted, noted_all
-from .record import Log, fault_of
+from .record import (FORM, HAS_KEY, HAS_ROWS, MOST_WAITING, STATEMENT, Log, clock, dumps, fault_of,
+                     frame_at)
 
+# For a check of types alone: a program starts sooner without.
+TYPE_CHECKING = False
 if TYPE_CHECKING:
     from sqlite3 import Connection as PlainConnection
     from sqlite3 import Cursor as PlainCursor
+    from typing import Any, Iterable, List, Optional
+
+    from .record import Frame
 else:
     from _sqlite3 import Connection as PlainConnection
     from _sqlite3 import Cursor as PlainCursor
 
-# A cursor of the system has its row factory in a field that the property of the subclass hides.
+# A cursor and a connection of the system have their row factory in a field that the property of the subclass
+# hides.
 FACTORY: Any = PlainCursor.__dict__["row_factory"]
+CONNECTION_FACTORY: Any = PlainConnection.__dict__["row_factory"]
+TEXT_FACTORY: Any = PlainConnection.__dict__["text_factory"]
 plain_execute, plain_fetch = PlainCursor.execute, PlainCursor.fetchone
+plain_cursor: Any = PlainConnection.cursor
+pack_statement = STATEMENT.pack
 adapt: Any = importlib.import_module("_sqlite3").adapt
 LOG: Log
+WAITING: List[Any]
+# Whether a converter, a text factory or a row factory of the program may have made values of rows.
+ARE_MADE = False
+
+
+def note_made() -> None:
+    """Has values of rows looked at from now on."""
+    global ARE_MADE
+    ARE_MADE = True
 
 
 def adapted(value: Any) -> Any:
@@ -72,34 +92,20 @@ class Cursor(PlainCursor):
 
     @row_factory.setter
     def row_factory(self, factory: Any) -> None:
+        note_made()
         self.ldv_factory = factory
         FACTORY.__set__(self, None if factory is None else take)
 
-    def execute(self, sql: str, parameters: Any = (), /) -> "Cursor":
-        if not isinstance(parameters, (tuple, list, dict)) and hasattr(parameters, "__next__"):
-            parameters = list(parameters)
-        try:
-            plain_execute(self, sql, parameters)
-        except BaseException as fault:
-            self.ldv_note("one", sql, parameters_of(parameters), LOG.site(), fault)
-            raise
-        connection: Any = self.connection
-        description = self.description
-        self.ldv_event = LOG.asked(connection.ldv_number, "one", sql, parameters_of(parameters), description,
-                                   self.rowcount, self.lastrowid if description is None else None,
-                                   connection.in_transaction, LOG.site(), None)
-        return self
+    def execute(self, sql: str, parameters: Any = (), /) -> Any:
+        return ask(self, self.connection, sql, parameters, frame_at(1))
 
-    def ldv_note(self, way: str, sql: str, params: Any, site: int, fault: Optional[BaseException]) -> None:
+    def ldv_note(self, way: str, sql: str, params: Any, frame: Frame, fault: Optional[BaseException],
+                 last: Optional[int] = None) -> None:
         connection: Any = self.connection
-        if fault is not None:
-            self.ldv_event = LOG.asked(connection.ldv_number, way, str(sql), params, None, -1, None,
-                                       connection.in_transaction, site, fault_of(fault))
-            return
-        description = self.description
-        self.ldv_event = LOG.asked(connection.ldv_number, way, sql, params, description, self.rowcount,
-                                   self.lastrowid if description is None else None, connection.in_transaction,
-                                   site, None)
+        changed = self.rowcount if fault is None else -1
+        noted_fault = None if fault is None else fault_of(fault)
+        self.ldv_event = LOG.asked(connection.ldv_number, way, str(sql), params, None, changed, last,
+                                   connection.in_transaction, frame, noted_fault)
 
     def executemany(self, sql: str, parameters: Iterable[Any], /) -> "Cursor":
         found: List[Any] = []
@@ -108,44 +114,41 @@ class Cursor(PlainCursor):
             for values in parameters:
                 found.append(parameters_of(values))
                 yield values
-        site = LOG.site()
         try:
             super().executemany(sql, each())
         except BaseException as fault:
-            self.ldv_note("many", sql, found, site, fault)
+            self.ldv_note("many", sql, found, frame_at(1), fault)
             raise
-        self.ldv_note_many(sql, found, site)
+        self.ldv_note("many", sql, found, frame_at(1), None, self.ldv_last(sql) if found else None)
         return self
 
-    def ldv_note_many(self, sql: str, found: List[Any], site: int) -> None:
-        """Notes a statement that was asked with many parameters, and the key of the last row, which a
-        cursor doesn't have."""
-        last = None
-        if found and sql.lstrip()[:6].lower() == "insert":
-            cursor = PlainCursor(self.connection)
-            last = plain_execute(cursor, "SELECT last_insert_rowid()").fetchone()[0]
-        connection: Any = self.connection
-        self.ldv_event = LOG.asked(connection.ldv_number, "many", sql, found, None, self.rowcount, last,
-                                   connection.in_transaction, site, None)
+    def ldv_last(self, sql: str) -> Optional[int]:
+        """The key of the row that an INSERT made last, which a cursor of many doesn't have."""
+        if sql.lstrip()[:6].lower() != "insert":
+            return None
+        last: int = plain_execute(PlainCursor(self.connection), "SELECT last_insert_rowid()").fetchone()[0]
+        return last
 
     def executescript(self, sql_script: Any, /) -> "Cursor":
-        site = LOG.site()
         try:
             super().executescript(sql_script)
         except BaseException as fault:
-            self.ldv_note("script", sql_script, (), site, fault)
+            self.ldv_note("script", sql_script, (), frame_at(1), fault)
             raise
-        self.ldv_note("script", sql_script, (), site, None)
+        self.ldv_note("script", sql_script, (), frame_at(1), None)
         return self
 
     # ---- rows
 
     def fetchone(self) -> Any:
-        row = plain_fetch(self)
-        if row is None:
-            LOG.row(self.ldv_event, None)
-        elif self.ldv_factory is None:
-            LOG.row(self.ldv_event, row_of(row))
+        row = found = plain_fetch(self)
+        if ARE_MADE and row is not None:
+            if self.ldv_factory is not None:
+                return row
+            found = row_of(row)
+        WAITING.append((self.ldv_event, found))
+        if len(WAITING) >= MOST_WAITING:
+            LOG.flush()
         return row
 
     def fetchmany(self, *words: Any, **named: Any) -> List[Any]:
@@ -161,8 +164,9 @@ class Cursor(PlainCursor):
 
     def ldv_rows(self, rows: List[Any], is_end: bool) -> None:
         if self.ldv_factory is not None:
-            rows = []
-        LOG.rows(self.ldv_event, list(map(row_of, rows)), is_end)
+            LOG.rows(self.ldv_event, [], is_end)
+        else:
+            LOG.rows(self.ldv_event, list(map(row_of, rows)) if ARE_MADE else rows, is_end)
 
     def __next__(self) -> Any:
         try:
@@ -175,12 +179,85 @@ class Cursor(PlainCursor):
         return row
 
 
+def taken() -> Any:
+    """What was read, for one record: one row as it waits, or a list."""
+    try:
+        return WAITING.pop() if len(WAITING) == 1 else LOG.read()
+    except IndexError:
+        # Another thread took it.
+        return []
+
+
+def ask(cursor: Any, connection: Any, sql: str, parameters: Any, frame: Frame) -> Any:
+    """Asks one statement, and notes it with what came of it."""
+    if hasattr(parameters, "__next__") and not isinstance(parameters, (tuple, list, dict)):
+        parameters = list(parameters)
+    try:
+        plain_execute(cursor, sql, parameters)
+    except BaseException as fault:
+        cursor.ldv_note("one", sql, parameters_of(parameters), frame, fault)
+        raise
+    return note(cursor, connection, sql, parameters_of(parameters), frame)
+
+
+def note(cursor: Any, connection: Any, sql: str, parameters: Any, frame: Frame) -> Any:
+    """Notes a statement, whose parameters are as a log has them, with what came of it. It does what Log.asked
+    does by itself: of many small statements this is what a recorder costs."""
+    head, is_open = cursor.description, connection.in_transaction
+    try:
+        code, place, was_open, known, number = connection.ldv_asked[sql]
+        is_known = (code is frame.f_code and place == frame.f_lasti and was_open is is_open and known == head)
+    except KeyError:
+        is_known = False
+    if not is_known:
+        number = LOG.again(connection.ldv_asked, connection.ldv_number, sql, head, is_open, frame)
+    # A change has no rows that name it.
+    cursor.ldv_event = event = 0 if head is None else next(LOG.events)
+    last = cursor.lastrowid if head is None else None
+    form = 0 if last is None else HAS_KEY
+    if WAITING:
+        form, parameters = form | HAS_ROWS, (parameters, taken())
+    data = (pack_statement(form, number, event, clock(), cursor.rowcount, last or 0)
+            + dumps(parameters, FORM))
+    try:
+        LOG.kept.write(pack(len(data), sum_of(data)) + data)
+    except ValueError:
+        LOG.append(data)
+    return cursor
+
+
 class Connection(PlainConnection):
-    """A connection of sqlite3 whose cursors are noted, and whose transactions are."""
+    """A connection of sqlite3 whose cursors are noted, and whose transactions are. It is simple if its
+    cursors are those of this module, without a row factory."""
+
+    ldv_is_simple = False
+
+    @property
+    def text_factory(self) -> Any:
+        return TEXT_FACTORY.__get__(self)
+
+    @text_factory.setter
+    def text_factory(self, factory: Any) -> None:
+        note_made()
+        TEXT_FACTORY.__set__(self, factory)
+
+    @property
+    def row_factory(self) -> Any:
+        return CONNECTION_FACTORY.__get__(self)
+
+    @row_factory.setter
+    def row_factory(self, factory: Any) -> None:
+        CONNECTION_FACTORY.__set__(self, factory)
+        self.ldv_is_simple = type(self) is Connection and factory is None
 
     def __init__(self, *words: Any, **named: Any) -> None:
         super().__init__(*words, **named)
-        self.ldv_number = LOG.connect("sqlite3", database_of(self), LOG.site())
+        self.ldv_asked = LOG.statements_of(bool(words[4] if len(words) > 4
+                                                else named.get("check_same_thread", True)))
+        self.ldv_number = LOG.connect("sqlite3", database_of(self), frame_at(1))
+        self.ldv_is_simple = type(self) is Connection
+        if words[2] if len(words) > 2 else named.get("detect_types", 0):
+            note_made()
 
     def cursor(self, factory: Any = None) -> Any:
         found = super().cursor(Cursor if factory is None else factory)
@@ -190,8 +267,23 @@ class Connection(PlainConnection):
         return found
 
     def execute(self, sql: str, parameters: Any = (), /) -> Any:
-        cursor: Any = Cursor(self) if self.row_factory is None else self.cursor()
         # Its line is that of who called this.
+        if self.ldv_is_simple and type(parameters) is tuple:
+            # As ask does, without a call.
+            cursor = plain_cursor(self, Cursor)
+            try:
+                plain_execute(cursor, sql, parameters)
+            except BaseException as fault:
+                cursor.ldv_note("one", sql, parameters_of(parameters), frame_at(1), fault)
+                raise
+            for value in parameters:
+                if type(value) not in PLAIN:
+                    parameters = noted_all(parameters, adapted)
+                    break
+            return note(cursor, self, sql, parameters, frame_at(1))
+        cursor = self.cursor()
+        if type(cursor) is Cursor:
+            return ask(cursor, self, sql, parameters, frame_at(1))
         return cursor.execute(sql, parameters)
 
     def executemany(self, sql: str, parameters: Iterable[Any], /) -> Any:
@@ -200,33 +292,51 @@ class Connection(PlainConnection):
     def executescript(self, sql_script: Any, /) -> Any:
         return self.cursor().executescript(sql_script)
 
-    def ldv_act(self, act: str, what: str, site: int) -> None:
-        LOG.act(self.ldv_number, act, what, self.in_transaction, site)
+    def ldv_act(self, act: str, what: str, frame: Frame, fault: Optional[BaseException] = None) -> None:
+        noted_fault = None if fault is None else fault_of(fault)
+        LOG.act(self.ldv_number, act, what, self.in_transaction, frame, noted_fault)
 
     def commit(self) -> None:
-        super().commit()
-        self.ldv_act("commit", "", LOG.site())
+        try:
+            super().commit()
+        except BaseException as fault:
+            self.ldv_act("commit", "", frame_at(1), fault)
+            raise
+        self.ldv_act("commit", "", frame_at(1))
 
     def rollback(self) -> None:
-        super().rollback()
-        self.ldv_act("rollback", "", LOG.site())
+        try:
+            super().rollback()
+        except BaseException as fault:
+            self.ldv_act("rollback", "", frame_at(1), fault)
+            raise
+        self.ldv_act("rollback", "", frame_at(1))
 
     def close(self) -> None:
         super().close()
-        LOG.act(self.ldv_number, "close", "", False, LOG.site())
+        LOG.act(self.ldv_number, "close", "", False, frame_at(1))
 
     def __exit__(self, kind: Any, value: Any, trace: Any) -> Any:
         was_open = self.in_transaction
-        found = super().__exit__(kind, value, trace)
+        act = "commit" if kind is None else "rollback"
+        try:
+            found = super().__exit__(kind, value, trace)
+        except BaseException as fault:
+            self.ldv_act(act, "", frame_at(1), fault)
+            raise
         if was_open:
-            self.ldv_act("commit" if kind is None else "rollback", "", LOG.site())
+            self.ldv_act(act, "", frame_at(1))
         return found
 
     def backup(self, target: Any, *words: Any, **named: Any) -> None:
-        super().backup(target, *words, **named)
-        self.ldv_act("other", "backup", LOG.site())
+        try:
+            super().backup(target, *words, **named)
+        except BaseException as fault:
+            self.ldv_act("other", "backup", frame_at(1), fault)
+            raise
+        self.ldv_act("other", "backup", frame_at(1))
         if isinstance(target, Connection):
-            target.ldv_act("other", "backup", LOG.site())
+            target.ldv_act("other", "backup", frame_at(1))
 
 
 def database_of(connection: Any) -> str:
@@ -237,8 +347,8 @@ def database_of(connection: Any) -> str:
 
 def change(module: Any, log: Log) -> None:
     """Makes a recorder of sqlite3.dbapi2."""
-    global LOG
-    LOG = log
+    global LOG, WAITING
+    LOG, WAITING = log, log.waiting
     plain_connect = module.connect
 
     def connect(*words: Any, **named: Any) -> Any:

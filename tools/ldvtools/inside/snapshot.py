@@ -2,9 +2,10 @@
 
     python3 -m ldvtools.inside.snapshot DSN FILE
 
-begins one transaction that sees the database as it is now, and writes `ready`. Then it reads a line of JSON
-with names of tables, copies these and the tables to which they refer, and writes a line of JSON: what the
-columns are in the database. An empty line ends it. It is run by a Python that has psycopg2. """
+begins one transaction that sees the database as it is now, and writes a line of JSON: the name of the
+database. Then it reads a line of JSON with names of tables, copies these and the tables to which they refer,
+and writes a line of JSON: what the columns are in the database. An empty line ends it. It is run by a Python
+that has psycopg2. """
 from __future__ import annotations
 
 import datetime
@@ -172,7 +173,7 @@ def main() -> int:
     except Exception as fault:
         print(json.dumps({"fault": str(fault).strip()}), flush=True)
         return 1
-    print("ready", flush=True)
+    print(json.dumps({"ready": snapshot.base.info.dbname}), flush=True)
     line = sys.stdin.readline()
     if line.strip():
         print(json.dumps(snapshot.copy(json.loads(line), path)), flush=True)
