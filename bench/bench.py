@@ -2,12 +2,13 @@
 """Measures what the program takes, and writes it as data.
 
     bench/bench.py [RUN ..] [--sizes N,..] [--lines NAME,..] [--runs N] [--program PROGRAM]
-                   [--against PROGRAM] [--least] [-o FILE]
+                   [--against PROGRAM] [--beside WORK] [--least] [-o FILE]
 
 RUN is one of those below, by default all. Each makes its worlds, runs the program over them, and says in a
 table what it took; what is compared runs in turn. --sizes has other sizes for each run that is named, and
 --lines the names of the lines that are wanted. --program is the program, by default that of this checkout,
-and --against another one, which has to write the same bytes. --least takes each run at its least size, once,
+and --against another one, which has to write the same bytes. --beside says what else was at work on other
+processors meanwhile, which the tables say too. --least takes each run at its least size, once,
 and however busy the host is: that shows whether it works.
 
 Each line is the least seconds of a processor of so many runs (5), and the greatest memory; quiet.py says
@@ -138,6 +139,7 @@ def sum_of(path: str) -> str:
 def facts_of(given: argparse.Namespace, programs: Dict[str, str]) -> Dict[str, Any]:
     return {'version': harness.version(), 'date': datetime.date.today().isoformat(),
             'host': harness.host()._asdict(), 'runs': given.runs, 'as_it_comes': given.least,
+            'beside': given.beside,
             'programs': {name: sum_of(path) for name, path in programs.items()}}
 
 
@@ -188,6 +190,7 @@ def arguments(words: Optional[Sequence[str]]) -> argparse.Namespace:
     parser.add_argument('--runs', type=int, default=0, metavar='N')
     parser.add_argument('--program', default=harness.BUILT)
     parser.add_argument('--against', metavar='PROGRAM')
+    parser.add_argument('--beside', default='', metavar='WORK')
     parser.add_argument('--least', action='store_true')
     parser.add_argument('-o', dest='output', metavar='FILE')
     given = parser.parse_args(words)

@@ -65,6 +65,7 @@ def host_of(found: Results) -> List[str]:
             f'Each line is the least of {found.facts["runs"]} runs'
             + (', on one processor' if found.facts['pinned'] else '')
             + (', however busy the host was' if found.facts['as_it_comes'] else '')
+            + (f', beside {found.facts["beside"]}' if found.facts.get('beside') else '')
             + f'. A turn of the loop of `quiet.py` took {loop}.']
 
 

@@ -255,7 +255,7 @@ class Runs(InFolder):
         """Lines and values of a run, as they are printed and written."""
         path = os.path.join(self.folder, "r.json")
         words = ["worlds", "--least", "--lines", "hex,rows", "--program", self.program("ldv"), "-o", path]
-        status, out, err = self.called(bench, *words)
+        status, out, err = self.called(bench, *words, "--beside", "a gate")
         self.assertEqual((status, err), (0, ""))
         self.assertEqual([line.split()[0] for line in out.decode().splitlines() if line],
                          ["worlds:", "line", "rows", "hex", "pace:"])
@@ -263,6 +263,7 @@ class Runs(InFolder):
         self.assertEqual([each.key() for each in found.lines], ["worlds/rows/1/ldv", "worlds/hex/1/ldv"])
         self.assertEqual((found.facts["runs"], found.facts["as_it_comes"], found.facts["version"]),
                          (1, True, harness.version()))
+        self.assertIn(", however busy the host was, beside a gate. A turn", report.host_of(found)[1])
         for each in found.lines:
             self.assertLess(abs(each.values["bytes"] - 2**20), 1000)
             self.assertAlmostEqual(each.values["of_input"],
