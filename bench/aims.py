@@ -83,6 +83,7 @@ AIMS: List[Aim] = [
     Aim('csv', 'excel', MILLION, 'seconds', 5.0, 'world.py'),
     Aim('csv', 'guessed', MILLION, 'seconds', 5.0, 'world.py'),
     Aim('calls', 'a world that ends', 200, 'added ms', 5.0, 'script'),
+    Aim('capture', 'statements', 100000, 'of_itself', 2.0, 'recorded'),
 ]
 
 

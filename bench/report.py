@@ -31,11 +31,11 @@ WORDS = {
     'of_sqlite3': 'of sqlite3', 'of_python': 'of Python', 'of_run': 'of `run`', 'of_replay': 'of `replay`',
     'of_imported': 'of sqlite3 with import', 'of_bytes': 'times the bytes', 'of_input': 'times the bytes',
     'us/event': 'us an event', 'us/edge': 'us an edge', 'MB/s': 'MB a second', 'seconds': 'seconds',
-    'added ms': 'ms added',
+    'added ms': 'ms added', 'of_itself': 'of the program itself',
 }
 UNITS = {'engine': 'rows', 'scripts': '% of the whole', 'package': 'rows', 'sums': 'rows', 'loop': 'events',
          'worlds': 'MiB', 'depends': 'events', 'prov': 'events', 'table': 'rows', 'join': 'rows',
-         'gen': 'orders', 'csv': 'rows', 'calls': 'calls'}
+         'gen': 'orders', 'csv': 'rows', 'calls': 'calls', 'capture': 'statements'}
 # The lines of the table of memory, with the value that stands beside the MiB.
 MEMORY = [(run, name, size, value) for run, size, names, value in (
     ('worlds', 60, ('rows', 'rows without key', 'texts', 'hex'), 'of_input'),
