@@ -7,6 +7,7 @@ import re
 from dataclasses import dataclass, field
 from typing import Any, Dict, Iterator, List, Optional, Sequence, Tuple
 
+from .errors import Refused
 from .inside.kept import kept_records
 from .inside.record import HAS_KEY, HAS_ROWS, STATEMENT
 
@@ -122,6 +123,9 @@ class Process:
         file, line = self.names["site", site]
         what = self.names["text", text]
         kind = "act" if way in ACTS else "asked"
+        if connection not in self.connections:
+            raise Refused("a process asks over a connection that the process before its fork made; SQLite "
+                          "and PostgreSQL don't allow that: let it connect itself")
         event = Event(self.connections[connection], kind, time, self.thread(thread), file, line,
                       way if kind == "act" else what, in_transaction, None, what if kind == "act" else way,
                       params, head, None, changed, last)

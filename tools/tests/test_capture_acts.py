@@ -13,6 +13,20 @@ from .test_capture import SCALES, TABLES, Programs
 
 
 class Acts(Programs):
+    def test_forked(self):
+        """A process that asks over a connection from before its fork is named."""
+        words = self.program("""
+            import os
+            child = os.fork()
+            if child:
+                os.waitpid(child, 0)
+            else:
+                con.execute("SELECT name FROM people WHERE id = 1").fetchone()
+                os._exit(0)
+            """)
+        said = self.capture(words, *SCALES, status=1)[1]
+        self.assertIn("a process asks over a connection that the process before its fork made", said)
+
     def test_deferred(self):
         """A commit that a deferred foreign key refuses leaves the transaction open, here and played back."""
         self.tables = """CREATE TABLE a (id INTEGER PRIMARY KEY);
