@@ -186,15 +186,20 @@ module _ (old : List Cells) (values : List Value) (new : List Cells) where
     few = omega (arith, above, grid.few, long_more numbers number);
   }
 
-  pub slots_replaced : (numbers since : List ℕ) (standing : List Bool) (next slot : ℕ) → IsGrid numbers since standing old next → AreSet old slot values new → length values ≡ length old → slot < length numbers
-      → slots_of numbers since standing new ≡ set (slots_of numbers since standing old) slot (record (slot_of numbers since standing old slot) { values = values })
-  slots_replaced numbers since standing next slot grid changed width within =
+  pub slots_replaced : (numbers since : List ℕ) (standing : List Bool) (next slot time : ℕ) → IsGrid numbers since standing old next → AreSet old slot values new → length values ≡ length old → slot < length numbers
+      → slots_of numbers (set since slot time) standing new ≡ set (slots_of numbers since standing old) slot (record (slot_of numbers since standing old slot) { since = time; values = values })
+  slots_replaced numbers since standing next slot time grid changed width within =
       let f : ℕ → Slot = slot_of numbers since standing old in
-      changed_at f (slot_of numbers since standing new) (length numbers) slot no_slot (record (f slot) { values = values }) within
-      (ap (λ (l : List Value). record (f slot) { values = l })
-      (these_values slot changed.count width (λ c in_old. ap (λ (l : List Value). get_or l slot Null) (changed.cells c in_old) ∙ get_or-set_same (get_or old c no_cells).items slot (get_or values c Null) Null (subst (λ (m : ℕ). slot < m) (sym (grid.long c in_old)) within))))
-      (λ k other. ap (λ (l : List Value). record (f k) { values = l })
-      (same_values k changed.count (λ c in_old. ap (λ (l : List Value). get_or l k Null) (changed.cells c in_old) ∙ get_or-set_other (get_or old c no_cells).items slot k (get_or values c Null) Null other)))
+      let here : get_or (set since slot time) slot 0 ≡ time = get_or-set_same since slot time 0 (subst (λ (n : ℕ). slot < n) (sym grid.begins) within) in
+      let put : values_at new slot ≡ values =
+      these_values slot changed.count width (λ c in_old. ap (λ (l : List Value). get_or l slot Null) (changed.cells c in_old) ∙ get_or-set_same (get_or old c no_cells).items slot (get_or values c Null) Null (subst (λ (m : ℕ). slot < m) (sym (grid.long c in_old)) within)) in
+      changed_at f (slot_of numbers (set since slot time) standing new) (length numbers) slot no_slot (record (f slot) { since = time; values = values }) within
+      (λ j. record (f slot) { since = here j; values = put j })
+      (λ k other.
+      let left : get_or (set since slot time) k 0 ≡ get_or since k 0 = get_or-set_other since slot k time 0 other in
+      let kept : values_at new k ≡ values_at old k =
+      same_values k changed.count (λ c in_old. ap (λ (l : List Value). get_or l k Null) (changed.cells c in_old) ∙ get_or-set_other (get_or old c no_cells).items slot k (get_or values c Null) Null other) in
+      λ j. record (f k) { since = left j; values = kept j })
 
   pub grid_same : (numbers since : List ℕ) (standing : List Bool) (next : ℕ) → IsGrid numbers since standing old next → length new ≡ length old → ((k : ℕ) → k < length old → (get_or new k no_cells).items ≡ (get_or old k no_cells).items) → IsGrid numbers since standing new next
   grid_same numbers since standing next grid count cells = record {
@@ -206,9 +211,9 @@ module _ (old : List Cells) (values : List Value) (new : List Cells) where
     few = grid.few;
   }
 
-  pub grid_replaced : (numbers since : List ℕ) (standing : List Bool) (next slot : ℕ) → IsGrid numbers since standing old next → AreSet old slot values new → IsGrid numbers since standing new next
-  grid_replaced numbers since standing next slot grid changed = record {
-    begins = grid.begins;
+  pub grid_replaced : (numbers since : List ℕ) (standing : List Bool) (next slot time : ℕ) → IsGrid numbers since standing old next → AreSet old slot values new → IsGrid numbers (set since slot time) standing new next
+  grid_replaced numbers since standing next slot time grid changed = record {
+    begins = length-set since slot time ∙ grid.begins;
     stands = grid.stands;
     long = λ k in_new. let in_old : k < length old = subst (λ (n : ℕ). k < n) changed.count in_new in
         ap length (changed.cells k in_old) ∙ length-set _ _ _ ∙ grid.long k in_old;

@@ -14,6 +14,7 @@ use Rattle.sql_model.proofs.SameValues.{same_exact}
 use Rattle.table_store.specs.Types.{Value, Null, Int, Text, RowKey}
 use Rattle.table_store.specs.inner.IndexView.{held_as}
 use Rattle.table_store.specs.KeyIndex.{HeldKeys, in_place, int_key}
+use Rattle.table_store.proofs.KeyMapLaws.{entered}
 
 abbrev pub Ints : Type 0
 Ints = ℤ → Option ℕ
@@ -130,3 +131,19 @@ taken_both left old new others held more set_ints set some q =
       by : (o : Option ℤ) → held_as new (more q) o ≡ in_place (held_as left (others q) o) (held_as old (held q) o)
       by None = set q
       by (Some m) = set_ints m
+
+-- ---- places that are entered
+
+pub entered_both : (next : ℕ) (left old new : Ints) (others held more : HeldKeys) → ((m : ℤ) → new m ≡ entered next (left m) (old m)) → ((q : RowKey) → more q ≡ entered next (others q) (held q))
+    → (q : RowKey) → held_as new (more q) (int_key q.values) ≡ entered next (held_as left (others q) (int_key q.values)) (held_as old (held q) (int_key q.values))
+entered_both next left old new others held more ints rest q = by (int_key q.values) where
+  by : (o : Option ℤ) → held_as new (more q) o ≡ entered next (held_as left (others q) o) (held_as old (held q) o)
+  by None = rest q
+  by (Some m) = ints m
+
+pub others_both : (left old new : Ints) (others held more : HeldKeys) → ((m : ℤ) → left m ≡ None → new m ≡ old m) → ((q : RowKey) → others q ≡ None → more q ≡ held q)
+    → (q : RowKey) → held_as left (others q) (int_key q.values) ≡ None → held_as new (more q) (int_key q.values) ≡ held_as old (held q) (int_key q.values)
+others_both left old new others held more ints rest q = by (int_key q.values) where
+  by : (o : Option ℤ) → held_as left (others q) o ≡ None → held_as new (more q) o ≡ held_as old (held q) o
+  by None none = rest q none
+  by (Some m) none = ints m none

@@ -1,7 +1,7 @@
 -- Numbers under keys, by any order of the keys.
-use Rattle.std.proofs.Common.{◌≡◌, ℕ, inl, inr, true, cond, List, ◌∷◌, refl, ap, sym, subst, ◌∙◌, Option, Some, None}
+use Rattle.std.proofs.Common.{◌≡◌, ℕ, ◌+◌, inl, inr, true, cond, List, ◌∷◌, refl, ap, sym, subst, ◌∙◌, Option, Some, None}
 use Rattle.std.specs.Prelude.{IsSome}
-use Rattle.std.specs.Option.{option_or}
+use Rattle.std.specs.Option.{option_map, option_or}
 use Rattle.std.specs.Map.{lookup}
 use Rattle.std.specs.BTreeMap.{BTreeMap, get, get_by, is_at}
 use Rattle.std.specs.Cmp.{IsTotalOrder, eq_by_cmp_equiv}
@@ -16,6 +16,10 @@ some_now n is = subst (λ (o : Option ℕ). IsSome o) (sym is) refl
 pub some_kept : (old new : Option ℕ) → ((n : ℕ) → old ≡ Some n → new ≡ Some n) → IsSome old → IsSome new
 some_kept None new keeps some = cc
 some_kept (Some n) new keeps some = some_now n (keeps n refl)
+
+-- what a key has once its place is entered
+abbrev pub entered : ℕ → Option ℕ → Option ℕ → Option ℕ
+entered next place held = option_or (option_map (λ n. next + n) place) held
 
 module _ {K : Type 0} (cmp : K → K → Ordering) where
   -- keys that each have a number, or are still to get one
@@ -94,4 +98,30 @@ module _ {K : Type 0} (cmp : K → K → Ordering) where
       | inl hit ↦ ap (λ b. in_place (cond b None (get cmp left q)) (cond b (in_place (Some number) (get cmp old q)) (get cmp old q))) hit
           ∙ sym (ap (λ (o : Option ℕ). in_place o (get cmp old q)) (sym (same_at left k q hit) ∙ here))
       | inr miss ↦ ap (λ b. in_place (cond b None (get cmp left q)) (cond b (in_place (Some number) (get cmp old q)) (get cmp old q))) miss
+    ]
+
+    -- ---- places that are entered one by one
+
+    pub entered_one : (left rest old new : BTreeMap K ℕ) (k : K) (place next : ℕ) → get cmp left k ≡ Some place → ((q : K) → get cmp rest q ≡ cond (is_at (cmp k) q) None (get cmp left q))
+        → ((q : K) → get cmp new q ≡ cond (is_at (cmp k) q) (Some (next + place)) (get cmp old q))
+        → (q : K) → entered next (get cmp rest q) (get cmp new q) ≡ entered next (get cmp left q) (get cmp old q)
+    entered_one left rest old new k place next here taken put q = (λ j. entered next (taken q j) (put q j)) ∙ elim (cases_Bool (is_at (cmp k) q)) [
+      | inl hit ↦ ap (λ b. entered next (cond b None (get cmp left q)) (cond b (Some (next + place)) (get cmp old q))) hit
+          ∙ sym (ap (λ (o : Option ℕ). entered next o (get cmp old q)) (sym (same_at left k q hit) ∙ here))
+      | inr miss ↦ ap (λ b. entered next (cond b None (get cmp left q)) (cond b (Some (next + place)) (get cmp old q))) miss
+    ]
+
+    pub entered_others : (places left old new : BTreeMap K ℕ) (k : K) (place next : ℕ) → get cmp left k ≡ Some place → ((q : K) (n : ℕ) → get cmp left q ≡ Some n → get cmp places q ≡ Some n)
+        → ((q : K) → get cmp new q ≡ cond (is_at (cmp k) q) (Some (next + place)) (get cmp old q))
+        → (q : K) → get cmp places q ≡ None → get cmp new q ≡ get cmp old q
+    entered_others places left old new k place next here fewer put q none = put q ∙ elim (cases_Bool (is_at (cmp k) q)) [
+      | inl hit ↦ let wrong : None ≡ Some place = sym none ∙ sym (same_at places k q hit) ∙ fewer k place here in cc
+      | inr miss ↦ ap (λ b. cond b (Some (next + place)) (get cmp old q)) miss
+    ]
+
+    pub still_fewer : (places left rest : BTreeMap K ℕ) (k : K) → ((q : K) → get cmp rest q ≡ cond (is_at (cmp k) q) None (get cmp left q)) → ((q : K) (n : ℕ) → get cmp left q ≡ Some n → get cmp places q ≡ Some n)
+        → (q : K) (n : ℕ) → get cmp rest q ≡ Some n → get cmp places q ≡ Some n
+    still_fewer places left rest k taken fewer q n is = elim (cases_Bool (is_at (cmp k) q)) [
+      | inl hit ↦ let wrong : None ≡ Some n = sym (taken q ∙ ap (λ b. cond b None (get cmp left q)) hit) ∙ is in cc
+      | inr miss ↦ fewer q n (sym (taken q ∙ ap (λ b. cond b None (get cmp left q)) miss) ∙ is)
     ]

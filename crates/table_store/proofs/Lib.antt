@@ -9,7 +9,6 @@ pub mod FirstLaws
 pub mod FormedLaws
 pub mod GivenKeyLaws
 pub mod GridLaws
-pub mod HighLaws
 pub mod IndexChangeLaws
 pub mod IndexLaws
 pub mod IndexViewLaws
@@ -19,9 +18,11 @@ pub mod KeyMapLaws
 pub mod LaterLaws
 pub mod LossLaws
 pub mod NamedLaws
+pub mod NewKeyLaws
 pub mod NextLaws
 pub mod NowLaws
 pub mod ParentLaws
+pub mod PastLaws
 pub mod PutLaws
 pub mod RefusalLaws
 pub mod RekeyLaws

@@ -19,12 +19,11 @@ use Rattle.table_store.specs.inner.ChildPairs.{Pairs, AreReferred, IsReferred, K
 use Rattle.table_store.specs.inner.Grid.{next_after}
 use Rattle.table_store.specs.Histories.{RowHistory, NextSince, TableHistory, no_history, row_of, row_now, rows_now, row_as_of, rows_as_of, history_of_new_row, with_change, changed_by, row_write, row_delete, rows_with_values, rows_without, last_next_number, last_since, next_as_of, nexts_with, table_now, table_with_rows, table_with_values, table_without}
 use Rattle.table_store.specs.KeyIndex.{HeldKeys, AreHeld, AreIndexed}
-use Rattle.table_store.specs.inner.RowChanges.{removal, rewrite, change_given, changes_given, RiseFrom, AllFitKinds, HasRow, AllStand, AreBefore}
+use Rattle.table_store.specs.inner.RowChanges.{RowChange, removal, rewrite, change_given, changes_given, RiseFrom, AllFitKinds, HasRow, AllStand, AreBefore}
 use Rattle.table_store.specs.RowOrder.{AreInOrder}
 use Rattle.table_store.specs.Stops.{has_shape, values_of, are_sorted_rows, are_sorted_numbers, replaced_by, is_among, with_inserted, with_replaced, with_removed}
-use Rattle.table_store.specs.inner.RowChains.{RowsHistory}
+use Rattle.table_store.specs.inner.RowHistories.{RowsHistory}
 use Rattle.table_store.specs.TableView.{kinds_in, IsTimed, AreTimed, IsStored}
-use Rattle.table_store.specs.declared.change.RowChange.{RowChange}
 use Rattle.table_store.proofs.IndexChangeLaws.{indexed_wider}
 use Rattle.table_store.proofs.InsertLaws.{timed_more, now_more, numbered_after}
 use Rattle.table_store.proofs.NextLaws.{noted_in_time}
@@ -75,15 +74,11 @@ rewrites_rise rows sorted = rise_rows 0 rows (from rows) sorted where
   from [] = tt
   from (x ∷ l) = omega arith
 
-pub removals_fit : (kinds : List Bool) (numbers : List ℕ) → AllFitKinds kinds (map removal numbers)
-removals_fit kinds [] = tt
-removals_fit kinds (number ∷ numbers) = (tt, removals_fit kinds numbers)
-
 pub rewrites_fit : (columns : List Column) (rows : List TableRow) → list_all (has_shape columns) (values_of rows) ≡ true → AllFitKinds (kinds_in columns) (map rewrite rows)
 rewrites_fit columns [] shape = tt
 rewrites_fit columns (row ∷ rows) shape =
     let both = and-parts (has_shape columns row.values) (list_all (has_shape columns) (values_of rows)) shape in
-    ((shape_fits columns row.values both.0, refl), rewrites_fit columns rows both.1)
+    (shape_fits columns row.values both.0, rewrites_fit columns rows both.1)
 
 -- ---- rows that stand
 

@@ -9,7 +9,7 @@ use Rattle.table_store.specs.inner.ChildPairs.{Pairs, AreReferred, pair_in}
 use Rattle.table_store.specs.inner.IndexView.{held_in}
 use Rattle.table_store.specs.KeyIndex.{HeldKeys, AreIndexed}
 use Rattle.table_store.specs.inner.Nexts.{nexts_of, AreInTime}
-use Rattle.table_store.specs.inner.RowChains.{RowsHistory}
+use Rattle.table_store.specs.inner.RowHistories.{RowsHistory}
 use Rattle.table_store.specs.declared.table.TableStore.TheInside.{Inside}
 
 abbrev pub seen_table : Inside → TableHistory

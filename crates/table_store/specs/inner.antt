@@ -4,9 +4,11 @@ pub mod ChildSteps
 pub mod Claims
 pub mod GivenKeys
 pub mod Grid
-pub mod HighKeys
 pub mod IndexView
+pub mod NewKeys
 pub mod Nexts
 pub mod ParentRows
-pub mod RowChains
+pub mod Past
+pub mod Plans
 pub mod RowChanges
+pub mod RowHistories

@@ -93,7 +93,7 @@ impl Grid {
         self.numbers[slot]
     }
 
-    /// The time of the first values of the row in a slot.
+    /// Since when the row in a slot has its last values.
     #[tactic(auto, using(crate::proofs::GridLaws::grid_rules))]
     pub(crate) fn since(&self, slot: usize) -> u32
         requires { slot < length self.now.slots }
@@ -193,15 +193,17 @@ impl Grid {
         Ok(())
     }
 
-    /// Replaces the last values of the row in a slot.
-    pub(crate) fn set(&mut self, slot: usize, values: Values)
+    /// Replaces the last values of the row in a slot, which it has since a time.
+    #[tactic(auto, using(crate::proofs::GridLaws::grid_rules))]
+    pub(crate) fn set(&mut self, slot: usize, values: Values, since: u32)
         requires within { slot < length self.old.slots }
         requires kinds { fits_kinds self.old.kinds values ≡ true }
         ensures { self.new ≡ record self.old {
           slots = slice_set self.old.slots slot
-              (record (slice_index_or self.old.slots slot no_slot) { values = values });
+              (record (slice_index_or self.old.slots slot no_slot) { since = since; values = values });
         } }
     {
+        self.since[slot] = since;
         set_cells(&mut self.columns, slot, values);
     }
 
@@ -216,7 +218,8 @@ impl Grid {
         self.standing.set(slot, false);
     }
 
-    /// The slot of the row with a number, found by bisection.
+    /// The slot of the row with a number: the slot of that number, as long as none was left out before it, or
+    /// else found by bisection.
     pub(crate) fn find(&self, number: u32) -> Option<usize>
         ensures found { IfSome result (λ slot. (slot < length self.now.slots)
             × ((slice_index_or self.now.slots slot no_slot).number ≡ number)) }
@@ -251,6 +254,12 @@ fn place_in(numbers: &Vec<u32>, number: u32) -> Option<usize>
     ensures absent { result ≡ None → (k : ℕ) → k < length numbers.now.items
         → slice_index numbers.now.items k ≢ number }
 {
+    let near = number as usize;
+    if near < numbers.len() {
+        if numbers[near] == number {
+            return Some(near);
+        }
+    }
     let place = place_of(numbers, number);
     if place == numbers.len() {
         return None;

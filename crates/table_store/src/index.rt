@@ -1,12 +1,13 @@
 //! The index over the key of a table.
 
-ghost use Rattle.std.specs.Prelude.{◌≡◌, ◌==◌, ℕ, ℤ, ◌+◌, ◌^◌, ◌<◌, ◌&&◌, Bool, true, false, List, [], ◌∷◌};
+ghost use Rattle.std.specs.Prelude.{◌≡◌, ◌==◌, ℕ, ℤ, ◌+◌, ◌^◌, ◌<◌, ◌≤◌, ◌&&◌, Bool, true, false, List, [], ◌∷◌};
 ghost use Rattle.std.specs.Prelude.{◌++◌, cond, if◌then◌else◌, Option, Some, None, find, OnOk, OnErr, IfOk};
 ghost use Rattle.std.specs.Prelude.{IsSome, length, map, slice_index_or, unwrap_or};
 ghost use Rattle.table_store.specs.Types.{RowKey};
 ghost use Rattle.std.specs.BTreeMap.{get, is_at};
 ghost use Rattle.std.specs.Option.{option_map, option_to_list, option_or};
 ghost use Rattle.std.specs.Ordering.{int_cmp};
+ghost use Rattle.ldv_value.specs.Order.{values_order};
 ghost use Rattle.sql_model.specs.KeyOrder.{key_order};
 ghost use Rattle.ldv_value.specs.Cells.{value_at};
 ghost use Rattle.sql_model.specs.Keys.{values_at, key_at};
@@ -14,9 +15,11 @@ ghost use Rattle.sql_model.specs.Tables.{are_keys_unique};
 ghost use Rattle.sql_model.specs.References.{has_key};
 ghost use Rattle.table_store.specs.Histories.{rows_now, row_now, no_history};
 ghost use Rattle.table_store.specs.inner.IndexView.{held_as, held_in};
+ghost use Rattle.table_store.specs.inner.NewKeys.{new_in, numbers_from, AreBelow};
 ghost use Rattle.table_store.specs.KeyIndex.{int_of, int_key, last_under, AreHeld, AreIndexed};
 
 use crate::key_map::KeyMap;
+use crate::new_keys::NewKeys;
 use crate::rows::Rows;
 use ldv_value::{List, Places, Value, Values};
 use sql_model::{RowKey, TableRow, value_at};
@@ -27,7 +30,7 @@ use std::alloc::{AllocError, Global};
 #[derive(Drop)]
 pub(crate) struct Index {
     pub(crate) ints: KeyMap<i64>,
-    pub(crate) others: KeyMap<RowKey>,
+    pub(crate) others: KeyMap<Values>,
 }
 
 impl Index {
@@ -45,7 +48,14 @@ impl Index {
     pub(crate) fn number(&self, key: &RowKey) -> Option<u32>
         ensures { result ≡ held_in self.now key.now }
     {
-        match int_key(key.values.items()) {
+        self.number_of(&key.values)
+    }
+
+    /// The number under the key of these values. It takes no memory.
+    pub(crate) fn number_of(&self, key: &Values) -> Option<u32>
+        ensures { result ≡ held_in self.now (record { values = key.now }) }
+    {
+        match int_key(key.items()) {
             None => self.others.number(key),
             Some(int) => self.ints.number(&int),
         }
@@ -58,7 +68,7 @@ impl Index {
         ensures err { OnErr result ((q : RowKey) → held_in self.new q ≡ held_in self.old q) }
     {
         match int_key(key.values.items()) {
-            None => self.others.put(key, number),
+            None => self.others.put(key.values, number),
             Some(int) => self.ints.put(int, number),
         }
     }
@@ -84,6 +94,20 @@ impl Index {
         let Index { ints, others } = other;
         self.ints.set_all(ints);
         self.others.set_all(others);
+    }
+
+    /// Gives the keys of new rows the rows' numbers, from `next` on. On `AllocError` some of them may have it
+    /// already; no other key has changed.
+    pub(crate) fn enter(&mut self, keys: NewKeys, next: u32) -> Result<(), AllocError>
+        requires { (bound : ℕ) × AreBelow keys bound × (next + bound ≤ 2 ^ 32) }
+        ensures others { (q : RowKey) → new_in keys q ≡ None → held_in self.new q ≡ held_in self.old q }
+        ensures ok { OnOk result ((q : RowKey) → held_in self.new q
+            ≡ option_or (numbers_from next (new_in keys) q) (held_in self.old q)) }
+    {
+        let NewKeys { ints, others } = keys;
+        self.ints.enter(ints, next)?;
+        self.others.enter(others, next)?;
+        Ok(())
     }
 }
 
@@ -157,19 +181,20 @@ fn fill(alloc: Global, places: &Places, rows: &[TableRow]) -> Result<Index, Allo
 fn add_row(
     alloc: Global,
     ints: &mut Vec<(i64, u32)>,
-    others: &mut KeyMap<RowKey>,
+    others: &mut KeyMap<Values>,
     places: &Places,
     row: &TableRow,
 ) -> Result<(), AllocError>
     ensures { OnOk result ((q : RowKey)
-        → held_as (last_under ints.new.items) (get key_order others.new.held q) (int_key q.values)
+        → held_as (last_under ints.new.items) (get values_order others.new.held q.values) (int_key q.values)
         ≡ cond (is_at (key_order (key_at places.now row.now.values)) q) (Some row.now.number)
-        (held_as (last_under ints.old.items) (get key_order others.old.held q) (int_key q.values))) }
+        (held_as (last_under ints.old.items) (get values_order others.old.held q.values)
+        (int_key q.values))) }
 {
     match int_at(places, &row.values) {
         None => {
             let key = key_of(alloc, places, &row.values)?;
-            others.put(key, row.number)
+            others.put(key.values, row.number)
         }
         Some(int) => add_int(ints, int, row.number),
     }
@@ -248,27 +273,29 @@ pub(crate) fn held_number(index: &Index, rows: &Rows, places: &Places, key: &Row
     ensures { result ≡ option_map (λ row. row.number)
         (find (has_key places.now key.now.values) (rows_now rows.now.slots)) }
 {
-    match index.number(key) {
+    number_of_values(index, rows, places, &key.values)
+}
+
+/// The number of the live row with these values as its key, found by the index; `None` if there is none. It
+/// takes no memory.
+pub(crate) fn number_of_values(
+    index: &Index,
+    rows: &Rows,
+    places: &Places,
+    key: &Values,
+) -> Option<u32>
+    requires { AreHeld places.now (λ key. held_in index.now key) (rows_now rows.now.slots) }
+    ensures { result ≡ option_map (λ row. row.number)
+        (find (has_key places.now key.now) (rows_now rows.now.slots)) }
+{
+    match index.number_of(key) {
         None => None,
         Some(number) => {
-            if has_key_at(rows, places, &key.values, number as u64) {
+            if has_key_at(rows, places, key, number as u64) {
                 Some(number)
             } else {
                 None
             }
         }
     }
-}
-
-/// The number of the live row with a key, found slot by slot; `None` if there is none. It takes no memory.
-pub(crate) fn number_by_slots(rows: &Rows, places: &Places, key: &Values) -> Option<u32>
-    ensures { result ≡ option_map (λ row. row.number)
-        (find (has_key places.now key.now) (rows_now rows.now.slots)) }
-{
-    for slot in 0..rows.len() {
-        if has_key_in(rows, places, key, slot) {
-            return Some(rows.number(slot));
-        }
-    }
-    None
 }

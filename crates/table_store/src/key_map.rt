@@ -1,12 +1,14 @@
 //! Numbers of rows under keys of one type.
 
-ghost use Rattle.std.specs.Prelude.{◌≡◌, ℕ, cond, Option, Some, None, OnOk, OnErr, IfOk, IsSome};
+ghost use Rattle.std.specs.Prelude.{◌≡◌, ℕ, ◌+◌, ◌^◌, ◌<◌, cond, Option, Some, None, OnOk, OnErr, IfOk};
+ghost use Rattle.std.specs.Prelude.{IsSome, IfSome};
+ghost use Rattle.std.specs.Option.{option_map, option_or};
 ghost use Rattle.std.specs.BTreeMap.{get, is_at};
 ghost use Rattle.std.specs.Map.{update_all};
 ghost use Rattle.std.specs.Ordering.{eq_by_cmp};
 ghost use Rattle.table_store.specs.KeyIndex.{in_place};
 
-use ldv_value::List;
+use ldv_value::Values;
 use sql_model::RowKey;
 use std::alloc::{AllocError, Global};
 use std::cmp::Ord;
@@ -22,6 +24,12 @@ pub(crate) trait CopyKey: Drop {
 impl CopyKey for i64 {
     fn copy_key(&self) -> Result<Self, AllocError> {
         Ok(*self)
+    }
+}
+
+impl CopyKey for Values {
+    fn copy_key(&self) -> Result<Self, AllocError> {
+        self.copy()
     }
 }
 
@@ -130,5 +138,25 @@ impl<K: Ord + CopyKey> KeyMap<K> {
         while let Some((key, number)) = left.pop_first() {
             self.set(&key, number);
         }
+    }
+
+    /// Gives each key of new rows its row's number, which is the row's place after `next`. On `AllocError`
+    /// some of them may have it already; no other key has changed.
+    pub(crate) fn enter(&mut self, places: BTreeMap<K, usize>, next: u32) -> Result<(), AllocError>
+        requires { (q : K) → IfSome (get K.cmp places q) (λ place. next + place < 2 ^ 32) }
+        ensures others { (q : K) → get K.cmp places q ≡ None
+            → get K.cmp self.new.held q ≡ get K.cmp self.old.held q }
+        ensures ok { OnOk result ((q : K) → get K.cmp self.new.held q
+            ≡ option_or (option_map (λ place. next + place) (get K.cmp places q))
+            (get K.cmp self.old.held q)) }
+    {
+        let mut left = places;
+        while let Some((key, place)) = left.pop_first() {
+            match self.put(key, next + place as u32) {
+                Ok(()) => {}
+                Err(refused) => return Err(refused),
+            }
+        }
+        Ok(())
     }
 }

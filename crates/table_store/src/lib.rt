@@ -1,20 +1,21 @@
 //! Tables through time: the rows that each table has now, and those that it had after each time. Contracts
 //! see a store as its tables, each with the changes of every row that it ever had.
 //!
-//! `docs/internals/STORAGE.md` draws a table in memory. A change first takes all memory that it needs
-//! (`room`); the rest can't fail (`apply`). The keys of new rows are entered into the index one by one
-//! (`claim`). If an UPDATE leaves the key alone, the index stays as it is. If it changes a key, the keys of
-//! the updated rows are compared with each other and with those of all other rows (`rekey`, `clash`). New
-//! keys are entered before the rows change, and get their rows afterwards, which takes no memory. References
-//! are judged first, over the tables as they would be (`refusals`, by `parents` and `children`), and their
-//! refusal counts only if nothing else refuses the change.
+//! `docs/internals/STORAGE.md` draws a table in memory. A change of rows first takes all memory that it
+//! needs; the rest can't fail (`rewrites`, `row_ends`). What rows were before stands in one log
+//! (`version_log`).
+//!
+//! A change is planned, judged and committed, and nothing is written before the last. A plan (`plans`) has
+//! the rows and the keys that they claim. The keys of new rows are compared with each other and with those of
+//! live rows (`claim`). If an UPDATE leaves the key alone, the index stays as it is. If it changes a key, the
+//! keys of the updated rows are compared with each other and with those of all other rows (`rekey`, `clash`).
+//! References are judged over the tables as they would be (`refusals`, by `parents` and `children`), once
+//! nothing else refuses the change. Keys enter the index before the rows change; those of updated rows get
+//! their numbers afterwards, which takes no memory.
 //!
 //! Entry: `insert_all` in `src/store.rt`. Read first: `specs/Histories.antt`.
 #![tactic(auto)]
 
-mod apply;
-mod chains;
-mod change;
 mod child_index;
 mod child_rows;
 mod child_set;
@@ -25,23 +26,27 @@ mod clash;
 mod error;
 mod given;
 mod grid;
-mod high_keys;
 mod index;
 mod insert;
 mod key_map;
+mod logged;
+mod new_keys;
 mod nexts;
 mod parent_rows;
 mod parents;
+mod plans;
 mod push;
 mod refusals;
 mod rekey;
-mod room;
+mod rewrites;
+mod row_ends;
 mod rows;
 mod scan;
 mod start;
 mod store;
 mod table;
 mod table_rows;
+mod version_log;
 
 pub use error::StoreStop;
 pub use store::Store;

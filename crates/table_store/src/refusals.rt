@@ -27,7 +27,7 @@ pub(crate) fn insert_refusal(
     rows: &RowList,
 ) -> Result<Option<StoreStop>, AllocError>
     requires { history_at own.now.name store.now ≡ Some own.now }
-    ensures { IfOk result (λ reference_stop. reference_stop
+    ensures { IfOk result (λ stop. stop
         ≡ missing_stop own.now.schema.foreign (numbered_rows (table_now own.now).next rows.now)
         (with_changed own.now.name (with_inserted rows.now) (tables_now store.now))) }
 {
@@ -35,8 +35,8 @@ pub(crate) fn insert_refusal(
     store.tell_formed();
     let referred = refers_to(own, own.name());
     let keys = keys_if(alloc, referred, &own.schema().key, rows.items())?;
-    let reference_stop = missing_parent(alloc, store, own, &keys, &[], rows.items())?;
-    Ok(reference_stop)
+    let stop = missing_parent(alloc, store, own, &keys, &[], rows.items())?;
+    Ok(stop)
 }
 
 /// The refusal of new values of a table's rows by references; `None` if they are accepted.
@@ -48,7 +48,7 @@ pub(crate) fn replace_refusal(
     requires there { history_at own.now.name store.now ≡ Some own.now }
     requires sorted { are_sorted_rows rows.now ≡ true }
     requires stand { had_rows rows.now (table_now own.now) ≡ true }
-    ensures { IfOk result (λ reference_stop. reference_stop ≡ option_or
+    ensures { IfOk result (λ stop. stop ≡ option_or
         (missing_stop own.now.schema.foreign rows.now
         (with_changed own.now.name (with_replaced rows.now) (tables_now store.now)))
         (orphan_stop (is_of rows.now) (table_now own.now) (with_replaced rows.now (table_now own.now))
@@ -77,7 +77,7 @@ pub(crate) fn delete_refusal(
     requires there { history_at own.now.name store.now ≡ Some own.now }
     requires sorted { are_sorted_numbers numbers.now ≡ true }
     requires stand { all_stand numbers.now (table_now own.now) ≡ true }
-    ensures { IfOk result (λ reference_stop. reference_stop
+    ensures { IfOk result (λ stop. stop
         ≡ orphan_stop (is_among numbers.now) (table_now own.now)
         (with_removed numbers.now (table_now own.now)) (tables_now store.now)) }
 {
@@ -96,7 +96,7 @@ fn lost_child(
     keys: &BTreeSet<RowKey>,
 ) -> Result<Option<StoreStop>, AllocError>
     requires { are_sorted_numbers numbers.now ≡ true }
-    ensures { IfOk result (λ reference_stop. reference_stop ≡ (if length own.now.schema.key == 0 then None
+    ensures { IfOk result (λ stop. stop ≡ (if length own.now.schema.key == 0 then None
         else option_map child_stop
         (orphan_in_tables (is_among numbers.now) own.now.name
         (loses (in_set keys.now) numbers.now (table_now own.now)) store.now.tables))) }

@@ -7,10 +7,10 @@ ghost use Rattle.std.specs.List.{AllByRecursion, list_all, list_any};
 ghost use Rattle.std.specs.Option.{option_map};
 ghost use Rattle.sql_model.specs.Changes.{clash_after, clash_by};
 ghost use Rattle.table_store.specs.inner.Claims.{both_stop, KeepsKey};
-ghost use Rattle.table_store.specs.inner.GivenKeys.{with_claims, keeper, AreJudged};
+ghost use Rattle.table_store.specs.inner.GivenKeys.{with_claims, keeper, AreJudged, TakeOver};
 ghost use Rattle.table_store.specs.Histories.{rows_now};
 ghost use Rattle.table_store.specs.inner.IndexView.{held_in};
-ghost use Rattle.table_store.specs.KeyIndex.{AreHeld, AreIndexed};
+ghost use Rattle.table_store.specs.KeyIndex.{HeldKeys, AreHeld, AreIndexed};
 ghost use Rattle.table_store.specs.Stops.{are_sorted_rows, replaced_by, StopsAs};
 
 use crate::clash::{Clash, earlier_clash, first_clash};
@@ -36,9 +36,8 @@ pub(crate) fn claims_of(
         (rows_now stored.now.slots)) given.now ≡ true }
     requires indexed { AreIndexed places.now (λ key. held_in index.now key)
         (rows_now stored.now.slots) }
-    ensures ok { IfOk result (λ claims. AreIndexed places.now
-        (with_claims (λ key. held_in claims key) (λ key. held_in index.now key))
-        (map (replaced_by given.now) (rows_now stored.now.slots))) }
+    ensures ok { IfOk result (λ claims. TakeOver places.now (rows_now stored.now.slots)
+        (map (replaced_by given.now) (rows_now stored.now.slots)) (λ key. held_in claims key)) }
     ensures stop { StopsAs (both_stop places.now
         (clash_by places.now (map (replaced_by given.now) (rows_now stored.now.slots)))) result }
 {
@@ -97,8 +96,9 @@ fn claim_keys(
     requires stand { list_all (λ row. list_any (λ old. old.number == row.number)
         (rows_now stored.now.slots)) given.now ≡ true }
     requires held { AreHeld places.now (λ key. held_in index.now key) (rows_now stored.now.slots) }
-    ensures ok { IfOk result (λ claims. AreHeld places.now
-        (with_claims (λ key. held_in claims key) (λ key. held_in index.now key))
+    ensures ok { IfOk result (λ claims. (held : HeldKeys)
+        → AreHeld places.now held (rows_now stored.now.slots)
+        → AreHeld places.now (with_claims (λ key. held_in claims key) held)
         (map (replaced_by given.now) (rows_now stored.now.slots))) }
     ensures stop { StopsAs (both_stop places.now
         (clash_after places.now [] (map (replaced_by given.now) (rows_now stored.now.slots)))) result }

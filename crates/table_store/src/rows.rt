@@ -12,18 +12,18 @@ ghost use Rattle.table_store.specs.Scans.{null_passes, passes_test};
 ghost use Rattle.table_store.specs.Types.{Null};
 ghost use Rattle.row_version.specs.History.{write_at, current_values, as_of, version};
 ghost use Rattle.table_store.specs.inner.Grid.{are_of_kinds, no_slot, AreNumberedFrom, next_after};
-ghost use Rattle.table_store.specs.inner.RowChains.{changes_or};
+ghost use Rattle.table_store.specs.inner.RowHistories.{is_ended};
 ghost use Rattle.table_store.specs.Histories.{history_of_new_row, changed_by, no_history};
-ghost use Rattle.table_store.specs.inner.RowChanges.{changes_given, RiseFrom, AllFitKinds, AllStand, AreBefore};
+ghost use Rattle.table_store.specs.inner.RowChanges.{changes_given, removal, rewrite, RiseFrom, AllFitKinds};
+ghost use Rattle.table_store.specs.inner.RowChanges.{AllStand, AreBefore};
+ghost use Rattle.table_store.specs.inner.Past.{past};
 ghost use Rattle.table_store.specs.RowOrder.{AreInOrder};
 
-use crate::apply::apply_all;
-use crate::chains::Chains;
-use crate::change::RowChange;
 use crate::grid::Grid;
-use crate::room::make_room;
+use crate::rewrites::{rewrite_each, rewrites_of};
+use crate::row_ends::end_each;
+use crate::version_log::VersionLog;
 use ldv_value::{Cmp, Places, Values};
-use row_version::Chain;
 use sql_model::TableRows;
 use std::alloc::{AllocError, Global};
 use std::cmp::Ordering;
@@ -33,15 +33,15 @@ use std::marker::Model;
 #[derive(Drop)]
 pub(crate) struct Rows {
     grid: Grid,
-    chains: Chains,
+    log: VersionLog,
 }
 
 impl Model for Rows {
-    ghost use Rattle.table_store.specs.inner.RowChains.{RowsHistory};
+    ghost use Rattle.table_store.specs.inner.RowHistories.{RowsHistory};
 
     ghost Value = { RowsHistory };
 
-    ghost use Rattle.table_store.specs.inner.RowChains.{seen_histories, IsRows};
+    ghost use Rattle.table_store.specs.inner.RowHistories.{seen_histories, IsRows};
 
     ghost view = { seen_histories };
 
@@ -50,13 +50,13 @@ impl Model for Rows {
 
 impl Rows {
     /// No rows, with a column for each item of `texts`: of texts if the item is true, and else of numbers.
-    #[tactic(auto, using(crate::proofs::RowLaws::none_chained))]
+    #[tactic(auto, using(crate::proofs::RowLaws::none_kept))]
     pub(crate) fn new(alloc: Global, texts: &[bool]) -> Result<Rows, AllocError>
         ensures { IfOk result (λ rows. rows ≡ record { slots = []; kinds = texts.now; next = 0 }) }
     {
         Ok(Rows {
             grid: Grid::new(alloc, texts)?,
-            chains: Chains::new(alloc),
+            log: VersionLog::new(alloc),
         })
     }
 
@@ -109,10 +109,14 @@ impl Rows {
         ensures { IfOk result (λ values. values
             ≡ as_of (slice_index_or self.now.slots slot no_history).changes time) }
     {
-        match self.chains.chain(self.grid.number(slot)) {
-            Some(chain) => chain_values(chain, time),
-            None => first_values(alloc, &self.grid, slot, time),
+        if is_ended_by(self.log.end_at(slot), time) {
+            return Ok(None);
         }
+        if self.grid.since(slot) <= time {
+            let copy = self.grid.copy_values(alloc, slot)?;
+            return Ok(Some(copy));
+        }
+        earlier_values(&self.log, slot, time)
     }
 
     /// How often the row in a slot has changed.
@@ -121,9 +125,11 @@ impl Rows {
         requires { slot < length self.now.slots }
         ensures { result ≡ version (slice_index_or self.now.slots slot no_history).changes }
     {
-        match self.chains.chain(self.grid.number(slot)) {
-            Some(chain) => chain.version(),
-            None => 0,
+        let earlier = self.log.count(slot);
+        if self.grid.stands(slot) {
+            earlier
+        } else {
+            earlier + 1
         }
     }
 
@@ -222,56 +228,67 @@ impl Rows {
         Ok(())
     }
 
-    /// Applies changes of live rows, each by its number, at a time later than that of each earlier change. On
+    /// Gives live rows, each by its number, other values at a time later than that of each earlier change. On
     /// `AllocError` nothing has changed.
-    pub(crate) fn change_all(
+    pub(crate) fn rewrite_all(
         &mut self,
         alloc: Global,
-        given: Vec<RowChange>,
+        rows: TableRows,
         time: u32,
     ) -> Result<(), AllocError>
         requires before { AreBefore time self.old.slots }
-        requires apart { RiseFrom 0 given.items }
-        requires stand { AllStand self.old.slots given.items }
-        requires fits { AllFitKinds self.old.kinds given.items }
-        ensures ok { OnOk result (self.new
-            ≡ record self.old { slots = map (changed_by (changes_given time given.items)) self.old.slots }) }
+        requires apart { RiseFrom 0 (map rewrite rows) }
+        requires stand { AllStand self.old.slots (map rewrite rows) }
+        requires fits { AllFitKinds self.old.kinds (map rewrite rows) }
+        ensures ok { OnOk result (self.new ≡ record self.old {
+          slots = map (changed_by (changes_given time (map rewrite rows))) self.old.slots;
+        }) }
         ensures err { OnErr result (self.new ≡ self.old) }
     {
-        make_room(alloc, &self.grid, &mut self.chains, given.as_slice())?;
-        apply_all(&mut self.grid, &mut self.chains, given, time)?;
+        self.grid.tell_order();
+        let given = rewrites_of(alloc, &self.grid, rows)?;
+        let slots = self.grid.len();
+        let more = given.len();
+        self.log.reserve(slots, more)?;
+        rewrite_each(&mut self.grid, &mut self.log, given, time)?;
+        Ok(())
+    }
+
+    /// Deletes live rows, each by its number, at a time later than that of each earlier change. On
+    /// `AllocError` nothing has changed.
+    pub(crate) fn delete_all(&mut self, numbers: &[u32], time: u32) -> Result<(), AllocError>
+        requires before { AreBefore time self.old.slots }
+        requires apart { RiseFrom 0 (map removal numbers.now) }
+        requires stand { AllStand self.old.slots (map removal numbers.now) }
+        ensures ok { OnOk result (self.new ≡ record self.old {
+          slots = map (changed_by (changes_given time (map removal numbers.now))) self.old.slots;
+        }) }
+        ensures err { OnErr result (self.new ≡ self.old) }
+    {
+        self.grid.tell_order();
+        let slots = self.grid.len();
+        self.log.reserve_ends(slots)?;
+        end_each(&mut self.grid, &mut self.log, numbers, time);
         Ok(())
     }
 }
 
-// A copy of the values that a chain has after a time.
-fn chain_values(chain: &Chain, time: u32) -> Result<Option<Values>, AllocError>
-    ensures { IfOk result (λ values. values ≡ as_of chain.now.changes time) }
+// Whether a row had ended by a time, by when it ended; 0: it stands.
+fn is_ended_by(end: u32, time: u32) -> bool
+    ensures { result ≡ is_ended end time }
 {
-    match chain.as_of(time) {
+    end != 0 && end <= time
+}
+
+// A copy of the values that the row in a slot had after a time, before its last ones.
+fn earlier_values(log: &VersionLog, slot: usize, time: u32) -> Result<Option<Values>, AllocError>
+    ensures { IfOk result (λ values. values ≡ as_of (past log.now.versions slot) time) }
+{
+    match log.values_by(slot, time) {
         None => Ok(None),
         Some(values) => {
             let copy = values.copy()?;
             Ok(Some(copy))
         }
-    }
-}
-
-// A copy of the values that the row in a slot, which never changed, had after a time.
-fn first_values(
-    alloc: Global,
-    grid: &Grid,
-    slot: usize,
-    time: u32,
-) -> Result<Option<Values>, AllocError>
-    requires { slot < length grid.now.slots }
-    ensures { IfOk result (λ values. values
-        ≡ as_of (changes_or None (slice_index_or grid.now.slots slot no_slot)) time) }
-{
-    if grid.since(slot) <= time {
-        let copy = grid.copy_values(alloc, slot)?;
-        Ok(Some(copy))
-    } else {
-        Ok(None)
     }
 }

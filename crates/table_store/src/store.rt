@@ -23,12 +23,14 @@ ghost use Rattle.table_store.specs.Referring.{are_apart, insert_refusal, replace
 ghost use Rattle.table_store.specs.Referring.{parents_now};
 ghost use Rattle.table_store.specs.Referring.{CanBePut, IsAtVersion, is_of, missing_stop, orphan_stop};
 ghost use Rattle.table_store.specs.StoreChange.{IsStoreChange};
+ghost use Rattle.table_store.specs.inner.Plans.{IsInsertPlan, IsReplacePlan};
 ghost use Rattle.table_store.specs.StoreView.{store_at_start, no_table, are_sorted};
 ghost use Rattle.table_store.specs.TableView.{history_at_start};
 ghost use Rattle.table_store.specs.Types.{Null, Value};
 
 use crate::error::StoreStop;
 use crate::parent_rows::parents_of;
+use crate::plans::{InsertPlan, ReplacePlan};
 use crate::refusals::{delete_refusal, insert_refusal, replace_refusal};
 use crate::table::TableStore;
 use ldv_value::{Cmp, Numbers, RowList, Values};
@@ -252,14 +254,17 @@ impl Store {
         match place_in(&self.tables, table) {
             None => unreachable!(),
             Some(place) => {
-                let reference_stop = self.reference_stop_of_insert(table, &rows)?;
-                match insert_in(&mut self.tables, place, rows, reference_stop, time) {
-                    Err(stop) => Err(stop),
-                    Ok(first) => {
-                        self.time = time;
-                        Ok(first)
-                    }
+                let plan = match plan_in(&self.tables, place, rows) {
+                    Ok(plan) => plan,
+                    Err(stop) => return Err(stop),
+                };
+                match self.judge_insert(table, &plan.rows)? {
+                    None => {}
+                    Some(stop) => return Err(stop),
                 }
+                let first = insert_in(&mut self.tables, place, plan, time)?;
+                self.time = time;
+                Ok(first)
             }
         }
     }
@@ -283,14 +288,17 @@ impl Store {
         match place_in(&self.tables, table) {
             None => unreachable!(),
             Some(place) => {
-                let reference_stop = self.reference_stop_of_replace(table, rows.items())?;
-                match replace_in(&mut self.tables, place, rows, reference_stop, time) {
-                    Err(stop) => Err(stop),
-                    Ok(()) => {
-                        self.time = time;
-                        Ok(())
-                    }
+                let plan = match plan_values_in(&self.tables, place, rows) {
+                    Ok(plan) => plan,
+                    Err(stop) => return Err(stop),
+                };
+                match self.judge_replace(table, plan.rows.items())? {
+                    None => {}
+                    Some(stop) => return Err(stop),
                 }
+                replace_in(&mut self.tables, place, plan, time)?;
+                self.time = time;
+                Ok(())
             }
         }
     }
@@ -312,83 +320,70 @@ impl Store {
         match place_in(&self.tables, table) {
             None => unreachable!(),
             Some(place) => {
-                let reference_stop = self.reference_stop_of_delete(table, numbers.items())?;
-                match delete_in(&mut self.tables, place, numbers, reference_stop, time) {
-                    Err(stop) => Err(stop),
-                    Ok(()) => {
-                        self.time = time;
-                        Ok(())
-                    }
+                match self.judge_delete(table, numbers.items())? {
+                    None => {}
+                    Some(stop) => return Err(stop),
                 }
+                delete_in(&mut self.tables, place, numbers, time)?;
+                self.time = time;
+                Ok(())
             }
         }
     }
 
-    // What references refuse new rows for, which comes after what the rows' own table refuses them for.
-    fn reference_stop_of_insert(
-        &self,
-        table: &str,
-        rows: &RowList,
-    ) -> Result<Option<StoreStop>, AllocError>
+    // What references refuse new rows for.
+    fn judge_insert(&self, table: &str, rows: &RowList) -> Result<Option<StoreStop>, AllocError>
         requires { IsSome (table_at table.now (tables_now self.now)) }
-        ensures { IfOk result (λ reference_stop. option_map
+        ensures { IfOk result (λ stop. option_map
             (λ own. missing_stop own.schema.foreign (numbered_rows own.next rows.now)
             (with_changed own.name (with_inserted rows.now) (tables_now self.now)))
-            (table_at table.now (tables_now self.now)) ≡ Some reference_stop) }
+            (table_at table.now (tables_now self.now)) ≡ Some stop) }
     {
         match self.table(table) {
             None => unreachable!(),
             Some(own) => {
-                let reference_stop = insert_refusal(self, own, rows)?;
-                Ok(reference_stop)
+                let stop = insert_refusal(self, own, rows)?;
+                Ok(stop)
             }
         }
     }
 
     // What references refuse new values of rows for.
-    fn reference_stop_of_replace(
-        &self,
-        table: &str,
-        rows: &[TableRow],
-    ) -> Result<Option<StoreStop>, AllocError>
+    fn judge_replace(&self, table: &str, rows: &[TableRow]) -> Result<Option<StoreStop>, AllocError>
         requires there { IsSome (table_at table.now (tables_now self.now)) }
         requires sorted { are_sorted_rows rows.now ≡ true }
         requires stand { IfSome (table_at table.now (tables_now self.now))
             (λ table. had_rows rows.now table ≡ true) }
-        ensures { IfOk result (λ reference_stop. option_map
+        ensures { IfOk result (λ stop. option_map
             (λ own. option_or (missing_stop own.schema.foreign rows.now
             (with_changed own.name (with_replaced rows.now) (tables_now self.now)))
             (orphan_stop (is_of rows.now) own (with_replaced rows.now own) (tables_now self.now)))
-            (table_at table.now (tables_now self.now)) ≡ Some reference_stop) }
+            (table_at table.now (tables_now self.now)) ≡ Some stop) }
     {
         match self.table(table) {
             None => unreachable!(),
             Some(own) => {
-                let reference_stop = replace_refusal(self, own, rows)?;
-                Ok(reference_stop)
+                let stop = replace_refusal(self, own, rows)?;
+                Ok(stop)
             }
         }
     }
 
     // What references refuse to drop rows for.
-    fn reference_stop_of_delete(
-        &self,
-        table: &str,
-        numbers: &[u32],
-    ) -> Result<Option<StoreStop>, AllocError>
+    fn judge_delete(&self, table: &str, numbers: &[u32]) -> Result<Option<StoreStop>, AllocError>
         requires there { IsSome (table_at table.now (tables_now self.now)) }
         requires sorted { are_sorted_numbers numbers.now ≡ true }
         requires stand { IfSome (table_at table.now (tables_now self.now))
             (λ table. all_stand numbers.now table ≡ true) }
-        ensures { IfOk result (λ reference_stop. option_map
+        ensures { IfOk result (λ stop. option_map
             (λ own. orphan_stop (is_among numbers.now) own (with_removed numbers.now own)
-            (tables_now self.now)) (table_at table.now (tables_now self.now)) ≡ Some reference_stop) }
+            (tables_now self.now)) (table_at table.now (tables_now self.now)) ≡ Some stop) }
     {
         match self.table(table) {
             None => unreachable!(),
             Some(own) => {
-                let reference_stop = delete_refusal(self, own, numbers)?;
-                Ok(reference_stop)
+                let stop = delete_refusal(self, own, numbers)?;
+                Ok(stop)
             }
         }
     }
@@ -437,58 +432,80 @@ fn is_before(held: &TableStore, name: &str) -> bool
     held.name().cmp(name).is_lt()
 }
 
-// Adds rows to the table at a place.
+// The new rows of the table at a place, and their keys.
+fn plan_in(tables: &Vec<TableStore>, place: usize, rows: RowList) -> Result<InsertPlan, StoreStop>
+    requires within { place < length tables.now.items }
+    requires shape { have_shape rows (table_now (slice_index_or tables.now.items place no_table)) ≡ true }
+    ensures stop { StopsAs (insert_stop rows (table_now (slice_index_or tables.now.items place no_table)))
+        result }
+    ensures plan { IfOk result (IsInsertPlan (slice_index_or tables.now.items place no_table)) }
+    ensures rows { IfOk result (λ plan. plan.rows ≡ rows) }
+{
+    let held = &tables[place];
+    held.plan_insert(rows)
+}
+
+// Adds planned rows to the table at a place.
 fn insert_in(
     tables: &mut Vec<TableStore>,
     place: usize,
-    rows: RowList,
-    reference_stop: Option<StoreStop>,
+    plan: InsertPlan,
     time: u32,
-) -> Result<u32, StoreStop>
+) -> Result<u32, AllocError>
     requires within { place < length tables.old.items }
+    requires plan { IsInsertPlan (slice_index_or tables.old.items place no_table) plan }
     requires later { last_since (slice_index_or tables.old.items place no_table).nexts < time }
-    requires shape { have_shape rows (table_now (slice_index_or tables.old.items place no_table)) ≡ true }
-    ensures stop { StopsAs (option_or
-        (insert_stop rows (table_now (slice_index_or tables.old.items place no_table)))
-        reference_stop) result }
     ensures first { IfOk result (λ first. first
         ≡ (table_now (slice_index_or tables.old.items place no_table)).next) }
     ensures ok { OnOk result (tables.new.items
         ≡ slice_set tables.old.items place
-        (table_with_rows time rows (slice_index_or tables.old.items place no_table))) }
+        (table_with_rows time plan.rows (slice_index_or tables.old.items place no_table))) }
     ensures err { OnErr result (tables.new.items ≡ tables.old.items) }
 {
     let held = &mut tables[place];
-    held.insert_all(rows, reference_stop, time)
+    held.commit_insert(plan, time)
 }
 
-// Gives rows of the table at a place other values.
+// The other values of rows of the table at a place, and the numbers that keys get.
+fn plan_values_in(
+    tables: &Vec<TableStore>,
+    place: usize,
+    rows: TableRows,
+) -> Result<ReplacePlan, StoreStop>
+    requires within { place < length tables.now.items }
+    requires shape { have_shape (values_of rows) (table_now (slice_index_or tables.now.items place no_table))
+        ≡ true }
+    requires sorted { are_sorted_rows rows ≡ true }
+    requires stand { had_rows rows (table_now (slice_index_or tables.now.items place no_table)) ≡ true }
+    ensures stop { StopsAs (replace_stop rows (table_now (slice_index_or tables.now.items place no_table)))
+        result }
+    ensures plan { IfOk result (IsReplacePlan (slice_index_or tables.now.items place no_table)) }
+    ensures rows { IfOk result (λ plan. plan.rows ≡ rows) }
+{
+    let held = &tables[place];
+    held.plan_replace(rows)
+}
+
+// Gives planned rows of the table at a place their other values.
 fn replace_in(
     tables: &mut Vec<TableStore>,
     place: usize,
-    rows: TableRows,
-    reference_stop: Option<StoreStop>,
+    plan: ReplacePlan,
     time: u32,
-) -> Result<(), StoreStop>
+) -> Result<(), AllocError>
     requires within { place < length tables.old.items }
+    requires plan { IsReplacePlan (slice_index_or tables.old.items place no_table) plan }
     requires later { last_since (slice_index_or tables.old.items place no_table).nexts < time }
-    requires shape { have_shape (values_of rows) (table_now (slice_index_or tables.old.items place no_table))
-        ≡ true }
-    requires sorted { are_sorted_rows rows ≡ true }
-    requires stand { had_rows rows (table_now (slice_index_or tables.old.items place no_table)) ≡ true }
-    ensures stop { StopsAs (option_or
-        (replace_stop rows (table_now (slice_index_or tables.old.items place no_table)))
-        reference_stop) result }
     ensures ok { OnOk result (tables.new.items
         ≡ slice_set tables.old.items place
-        (table_with_values time rows (slice_index_or tables.old.items place no_table))) }
+        (table_with_values time plan.rows (slice_index_or tables.old.items place no_table))) }
     ensures now { OnOk result (table_now
-        (table_with_values time rows (slice_index_or tables.old.items place no_table))
-        ≡ with_replaced rows (table_now (slice_index_or tables.old.items place no_table))) }
+        (table_with_values time plan.rows (slice_index_or tables.old.items place no_table))
+        ≡ with_replaced plan.rows (table_now (slice_index_or tables.old.items place no_table))) }
     ensures err { OnErr result (tables.new.items ≡ tables.old.items) }
 {
     let held = &mut tables[place];
-    held.replace_all(rows, reference_stop, time)
+    held.commit_replace(plan, time)
 }
 
 // Drops rows of the table at a place.
@@ -496,22 +513,20 @@ fn delete_in(
     tables: &mut Vec<TableStore>,
     place: usize,
     numbers: &Numbers,
-    reference_stop: Option<StoreStop>,
     time: u32,
-) -> Result<(), StoreStop>
+) -> Result<(), AllocError>
     requires within { place < length tables.old.items }
     requires later { last_since (slice_index_or tables.old.items place no_table).nexts < time }
     requires sorted { are_sorted_numbers numbers.now ≡ true }
     requires stand { all_stand numbers.now (table_now (slice_index_or tables.old.items place no_table))
         ≡ true }
-    ensures stop { StopsAs reference_stop result }
     ensures ok { OnOk result (tables.new.items
         ≡ slice_set tables.old.items place
         (table_without time numbers.now (slice_index_or tables.old.items place no_table))) }
     ensures err { OnErr result (tables.new.items ≡ tables.old.items) }
 {
     let held = &mut tables[place];
-    held.delete_all(numbers, reference_stop, time)
+    held.commit_delete(numbers, time)
 }
 
 // The tables, as a store has them at time 0.

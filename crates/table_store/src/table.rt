@@ -14,7 +14,9 @@ ghost use Rattle.sql_model.specs.Changes.{numbered_rows};
 ghost use Rattle.table_store.specs.KeyIndex.{AreIndexed};
 ghost use Rattle.table_store.specs.inner.ChildPairs.{no_foreign, pair_in, refers, AreReferred, IsNextOf};
 ghost use Rattle.table_store.specs.inner.ChildPairs.{first_number, is_child_in, KeepPairs};
-ghost use Rattle.table_store.specs.inner.GivenKeys.{with_claims};
+ghost use Rattle.table_store.specs.inner.GivenKeys.{with_claims, TakeOver};
+ghost use Rattle.table_store.specs.inner.NewKeys.{new_in, AreBelow, AreClaimed};
+ghost use Rattle.table_store.specs.inner.Plans.{IsInsertPlan, IsReplacePlan};
 ghost use Rattle.table_store.specs.inner.IndexView.{held_in};
 ghost use Rattle.table_store.specs.Types.{Null, RowKey};
 ghost use Rattle.table_store.specs.Histories.{history_of_new_row, table_with_rows, table_with_values, table_without, nexts_with, changed_by};
@@ -24,7 +26,7 @@ ghost use Rattle.table_store.specs.Histories.{history_of_row, rows_with_values, 
 ghost use Rattle.std.specs.List.{list_all, list_any};
 ghost use Rattle.table_store.specs.inner.Grid.{are_of_kinds, AreNumberedFrom, next_after};
 ghost use Rattle.table_store.specs.inner.Nexts.{nexts_of};
-ghost use Rattle.table_store.specs.inner.RowChanges.{changes_given, rewrite, RiseFrom, AllFitKinds};
+ghost use Rattle.table_store.specs.inner.RowChanges.{changes_given, removal, rewrite, RiseFrom, AllFitKinds};
 ghost use Rattle.table_store.specs.inner.RowChanges.{AllStand, AreBefore};
 ghost use Rattle.table_store.specs.Stops.{has_shape, have_shape, values_of, are_sorted_rows};
 ghost use Rattle.table_store.specs.Stops.{are_sorted_numbers, had_rows, all_stand, insert_stop};
@@ -32,14 +34,15 @@ ghost use Rattle.table_store.specs.Stops.{replace_stop, replaced_by, with_replac
 ghost use Rattle.table_store.specs.RowOrder.{AreInOrder};
 ghost use Rattle.table_store.specs.TableView.{history_at_start, AreTimed, IsStored};
 
-use crate::change::{RowChange, removals, rewrites};
 use crate::child_index::{ChildIndex, add_all, settle_all};
 use crate::claim::claim;
 use crate::error::StoreStop;
 use crate::given::numbers_of;
-use crate::index::{Index, held_number, number_by_slots};
+use crate::index::{Index, number_of_values};
 use crate::insert::{any_lacks_value, any_row_lacks_value, is_full, numbered_rows};
+use crate::new_keys::NewKeys;
 use crate::nexts::{NextSince, last_since, next_as_of};
+use crate::plans::{InsertPlan, ReplacePlan};
 use crate::rekey::claims_of;
 use crate::rows::Rows;
 use crate::start::{Parts, parts_at_start};
@@ -281,28 +284,25 @@ impl TableStore {
         self.rows.version(slot as usize)
     }
 
-    /// The number of the live row with a key; `None` if no row has it. The table has a key.
+    /// The number of the live row with a key, looked up in the index; `None` if no row has it. The table has
+    /// a key. It takes no memory.
+    #[tactic(auto, using(crate::proofs::TableLaws::held_keyed))]
     pub fn by_key(&self, key: &Values) -> Option<u32>
         requires { 0 < length self.now.schema.key }
         ensures { result ≡ option_map (λ row. row.number)
             (find (has_key self.now.schema.key key.now) (rows_now self.now.slots)) }
     {
-        // A copy of the key is looked up; out of memory, the slots themselves are looked through.
-        match key.copy() {
-            Ok(values) => self.by_row_key(&RowKey { values }),
-            Err(_refused) => number_by_slots(&self.rows, &self.schema.key, key),
-        }
+        number_of_values(&self.index, &self.rows, &self.schema.key, key)
     }
 
-    /// The number of the live row with a key, in the form that the index has; `None` if no row has it. The
-    /// table has a key. It takes no memory.
-    #[tactic(auto, using(crate::proofs::TableLaws::held_keyed))]
+    /// The number of the live row with a key; `None` if no row has it. The table has a key. It takes no
+    /// memory.
     pub fn by_row_key(&self, key: &RowKey) -> Option<u32>
         requires { 0 < length self.now.schema.key }
         ensures { result ≡ option_map (λ row. row.number)
             (find (has_key self.now.schema.key key.now.values) (rows_now self.now.slots)) }
     {
-        held_number(&self.index, &self.rows, &self.schema.key, key)
+        self.by_key(&key.values)
     }
 
     /// The number of the next row after a time, found by bisection. From the last change on it is that of
@@ -327,37 +327,42 @@ impl TableStore {
         rows_as_of(alloc, &self.rows, time)
     }
 
-    /// Adds rows at a time, numbered from the number of the next row on, and returns that number. The time is
-    /// later than that of each earlier change, and each row has a value for each column, of its kind.
-    /// `NotNull`, `KeyTaken`, `Full` and `reference_stop` are tried in this order, and `NoMemory` comes if
-    /// memory runs out. After an `Err` the table is as it was.
-    pub(crate) fn insert_all(
-        &mut self,
-        rows: RowList,
-        reference_stop: Option<StoreStop>,
-        time: u32,
-    ) -> Result<u32, StoreStop>
-        requires later { last_since self.old.nexts < time }
-        requires shape { list_all (has_shape self.old.schema.columns) rows ≡ true }
-        ensures stop { StopsAs (option_or (insert_stop rows (table_now self.old)) reference_stop) result }
-        ensures first { IfOk result (λ first. first ≡ last_next_number self.old.nexts) }
-        ensures ok { OnOk result (self.new ≡ table_with_rows time rows self.old) }
-        ensures err { OnErr result (self.new ≡ self.old) }
+    /// The new rows and their keys, for `commit_insert`. Each row has a value for each column, of its kind.
+    /// `NotNull`, `KeyTaken` and `Full` are tried in this order, and `NoMemory` comes if memory runs out.
+    pub(crate) fn plan_insert(&self, rows: RowList) -> Result<InsertPlan, StoreStop>
+        requires shape { have_shape rows (table_now self.now) ≡ true }
+        ensures stop { StopsAs (insert_stop rows (table_now self.now)) result }
+        ensures plan { IfOk result (IsInsertPlan self.now) }
+        ensures rows { IfOk result (λ plan. plan.rows ≡ rows) }
     {
         let alloc = self.name.allocator();
         let next = self.rows.next();
         match claim_new(
             alloc,
-            &mut self.index,
+            &self.index,
             &self.rows,
             &self.schema,
             rows.items(),
             next,
-            reference_stop,
         ) {
-            Ok(()) => {}
-            Err(stop) => return Err(stop),
+            Ok(keys) => Ok(InsertPlan { rows, keys }),
+            Err(stop) => Err(stop),
         }
+    }
+
+    /// Adds planned rows at a time, numbered from the number of the next row on, and returns that number. The
+    /// time is later than that of each earlier change. On `AllocError` the table is as it was.
+    pub(crate) fn commit_insert(&mut self, plan: InsertPlan, time: u32) -> Result<u32, AllocError>
+        requires plan { IsInsertPlan self.old plan }
+        requires later { last_since self.old.nexts < time }
+        ensures first { IfOk result (λ first. first ≡ last_next_number self.old.nexts) }
+        ensures ok { OnOk result (self.new ≡ table_with_rows time plan.rows self.old) }
+        ensures err { OnErr result (self.new ≡ self.old) }
+    {
+        let alloc = self.name.allocator();
+        let next = self.rows.next();
+        let InsertPlan { rows, keys } = plan;
+        self.index.enter(keys, next)?;
         add_new(
             alloc,
             &mut self.rows,
@@ -370,39 +375,37 @@ impl TableStore {
         Ok(next)
     }
 
-    /// Gives rows, each by its number, other values at a time. The time is later than that of each earlier
-    /// change. The rows are sorted by number, and each has the number of a live row and a value for each
-    /// column, of its kind. `NotNull`, `KeyTaken` (by the keys that the table would have) and
-    /// `reference_stop` are tried in this order, and `NoMemory` comes if memory runs out. After an `Err` the
-    /// table is as it was.
-    pub(crate) fn replace_all(
-        &mut self,
-        rows: TableRows,
-        reference_stop: Option<StoreStop>,
-        time: u32,
-    ) -> Result<(), StoreStop>
-        requires later { last_since self.old.nexts < time }
-        requires shape { have_shape (values_of rows) (table_now self.old) ≡ true }
+    /// The rows with their other values, each by its number, and the numbers that keys get, for
+    /// `commit_replace`. The rows are sorted by number, and each has the number of a live row and a value for
+    /// each column, of its kind. `NotNull` and `KeyTaken` (by the keys that the table would have) are tried
+    /// in this order, and `NoMemory` comes if memory runs out.
+    pub(crate) fn plan_replace(&self, rows: TableRows) -> Result<ReplacePlan, StoreStop>
+        requires shape { have_shape (values_of rows) (table_now self.now) ≡ true }
         requires sorted { are_sorted_rows rows ≡ true }
-        requires stand { had_rows rows (table_now self.old) ≡ true }
-        ensures stop { StopsAs (option_or (replace_stop rows (table_now self.old)) reference_stop) result }
-        ensures ok { OnOk result (self.new ≡ table_with_values time rows self.old) }
-        ensures now { OnOk result (table_now (table_with_values time rows self.old)
-            ≡ with_replaced rows (table_now self.old)) }
+        requires stand { had_rows rows (table_now self.now) ≡ true }
+        ensures stop { StopsAs (replace_stop rows (table_now self.now)) result }
+        ensures plan { IfOk result (IsReplacePlan self.now) }
+        ensures rows { IfOk result (λ plan. plan.rows ≡ rows) }
+    {
+        let alloc = self.name.allocator();
+        match claim_given(alloc, &self.index, &self.rows, &self.schema, rows.items()) {
+            Ok(claims) => Ok(ReplacePlan { rows, claims }),
+            Err(stop) => Err(stop),
+        }
+    }
+
+    /// Gives planned rows their other values at a time, later than that of each earlier change. On
+    /// `AllocError` the table is as it was.
+    pub(crate) fn commit_replace(&mut self, plan: ReplacePlan, time: u32) -> Result<(), AllocError>
+        requires plan { IsReplacePlan self.old plan }
+        requires later { last_since self.old.nexts < time }
+        ensures ok { OnOk result (self.new ≡ table_with_values time plan.rows self.old) }
+        ensures now { OnOk result (table_now (table_with_values time plan.rows self.old)
+            ≡ with_replaced plan.rows (table_now self.old)) }
         ensures err { OnErr result (self.new ≡ self.old) }
     {
         let alloc = self.name.allocator();
-        let claims = match claim_given(
-            alloc,
-            &self.index,
-            &self.rows,
-            &self.schema,
-            rows.items(),
-            reference_stop,
-        ) {
-            Ok(claims) => claims,
-            Err(stop) => return Err(stop),
-        };
+        let ReplacePlan { rows, claims } = plan;
         self.rows.tell_order();
         put_given(
             alloc,
@@ -419,30 +422,17 @@ impl TableStore {
     }
 
     /// Deletes the rows with these numbers at a time. The time is later than that of each earlier change. The
-    /// numbers are sorted, and each is that of a live row. `reference_stop`, the refusal by references if
-    /// there is one, is the error then, and `NoMemory` comes if memory runs out. After an `Err` the table is
-    /// as it was.
-    pub(crate) fn delete_all(
-        &mut self,
-        numbers: &Numbers,
-        reference_stop: Option<StoreStop>,
-        time: u32,
-    ) -> Result<(), StoreStop>
+    /// numbers are sorted, and each is that of a live row. On `AllocError` the table is as it was.
+    pub(crate) fn commit_delete(&mut self, numbers: &Numbers, time: u32) -> Result<(), AllocError>
         requires later { last_since self.old.nexts < time }
         requires sorted { are_sorted_numbers numbers.now ≡ true }
         requires stand { all_stand numbers.now (table_now self.old) ≡ true }
-        ensures stop { StopsAs reference_stop result }
         ensures ok { OnOk result (self.new ≡ table_without time numbers.now self.old) }
         ensures err { OnErr result (self.new ≡ self.old) }
     {
-        match reference_stop {
-            None => {}
-            Some(stop) => return Err(stop),
-        }
         let alloc = self.name.allocator();
         let before = last_since(self.nexts.as_slice());
-        let given = removals(alloc, numbers.items())?;
-        change_rows(alloc, &mut self.rows, &mut self.nexts, given, time)?;
+        drop_rows(&mut self.rows, &mut self.nexts, numbers.items(), time)?;
         settle_all(
             alloc,
             &mut self.children,
@@ -455,45 +445,41 @@ impl TableStore {
     }
 }
 
-// What refuses new rows, and else their keys in the index.
+// What refuses new rows, and else their keys.
 fn claim_new(
     alloc: Global,
-    index: &mut Index,
+    index: &Index,
     stored: &Rows,
     schema: &Schema,
     values: &[Values],
     next: u32,
-    reference_stop: Option<StoreStop>,
-) -> Result<(), StoreStop>
-    requires indexed { AreIndexed schema.now.key (λ key. held_in index.old key)
+) -> Result<NewKeys, StoreStop>
+    requires indexed { AreIndexed schema.now.key (λ key. held_in index.now key)
         (rows_now stored.now.slots) }
     requires next { stored.now.next ≡ next }
-    ensures kept { AreIndexed schema.now.key (λ key. held_in index.new key) (rows_now stored.now.slots) }
-    ensures ok { OnOk result (AreIndexed schema.now.key (λ key. held_in index.new key)
-        (rows_now stored.now.slots ++ numbered_rows next values.now)) }
+    ensures ok { IfOk result (λ keys. AreClaimed schema.now.key next (rows_now stored.now.slots) values.now
+        (new_in keys)) }
+    ensures below { IfOk result (λ keys. AreBelow keys (length values.now)) }
     ensures few { OnOk result (next + length values.now ≤ max_next) }
-    ensures stop { (name : List ℕ) → StopsAs (option_or (insert_stop values.now (record {
+    ensures stop { (name : List ℕ) → StopsAs (insert_stop values.now (record {
       name = name;
       schema = schema.now;
       rows = rows_now stored.now.slots;
       next = next;
-    })) reference_stop) result }
+    })) result }
 {
     if any_lacks_value(schema.columns.items(), values) {
         return Err(StoreStop::NotNull);
     }
     stored.tell_order();
-    match claim(alloc, index, stored, &schema.key, values, next) {
-        Ok(()) => {}
+    let keys = match claim(alloc, index, stored, &schema.key, values, next) {
+        Ok(keys) => keys,
         Err(stop) => return Err(stop),
-    }
+    };
     if is_full(next, values.len()) {
         return Err(StoreStop::Full);
     }
-    match reference_stop {
-        None => Ok(()),
-        Some(stop) => Err(stop),
-    }
+    Ok(keys)
 }
 
 // Adds rows that nothing refuses.
@@ -533,33 +519,27 @@ fn claim_given(
     stored: &Rows,
     schema: &Schema,
     given: &[TableRow],
-    reference_stop: Option<StoreStop>,
 ) -> Result<Index, StoreStop>
     requires sorted { are_sorted_rows given.now ≡ true }
     requires stand { list_all (λ row. list_any (λ old. old.number == row.number)
         (rows_now stored.now.slots)) given.now ≡ true }
     requires indexed { AreIndexed schema.now.key (λ key. held_in index.now key)
         (rows_now stored.now.slots) }
-    ensures ok { IfOk result (λ claims. AreIndexed schema.now.key
-        (with_claims (λ key. held_in claims key) (λ key. held_in index.now key))
-        (map (replaced_by given.now) (rows_now stored.now.slots))) }
-    ensures stop { (name : List ℕ) (next : ℕ) → StopsAs (option_or (replace_stop given.now (record {
+    ensures ok { IfOk result (λ claims. TakeOver schema.now.key (rows_now stored.now.slots)
+        (map (replaced_by given.now) (rows_now stored.now.slots)) (λ key. held_in claims key)) }
+    ensures stop { (name : List ℕ) (next : ℕ) → StopsAs (replace_stop given.now (record {
       name = name;
       schema = schema.now;
       rows = rows_now stored.now.slots;
       next = next;
-    })) reference_stop) result }
+    })) result }
 {
     if any_row_lacks_value(schema.columns.items(), given) {
         return Err(StoreStop::NotNull);
     }
-    let claims = match claims_of(alloc, index, stored, &schema.key, given) {
-        Ok(claims) => claims,
-        Err(stop) => return Err(stop),
-    };
-    match reference_stop {
-        None => Ok(claims),
-        Some(stop) => Err(stop),
+    match claims_of(alloc, index, stored, &schema.key, given) {
+        Ok(claims) => Ok(claims),
+        Err(stop) => Err(stop),
     }
 }
 
@@ -638,7 +618,7 @@ fn make_way(
     Ok(numbers)
 }
 
-// Changes rows to given ones.
+// Changes rows to given ones, and notes the time; the number of the next row stays.
 fn write_given(
     alloc: Global,
     rows: &mut Rows,
@@ -658,8 +638,12 @@ fn write_given(
     ensures err { OnErr result (rows.new ≡ rows.old) }
     ensures nexts_err { OnErr result (nexts.new.items ≡ nexts.old.items) }
 {
-    let changes = rewrites(alloc, given)?;
-    change_rows(alloc, rows, nexts, changes, time)?;
+    nexts.reserve(1)?;
+    rows.rewrite_all(alloc, given, time)?;
+    nexts.push(NextSince {
+        time,
+        next: rows.next(),
+    })?;
     Ok(())
 }
 
@@ -691,27 +675,26 @@ fn add_rows(
     Ok(())
 }
 
-// Changes rows, and notes the time; the number of the next row stays.
-fn change_rows(
-    alloc: Global,
+// Deletes rows, and notes the time; the number of the next row stays.
+fn drop_rows(
     rows: &mut Rows,
     nexts: &mut Vec<NextSince>,
-    given: Vec<RowChange>,
+    numbers: &[u32],
     time: u32,
 ) -> Result<(), AllocError>
     requires before { AreBefore time rows.old.slots }
-    requires apart { RiseFrom 0 given.items }
-    requires stand { AllStand rows.old.slots given.items }
-    requires fits { AllFitKinds rows.old.kinds given.items }
-    ensures ok { OnOk result (rows.new
-        ≡ record rows.old { slots = map (changed_by (changes_given time given.items)) rows.old.slots }) }
+    requires apart { RiseFrom 0 (map removal numbers.now) }
+    requires stand { AllStand rows.old.slots (map removal numbers.now) }
+    ensures ok { OnOk result (rows.new ≡ record rows.old {
+      slots = map (changed_by (changes_given time (map removal numbers.now))) rows.old.slots;
+    }) }
     ensures nexts { OnOk result (nexts_of nexts.new.items
         ≡ nexts_with time rows.old.next (nexts_of nexts.old.items)) }
     ensures err { OnErr result (rows.new ≡ rows.old) }
     ensures nexts_err { OnErr result (nexts.new.items ≡ nexts.old.items) }
 {
     nexts.reserve(1)?;
-    rows.change_all(alloc, given, time)?;
+    rows.delete_all(numbers, time)?;
     nexts.push(NextSince {
         time,
         next: rows.next(),

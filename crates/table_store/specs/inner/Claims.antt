@@ -26,11 +26,6 @@ claim_stop key next None = None
 claim_stop key next (Some clash) =
     Some (KeyTaken (old_number next clash.earlier.number) None (values_at key clash.later.values))
 
--- the number under a key, which is held apart where it is 2^32 or more
-abbrev pub high_or : Option ℕ → Option ℕ → Option ℕ
-high_or low None = low
-high_or low (Some above) = Some (above + 2 ^ 32)
-
 -- ---- keys after rows took the place of others
 
 -- what is held is each row under its key, and nothing else

@@ -8,13 +8,18 @@ use Rattle.sql_model.specs.Keys.{values_at}
 use Rattle.sql_model.specs.References.{has_key}
 use Rattle.table_store.specs.Types.{Value, TableRow}
 use Rattle.table_store.specs.inner.Claims.{IsIndexOf}
-use Rattle.table_store.specs.KeyIndex.{HeldKeys, row_of_key}
+use Rattle.table_store.specs.KeyIndex.{HeldKeys, AreIndexed, row_of_key}
 use Rattle.table_store.specs.Stops.{replaced_by}
 use Rattle.table_store.specs.declared.clash.Clash.{Clash}
 
 -- what is held once other numbers were put
 abbrev pub with_claims : HeldKeys → HeldKeys → HeldKeys
 with_claims claims held q = option_or (claims q) (held q)
+
+-- an index that has rows under their keys has those that they become, once it has the claimed numbers
+abbrev pub TakeOver : List ℕ → List TableRow → List TableRow → HeldKeys → Type 0
+TakeOver key rows after claims =
+    (held : HeldKeys) → AreIndexed key held rows → AreIndexed key (with_claims claims held) after
 
 -- a number that no given row has
 abbrev pub unless_given : List TableRow → Option ℕ → Option ℕ

@@ -8,7 +8,7 @@ use Rattle.column_store.specs.Columns.{AreLong, kinds_of, values_at}
 use Rattle.table_store.specs.Scans.{null_passes, passes_test}
 use Rattle.table_store.specs.declared.grid.Grid.TheInside.{Inside}
 
--- a row in its slot: since when it has its first values, whether it stands, and its last values
+-- a row in its slot: its last values, since when it has them, and whether it stands
 pub record Slot : Type 0 where
   pub number : ℕ
   pub since : ℕ

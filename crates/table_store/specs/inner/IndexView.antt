@@ -2,7 +2,7 @@
 use Rattle.std.specs.Prelude.{ℕ, ℤ, Option, None, Some}
 use Rattle.std.specs.BTreeMap.{get}
 use Rattle.std.specs.Ordering.{int_cmp}
-use Rattle.sql_model.specs.KeyOrder.{key_order}
+use Rattle.ldv_value.specs.Order.{values_order}
 use Rattle.table_store.specs.KeyIndex.{HeldKeys, int_key}
 use Rattle.table_store.specs.declared.index.Index.{Index}
 
@@ -13,4 +13,5 @@ held_as ints other (Some n) = ints n
 
 abbrev pub held_in : Index → HeldKeys
 held_in index key =
-    held_as (λ n. get int_cmp index.ints.held n) (get key_order index.others.held key) (int_key key.values)
+    held_as (λ n. get int_cmp index.ints.held n) (get values_order index.others.held key.values)
+    (int_key key.values)

@@ -1,32 +1,31 @@
 -- Changes of rows, each by the number of its row.
-use Rattle.std.specs.Prelude.{◌≡◌, ◌==◌, ℕ, ◌+◌, ◌<◌, ◌≤◌, Bool, true, false, List, [], ◌∷◌, length, map}
+use Rattle.std.specs.Prelude.{◌≡◌, ◌≢◌, ℕ, ◌+◌, ◌<◌, ◌≤◌, ◌^◌, Bool, true, List, [], ◌∷◌, length, map}
 use Rattle.std.specs.Prelude.{Option, Some, None, IsSome, slice_index_or}
-use Rattle.std.specs.Option.{option_map}
 use Rattle.row_version.specs.History.{Change, current_values, last_time, IsSorted}
-use Rattle.table_store.specs.Types.{TableRow}
+use Rattle.table_store.specs.Types.{Value, TableRow}
 use Rattle.table_store.specs.inner.Grid.{Rows, Slot, no_slot, fits_kinds}
+use Rattle.table_store.specs.inner.RowHistories.{Past, Ends, AreKept, histories_of}
 use Rattle.table_store.specs.Histories.{RowHistory, changed_by, no_history}
-use Rattle.table_store.specs.inner.RowChains.{Chains, AreChained, IsReady, HasRoom, histories_of}
-use Rattle.table_store.specs.declared.change.Copies.{Copies}
-use Rattle.table_store.specs.declared.change.RowChange.{RowChange}
+use Rattle.table_store.specs.declared.rewrites.RowRewrite.{RowRewrite}
+
+-- the new values of the row with a number; none: it is deleted
+pub record RowChange : Type 0 where
+  pub number : ℕ
+  pub values : Option (List Value)
 
 -- the row of a number is dropped
 abbrev pub removal : ℕ → RowChange
-removal number = record { number = number; copies = None }
+removal number = record { number = number; values = None }
 
 -- the row of a number gets other values
 abbrev pub rewrite : TableRow → RowChange
-rewrite row = record {
-  number = row.number;
-  copies = Some (record { for_columns = row.values; for_chain = row.values });
-}
+rewrite row = record { number = row.number; values = Some row.values }
 
 abbrev pub no_change : RowChange
 no_change = removal 0
 
 abbrev pub change_given : ℕ → RowChange → ℕ × Change
-change_given time given =
-    (given.number, record { time = time; values = option_map (λ copies. copies.for_chain) given.copies })
+change_given time given = (given.number, record { time = time; values = given.values })
 
 abbrev pub changes_given : ℕ → List RowChange → List (ℕ × Change)
 changes_given time given = map (change_given time) given
@@ -36,48 +35,14 @@ abbrev pub RiseFrom : ℕ → List RowChange → Type 0
 RiseFrom low [] = Unit {0}
 RiseFrom low (first ∷ rest) = (low ≤ first.number) × RiseFrom (first.number + 1) rest
 
--- both copies are the same, with a value for each column, of its kind
-abbrev pub FitKinds : List Bool → Option Copies → Type 0
+-- there is a value for each column, of its kind
+abbrev pub FitKinds : List Bool → Option (List Value) → Type 0
 FitKinds kinds None = Unit {0}
-FitKinds kinds (Some copies) = (fits_kinds kinds copies.for_columns ≡ true)
-    × (copies.for_columns ≡ copies.for_chain)
+FitKinds kinds (Some values) = fits_kinds kinds values ≡ true
 
 abbrev pub AllFitKinds : List Bool → List RowChange → Type 0
 AllFitKinds kinds [] = Unit {0}
-AllFitKinds kinds (first ∷ rest) = FitKinds kinds first.copies × AllFitKinds kinds rest
-
--- a slot has the row of a number
-abbrev pub IsThere : List Slot → ℕ → Type 0
-IsThere slots number = (k : ℕ) × (k < length slots) × ((slice_index_or slots k no_slot).number ≡ number)
-
-abbrev pub AllThere : List Slot → List RowChange → Type 0
-AllThere slots given = (j : ℕ) → j < length given → IsThere slots (slice_index_or given j no_change).number
-
--- each chain has room for a change
-abbrev pub AllHaveRoom : Chains → List RowChange → Type 0
-AllHaveRoom chains given = (j : ℕ) → j < length given
-    → HasRoom (chains (slice_index_or given j no_change).number)
-
--- What room in chains leaves as it is: what is seen of the rows in slots, and room that was made before.
-pub record LeavesRows (before after : Chains) (slots : List Slot) (next : ℕ) : Type 0 where
-  pub chained : AreChained after slots next
-  pub seen : histories_of after slots ≡ histories_of before slots
-  pub kept : (q : ℕ) → HasRoom (before q) → HasRoom (after q)
-
--- What a change of one row at a time makes of the slots and of the chains.
-pub record ChangesRow (time : ℕ) (given : RowChange) (before after : Chains) (old new : Rows) : Type 0 where
-  pub chained : AreChained after new.slots new.next
-  pub seen : histories_of after new.slots
-      ≡ map (changed_by (change_given time given ∷ [])) (histories_of before old.slots)
-  pub others : (q : ℕ) → (q == given.number) ≡ false → after q ≡ before q
-  pub kinds : new.kinds ≡ old.kinds
-  pub next : new.next ≡ old.next
-
--- each chain takes a change at a time
-abbrev pub AreReady : Chains → ℕ → List RowChange → Type 0
-AreReady chains time [] = Unit {0}
-AreReady chains time (first ∷ rest) = IsReady (chains first.number) time × HasRoom (chains first.number)
-    × AreReady chains time rest
+AllFitKinds kinds (first ∷ rest) = FitKinds kinds first.values × AllFitKinds kinds rest
 
 -- a slot has the row of a number, which stands
 abbrev pub HasRow : List RowHistory → ℕ → Type 0
@@ -93,3 +58,78 @@ abbrev pub AreBefore : ℕ → List RowHistory → Type 0
 AreBefore time slots =
     (k : ℕ) → k < length slots → IsSorted (slice_index_or slots k no_history).changes
     × (last_time (slice_index_or slots k no_history).changes < time)
+
+-- a slot has the row of a number
+abbrev pub HasSlot : List Slot → ℕ → Type 0
+HasSlot slots number = (k : ℕ) × (k < length slots) × ((slice_index_or slots k no_slot).number ≡ number)
+
+abbrev pub AllHaveSlots : List Slot → List TableRow → Type 0
+AllHaveSlots slots [] = Unit {0}
+AllHaveSlots slots (first ∷ rest) = HasSlot slots first.number × AllHaveSlots slots rest
+
+-- ---- rows that get other values, by their slots
+
+abbrev pub row_given : RowRewrite → TableRow
+row_given given = record { number = given.number; values = given.new }
+
+abbrev pub rewrite_given : RowRewrite → RowChange
+rewrite_given given = rewrite (row_given given)
+
+-- the slot has the row, with its values
+pub record IsInSlot (slots : List Slot) (given : RowRewrite) : Type 0 where
+  pub within : given.slot < length slots
+  pub number : (slice_index_or slots given.slot no_slot).number ≡ given.number
+  pub values : (slice_index_or slots given.slot no_slot).values ≡ given.old
+
+abbrev pub AreInSlots : List Slot → List RowRewrite → Type 0
+AreInSlots slots [] = Unit {0}
+AreInSlots slots (first ∷ rest) = IsInSlot slots first × AreInSlots slots rest
+
+-- a row that stands and can change once more
+abbrev pub IsReady : List Change → ℕ → Type 0
+IsReady earlier ended = (ended ≡ 0) × (length earlier + 2 ≤ 2 ^ 32)
+
+-- the rows in the slots
+abbrev pub AreReady : Past → Ends → List RowRewrite → Type 0
+AreReady earlier ends [] = Unit {0}
+AreReady earlier ends (first ∷ rest) = IsReady (earlier first.slot) (ends first.slot)
+    × AreReady earlier ends rest
+
+-- what other values of a row since a time make of the slots and of the log
+pub record RewritesRow (time : ℕ) (given : RowRewrite) (earlier after : Past) (ends : Ends) (old new : Rows)
+    : Type 0 where
+  pub kept : AreKept after ends new.slots
+  pub seen : histories_of after ends new.slots
+      ≡ map (changed_by (change_given time (rewrite_given given) ∷ [])) (histories_of earlier ends old.slots)
+  pub slots : (one : RowRewrite) → one.number ≢ given.number → IsInSlot old.slots one
+      → IsInSlot new.slots one
+  pub ready : (one : RowRewrite) → one.number ≢ given.number → IsInSlot old.slots one
+      → IsReady (earlier one.slot) (ends one.slot) → IsReady (after one.slot) (ends one.slot)
+  pub count : length new.slots ≡ length old.slots
+  pub kinds : new.kinds ≡ old.kinds
+  pub next : new.next ≡ old.next
+
+-- ---- rows that are deleted
+
+-- a slot has the row of a number, which stands and can change once more
+abbrev pub HasOpenSlot : Past → Ends → List Slot → ℕ → Type 0
+HasOpenSlot earlier ends slots number =
+    (k : ℕ) × (k < length slots) × ((slice_index_or slots k no_slot).number ≡ number)
+    × IsReady (earlier k) (ends k)
+
+abbrev pub AllOpen : Past → Ends → List Slot → List ℕ → Type 0
+AllOpen earlier ends slots [] = Unit {0}
+AllOpen earlier ends slots (first ∷ rest) = HasOpenSlot earlier ends slots first
+    × AllOpen earlier ends slots rest
+
+-- what the end of a row at a time makes of the slots and of the log
+pub record EndsRow (time number : ℕ) (earlier : Past) (ends : Ends) (old : Rows) (after : Past) (left : Ends)
+    (new : Rows) : Type 0 where
+  pub kept : AreKept after left new.slots
+  pub seen : histories_of after left new.slots
+      ≡ map (changed_by (change_given time (removal number) ∷ [])) (histories_of earlier ends old.slots)
+  pub others : (other : ℕ) → other ≢ number → HasOpenSlot earlier ends old.slots other
+      → HasOpenSlot after left new.slots other
+  pub count : length new.slots ≡ length old.slots
+  pub kinds : new.kinds ≡ old.kinds
+  pub next : new.next ≡ old.next

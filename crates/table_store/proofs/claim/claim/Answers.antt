@@ -16,17 +16,6 @@ pub claim_all-requires-clause-held : goal.claim_all-requires-clause-held
 claim_all-requires-clause-held c =
     keyed_held c.args.places.now (λ q. held_in c.args.index.now q) (rows_now c.args.stored.now.slots) (search rules) c.requires.indexed
 
-pub returns-clause-kept : goal.returns-clause-kept
-returns-clause-kept c = indexed_by c.args.places.now (λ q. held_in c.claim_all.new.index q) (rows_now c.args.stored.now.slots) c.claim_all.ensures.kept
-
-pub returns-clause-ok : goal.returns-clause-ok
-returns-clause-ok c =
-    let places = c.args.places.now in
-    let new : HeldKeys = λ q. held_in c.claim_all.new.index q in
-    let rows = rows_now c.args.stored.now.slots ++ numbered_rows c.args.next c.args.values.now in
-    on_ok (c.args.next + length c.args.values.now ≤ 2 ^ 32 → AreHeld places new rows) (c.args.next + length c.args.values.now ≤ 2 ^ 32 → AreIndexed places new rows) c.claim_all.result
-    (λ are few. indexed_by places new rows (are few)) c.claim_all.ensures.ok
-
 pub returns-clause-stop : goal.returns-clause-stop
 returns-clause-stop c =
     let places = c.args.places.now in

@@ -3,6 +3,7 @@ use Rattle.std.specs.Prelude.{find}
 use Rattle.std.specs.BTreeMap.{get, is_at}
 use Rattle.std.specs.Ordering.{int_cmp}
 use Rattle.std.proofs.lemmas.List.{take_all, take_more}
+use Rattle.ldv_value.specs.Order.{values_order}
 use Rattle.sql_model.specs.KeyOrder.{key_order}
 use Rattle.sql_model.specs.Keys.{values_at, key_at}
 use Rattle.sql_model.specs.References.{has_key}
@@ -21,8 +22,8 @@ loop-row-preserved c =
     let row : TableRow = c.row-item.result in
     let within = c.loop-row-test.true in
     let item : get_or rows i row ≡ row = sym c.row-item.is in
-    let old : HeldKeys = λ q. held_as (last_under c.loop-row.pairs.items) (get key_order c.loop-row.others.held q) (int_key q.values) in
-    let new : HeldKeys = λ q. held_as (last_under c.add_row.new.ints.items) (get key_order c.add_row.new.others.held q) (int_key q.values) in
+    let old : HeldKeys = λ q. held_as (last_under c.loop-row.pairs.items) (get values_order c.loop-row.others.held q.values) (int_key q.values) in
+    let new : HeldKeys = λ q. held_as (last_under c.add_row.new.ints.items) (get values_order c.add_row.new.others.held q.values) (int_key q.values) in
     let put : (q : RowKey) → new q ≡ cond (is_at (key_order (key_at places row.values)) q) (Some row.number) (old q) = c.in_ok-add_row.ensures in
     let none : find (has_key places (values_at places row.values)) (take i rows) ≡ None = subst (λ (r : TableRow). find (has_key places (values_at places r.values)) (take i rows) ≡ None) item (earlier_none places rows i row c.requires.unique c.requires.key within) in
     subst (λ (l : List TableRow). AreHeld places new l) (sym (take_more rows i row within ∙ ap (λ (r : TableRow). take i rows ++ r ∷ []) item))
@@ -34,7 +35,7 @@ returns c =
     let rows : List TableRow = c.args.rows.now in
     let pairs : Ints = last_under c.loop-row.pairs.items in
     let ints : Ints = λ n. get int_cmp c.in_ok-ints.ints.held n in
-    let others : HeldKeys = λ q. get key_order c.loop-row.others.held q in
+    let others : HeldKeys = λ q. get values_order c.loop-row.others.held q.values in
     let old : HeldKeys = λ q. held_as pairs (others q) (int_key q.values) in
     let new : HeldKeys = λ q. held_as ints (others q) (int_key q.values) in
     let same : (q : RowKey) → new q ≡ old q = same_both pairs ints others others c.in_ok-ints.ensures (λ q. refl) in

@@ -32,7 +32,7 @@ returns c =
     sym (c.refers_to-referred.ensures ∙ ap (λ (name : List ℕ). refers_to name t) c.name.ensures) in
     let same : c.refers_to-referred.result ≡ true → (key : List Value) → one key ≡ two key =
     λ asked key. c.in_ok-keys.ensures asked key ∙ (λ j. list_any (has_values (c.schema.ensures j).key key) (c.items.ensures j)) in
-    c.in_ok-reference_stop.ensures
+    c.in_ok-stop.ensures
     ∙ ap (λ (l : List (List Value)). option_map parent_stop (missing_in_rows (has_put one [] own.name) db own.schema.foreign l)) (map-id c.items-2.result.now ∙ c.items-2.ensures)
     ∙ ap (option_map parent_stop) (given_same own.name [] db one two own.schema.foreign rows c.refers_to-referred.result refers same)
     ∙ insert_missing db t found rows two (λ key. refl)

@@ -25,16 +25,15 @@ returns-in-Err-clause-stop c =
     stop_as (Unit {0}) Index (both_stop c.args.places.now (clash_after c.args.places.now [] (map (replaced_by c.args.given.now) (rows_now c.args.stored.now.slots)))) c.in-Err.stop c.in-Err.ensures.stop
 
 pub returns-in-None-clause-ok : goal.returns-in-None-clause-ok
-returns-in-None-clause-ok c =
+returns-in-None-clause-ok c = λ held are.
     let slots = c.args.stored.now.slots in
     let given = c.args.given.now in
     let places = c.args.places.now in
-    let old : HeldKeys = λ q. held_in c.args.index.now q in
     let claims : HeldKeys = λ q. held_in c.loop-place.claims q in
     let rise : RisesFrom 0 (rows_now slots) = rows_rise 0 slots (λ i below. omega arith) c.tell_order.ensures.order.rising in
     let all : take c.loop-place.place given ≡ given = take_all c.loop-place.place given (omega arith) in
     let judged = subst (λ (l : List TableRow). AreJudged places (rows_now slots) given claims None l) all (subst (λ (o : Option Clash). AreJudged places (rows_now slots) given claims o (take c.loop-place.place given)) c.in-None.is c.loop-place.invariant) in
-    judged_none places (rows_now slots) given rise old c.requires.held claims judged
+    judged_none places (rows_now slots) given rise held are claims judged
 
 pub returns-in-None-clause-stop : goal.returns-in-None-clause-stop
 returns-in-None-clause-stop c =

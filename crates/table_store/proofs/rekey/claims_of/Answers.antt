@@ -2,7 +2,7 @@ use Rattle.std.proofs.Common.{rules, ◌≡◌, ◌==◌, ap, sym, subst, List, 
 use Rattle.sql_model.specs.Changes.{KeyClash}
 use Rattle.table_store.specs.Types.{TableRow}
 use Rattle.table_store.specs.inner.Claims.{both_stop}
-use Rattle.table_store.specs.inner.GivenKeys.{with_claims}
+use Rattle.table_store.specs.inner.GivenKeys.{with_claims, TakeOver}
 use Rattle.table_store.specs.Histories.{rows_now}
 use Rattle.table_store.specs.inner.IndexView.{held_in}
 use Rattle.table_store.specs.KeyIndex.{HeldKeys, AreHeld, AreIndexed}
@@ -10,7 +10,7 @@ use Rattle.table_store.specs.Stops.{replaced_by, StopsAs}
 use Rattle.table_store.specs.declared.index.Index.{Index}
 use Rattle.table_store.proofs.ClaimLaws.{keyed_held, keyed_clash, unkeyed_clash}
 use Rattle.table_store.proofs.IndexChangeLaws.{no_claims}
-use Rattle.table_store.proofs.IndexLaws.{index_alike, indexed_by, indexed_none}
+use Rattle.table_store.proofs.IndexLaws.{any_alike, index_alike, indexed_by, indexed_none}
 use Rattle.table_store.proofs.KeptKeyLaws.{still_indexed, none_clash}
 use Rattle.table_store.proofs.RekeyLaws.{if_ok}
 use Rattle.table_store.proofs.rekey.claims_of.Goals as goal
@@ -18,7 +18,7 @@ use Rattle.table_store.proofs.rekey.claims_of.Goals as goal
 pub returns-then-is_empty-clause-ok : goal.returns-then-is_empty-clause-ok
 returns-then-is_empty-clause-ok c =
     let none : (length c.args.places.now == 0) ≡ true = search rules in
-    indexed_none c.args.places.now (with_claims (λ key. held_in c.new.result key) (λ key. held_in c.args.index.now key)) (map (replaced_by c.args.given.now) (rows_now c.args.stored.now.slots)) none
+    λ held are. indexed_none c.args.places.now (with_claims (λ key. held_in c.new.result key) held) (map (replaced_by c.args.given.now) (rows_now c.args.stored.now.slots)) none
 
 pub returns-then-is_empty-clause-stop : goal.returns-then-is_empty-clause-stop
 returns-then-is_empty-clause-stop c =
@@ -26,11 +26,10 @@ returns-then-is_empty-clause-stop c =
     ap (both_stop c.args.places.now) (unkeyed_clash c.args.places.now (map (replaced_by c.args.given.now) (rows_now c.args.stored.now.slots)) none)
 
 pub returns-then-keep-clause-ok : goal.returns-then-keep-clause-ok
-returns-then-keep-clause-ok c =
-    let held : HeldKeys = λ key. held_in c.args.index.now key in
+returns-then-keep-clause-ok c = λ held are.
     let stored = c.args.stored.now in
     no_claims c.args.places.now (λ key. held_in c.new-then-keep.result key) held c.new-then-keep.ensures (map (replaced_by c.args.given.now) (rows_now stored.slots))
-    (still_indexed c.args.given.now held (index_alike c.args.index.now) stored.slots stored.next c.tell_order.ensures.order c.args.places.now (c.in_ok-keep.ensures c.if-keep.true) c.requires.indexed)
+    (still_indexed c.args.given.now held (any_alike held) stored.slots stored.next c.tell_order.ensures.order c.args.places.now (c.in_ok-keep.ensures c.if-keep.true) are)
 
 pub returns-then-keep-clause-stop : goal.returns-then-keep-clause-stop
 returns-then-keep-clause-stop c =
@@ -46,10 +45,11 @@ claim_keys-requires-clause-held c =
 pub returns-clause-ok : goal.returns-clause-ok
 returns-clause-ok c =
     let places = c.args.places.now in
-    let old : HeldKeys = λ key. held_in c.args.index.now key in
-    let rows : List TableRow = map (replaced_by c.args.given.now) (rows_now c.args.stored.now.slots) in
-    if_ok (λ (claims : Index). AreHeld places (with_claims (λ key. held_in claims key) old) rows) (λ (claims : Index). AreIndexed places (with_claims (λ key. held_in claims key) old) rows) c.claim_keys.result
-    (λ claims are. indexed_by places (with_claims (λ key. held_in claims key) old) rows are) c.claim_keys.ensures.ok
+    let old : List TableRow = rows_now c.args.stored.now.slots in
+    let rows : List TableRow = map (replaced_by c.args.given.now) old in
+    let keyed : (length places == 0) ≡ false = search rules in
+    if_ok (λ (claims : Index). (held : HeldKeys) → AreHeld places held old → AreHeld places (with_claims (λ key. held_in claims key) held) rows) (λ (claims : Index). TakeOver places old rows (λ key. held_in claims key)) c.claim_keys.result
+    (λ claims are held indexed. indexed_by places (with_claims (λ key. held_in claims key) held) rows (are held (keyed_held places held old keyed indexed))) c.claim_keys.ensures.ok
 
 pub returns-clause-stop : goal.returns-clause-stop
 returns-clause-stop c =

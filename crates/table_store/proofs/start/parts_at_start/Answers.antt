@@ -5,7 +5,7 @@ use Rattle.table_store.specs.Histories.{NextSince, history_of_new_row, rows_now}
 use Rattle.table_store.specs.inner.IndexView.{held_in}
 use Rattle.table_store.specs.KeyIndex.{HeldKeys, AreIndexed}
 use Rattle.table_store.specs.inner.Nexts.{nexts_of}
-use Rattle.table_store.specs.inner.RowChains.{RowsHistory}
+use Rattle.table_store.specs.inner.RowHistories.{RowsHistory}
 use Rattle.table_store.specs.TableView.{IsStored, kinds_in}
 use Rattle.table_store.proofs.TableLaws.{added_now, added_timed, added_indexed}
 use Rattle.table_store.proofs.start.parts_at_start.Goals as goal

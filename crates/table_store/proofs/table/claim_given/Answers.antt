@@ -9,7 +9,6 @@ use Rattle.table_store.specs.Histories.{RowHistory, TableHistory, rows_now, tabl
 use Rattle.table_store.specs.Stops.{replaced_by, replace_stop, StopsAs}
 use Rattle.table_store.specs.declared.error.StoreStop.{StoreStop}
 use Rattle.table_store.specs.declared.index.Index.{Index}
-use Rattle.table_store.proofs.ClaimLaws.{stop_before, stop_later}
 use Rattle.table_store.proofs.RekeyLaws.{replace_stop_is}
 use Rattle.table_store.proofs.table.claim_given.Goals as goal
 
@@ -22,20 +21,11 @@ returns-in-Err-clause-stop c = λ name next.
     let rows : List TableRow = c.args.given.now in
     let made : TableHistory = whole name c.args.schema.now c.args.stored.now.slots next in
     let lacks : list_any (has_null made.schema.columns) rows ≡ false = ap (λ l. list_any (has_null l) rows) (sym c.items.ensures) ∙ sym c.any_row_lacks_value.ensures ∙ c.if-any_row_lacks_value.false in
-    let own : Option StoreStop = both_stop made.schema.key (clash_by made.schema.key (map (replaced_by rows) (rows_now made.slots))) in
-    stop_before Index Index (replace_stop rows (table_now made)) c.args.reference_stop c.in-Err.stop
-    (subst (λ (o : Option StoreStop). StopsAs {X = Index} o (Err c.in-Err.stop)) (sym (replace_stop_is rows made lacks)) c.in-Err.ensures.stop)
+    subst (λ (o : Option StoreStop). StopsAs {X = Index} o (Err c.in-Err.stop)) (sym (replace_stop_is rows made lacks)) c.in-Err.ensures.stop
 
-pub returns-in-Some-clause-stop : goal.returns-in-Some-clause-stop
-returns-in-Some-clause-stop c = λ name next.
+pub returns-in-Ok-clause-stop : goal.returns-in-Ok-clause-stop
+returns-in-Ok-clause-stop c = λ name next.
     let rows : List TableRow = c.args.given.now in
     let made : TableHistory = whole name c.args.schema.now c.args.stored.now.slots next in
     let lacks : list_any (has_null made.schema.columns) rows ≡ false = ap (λ l. list_any (has_null l) rows) (sym c.items.ensures) ∙ sym c.any_row_lacks_value.ensures ∙ c.if-any_row_lacks_value.false in
-    stop_later Index (replace_stop rows (table_now made)) c.args.reference_stop c.in-Some.stop (replace_stop_is rows made lacks ∙ c.in-Ok.ensures.stop) c.in-Some.is
-
-pub returns-in-None-clause-stop : goal.returns-in-None-clause-stop
-returns-in-None-clause-stop c = λ name next.
-    let rows : List TableRow = c.args.given.now in
-    let made : TableHistory = whole name c.args.schema.now c.args.stored.now.slots next in
-    let lacks : list_any (has_null made.schema.columns) rows ≡ false = ap (λ l. list_any (has_null l) rows) (sym c.items.ensures) ∙ sym c.any_row_lacks_value.ensures ∙ c.if-any_row_lacks_value.false in
-    ap (λ (o : Option StoreStop). option_or o c.args.reference_stop) (replace_stop_is rows made lacks ∙ c.in-Ok.ensures.stop) ∙ c.in-None.is
+    replace_stop_is rows made lacks ∙ c.in-Ok.ensures.stop

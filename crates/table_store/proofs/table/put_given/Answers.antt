@@ -7,7 +7,7 @@ use Rattle.table_store.specs.inner.ChildPairs.{Pairs, AreReferred, StayReferred,
 use Rattle.table_store.specs.inner.IndexView.{held_in}
 use Rattle.table_store.specs.KeyIndex.{HeldKeys, AreIndexed}
 use Rattle.table_store.specs.inner.Nexts.{nexts_of}
-use Rattle.table_store.specs.inner.RowChains.{RowsHistory}
+use Rattle.table_store.specs.inner.RowHistories.{RowsHistory}
 use Rattle.table_store.specs.inner.RowChanges.{rewrite, changes_given, AllFitKinds}
 use Rattle.table_store.specs.Stops.{replaced_by}
 use Rattle.table_store.specs.TableView.{IsStored}

@@ -4,7 +4,7 @@ use Rattle.std.proofs.lemmas.Int.{to_z-of_z}
 use Rattle.std.specs.BTreeMap.{get, is_at}
 use Rattle.std.specs.Ordering.{int_cmp}
 use Rattle.std.proofs.lemmas.Result.{on_ok_weaker, on_err_weaker}
-use Rattle.sql_model.specs.KeyOrder.{key_order}
+use Rattle.ldv_value.specs.Order.{values_order}
 use Rattle.table_store.specs.KeyIndex.{int_key, HeldKeys}
 use Rattle.table_store.proofs.IndexViewLaws.{Ints, put_int, put_other, same_both}
 use Rattle.table_store.proofs.index.Index.put.Goals as goal
@@ -13,17 +13,17 @@ pub returns-in-None-clause-ok : goal.returns-in-None-clause-ok
 returns-in-None-clause-ok c =
     let index = c.args.self.now in
     let ints : Ints = λ n. get int_cmp index.ints.held n in
-    let old : HeldKeys = λ q. get key_order index.others.held q in
-    let new : HeldKeys = λ q. get key_order c.put.new.self.held q in
+    let old : HeldKeys = λ q. get values_order index.others.held q.values in
+    let new : HeldKeys = λ q. get values_order c.put.new.self.held q.values in
     let none : int_key c.args.key.values ≡ None = ap int_key (sym c.items.ensures) ∙ sym c.int_key.ensures ∙ c.in-None.is in
-    on_ok_weaker c.put.result (λ put. put_other ints old new c.args.key c.args.number none put) c.put.ensures.ok
+    on_ok_weaker c.put.result (λ put. put_other ints old new c.args.key c.args.number none (λ q. put q.values)) c.put.ensures.ok
 
 pub returns-in-Some-clause-ok : goal.returns-in-Some-clause-ok
 returns-in-Some-clause-ok c =
     let index = c.args.self.now in
     let old : Ints = λ n. get int_cmp index.ints.held n in
     let new : Ints = λ n. get int_cmp c.put-in-Some.new.self.held n in
-    let others : HeldKeys = λ q. get key_order index.others.held q in
+    let others : HeldKeys = λ q. get values_order index.others.held q.values in
     let is : int_key c.args.key.values ≡ Some c.in-Some.int = ap int_key (sym c.items.ensures) ∙ sym c.int_key.ensures ∙ c.in-Some.is in
     let fit : SFits w64 c.in-Some.int = search rules in
     on_ok_weaker c.put-in-Some.result
@@ -35,14 +35,14 @@ pub returns-in-None-clause-err : goal.returns-in-None-clause-err
 returns-in-None-clause-err c =
     let index = c.args.self.now in
     let ints : Ints = λ n. get int_cmp index.ints.held n in
-    let old : HeldKeys = λ q. get key_order index.others.held q in
-    let new : HeldKeys = λ q. get key_order c.put.new.self.held q in
-    on_err_weaker c.put.result (λ same. same_both ints ints old new (λ n. refl) same) c.put.ensures.err
+    let old : HeldKeys = λ q. get values_order index.others.held q.values in
+    let new : HeldKeys = λ q. get values_order c.put.new.self.held q.values in
+    on_err_weaker c.put.result (λ same. same_both ints ints old new (λ n. refl) (λ q. same q.values)) c.put.ensures.err
 
 pub returns-in-Some-clause-err : goal.returns-in-Some-clause-err
 returns-in-Some-clause-err c =
     let index = c.args.self.now in
     let old : Ints = λ n. get int_cmp index.ints.held n in
     let new : Ints = λ n. get int_cmp c.put-in-Some.new.self.held n in
-    let others : HeldKeys = λ q. get key_order index.others.held q in
+    let others : HeldKeys = λ q. get values_order index.others.held q.values in
     on_err_weaker c.put-in-Some.result (λ same. same_both old new others others same (λ q. refl)) c.put-in-Some.ensures.err

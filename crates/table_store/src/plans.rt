@@ -1,0 +1,20 @@
+//! Changes that are planned: nothing has changed yet, and the table's own rules don't refuse them.
+
+use crate::index::Index;
+use crate::new_keys::NewKeys;
+use ldv_value::RowList;
+use sql_model::TableRows;
+
+/// New rows of a table, and their keys.
+#[derive(Drop)]
+pub(crate) struct InsertPlan {
+    pub(crate) rows: RowList,
+    pub(crate) keys: NewKeys,
+}
+
+/// Other values of rows of a table, and the numbers that the keys get that change hands.
+#[derive(Drop)]
+pub(crate) struct ReplacePlan {
+    pub(crate) rows: TableRows,
+    pub(crate) claims: Index,
+}
