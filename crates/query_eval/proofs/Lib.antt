@@ -1,3 +1,4 @@
+pub mod Abbreviations
 pub mod Absorbs
 pub mod Agree
 pub mod Finishes

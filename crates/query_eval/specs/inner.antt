@@ -1,2 +1,3 @@
+pub mod Abbreviating
 pub mod Conditions
 pub mod Joining

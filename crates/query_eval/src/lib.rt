@@ -9,6 +9,7 @@
 //! Entry: `picked` in `src/picking.rt`. Read first: `specs/Picking.antt`.
 #![tactic(auto)]
 
+mod abbreviated;
 mod conditions;
 mod index;
 mod joining;

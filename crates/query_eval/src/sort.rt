@@ -3,11 +3,13 @@
 ghost use Rattle.std.specs.Prelude.{◌≡◌, [], map, IfOk};
 ghost use Rattle.ldv_value.specs.Order.{order};
 ghost use Rattle.query_eval.specs.Finishing.{as_key, sort_columns, by_columns};
+ghost use Rattle.query_eval.specs.inner.Abbreviating.{by_keys};
 ghost use Rattle.sql_model.specs.QueryAnswer.{order_in_direction, order_by};
 ghost use Rattle.ldv_value.specs.Cells.{value_at};
 ghost use Rattle.sql_model.specs.Sorting.{sorted_by};
 
-use ldv_value::{List, Value, Values};
+use crate::abbreviated::{KeyedAnswer, compare_keyed, keyed_answers, without_keys};
+use ldv_value::{Value, Values};
 use lineage::Answers;
 use sql_model::{Order, value_or};
 use std::alloc::{AllocError, Global};
@@ -49,16 +51,41 @@ pub(crate) fn sort_columns(
     }
 }
 
-/// Answers sorted by columns. Answers that are the same in all of these keep their order.
+/// Answers sorted by columns. Answers that are the same in all of these keep their order. Each is sorted
+/// beside an abbreviated key, as its values stand elsewhere in memory.
 pub(crate) fn sort_answers(columns: &[SortColumn], answers: Answers) -> Result<Answers, AllocError>
     ensures { IfOk result (λ sorted. sorted ≡ sorted_by (by_columns columns.now) answers) }
 {
-    let mut items = answers.into_vec();
-    items.sort_by(|a, b| compare_rows(columns, &a.values, &b.values))?;
-    Ok(List::of_vec(items))
+    if columns.is_empty() {
+        return Ok(answers);
+    }
+    sort_beside_keys(columns, answers)
 }
 
-fn compare_rows(columns: &[SortColumn], a: &Values, b: &Values) -> Ordering
+// Answers sorted by columns, each beside its key meanwhile.
+#[tactic(auto, using(crate::proofs::Abbreviations::sorted_keyed))]
+fn sort_beside_keys(columns: &[SortColumn], answers: Answers) -> Result<Answers, AllocError>
+    ensures { IfOk result (λ sorted. sorted ≡ sorted_by (by_columns columns.now) answers) }
+{
+    let alloc = answers.allocator();
+    let keyed = keyed_answers(alloc, columns, answers)?;
+    let sorted = sort_keyed(columns, keyed)?;
+    without_keys(alloc, sorted)
+}
+
+fn sort_keyed(
+    columns: &[SortColumn],
+    keyed: Vec<KeyedAnswer>,
+) -> Result<Vec<KeyedAnswer>, AllocError>
+    ensures { IfOk result (λ sorted. sorted.items ≡ sorted_by (by_keys columns.now) keyed.items) }
+{
+    let mut items = keyed;
+    items.sort_by(|a, b| compare_keyed(columns, a, b))?;
+    Ok(items)
+}
+
+/// Compares rows by columns.
+pub(crate) fn compare_rows(columns: &[SortColumn], a: &Values, b: &Values) -> Ordering
     ensures { result ≡ order_by (map as_key columns.now) a.now b.now }
 {
     let mut left = columns;
@@ -83,7 +110,14 @@ fn compare_by(column: SortColumn, a: &Values, b: &Values) -> Ordering
 {
     let null = Value::Null;
     let between = value_or(a, column.place, &null).cmp(value_or(b, column.place, &null));
-    if column.descending {
+    in_direction(column.descending, between)
+}
+
+/// The opposite of an order where it is descending.
+pub(crate) fn in_direction(descending: bool, between: Ordering) -> Ordering
+    ensures { result ≡ order_in_direction descending between }
+{
+    if descending {
         between.reverse()
     } else {
         between
