@@ -16,7 +16,7 @@ ghost use Rattle.proc_core.specs.declared.process.SlotProcess.{SlotProcess};
 use crate::machine::{Codes, Machine};
 use crate::new_process::new_process;
 use crate::process::SlotProcess;
-use ldv_value::Values;
+use ldv_value::{Parts, Values};
 use ready_set::ReadySet;
 use script_code::Code;
 use std::alloc::{AllocError, Global};
@@ -83,6 +83,17 @@ fn add_ready(ready: &mut ReadySet) -> Result<(), AllocError>
     Ok(())
 }
 
+// The name of the next child of a process, in memory of its length.
+fn name_of_child(alloc: Global, parent: &SlotProcess) -> Result<Parts, AllocError>
+    ensures { IfOk result (λ name. name ≡ parent.now.name ++ parent.now.spawned ∷ []) }
+{
+    let parts = parent.name.items();
+    let mut name = Vec::with_capacity(alloc, parts.len().saturating_add(1))?;
+    name.extend_from_slice(parts)?;
+    name.push(parent.spawned)?;
+    Ok(Parts::of_vec(name))
+}
+
 // The next child of a process, which runs the resolved script at an index.
 fn new_child(
     alloc: Global,
@@ -98,8 +109,7 @@ fn new_child(
         (new_process (parent.now.name ++ parent.now.spawned ∷ []) script arguments.now)) }
 {
     let code = &codes.items()[index];
-    let mut name = parent.name.copy()?;
-    name.push(parent.spawned)?;
+    let name = name_of_child(alloc, parent)?;
     Ok(new_process(alloc, name, index, code, arguments.items())?)
 }
 

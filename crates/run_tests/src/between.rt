@@ -33,7 +33,7 @@ const NEEDS_LAST: &str =
 "rows":[[1,"a",10],[2,"a",20],[3,"b",5],[4,"b",null],[5,"c",10]]}}}"#;
 
 // ---- packages whose own worlds have of its five rows those with the numbers 0, 2 and 4, spelled by
-// ---- tools/spelling.py
+// ---- the encoder of the tools
 
 // The start word, the seed, the steps and the script up to the key that is asked for.
 const FRONT: &[u8] =
