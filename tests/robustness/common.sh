@@ -6,6 +6,9 @@
 root=$here/../..
 ldv=${LDV:-$root/crates/ldv/out/ldv}
 work=$(mktemp -d)
+# Where Python finds the packages of tools/ and the programs of bench/.
+PYTHONPATH=$root/tools:$root/bench${PYTHONPATH:+:$PYTHONPATH}
+export PYTHONPATH
 trap 'rm -rf "$work"' EXIT
 trap 'exit 1' HUP INT TERM
 

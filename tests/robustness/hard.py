@@ -12,12 +12,16 @@ rows.
 Seconds are the least of some runs, of a processor, without those of a run of the same tables whose script
 only ends. At most twice the usual time is aimed at; the last line says how many lines miss that.
 """
+from __future__ import annotations
+
 import argparse
 import json
 import os
 import sys
+from typing import Any, Callable, Iterable, Optional, Sequence
 
-from multiples import Tally, found_in, least, ratio
+from multiples import Tally, least, ratio
+from statements import found_in
 
 STEPS = '10000000'
 # What values in no order take, times this, is the most that the others may take.
@@ -27,12 +31,12 @@ TAIL = 'x' * 58
 STRIDE = 7_368_787
 
 
-def spread(number, size):
+def spread(number: int, size: int) -> int:
     return number * STRIDE % size
 
 
 # By form: the number and the text of a row from 0, of so many rows.
-FORMS = {
+FORMS: dict[str, Callable[[int, int], tuple[int, str]]] = {
     'usual': lambda i, size: (spread(i, size), f'{spread(i, size):06d}{TAIL}'),
     'falling': lambda i, size: (size - i, f'{size - i:06d}{TAIL}'),
     'equal': lambda _i, _size: (7, f'{7:06d}{TAIL}'),
@@ -66,7 +70,7 @@ INSERTS = {
 
 # ---- worlds
 
-def write_world(path, script, columns, rows):
+def write_world(path: str, script: str, columns: list[list[str]], rows: Iterable[Sequence[Any]]) -> None:
     with open(path, 'w', encoding='utf-8') as out:
         out.write(f'{{"start":["main"],"files":{{"main":{json.dumps(script)}}},"tables":{{"t":{{"columns":')
         out.write(json.dumps(columns))
@@ -76,13 +80,13 @@ def write_world(path, script, columns, rows):
         out.write(']}}}\n')
 
 
-def write_form(path, form, size, script):
+def write_form(path: str, form: str, size: int, script: str) -> None:
     make = FORMS[form]
     columns = [['k', 'INT NOT NULL'], ['v', 'INT'], ['s', 'TEXT']]
     write_world(path, script, columns, ((i, *make(i, size)) for i in range(size)))
 
 
-def insert_script(form, size):
+def insert_script(form: str, size: int) -> str:
     first, made, key, after, again = INSERTS[form]
     lines = [first, 'next:', made, f'sql q "INSERT INTO t VALUES (?)" {key}', after, again]
     text = ''.join(line + '\n' for line in lines if line)
@@ -91,7 +95,7 @@ def insert_script(form, size):
 
 # ---- what a run takes
 
-def seconds_of(given, world):
+def seconds_of(given: argparse.Namespace, world: str) -> float:
     """The least seconds of a processor, of some runs."""
     outcome = os.path.join(given.folder, 'outcome')
     status, seconds, _ = least([given.ldv, 'run', '--steps', STEPS], world, outcome, given.runs)
@@ -102,7 +106,7 @@ def seconds_of(given, world):
     return seconds
 
 
-def taken(given, case, column, form):
+def taken(given: argparse.Namespace, case: str, column: str, form: str) -> float:
     """What a case takes over values of a form, without the load."""
     world = os.path.join(given.folder, 'world')
     write_form(world, form, given.size, 'exit 0\n')
@@ -112,42 +116,43 @@ def taken(given, case, column, form):
     return max(seconds_of(given, world) - load, 0.0)
 
 
-def taken_by_inserts(given, kind, form):
+def taken_by_inserts(given: argparse.Namespace, kind: str, form: str) -> float:
     world = os.path.join(given.folder, 'world')
     columns = [['k', ('INT' if kind == 'number' else 'TEXT') + ' NOT NULL']]
     write_world(world, insert_script(f'{kind} {form}', given.size), columns, [])
     return seconds_of(given, world)
 
 
-def show(given, case, kind, form, seconds, usual):
+def show(given: argparse.Namespace, case: str, kind: str, form: str, seconds: float, usual: float) -> None:
     of_usual = ratio(seconds, usual)
     aimed = given.tally.noted(of_usual, MOST)
     print(f'{case:10s} {kind:8s} {form:8s} {given.size:8d} {seconds:9.3f} {of_usual:9.2f} {aimed:>6s}',
           flush=True)
 
 
-def measure(given, case, kind, forms, take):
-    usual = None
+def measure(given: argparse.Namespace, case: str, kind: str, forms: Sequence[str],
+            take: Callable[[str, str], float]) -> None:
+    usual: Optional[float] = None
     for form in forms:
         seconds = take(kind, form)
         usual = seconds if usual is None else usual
         show(given, case, kind, form, seconds, usual)
 
 
-def measure_statements(given, case):
+def measure_statements(given: argparse.Namespace, case: str) -> None:
     columns = {'number': 'v', 'text': 's'}
     for kind, forms in (('number', BY_NUMBER), ('text', BY_TEXT)):
         fitting = [form for form in forms if form != 'equal' or CASES[case][1]]
         measure(given, case, kind, fitting, lambda kind, form: taken(given, case, columns[kind], form))
 
 
-def measure_inserts(given):
+def measure_inserts(given: argparse.Namespace) -> None:
     for kind in ('number', 'text'):
         forms = [form.split(' ')[1] for form in INSERTS if form.startswith(kind)]
         measure(given, 'insert', kind, forms, lambda kind, form: taken_by_inserts(given, kind, form))
 
 
-def arguments():
+def arguments() -> argparse.Namespace:
     parser = argparse.ArgumentParser(description=__doc__,
                                      formatter_class=argparse.RawDescriptionHelpFormatter)
     parser.add_argument('ldv')
@@ -158,7 +163,7 @@ def arguments():
     return parser.parse_args()
 
 
-def main():
+def main() -> None:
     given = arguments()
     given.tally = Tally()
     print(f'{"case":10s} {"values":8s} {"form":8s} {"rows":>8s} {"seconds":>9s} {"of-usual":>9s} {"aim":>6s}')

@@ -18,7 +18,7 @@ MiB of memory (default 512) and T seconds (default 20). An answer is as it has t
   long;
 - a provenance document is one, and depends on what it says, exactly as tools/prov.py reads it;
 - what `migrate` writes is of version 2, is written again as it is, and is replayed as its input is;
-- what `join` writes is what tools/packages_joined.py joins, and its clash is the one that tools/join.py
+- what `join` writes is what tools/cases/packages_joined.py joins, and its clash is the one that tools/join.py
   finds;
 - the packages of a world that is run under two seeds are joined, and each run is replayed to the very bytes
   that `run` wrote.
@@ -27,8 +27,11 @@ It prints the number of answers by command and status, and ends with status 1 wh
 that input lies in FOLDER then (default: hostile_inputs). The inputs depend on these words and on the packages
 that the program records of worlds that aren't mutated, and not on its other answers.
 """
+from __future__ import annotations
+
 import argparse
 import collections
+import contextlib
 import glob
 import json
 import multiprocessing
@@ -40,14 +43,17 @@ import subprocess
 import sys
 import tempfile
 import time
+from typing import Any, Optional, Sequence
 
 from hostile_documents import mutated_provenance, reads
 from hostile_joins import is_joined, joins, judges, mutated_joined, mutated_pair, pair_in
-from hostile_packages import EDGES, in_other_version, mutated_bytes, mutated_package
+from hostile_packages import EDGES, Answer, in_other_version, mutated_bytes, mutated_package
 
 HERE = os.path.dirname(os.path.abspath(__file__))
 ROOT = os.path.dirname(os.path.dirname(HERE))
 LONGEST = 200_000
+# How many calls there were, by what was called and the status.
+Counts = collections.Counter[tuple[str, Optional[int]]]
 
 STATUSES = {
     'run': {0, 6, 7},
@@ -82,16 +88,25 @@ PARAMETERS = ['null', '0', '1', '-1', '-2', '9223372036854775807', '""', '"a"', 
 
 # ---- what the inputs are made of
 
-def bytes_of(text):
-    return bytes.fromhex(text['hex']) if isinstance(text, dict) else text.encode('utf-8', 'surrogatepass')
+def bytes_of(text: Any) -> bytes:
+    if isinstance(text, dict):
+        return bytes.fromhex(text['hex'])
+    return str(text).encode('utf-8', 'surrogatepass')
 
 
-def corpus():
+def corpus() -> tuple[list[bytes], list[bytes], list[bytes], list[bytes], list[bytes], list[bytes]]:
     """Documents and packages of the cases and the examples: of each those that are run, and all. And
     provenance documents and joined packages."""
-    good, documents, sound, packages, provenance, joined = [], [], [], [], [], []
+    good: list[bytes] = []
+    documents: list[bytes] = []
+    sound: list[bytes] = []
+    packages: list[bytes] = []
+    provenance: list[bytes] = []
+    joined: list[bytes] = []
     for path in sorted(glob.glob(os.path.join(ROOT, 'crates/conformance/data/*/*.json'))):
-        for case in json.load(open(path, encoding='utf-8')):
+        with open(path, encoding='utf-8') as file:
+            cases = json.load(file)
+        for case in cases:
             data = bytes_of(case['input'])
             if len(data) > LONGEST or case['words'][:1] in ([], ['gen']):
                 continue
@@ -109,7 +124,8 @@ def corpus():
             if case['status'] == 0:
                 (good if reads_world else sound).append(data)
     for path in sorted(glob.glob(os.path.join(ROOT, 'examples/*.json'))):
-        data = open(path, 'rb').read()
+        with open(path, 'rb') as there:
+            data = there.read()
         if len(data) <= LONGEST:
             good.append(data)
     return good, documents, sound, packages, provenance, joined
@@ -117,7 +133,7 @@ def corpus():
 
 # ---- documents
 
-def places(value, found, depth=0):
+def places(value: Any, found: list[tuple[Any, Any]], depth: int = 0) -> None:
     """Each place of a JSON value: what holds it, and its name or index there."""
     items = value.items() if isinstance(value, dict) else enumerate(value) if isinstance(value, list) else ()
     for name, inner in items:
@@ -126,7 +142,7 @@ def places(value, found, depth=0):
             places(inner, found, depth + 1)
 
 
-def inner_places(value):
+def inner_places(value: Any) -> list[tuple[Any, Any]]:
     """The scripts and cells of a document: what may change and leave a world."""
     found = []
     if isinstance(value, dict) and isinstance(value.get('files'), dict):
@@ -139,7 +155,7 @@ def inner_places(value):
     return found
 
 
-def mutated_inner(rng, inner):
+def mutated_inner(rng: random.Random, inner: Any) -> Any:
     """A script with a line or a statement changed, or another cell of the same kind."""
     if isinstance(inner, str) and ('\n' in inner or ' ' in inner):
         return mutated_text(rng, inner)
@@ -148,7 +164,7 @@ def mutated_inner(rng, inner):
     return rng.choice((None, '', 'a', "'", 'x' * 300)) if isinstance(inner, str) else inner
 
 
-def edge_value(rng):
+def edge_value(rng: random.Random) -> Any:
     how = rng.randrange(9)
     if how == 0:
         return rng.choice(EDGES) * rng.choice((1, -1))
@@ -159,7 +175,7 @@ def edge_value(rng):
     if how == 3:
         return rng.choice(([], {}, [[]], [None], {'hex': '00ff'}, {'hex': 'f'}, {'rows': [], 'next': 5}))
     if how == 4:
-        value = []
+        value: list[Any] = []
         for _ in range(rng.choice((3, 100, 126, 127, 128, 1000))):
             value = [value]
         return value
@@ -172,7 +188,7 @@ def edge_value(rng):
     return '\n'.join(script_line(rng) for _ in range(rng.randrange(1, 12))) + '\n'
 
 
-def script_line(rng):
+def script_line(rng: random.Random) -> str:
     return rng.choice((
         'let x = 1', 'let x = x + 1', 'let x = x ++ "a"', 'let x = int arg1', 'cut x y x ","', 'print "hi"',
         'print x', 'exit 3', 'a:', 'goto a', 'if x < 3 goto a', 'spawn p "main" else a', 'wait x p',
@@ -182,7 +198,7 @@ def script_line(rng):
         'fetch r x y else a', 'count x r', 'status x r', rng.choice(TEXTS)))
 
 
-def mutated_statement(rng, text):
+def mutated_statement(rng: random.Random, text: str) -> str:
     """A script with a word of a statement changed, so that it stays a script."""
     at, end = rng.choice([match.span(1) for match in STATEMENT.finditer(text)])
     words = text[at:end].split(' ')
@@ -199,7 +215,7 @@ def mutated_statement(rng, text):
     return text[:at] + ' '.join(words) + text[end:]
 
 
-def with_repeated_statement(rng, text):
+def with_repeated_statement(rng: random.Random, text: str) -> str:
     """A script that asks one of its statements up to six times more, with values of any kind, mostly as many
     as it has parameters."""
     found = rng.choice(list(ASKING.finditer(text)))
@@ -210,7 +226,7 @@ def with_repeated_statement(rng, text):
     return text[:found.start()] + '\n'.join(lines) + '\n' + text[found.start():]
 
 
-def mutated_text(rng, text):
+def mutated_text(rng: random.Random, text: str) -> str:
     """A text with a line or a word changed, or a statement asked again."""
     if ASKING.search(text) and rng.random() < 0.2:
         return with_repeated_statement(rng, text)
@@ -233,7 +249,7 @@ def mutated_text(rng, text):
     return joint.join(parts)
 
 
-def mutated_document(rng, data):
+def mutated_document(rng: random.Random, data: bytes) -> bytes:
     if rng.random() < 0.2:
         return mutated_bytes(rng, data)
     try:
@@ -242,7 +258,7 @@ def mutated_document(rng, data):
         return mutated_bytes(rng, data)
     inner_only = rng.random() < 0.7
     for _ in range(rng.choice((1, 1, 2, 4))):
-        found = []
+        found: list[tuple[Any, Any]] = []
         places(value, found)
         if not found:
             break
@@ -259,10 +275,8 @@ def mutated_document(rng, data):
             del holder[name]
         elif how == 4:
             other, key = rng.choice(found)
-            try:
+            with contextlib.suppress(KeyError, IndexError, RecursionError, TypeError):
                 holder[name] = json.loads(json.dumps(other[key]))
-            except (KeyError, IndexError, RecursionError, TypeError):
-                pass
         else:
             holder[name] = edge_value(rng)
     try:
@@ -273,7 +287,7 @@ def mutated_document(rng, data):
 
 # ---- words
 
-def words_of(rng, name):
+def words_of(rng: random.Random, name: str) -> tuple[list[str], bool]:
     """Words for a command, and whether they are a command."""
     words = [name]
     if name == 'record' and rng.random() < 0.5:
@@ -300,7 +314,7 @@ def words_of(rng, name):
     return words, right
 
 
-def package_input(rng, data):
+def package_input(rng: random.Random, data: bytes) -> bytes:
     """A package that is made another one; now and then one as it is, in its version or in the other one."""
     if rng.random() < 0.05:
         return data if rng.random() < 0.5 else in_other_version(data)
@@ -312,7 +326,7 @@ def package_input(rng, data):
 class Calls:
     """Calls of the program by one worker, with its own files for input and output."""
 
-    def __init__(self, program, limits, folder):
+    def __init__(self, program: str, limits: Any, folder: str) -> None:
         self.program = program
         self.seconds = limits['seconds']
         self.input = os.path.join(folder, 'input')
@@ -322,25 +336,25 @@ class Calls:
         resource.setrlimit(resource.RLIMIT_AS, (memory, memory))
         resource.setrlimit(resource.RLIMIT_CORE, (0, 0))
 
-    def call(self, words, data):
+    def call(self, words: list[str], data: bytes) -> Answer:
         with open(self.input, 'wb') as to:
             to.write(data)
         with open(self.input, 'rb') as given:
             try:
-                done = subprocess.run([self.program, *words], stdin=given, stdout=subprocess.PIPE,
-                                      stderr=subprocess.PIPE, timeout=self.seconds, close_fds=False)
+                done = subprocess.run([self.program, *words], stdin=given, capture_output=True,
+                                      timeout=self.seconds, close_fds=False)
             except subprocess.TimeoutExpired:
                 return None, b'', b''
         return done.returncode, done.stdout, done.stderr
 
 
-def complaint(words, right, answer):
+def complaint(words: list[str], right: bool, answer: Answer) -> Optional[str]:
     """What isn't as it has to be in an answer, or None. `right`: whether the words are a command."""
     status, output, error = answer
     if status is None:
         return 'no answer in time'
     own = (OF_DEPENDS if words[:2] == DEPENDS else OF_RUN if words[:2] == REPLAY_RUN
-           else STATUSES[words[0]] if right else None)
+           else STATUSES[words[0]] if right else set())
     if status not in (own | {NO_MEMORY} if right else {USAGE}):
         return 'status %r' % status
     if status == 0 and not output and words[:2] not in MAY_BE_EMPTY:
@@ -352,7 +366,7 @@ def complaint(words, right, answer):
     return None
 
 
-def replays(calls, data, outcome, mode):
+def replays(calls: Calls, data: bytes, outcome: bytes, mode: list[str]) -> Optional[str]:
     """Whether the package of a world that runs is replayed to that outcome."""
     status, package, _ = calls.call(['record', *mode], data)
     if status in (12, NO_MEMORY):
@@ -367,7 +381,7 @@ def replays(calls, data, outcome, mode):
     return None
 
 
-def migrates(calls, data, package):
+def migrates(calls: Calls, data: bytes, package: bytes) -> Optional[str]:
     """What isn't as it has to be in what `migrate` wrote, or None."""
     if not package.startswith(b'LDVPACK2'):
         return 'what migrate wrote is no package of version 2'
@@ -381,7 +395,7 @@ def migrates(calls, data, package):
     return None if before == after else 'the replay of what migrate wrote differs (status %r)' % after[0]
 
 
-def is_joined_with(rng, calls, data, outcome):
+def is_joined_with(rng: random.Random, calls: Calls, data: bytes, outcome: bytes) -> Optional[str]:
     """What isn't as it has to be where two runs of a world are joined, the second under another seed, or
     None."""
     try:
@@ -398,11 +412,12 @@ def is_joined_with(rng, calls, data, outcome):
 
 # ---- many
 
-def work(job):
+def work(job: Any) -> tuple[Counts, list[str]]:
     program, limits, seed, count, keep, names, place = job
     rng = random.Random(seed)
     good, documents, sound, packages, provenance, joined = corpus()
-    counts, wrong = collections.Counter(), []
+    counts: Counts = collections.Counter()
+    wrong: list[str] = []
     with tempfile.TemporaryDirectory(dir=place) as folder:
         calls = Calls(program, limits, folder)
         for document in rng.sample(good, min(len(good), 40)):
@@ -455,7 +470,7 @@ def work(job):
     return counts, wrong
 
 
-def main(words=None):
+def main(words: Optional[Sequence[str]] = None) -> int:
     parser = argparse.ArgumentParser(description=__doc__,
                                      formatter_class=argparse.RawDescriptionHelpFormatter)
     parser.add_argument('program')
@@ -477,7 +492,8 @@ def main(words=None):
     parts = max(given.jobs, given.count // 1000)
     shares = [given.count * (n + 1) // parts - given.count * n // parts for n in range(parts)]
     begun = time.monotonic()
-    counts, wrong = collections.Counter(), []
+    counts: Counts = collections.Counter()
+    wrong: list[str] = []
     # One folder for those of the jobs: it goes away also where they are ended from outside.
     with tempfile.TemporaryDirectory(dir='/dev/shm' if os.path.isdir('/dev/shm') else None) as folder, \
             multiprocessing.Pool(given.jobs, maxtasksperchild=1) as pool:

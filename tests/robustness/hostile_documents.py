@@ -1,13 +1,13 @@
 """Provenance documents that are changed, for hostile.py, and what `prov depends` has to say of one."""
-import os
-import sys
+from __future__ import annotations
 
-from hostile_packages import mutated_bytes
+import random
+from typing import Any, Optional
 
-sys.path.insert(0, os.path.join(os.path.dirname(os.path.abspath(__file__)), '..', '..', 'tools'))
-from ldvtools.errors import Malformed, Refused                               # noqa: E402
-from ldvtools.prov import ancestry, place_of                                     # noqa: E402
-from ldvtools.provenance import Edge, Node, Provenance, document_text, read_provenance   # noqa: E402
+from hostile_packages import Answer, mutated_bytes
+from ldvtools.errors import Malformed, Refused
+from ldvtools.prov import ancestry, place_of
+from ldvtools.provenance import Edge, Node, Provenance, document_text, read_provenance
 
 NUMBERS = (0, 1, 2, 9, 10, 9_999_999, 10_000_000, 10_000_001, 2 ** 32 - 1, 2 ** 32, 2 ** 64 - 1, 2 ** 64,
            -1, 1.0)
@@ -22,13 +22,14 @@ SPELLINGS = (('/', '\\/'), ('a', '\\u0061'), (':0', ':-0'), (':0', ':0.0'), (':1
              ('"used":', '"used":{},"used":'))
 
 
-def changed_graph(rng, nodes, edges):
+def changed_graph(rng: random.Random, nodes: list[Node], edges: list[Edge]) -> None:
     """Changes a list of nodes and one of edges. Only the last node is taken out, so that edges stay between
     nodes."""
     how = rng.randrange(8)
     if how == 0 and edges:
         at = rng.randrange(len(edges))
-        edges[at] = edges[at]._replace(**{rng.choice(('first', 'last')): rng.choice(NUMBERS)})
+        change: Any = {rng.choice(('first', 'last')): rng.choice(NUMBERS)}
+        edges[at] = edges[at]._replace(**change)
     elif how == 1 and edges:
         edges.append(rng.choice(edges)._replace(first=0))
     elif how == 2 and edges:
@@ -48,7 +49,7 @@ def changed_graph(rng, nodes, edges):
         del nodes[last]
 
 
-def mutated_provenance(rng, data):
+def mutated_provenance(rng: random.Random, data: bytes) -> bytes:
     if rng.random() < 0.05:
         return data
     try:
@@ -68,7 +69,7 @@ def mutated_provenance(rng, data):
     return text.encode()
 
 
-def reads(data, path, answer):
+def reads(data: bytes, path: str, answer: Answer) -> Optional[str]:
     """What isn't as it has to be in an answer of `prov depends PATH`, or None."""
     status, output, _ = answer
     try:

@@ -1,17 +1,27 @@
 """Pairs of packages and joined packages that are made to break the program, and what `join` has to say of a
 pair."""
-import os
-import sys
+from __future__ import annotations
 
-from hostile_packages import EDGES, FEW_EVENTS, NO_SPELLING, mutated_bytes, mutated_package, read, with_digest
+import contextlib
+import random
+from typing import Any, Callable, Optional, Sequence
 
-sys.path.insert(0, os.path.join(os.path.dirname(os.path.abspath(__file__)), '..', '..', 'tools'))
-from ldvtools.errors import Malformed                                        # noqa: E402
-from ldvtools.join import clash_of                                           # noqa: E402
-from ldvtools.packages import Joined, read_any, read_package                   # noqa: E402
-from package_versions import parts_of                                        # noqa: E402
-from spelling import encode, foreign                                         # noqa: E402
-from packages_joined import joined                                           # noqa: E402
+from cases.encoder import Part, encode, foreign
+from cases.package_versions import parts_of
+from cases.packages_joined import joined
+from hostile_packages import (
+    EDGES,
+    FEW_EVENTS,
+    NO_SPELLING,
+    Answer,
+    mutated_bytes,
+    mutated_package,
+    read,
+    with_digest,
+)
+from ldvtools.errors import Malformed
+from ldvtools.join import clash_of
+from ldvtools.packages import Joined, read_any, read_package
 
 LENGTH = 4
 MANY_ROWS = 10_000
@@ -20,14 +30,14 @@ DIGEST_LENGTH = 32
 
 # ---- pairs
 
-def sized(data):
+def sized(data: bytes) -> bytes:
     """A package with its length before it."""
     return len(data).to_bytes(LENGTH, 'big') + data
 
 
-def pair_in(data):
+def pair_in(data: bytes) -> Optional[list[bytes]]:
     """The two packages of an input of `join`; None where it isn't made of them and their lengths."""
-    found = []
+    found: list[bytes] = []
     while len(found) < 2 and len(data) >= LENGTH + int.from_bytes(data[:LENGTH], 'big'):
         end = LENGTH + int.from_bytes(data[:LENGTH], 'big')
         found.append(data[LENGTH:end])
@@ -35,7 +45,7 @@ def pair_in(data):
     return None if data or len(found) < 2 else found
 
 
-def changed_file(rng, parts):
+def changed_file(rng: random.Random, parts: Part) -> None:
     each = rng.choice(parts['files'])
     if each['path'] == parts['start'][0] and rng.random() < 0.7:
         parts['start'] = parts['start'] + [rng.choice(('', 'x'))]
@@ -43,7 +53,7 @@ def changed_file(rng, parts):
         each['content'] = rng.choice((None, b'', b'exit 0\n', (each['content'] or b'') + b'\n'))
 
 
-def referring(rng, each, parent):
+def referring(rng: random.Random, each: Part, parent: Part) -> list[int]:
     """Columns of a table that fit the key of a parent, as far as there are such."""
     found = []
     for place in parent['key']:
@@ -54,7 +64,7 @@ def referring(rng, each, parent):
     return found
 
 
-def changed_foreign(rng, each, tables):
+def changed_foreign(rng: random.Random, each: Part, tables: list[Part]) -> None:
     """A table with other foreign keys: one fewer, all in another order, one to another parent or of other
     columns, or one more."""
     keys, parent, how = each['foreign'], rng.choice(tables), rng.randrange(5)
@@ -70,7 +80,7 @@ def changed_foreign(rng, each, tables):
         keys.append(foreign(referring(rng, each, parent), parent['name']))
 
 
-def changed_table(rng, parts):
+def changed_table(rng: random.Random, parts: Part) -> None:
     each = rng.choice(parts['tables'])
     how = rng.randrange(6)
     if how == 0:
@@ -85,7 +95,7 @@ def changed_table(rng, parts):
         parts['tables'].remove(each)
 
 
-def changed_rows(rng, parts):
+def changed_rows(rng: random.Random, parts: Part) -> None:
     """A row goes, or it has another value or another number, or there is another row."""
     each = rng.choice([table for table in parts['tables'] if table['rows']])
     rows = each['rows']
@@ -105,14 +115,14 @@ def changed_rows(rng, parts):
     rows.sort(key=lambda row: row['number'])
 
 
-def changed_package(rng, data):
+def changed_package(rng: random.Random, data: bytes) -> bytes:
     """A package that differs in a file, a table, a row or its seed, and is mostly valid; the bytes where they
     spell none."""
     found = read(data)
     if found is None or found.mode != 'included':
         return data
     parts = parts_of(found)
-    ways = [lambda: parts.update(seed=rng.choice((0, 1, 2 ** 64 - 1)))]
+    ways: list[Callable[[], None]] = [lambda: parts.update(seed=rng.choice((0, 1, 2 ** 64 - 1)))]
     if parts['files']:
         ways.append(lambda: changed_file(rng, parts))
     if parts['tables']:
@@ -120,18 +130,16 @@ def changed_package(rng, data):
     if any(table['rows'] for table in parts['tables']):
         ways += [lambda: changed_rows(rng, parts)] * 3
     for _ in range(rng.choice((1, 1, 2))):
-        try:
+        # What was there at first may have been taken out.
+        with contextlib.suppress(IndexError):
             rng.choice(ways)()
-        except IndexError:
-            # What was there at first was taken out.
-            pass
     try:
         return encode(parts)
     except NO_SPELLING:
         return data
 
 
-def mutated_pair(rng, packages, others):
+def mutated_pair(rng: random.Random, packages: Sequence[bytes], others: Sequence[bytes]) -> bytes:
     """An input of `join`: two packages, mostly two that are alike, and now and then no pair."""
     first = rng.choice(packages)
     how = rng.random()
@@ -147,7 +155,7 @@ def mutated_pair(rng, packages, others):
     return mutated_bytes(rng, data) if rng.random() < 0.05 else data
 
 
-def judges(data, answer):
+def judges(data: bytes, answer: Answer) -> Optional[str]:
     """What isn't as it has to be in an answer of `join` to a pair of packages, or None: the clash and the
     joined package are those that tools/ finds."""
     status, output, error = answer
@@ -173,16 +181,16 @@ def judges(data, answer):
 
 # ---- joined packages
 
-def sections(data):
+def sections(data: bytes) -> list[bytes]:
     """The sections of a joined package that was read, but its digest."""
     found, at = [], 0
-    for name, size in read_any(data).sizes.items():
+    for size in read_any(data).sizes.values():
         found.append(data[at:at + size])
         at += size
     return found[:-1]
 
 
-def moved_sections(rng, data, other):
+def moved_sections(rng: random.Random, data: bytes, other: bytes) -> Optional[bytes]:
     """A joined package whose runs are exchanged, or that has sections of another one; None where one of the
     two is none."""
     try:
@@ -200,7 +208,7 @@ def moved_sections(rng, data, other):
     return with_digest(b''.join(mine) + bytes(DIGEST_LENGTH))
 
 
-def mutated_joined(rng, packages):
+def mutated_joined(rng: random.Random, packages: Sequence[bytes]) -> bytes:
     """A joined package that is made another one; now and then one as it is."""
     data = rng.choice(packages)
     how = rng.random()
@@ -212,7 +220,7 @@ def mutated_joined(rng, packages):
     return moved or with_digest(mutated_bytes(rng, data[:-DIGEST_LENGTH]) + bytes(DIGEST_LENGTH))
 
 
-def is_joined(data):
+def is_joined(data: bytes) -> bool:
     """Whether bytes can be read as a joined package."""
     try:
         return isinstance(read_any(data), Joined)
@@ -222,7 +230,7 @@ def is_joined(data):
 
 # ---- runs of one world
 
-def joins(calls, package, outcome, other, other_outcome):
+def joins(calls: Any, package: bytes, outcome: bytes, other: bytes, other_outcome: bytes) -> Optional[str]:
     """What isn't as it has to be where the packages of two runs over one database are joined, and each run is
     replayed; or None."""
     status, both, _ = calls.call(['join'], sized(package) + sized(other))

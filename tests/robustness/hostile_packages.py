@@ -1,16 +1,19 @@
 """Packages that are made to break the program: with other bytes, under the other version, with other runs.
 The digest of most is right again."""
+from __future__ import annotations
+
 import hashlib
-import os
-import sys
+import random
+from typing import Optional
 
-sys.path.insert(0, os.path.join(os.path.dirname(os.path.abspath(__file__)), '..', '..', 'tools'))
-from ldvtools.errors import Malformed                                        # noqa: E402
-from ldvtools.packages import read_package                                   # noqa: E402
-from package_versions import event_of, in_version, parts_of                  # noqa: E402
-from spelling import MAGIC, cut, encode                                      # noqa: E402
-from spelling import run as run_of                                           # noqa: E402
+from cases.encoder import MAGIC, Part, cut, encode
+from cases.encoder import run as run_of
+from cases.package_versions import event_of, in_version, parts_of
+from ldvtools.errors import Malformed
+from ldvtools.packages import Package, read_package
 
+# What a call ended with, if it did in time, and what it wrote: output and message.
+Answer = tuple[Optional[int], bytes, bytes]
 DIGEST_LENGTH = 32
 EDGES = [0, 1, 2, 255, 256, 65535, 65536, 2**31 - 1, 2**31, 2**32 - 1, 2**32, 2**63 - 1, 2**63, 2**64 - 1,
          2**64]
@@ -25,7 +28,7 @@ NO_SPELLING = (ValueError, OverflowError)
 
 # ---- bytes
 
-def mutated_bytes(rng, data):
+def mutated_bytes(rng: random.Random, data: bytes) -> bytes:
     """The bytes with some places changed, cut, doubled or moved."""
     data = bytearray(data)
     for _ in range(rng.choice((1, 1, 1, 2, 3, 8))):
@@ -55,7 +58,7 @@ def mutated_bytes(rng, data):
     return bytes(data)
 
 
-def with_digest(data):
+def with_digest(data: bytes) -> bytes:
     """The package with the digest that its other bytes have."""
     body = data[:-DIGEST_LENGTH]
     return body + hashlib.sha256(body).digest()
@@ -63,7 +66,7 @@ def with_digest(data):
 
 # ---- versions and runs
 
-def read(data):
+def read(data: bytes) -> Optional[Package]:
     """The package that bytes spell, where it has few events, or None."""
     try:
         found = read_package(data)
@@ -72,7 +75,7 @@ def read(data):
     return found if found.event_count() <= FEW_EVENTS else None
 
 
-def in_other_version(data):
+def in_other_version(data: bytes) -> bytes:
     """The package that bytes spell in the other version; the bytes where they spell none, or one that has no
     spelling there."""
     found = read(data)
@@ -82,24 +85,24 @@ def in_other_version(data):
         return data
 
 
-def with_other_magic(data):
+def with_other_magic(data: bytes) -> bytes:
     """The bytes under the magic of the other version."""
     return with_digest((MAGIC[1] if data.startswith(MAGIC[2]) else MAGIC[2]) + data[len(MAGIC[1]):])
 
 
-def runs_of(found):
+def runs_of(found: Package) -> list[Part]:
     """The runs of a package of either version."""
     if found.version == 1:
         return cut(event_of(each) for each in found.events)
     return [run_of(event_of(each.first), each.times, each.stride) for each in found.runs]
 
 
-def mutated_number(rng, number):
+def mutated_number(rng: random.Random, number: int) -> int:
     others = (number + 1, number - 1, 0, 1, 2, rng.choice(EDGES), WORD - 1 - number, rng.randrange(WORD))
     return rng.choice(others) % WORD
 
 
-def mutate_run(rng, runs):
+def mutate_run(rng: random.Random, runs: list[Part]) -> None:
     """Changes the runs of a package in one place."""
     at = rng.randrange(len(runs))
     here, how = runs[at], rng.randrange(8)
@@ -124,12 +127,12 @@ def mutate_run(rng, runs):
         runs.insert(rng.randrange(len(runs)), runs.pop(at))
 
 
-def with_other_runs(rng, data):
+def with_other_runs(rng: random.Random, data: bytes) -> Optional[bytes]:
     """The package that bytes spell in version 2, with other runs; None where they spell none, or one that has
     no spelling there."""
     found = read(data)
     runs = runs_of(found) if found else []
-    if not runs:
+    if found is None or not runs:
         return None
     for _ in range(rng.choice((1, 1, 2))):
         mutate_run(rng, runs)
@@ -139,7 +142,7 @@ def with_other_runs(rng, data):
         return None
 
 
-def mutated_package(rng, data):
+def mutated_package(rng: random.Random, data: bytes) -> bytes:
     if rng.random() < 0.3:
         data = in_other_version(data)
     how = rng.random()

@@ -1,15 +1,12 @@
 """What a hard input takes as a multiple of a usual one, and how many of the multiples are too large."""
-import os
-import sys
+from __future__ import annotations
 
-sys.path.append(os.path.join(os.path.dirname(os.path.abspath(__file__)), '..', '..', 'bench'))
-import harness                                                               # noqa: E402
-from statements import found_in                                              # noqa: E402, F401
+import harness
 
 ratio = harness.ratio
 
 
-def least(words, source, target, runs):
+def least(words: list[str], source: str, target: str, runs: int) -> tuple[int, float, float]:
     """Status, the least seconds of a processor and the greatest MiB of some runs that count."""
     took, = harness.in_turn([lambda: harness.measure(words, source, target)], runs)
     return took[0].status, harness.least(took), harness.mebibytes(took)
@@ -18,14 +15,14 @@ def least(words, source, target, runs):
 class Tally:
     """Counts multiples, and those that are more than they may be."""
 
-    def __init__(self):
+    def __init__(self) -> None:
         self.all = self.missed = 0
 
-    def noted(self, value, most):
+    def noted(self, value: float, most: float) -> str:
         """What a multiple may be at most, once it is noted whether it is more. Two decimals of it count."""
         self.all += 1
         self.missed += round(value, 2) > most
         return f'{most:.2f}'
 
-    def last_line(self):
+    def last_line(self) -> str:
         return f'aims missed: {self.missed} of {self.all}'

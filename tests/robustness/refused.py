@@ -12,30 +12,37 @@ world has a row.
 It prints the number of requests by command, how many of them the command did without, and how many answers
 are others; it ends with status 1 where there are such, or where no request was counted.
 """
+from __future__ import annotations
+
 import argparse
 import concurrent.futures
+import functools
 import os
 import subprocess
 import sys
 import tempfile
+from typing import Iterator, Optional, Sequence
 
 HERE = os.path.dirname(os.path.abspath(__file__))
-sys.path.insert(0, os.path.join(HERE, '..', '..', 'tools'))
-from ldvtools.join import sized                                              # noqa: E402
-from ldvtools.packages import read_package                                   # noqa: E402
+from ldvtools.join import sized
+from ldvtools.packages import Package, read_package
 
 SECONDS = 60
 NO_MEMORY = 11
 REFUSED = (NO_MEMORY, b'', b'ldv: out of memory\n')
 
 
+# What a call ended with, if it did in time, and what it wrote: output and message.
+Answer = tuple[Optional[int], bytes, bytes]
+
+
 class Program:
     """The program with a shim between it and the C library."""
 
-    def __init__(self, path, shim, folder):
+    def __init__(self, path: str, shim: str, folder: str) -> None:
         self.path, self.shim, self.folder = path, shim, folder
 
-    def call(self, words, data, refused=0, count=''):
+    def call(self, words: list[str], data: bytes, refused: int = 0, count: str = '') -> Answer:
         """Status, output and message, where the request of that number is refused.
         No status: no answer in time."""
         try:
@@ -45,14 +52,14 @@ class Program:
             return None, b'', b''
         return done.returncode, done.stdout, done.stderr
 
-    def requests(self, words, data):
+    def requests(self, words: list[str], data: bytes) -> tuple[int, bytes]:
         """How often the call asks for memory, and its output."""
         count = os.path.join(self.folder, 'count')
         # Not that of the call before.
         if os.path.exists(count):
             os.remove(count)
-        status, output, error = self.call(words, data, count=count)
-        error = error.decode(errors='replace')
+        status, output, message = self.call(words, data, count=count)
+        error = message.decode(errors='replace')
         if status != 0:
             sys.exit('refused.py: %s: status %s: %s' % (' '.join(words), status, error))
         if not os.path.exists(count):
@@ -64,7 +71,7 @@ class Program:
         return number, output
 
 
-def calls_of(program, world):
+def calls_of(program: Program, world: bytes) -> Iterator[tuple[list[str], bytes]]:
     """Each command with its input: those of a world, and those of its packages."""
     included = program.requests(['record'], world)[1]
     excluded = program.requests(['record', '--excluded'], world)[1]
@@ -80,7 +87,7 @@ def calls_of(program, world):
     yield ['gen', '2'], b''
 
 
-def items_of(package):
+def items_of(package: Package) -> Iterator[list[str]]:
     """The commands that name an item: the last path of the trace, a row, and its table at the last step."""
     # The first event has a path. An act that says whether the file was there may be one that found none.
     *_, path = (event.path for event in package.events if event.path and event.found is None)
@@ -92,7 +99,7 @@ def items_of(package):
             return
 
 
-def main(words=None):
+def main(words: Optional[Sequence[str]] = None) -> int:
     parser = argparse.ArgumentParser(description=__doc__,
                                      formatter_class=argparse.RawDescriptionHelpFormatter)
     parser.add_argument('program')
@@ -108,16 +115,16 @@ def main(words=None):
     wrong = 0
     with tempfile.TemporaryDirectory() as folder, concurrent.futures.ThreadPoolExecutor(given.jobs) as pool:
         program = Program(os.path.abspath(given.program), os.path.abspath(given.shim), folder)
-        for words, data in calls_of(program, world):
-            count, output = program.requests(words, data)
-            answers = pool.map(lambda number: program.call(words, data, number), range(1, count + 1))
-            answers = [(number, answer) for number, answer in enumerate(answers, 1) if answer != REFUSED]
+        for called, data in calls_of(program, world):
+            count, output = program.requests(called, data)
+            given_up = pool.map(functools.partial(program.call, called, data), range(1, count + 1))
+            answers = [(number, answer) for number, answer in enumerate(given_up, 1) if answer != REFUSED]
             others = [(number, answer) for number, answer in answers if answer != (0, output, b'')]
             wrong += len(others)
             print('%s: %d requests, %d done without, %d answered otherwise'
-                  % (' '.join(words), count, len(answers) - len(others), len(others)), flush=True)
-            for number, (status, output, error) in others[:5]:
-                print('  request %d: status %s, %d bytes, %.80r' % (number, status, len(output), error))
+                  % (' '.join(called), count, len(answers) - len(others), len(others)), flush=True)
+            for number, (status, written, error) in others[:5]:
+                print('  request %d: status %s, %d bytes, %.80r' % (number, status, len(written), error))
     return 1 if wrong else 0
 
 

@@ -16,6 +16,8 @@ with parameters of any kind.
 It prints how many questions were answered by rows, by a change and by each refusal; it ends with status 1 if
 two outcomes or packages differ, and keeps both worlds in the folder.
 """
+from __future__ import annotations
+
 import argparse
 import collections
 import itertools
@@ -24,12 +26,12 @@ import os
 import random
 import subprocess
 import sys
+from typing import Any, Iterator, NamedTuple, Optional, Sequence, Union
 
-HERE = os.path.dirname(os.path.abspath(__file__))
-sys.path.insert(0, os.path.join(HERE, '..', '..', 'tools'))
-import against_sqlite                                                        # noqa: E402
-from ldvtools.errors import Malformed                                        # noqa: E402
-from ldvtools.outcomes import read_outcome                                   # noqa: E402
+from checks import against_sqlite
+from checks.against_sqlite import Asked
+from ldvtools.errors import Malformed
+from ldvtools.outcomes import read_outcome
 
 SECONDS = 120
 STEPS = '1000000'
@@ -43,17 +45,25 @@ TABLES = {
           'foreign': [[['t'], 't']]},
 }
 
-Question = collections.namedtuple('Question', 'text params')
+Value = Union[int, str, None]
+Counts = collections.Counter[str]
+
+
+class Question(NamedTuple):
+    """A statement with its parameters."""
+
+    text: str
+    params: Sequence[Value]
 
 
 # ---- the questions of the worlds
 
-def rounds(count, texts, params):
+def rounds(count: int, texts: Sequence[str], params: Sequence[Sequence[Value]]) -> list[Question]:
     """Each text with each of some parameters, so many times."""
     return [Question(text, each) for _ in range(count) for text in texts for each in params]
 
 
-def other_kinds():
+def other_kinds() -> list[Question]:
     """Texts with one and two parameters, with each value and each pair of kinds."""
     one = ['SELECT k FROM t WHERE k = ?', 'SELECT k FROM t WHERE s = ? OR g IS NULL',
            'SELECT ? AS a, k FROM t', 'SELECT k FROM t WHERE ? IS NULL',
@@ -66,7 +76,7 @@ def other_kinds():
         rounds(3, two, list(itertools.product([None, 1, -1, -2, 'a'], repeat=2)))
 
 
-def numbers_of_parameters():
+def numbers_of_parameters() -> list[Question]:
     """Texts with too few, enough and too many parameters, and with as many as a script can give."""
     wide = [f"SELECT {', '.join('?' * count)} FROM t WHERE k = 1" for count in (254, 255)]
     return rounds(3, ['SELECT k FROM t WHERE k = ? OR k = ?'], [[], [1], [1, 2], [1, 2, 3]]) + \
@@ -74,14 +84,14 @@ def numbers_of_parameters():
          for turn in range(4) for text in wide]
 
 
-def limits():
+def limits() -> list[Question]:
     return rounds(3, ['SELECT k FROM t ORDER BY k DESC LIMIT ?'],
                   [[value] for value in (2, 0, 100, MOST, -1, -2, LEAST, None, 'a', 3)] + [[], [1, 2]]) + \
         rounds(2, ['SELECT k FROM t WHERE k > ? ORDER BY k LIMIT ?'],
                [[1, 2], [2, 1], [-1, 2], [2, -1], [None, 1], [1, None], ['a', 1], [1, 'a'], [0, 3]])
 
 
-def many_texts():
+def many_texts() -> list[Question]:
     """More texts than are kept, in turn; then some of them alone."""
     texts = [f'SELECT k + {number} AS n FROM t WHERE k >= ?' for number in range(150)]
     questions = [Question(text, [turn]) for count in (64, 65, 66, 150) for turn in range(3)
@@ -89,7 +99,7 @@ def many_texts():
     return questions + [Question(text, [turn]) for turn in range(3) for text in texts[::7]]
 
 
-def long_texts():
+def long_texts() -> list[Question]:
     """Texts of about 1,024 bytes, or of about as many characters."""
     texts = []
     for fill in ('x', 'é'):
@@ -102,9 +112,10 @@ def long_texts():
     return [Question(text, [turn]) for turn in (1, 2, -1, None, 'a', 3) for text in texts]
 
 
-def refused_between():
+def refused_between() -> list[Question]:
     """Each refusal that statements over these tables meet, between answered ones."""
-    asked = [('SELECT g FROM t WHERE k = ?', [1]), ('SELECT g FROM t WHERE k = = ?', [1]),
+    asked: list[tuple[str, list[Value]]] = [
+             ('SELECT g FROM t WHERE k = ?', [1]), ('SELECT g FROM t WHERE k = = ?', [1]),
              ('SELECT g FROM none WHERE k = ?', [1]), ('SELECT none FROM t WHERE k = ?', [2]),
              ('SELECT g FROM t WHERE k = ?', ['a']), ('INSERT INTO u VALUES (?, ?)', [1, None]),
              ('INSERT INTO t VALUES (?, 1, ?)', [1, 'a']), ('INSERT INTO u VALUES (?, ?)', [77, 1]),
@@ -114,7 +125,7 @@ def refused_between():
     return [Question(*each) for _ in range(4) for each in asked]
 
 
-def changed_between():
+def changed_between() -> list[Question]:
     """A change and a question after it, of the same texts with other rows."""
     questions = []
     for key in range(6, 40):
@@ -133,14 +144,14 @@ WORLDS = {each.__name__: each for each in (
     other_kinds, numbers_of_parameters, limits, many_texts, long_texts, refused_between, changed_between)}
 
 
-def any_value(chance, value):
+def any_value(chance: random.Random, value: Value) -> Value:
     """Mostly a value of the same kind, sometimes any other."""
     if value is None or chance.random() < 0.25:
         return chance.choice(VALUES)
     return chance.choice([each for each in VALUES if isinstance(each, type(value))])
 
 
-def random_world(seed):
+def random_world(seed: int) -> tuple[dict[str, Any], list[Question]]:
     """The tables of a world of against_sqlite.py, and its statements, each asked up to six times more, in
     any order."""
     chance = random.Random(seed)
@@ -156,19 +167,19 @@ def random_world(seed):
 
 # ---- worlds
 
-def as_its_own(place, question):
+def as_its_own(place: int, question: Question) -> Question:
     """The question as a text that no other question has: what stands behind it is the place, in binary."""
     tail = f'{place:016b}'.replace('0', ' ').replace('1', '\t')
     return question._replace(text=question.text + tail)
 
 
-def twin(questions):
+def twin(questions: Sequence[Question]) -> list[Question]:
     return [as_its_own(place, each) for place, each in enumerate(questions)]
 
 
-def world_of(tables, questions):
+def world_of(tables: dict[str, Any], questions: Sequence[Question]) -> bytes:
     """A world of two processes, each of which asks every other question."""
-    world = against_sqlite.world_of([], questions)
+    world = against_sqlite.world_of([], [Asked(each.text, list(each.params)) for each in questions])
     lines = world['files']['main'].splitlines(keepends=True)
     files = {'main': 'spawn c "second" else no\nno:\n' + ''.join(lines[0::2]),
              'second': ''.join(lines[1::2])}
@@ -177,7 +188,7 @@ def world_of(tables, questions):
 
 # ---- the program
 
-def answer(program, words, data):
+def answer(program: str, words: list[str], data: bytes) -> bytes:
     """What the program writes."""
     done = subprocess.run([program, *words], input=data, capture_output=True, timeout=SECONDS, check=False)
     if done.returncode != 0:
@@ -186,7 +197,7 @@ def answer(program, words, data):
     return done.stdout
 
 
-def answers(program, world):
+def answers(program: str, world: bytes) -> dict[str, bytes]:
     """The outcome of a world, and what its package says of its run."""
     package = answer(program, ['record', '--steps', STEPS], world)
     return {'run': answer(program, ['run', '--steps', STEPS], world),
@@ -194,15 +205,16 @@ def answers(program, world):
                for words in (['replay'], ['inspect', 'rows'], ['inspect', 'trace'])}}
 
 
-def counted(outcome, counts):
+def counted(outcome: bytes, counts: Counts) -> int:
     """How many replies there are, each counted by its kind."""
     processes, _paths = read_outcome(outcome)
     replies = [reply.brief() for process in processes for reply in process.replies]
-    counts.update(f'refused {reply[1]}' if reply[0] == 'refused' else reply[0] for reply in replies)
+    counts.update(f'refused {reply[1]}' if reply[0] == 'refused' else str(reply[0]) for reply in replies)
     return len(replies)
 
 
-def difference(program, tables, questions, counts):
+def difference(program: str, tables: dict[str, Any], questions: Sequence[Question],
+               counts: Counts) -> Optional[str]:
     """What differs between a world and its twin, or None."""
     try:
         told = answers(program, world_of(tables, questions))
@@ -215,13 +227,13 @@ def difference(program, tables, questions, counts):
     return next((f'`{name}` writes something else' for name in told if told[name] != other[name]), None)
 
 
-def keep(folder, name, tables, questions):
+def keep(folder: str, name: str, tables: dict[str, Any], questions: Sequence[Question]) -> None:
     for kind, asked in (('again', questions), ('once', twin(questions))):
         with open(os.path.join(folder, f'repeated_{name}_{kind}.json'), 'wb') as file:
             file.write(world_of(tables, asked))
 
 
-def worlds(first, count):
+def worlds(first: int, count: int) -> Iterator[tuple[str, dict[str, Any], Sequence[Question]]]:
     """Each world by its name: its tables and its questions."""
     for name, questions in WORLDS.items():
         yield name, TABLES, questions()
@@ -229,7 +241,7 @@ def worlds(first, count):
         yield (f'seed_{seed}', *random_world(seed))
 
 
-def main(given=None):
+def main(given: Optional[Sequence[str]] = None) -> int:
     parser = argparse.ArgumentParser(description=__doc__,
                                      formatter_class=argparse.RawDescriptionHelpFormatter)
     parser.add_argument('program')
@@ -237,7 +249,8 @@ def main(given=None):
     parser.add_argument('--seed', type=int, default=1, metavar='N', help='of the first of them (default 1)')
     parser.add_argument('--folder', default='.', help='where worlds that differ are kept (default: here)')
     words = parser.parse_args(given)
-    counts, wrong = collections.Counter(), 0
+    counts: Counts = collections.Counter()
+    wrong = 0
     for name, tables, questions in worlds(words.seed, words.worlds):
         found = difference(words.program, tables, questions, counts)
         if found is not None:
