@@ -144,7 +144,7 @@ def program_tree(root: str, program: bytes, python: str) -> Tree:
     for name in tool_names(root):
         tree[f"bin/ldv-{name}"] = Item(TOOL.format(name=name, python=python).encode(), 0o755)
     for path in sources(root, "tools/ldvtools"):
-        if path.endswith((".py", ".css", ".js")):
+        if path.endswith((".py", ".css", ".js", "/py.typed")):
             tree[f"{SHARED}/{path[len('tools/ldvtools/'):]}"] = Item(read(os.path.join(root, path)))
     return tree
 
@@ -321,7 +321,7 @@ def depends_of(program: bytes) -> str:
     libc = least_libc(program)
     found = [f"libc6 (>= {libc})"] if libc else []
     found += ["libgcc-s1"] if b"\0libgcc_s.so.1\0" in program else []
-    return ", ".join([*found, "python3 (>= 3.8)"])
+    return ", ".join([*found, "python3 (>= 3.9)"])
 
 
 def control_tree(tree: Tree) -> Tree:
@@ -344,9 +344,9 @@ def debian_package(tree: Tree, time: int) -> bytes:
             for name in [*names, "."]:
                 os.utime(os.path.join(at, name), (time, time))
         done = subprocess.run(["dpkg-deb", "--root-owner-group", "--uniform-compression", "-Zgzip", "-z9",
-                               "--build", top, os.path.join(folder, DEBIAN)], stdout=subprocess.PIPE,
-                              stderr=subprocess.PIPE, check=False,
-                              env={**os.environ, "SOURCE_DATE_EPOCH": str(time), "LC_ALL": "C", "TZ": "UTC"})
+                               "--build", top, os.path.join(folder, DEBIAN)],
+                              capture_output=True, check=False, env={
+                                  **os.environ, "SOURCE_DATE_EPOCH": str(time), "LC_ALL": "C", "TZ": "UTC"})
         if done.returncode != 0:
             raise Refused(f"dpkg-deb ends with {done.returncode}: {done.stderr.decode().strip()}")
         return read(os.path.join(folder, DEBIAN))
@@ -366,7 +366,7 @@ def write_all(folder: str, files: Dict[str, bytes]) -> None:
 # ---- the command
 
 def given_words(words: Optional[Sequence[str]]) -> argparse.Namespace:
-    parser = argparse.ArgumentParser(prog="release.py", description=__doc__,
+    parser = argparse.ArgumentParser(description=__doc__,
                                      formatter_class=argparse.RawDescriptionHelpFormatter)
     parser.add_argument("what", choices=("install", "uninstall", "dist"))
     parser.add_argument("--prefix", default="/usr/local", help="where it is installed (default /usr/local)")
@@ -407,7 +407,7 @@ def work(words: Optional[Sequence[str]]) -> int:
 
 
 def main(words: Optional[Sequence[str]] = None) -> int:
-    return command("release.py", work, words, "checkout")
+    return command(work, words, "checkout")
 
 
 if __name__ == "__main__":

@@ -38,10 +38,25 @@ import zipfile
 from typing import Callable, List, NamedTuple, Optional, Sequence, Tuple, Union
 
 from . import __version__, outcome, page, picture, prov
-from .bundle_parts import (BINARY, METADATA, OUTCOME, PACKAGE, PROGRAM, README, REPLAY, SUMS, TEXT, Part,
-                           in_order, media_of, places_of, sum_lines, sums_size)
+from .bundle_parts import (
+    BINARY,
+    METADATA,
+    OUTCOME,
+    PACKAGE,
+    PROGRAM,
+    README,
+    REPLAY,
+    SUMS,
+    TEXT,
+    Part,
+    in_order,
+    media_of,
+    places_of,
+    sum_lines,
+    sums_size,
+)
 from .bundle_texts import Recorded, prefix_of, readme, replay_script, replay_words
-from .errors import Malformed, Misused, Refused, command, words_of
+from .errors import Malformed, Misused, Refused, command, program_name, words_of
 from .outcome import read_input
 from .outcomes import read_outcome
 from .packages import Joined, Package, read_any
@@ -121,7 +136,7 @@ def written(work: Callable[[Optional[Sequence[str]]], int], words: Sequence[str]
         work(words)
     out.flush()
     for line in told.getvalue().splitlines():
-        print(f"bundle.py: {line.partition(': ')[2] or line}", file=sys.stderr)
+        print(f"{program_name()}: {line.partition(': ')[2] or line}", file=sys.stderr)
     return raw.getvalue()
 
 
@@ -201,7 +216,7 @@ def run_parts(source: Source, run: int, package: Package, title: str, verdict: O
         parts.append(Part(prefix_of(run) + "picture.svg", picture_of(source, package),
                           "the trace as a picture", "image/svg+xml", run))
     except Refused as fault:
-        print(f"bundle.py: no picture: {fault}", file=sys.stderr)
+        print(f"{program_name()}: no picture: {fault}", file=sys.stderr)
     return parts
 
 
@@ -308,7 +323,7 @@ def place_archive(new: str, path: str) -> None:
 # ---- the command
 
 def given_words(words: Optional[Sequence[str]]) -> argparse.Namespace:
-    parser = words_of("bundle.py", __doc__, "package", "the package")
+    parser = words_of(__doc__, "package", "the package")
     parser.add_argument("-o", "--output", metavar="FILE", required=True,
                         help="the archive, which isn't there yet")
     parser.add_argument("--title", help="what it is called (default: the name of the package)")
@@ -388,7 +403,7 @@ def work(words: Optional[Sequence[str]]) -> int:
 
 
 def main(words: Optional[Sequence[str]] = None) -> int:
-    return command("bundle.py", work, words, "package")
+    return command(work, words, "package")
 
 
 if __name__ == "__main__":

@@ -41,7 +41,7 @@ from .captured_world import REPORT_FILE, SEEN_FILE, counts_of, script_of, seen_f
 from .columns import FOLDER
 from .dialects import POSTGRES, SQLITE
 from .documents import document, write_file
-from .errors import Misused, Refused, command, words_of
+from .errors import Misused, Refused, command, program_name, words_of
 from .language import MAX_FILE
 from .values import plain_count
 from .world import MAIN, check_file, summary, table_of
@@ -174,7 +174,7 @@ def world_of(capture: Capture, judged: Dict[int, Judged], told: bytes) -> bytes:
 # ---- what is said
 
 def say(text: str) -> None:
-    print(f"capture.py: {text}", file=sys.stderr)
+    print(f"{program_name()}: {text}", file=sys.stderr)
 
 
 def check_log(log: Log, driver: str) -> None:
@@ -239,7 +239,7 @@ def say_verdict(words: argparse.Namespace, capture: Capture, judged: Dict[int, J
 # ---- the command line
 
 def read_words(given: Optional[Sequence[str]]) -> argparse.Namespace:
-    parser = words_of("capture.py", __doc__)
+    parser = words_of(__doc__)
     parser.add_argument("--sqlite", metavar="FILE", help="the SQLite file that the program asks")
     parser.add_argument("--postgres", metavar="DSN", help="the PostgreSQL database that the program asks, as "
                         "psycopg2.connect takes it: 'host=db.example.org dbname=study user=ada'")
@@ -298,7 +298,7 @@ def work(given: Optional[Sequence[str]]) -> int:
 
 
 def main(given: Optional[Sequence[str]] = None) -> int:
-    return command("capture.py", work, given, "program")
+    return command(work, given, "program")
 
 
 if __name__ == "__main__":

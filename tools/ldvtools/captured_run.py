@@ -11,7 +11,7 @@ import sys
 from typing import Any, Dict, List, Optional, Sequence
 
 from .captured import Event
-from .errors import Refused
+from .errors import Refused, program_name
 from .outcomes import read_outcome
 from .program import answer_of
 from .values import Reply
@@ -68,7 +68,7 @@ def replies_of(program: str, data: bytes, count: int) -> List[Reply]:
     if status:
         raise Refused(f"{program} run ends with {status}: {error}")
     if steps:
-        print(f"capture.py: so many statements need ldv record {' '.join(steps)}", file=sys.stderr)
+        print(f"{program_name()}: so many statements need ldv record {' '.join(steps)}", file=sys.stderr)
     return read_outcome(out).processes[0].replies
 
 

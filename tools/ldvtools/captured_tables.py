@@ -10,7 +10,7 @@ from typing import Dict, Iterator, List, NamedTuple, Sequence, Tuple
 
 from . import world
 from .dialect_rules import Shape
-from .errors import Refused
+from .errors import Refused, program_name
 from .progress import Progress
 from .world_columns import Table
 from .world_sqlite import FAULTS, schema_text, told_fault
@@ -88,7 +88,7 @@ def tables_taken(copy: str, names: Sequence[str], options: Sequence[str], collat
         words += ["--table", name]
     notes: List[str] = []
     hints: List[str] = []
-    tables = world.world_tables(world.read_words(words), notes, hints, Progress("capture.py", True))
+    tables = world.world_tables(world.read_words(words), notes, hints, Progress(program_name(), True))
     shapes = {}
     with reading(copy) as base:
         for table in tables:

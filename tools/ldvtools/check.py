@@ -28,7 +28,7 @@ import sys
 from typing import List, Optional, Sequence, Tuple
 
 from .agreement import check_replies
-from .errors import Malformed, Misused, command, words_of
+from .errors import Malformed, Misused, command, program_name, words_of
 from .findings import Finding, findings_of, unjudged
 from .language import MISUSES
 from .outcome import check_world, read_input
@@ -40,7 +40,6 @@ from .values import cell, plain_count, reply_title
 from .world_carried import carried_findings
 from .world_rules import broken_rule
 from .worlds import Document, read_world, tables_in
-
 
 # ---- after a run
 
@@ -80,7 +79,7 @@ def run_lines(document: Document, outcome: Outcome) -> List[str]:
 # ---- the command
 
 def given_words(words: Optional[Sequence[str]]) -> argparse.Namespace:
-    parser = words_of("check.py", __doc__, "world", "the world document")
+    parser = words_of(__doc__, "world", "the world document")
     parser.add_argument("--outcome", metavar="FILE",
                         help="the outcome of its run: says why statements were refused")
     parser.add_argument("--raw", action="store_true",
@@ -112,11 +111,11 @@ def carried_lines(document: Document, data: bytes) -> List[str]:
     tables = tables_in(data, document.columns)
     for finding, is_meaning in carried_findings(document.world.files, document.world.start[0], tables):
         if is_meaning:
-            print(f"check.py: {finding.text}", file=sys.stderr)
+            print(f"{program_name()}: {finding.text}", file=sys.stderr)
         else:
             lines += finding.lines()
     for note in document.columns.faults:
-        print(f"check.py: {note}", file=sys.stderr)
+        print(f"{program_name()}: {note}", file=sys.stderr)
     return lines
 
 
@@ -147,7 +146,7 @@ def work(words: Optional[Sequence[str]]) -> int:
 
 
 def main(words: Optional[Sequence[str]] = None) -> int:
-    return command("check.py", work, words, "world")
+    return command(work, words, "world")
 
 
 if __name__ == "__main__":

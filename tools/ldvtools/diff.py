@@ -25,12 +25,13 @@ import itertools
 import sys
 from typing import Dict, Iterator, List, Optional, Sequence, Tuple
 
-from .errors import Malformed, Misused, Refused, command, words_of
+from .errors import Malformed, Misused, Refused, command, program_name, words_of
 from .language import ASKED
 from .outcome import Asked, as_read, asked_in, named_document, read_input, write_out
 from .outcomes import Outcome, read_outcome
 from .package_tables import columns_of, tables_as_read
-from .packages import Asked as AskedEvent, Event, Package, PackedTable, Run, read_package
+from .packages import Asked as AskedEvent
+from .packages import Event, Package, PackedTable, Run, read_package
 from .reply_columns import answers_of, shown_reply
 from .trace import event_line
 from .values import Reply, Row, cell, escaped, plain_count, reply_title
@@ -286,7 +287,7 @@ def event_at(runs: Sequence[Run], number: int, place: int) -> Optional[Event]:
 # ---- the command
 
 def given_words(words: Optional[Sequence[str]]) -> argparse.Namespace:
-    parser = words_of("diff.py", __doc__)
+    parser = words_of(__doc__)
     parser.add_argument("first")
     parser.add_argument("second")
     parser.add_argument("--world", metavar="FILE",
@@ -355,13 +356,13 @@ def work(words: Optional[Sequence[str]]) -> int:
     except (Malformed, Misused) as fault:
         raise Refused(str(fault)) from None
     for note in dict.fromkeys(notes if lines else ()):
-        print(f"diff.py: {note}", file=sys.stderr)
+        print(f"{program_name()}: {note}", file=sys.stderr)
     write_out("".join(line + "\n" for line in lines))
     return 1 if lines else 0
 
 
 def main(words: Optional[Sequence[str]] = None) -> int:
-    return command("diff.py", work, words, "outcome", failed=2)
+    return command(work, words, "outcome", failed=2)
 
 
 if __name__ == "__main__":

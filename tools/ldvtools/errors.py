@@ -36,14 +36,19 @@ def said(fault: OSError) -> str:
     return f"{fault.filename or 'standard output'}: {fault.strerror}"
 
 
-def command(name: str, work: Callable[[Optional[Sequence[str]]], int],
-            words: Optional[Sequence[str]], expected: str, failed: int = 1) -> int:
+def program_name() -> str:
+    """The name by which the command was called, with which its messages begin: `world.py`, or `ldv-world`."""
+    return os.path.basename(sys.argv[0])
+
+
+def command(work: Callable[[Optional[Sequence[str]]], int], words: Optional[Sequence[str]], expected: str,
+            failed: int = 1) -> int:
     """The status of a command: of its work, or `failed` or 2 where that fails, with one line on standard
     error.
 
     `expected` says what a malformed input should have been.
     """
-    status = failed
+    name, status = program_name(), failed
     try:
         status = work(words)
         sys.stdout.flush()
@@ -94,10 +99,11 @@ class Words(argparse.ArgumentParser):
         self.exit(2, f"{self.prog}: {message} ({self.prog} --help says more)\n")
 
 
-def words_of(name: str, told: Optional[str], given: str = "", what: str = "") -> argparse.ArgumentParser:
+def words_of(told: Optional[str], given: str = "", what: str = "") -> argparse.ArgumentParser:
     """What reads the words of a command. Its --help shows `told` as it stands. `given` names the file that it
     reads, where it reads one or else standard input, and `what` says what that is."""
-    parser = Words(prog=name, description=told, formatter_class=argparse.RawDescriptionHelpFormatter)
+    parser = Words(prog=program_name(), description=told,
+                   formatter_class=argparse.RawDescriptionHelpFormatter)
     if given:
         parser.add_argument(given, nargs="?", help=f"{what}; standard input where it isn't given")
     return parser

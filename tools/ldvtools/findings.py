@@ -9,7 +9,9 @@ from typing import Dict, Iterator, List, Mapping, NamedTuple, Optional, Sequence
 from .errors import Refused
 from .scripts import BadLine, Instruction, Operand, Script, read_script
 from .sql import never_true
-from .sql_check import UNKNOWN, Finding as Refusal, Judged, Parameter, Schemas, judge
+from .sql_check import UNKNOWN
+from .sql_check import Finding as Refusal
+from .sql_check import Judged, Parameter, Schemas, judge
 from .values import escaped, plain_count
 
 SCRIPT_ENDINGS = (".ldv", ".script")

@@ -19,7 +19,7 @@ import sys
 from typing import Dict, Iterator, List, NamedTuple, Optional, Sequence, Tuple
 
 from .columns import FOLDER, UNKNOWN, Columns, Known, Source, read_columns
-from .errors import Malformed, Misused, Refused, TwoRuns, command, words_of
+from .errors import Malformed, Misused, Refused, TwoRuns, command, program_name, words_of
 from .outcome import read_input
 from .package_tables import columns_of
 from .packages import Package, PackedRow, PackedTable, read_package
@@ -211,7 +211,7 @@ def read_one(name: str) -> Tuple[bytes, Package]:
 
 
 def work(words: Optional[Sequence[str]]) -> int:
-    parser = words_of("join.py", __doc__)
+    parser = words_of(__doc__)
     parser.add_argument("packages", nargs=2, metavar="PACKAGE",
                         help="an included package; - is standard input")
     parser.add_argument("--raw", action="store_true", help="numbers and dates as the packages carry them")
@@ -224,7 +224,7 @@ def work(words: Optional[Sequence[str]]) -> int:
     columns = (UNKNOWN, UNKNOWN) if given.raw else (columns_of(first), columns_of(second))
     clash = clash_of(first, second, said, columns)
     if clash is not None:
-        print(f"join.py: clash: {escaped(clash.name)}", file=sys.stderr)
+        print(f"{program_name()}: clash: {escaped(clash.name)}", file=sys.stderr)
         for line in clash.lines:
             print(f"  {line}", file=sys.stderr)
         return 1
@@ -234,7 +234,7 @@ def work(words: Optional[Sequence[str]]) -> int:
 
 
 def main(words: Optional[Sequence[str]] = None) -> int:
-    return command("join.py", work, words, "package")
+    return command(work, words, "package")
 
 
 if __name__ == "__main__":

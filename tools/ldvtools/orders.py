@@ -24,7 +24,7 @@ import sys
 from typing import Dict, Iterator, List, NamedTuple, Optional, Sequence, Tuple
 
 from .diff import cut, outcome_differences
-from .errors import Malformed, Misused, Refused, said, words_of
+from .errors import Malformed, Misused, Refused, program_name, said, words_of
 from .language import ACTS, MAX_PROCESSES, SPAWNED
 from .outcome import read_input, write_out
 from .outcomes import read_outcome
@@ -175,7 +175,7 @@ def seed_count(text: str) -> int:
 
 
 def given_words(words: Optional[Sequence[str]]) -> argparse.Namespace:
-    parser = words_of("orders.py", __doc__, "package", "the package")
+    parser = words_of(__doc__, "package", "the package")
     parser.add_argument("--ldv", metavar="PROGRAM",
                         help="replay it under other seeds by this program, such as ./ldv")
     parser.add_argument("--seeds", metavar="N", type=seed_count, default=None,
@@ -202,7 +202,7 @@ def work(given: argparse.Namespace) -> int:
         return 0
     status = 0
     trial = Trial(given.ldv, data, package.steps)
-    for line, is_good in trial_lines(trial, given.seeds or SEEDS, limit, Progress("orders.py")):
+    for line, is_good in trial_lines(trial, given.seeds or SEEDS, limit, Progress(program_name())):
         write_out(line + "\n")
         status = status if is_good else 1
     return status
@@ -213,11 +213,11 @@ def main(words: Optional[Sequence[str]] = None) -> int:
     try:
         return work(given)
     except Malformed as fault:
-        print(f"orders.py: no package: {fault}", file=sys.stderr)
+        print(f"{program_name()}: no package: {fault}", file=sys.stderr)
     except (Misused, Refused) as fault:
-        print(f"orders.py: {fault}", file=sys.stderr)
+        print(f"{program_name()}: {fault}", file=sys.stderr)
     except OSError as fault:
-        print(f"orders.py: {said(fault)}", file=sys.stderr)
+        print(f"{program_name()}: {said(fault)}", file=sys.stderr)
     return 2
 
 

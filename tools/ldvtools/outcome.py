@@ -49,7 +49,7 @@ import sys
 from typing import Callable, Dict, List, Mapping, Optional, Sequence, Set, Tuple
 
 from .agreement import check_replies
-from .errors import Malformed, Misused, Refused, TwoRuns, command, words_of
+from .errors import Malformed, Misused, Refused, TwoRuns, command, program_name, words_of
 from .language import MISUSES
 from .outcomes import Outcome, read_outcome
 from .packages import read_package
@@ -57,8 +57,19 @@ from .reply_columns import answers_of, heads_of_answers, shown_reply
 from .rerun import Question, questions_of
 from .sql import NoReading, Query, parse_statement
 from .sql_check import judge
-from .values import (Reply, Row, Scaled, Value, cell, csv_line, escaped, heads_of, plain_count, reply_title,
-                     table_lines)
+from .values import (
+    Reply,
+    Row,
+    Scaled,
+    Value,
+    cell,
+    csv_line,
+    escaped,
+    heads_of,
+    plain_count,
+    reply_title,
+    table_lines,
+)
 from .world_digest import digests_in, without_digest
 from .worlds import Document, read_world, world_of_package
 
@@ -311,7 +322,7 @@ def write_folder(outcome: Outcome, folder: str, null: str, asked: Optional[Asked
 # ---- the command line
 
 def read_words(given: Optional[Sequence[str]]) -> argparse.Namespace:
-    parser = words_of("outcome.py", __doc__, "outcome", "the outcome")
+    parser = words_of(__doc__, "outcome", "the outcome")
     parser.add_argument("--csv", action="store_true", help="the replies as CSV")
     parser.add_argument("--reply", type=int, metavar="K", help="with --csv: only the reply K")
     parser.add_argument("--process", metavar="NAME", help="with --reply or --printed: of which (default 0)")
@@ -395,10 +406,10 @@ def work(given: Optional[Sequence[str]]) -> int:
         notes += document.notes() if shows_replies and not scales else list(document.columns.faults)
     show(outcome, asked, words)
     for note in notes + ([] if words.null or not (words.folder or words.csv) else null_notes(outcome, words)):
-        print(f"outcome.py: {note}", file=sys.stderr)
+        print(f"{program_name()}: {note}", file=sys.stderr)
     if words.folder or words.csv or words.printed or words.file is not None:
         for line in ends:
-            print(f"outcome.py: {line}", file=sys.stderr)
+            print(f"{program_name()}: {line}", file=sys.stderr)
     return 1 if words.strict and ends else 0
 
 
@@ -423,7 +434,7 @@ def show(outcome: Outcome, asked: Optional[Asked], words: argparse.Namespace) ->
 
 
 def main(given: Optional[Sequence[str]] = None) -> int:
-    return command("outcome.py", work, given, "outcome")
+    return command(work, given, "outcome")
 
 
 if __name__ == "__main__":

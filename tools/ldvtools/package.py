@@ -43,7 +43,7 @@ from typing import Dict, Iterator, List, Optional, Sequence, Tuple, Union
 
 from .columns import FOLDER, UNKNOWN, Columns, path_of, script_lines
 from .documents import as_json, document, row_lines, table_json, write_file
-from .errors import Refused, command, words_of
+from .errors import Refused, command, program_name, words_of
 from .language import RULE_TEXTS
 from .outcome import read_input, write_out
 from .package_bytes import package_bytes
@@ -54,7 +54,6 @@ from .packed_questions import asked_of_rows
 from .values import Row, cell, counted, escaped, reply_title, table_lines
 from .world_hints import quoted_word
 from .worlds import have_numbers
-
 
 # ---- what is shown
 
@@ -258,7 +257,7 @@ def world_of(package: Package, given: argparse.Namespace) -> Tuple[bytes, List[s
 # ---- the command
 
 def given_words(words: Optional[Sequence[str]]) -> argparse.Namespace:
-    parser = words_of("package.py", __doc__, "package", "the package")
+    parser = words_of(__doc__, "package", "the package")
     what = parser.add_mutually_exclusive_group()
     what.add_argument("--csv", metavar="FOLDER", help="a CSV file for each table")
     what.add_argument("--sqlite", metavar="FILE", help="a new SQLite database of the tables")
@@ -300,7 +299,7 @@ def given_words(words: Optional[Sequence[str]]) -> argparse.Namespace:
 def say(notes: Sequence[str]) -> None:
     for note in notes:
         begin = "" if note.startswith("warning: ") else "note: "
-        print(f"package.py: {begin}{note}", file=sys.stderr)
+        print(f"{program_name()}: {begin}{note}", file=sys.stderr)
 
 
 def columns_shown(found: Union[Package, Joined], given: argparse.Namespace) -> Columns:
@@ -368,7 +367,7 @@ def work(words: Optional[Sequence[str]]) -> int:
 
 
 def main(words: Optional[Sequence[str]] = None) -> int:
-    return command("package.py", work, words, "package")
+    return command(work, words, "package")
 
 
 if __name__ == "__main__":

@@ -4,8 +4,20 @@ from __future__ import annotations
 from typing import Callable, List, Optional, Tuple, TypeVar
 
 from .errors import Refused
-from .packages import (DIGEST_LENGTH, Entry, Event, Joined, Log, Made, Need, PackedRow, PackedTable,
-                       Reader, Run, read_any)
+from .packages import (
+    DIGEST_LENGTH,
+    Entry,
+    Event,
+    Joined,
+    Log,
+    Made,
+    Need,
+    PackedRow,
+    PackedTable,
+    Reader,
+    Run,
+    read_any,
+)
 from .trace import event_line
 from .values import cell, escaped
 

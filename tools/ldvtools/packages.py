@@ -12,8 +12,21 @@ from typing import Callable, Dict, Iterator, List, Mapping, NamedTuple, Optional
 
 from .errors import Malformed, Refused, TwoRuns
 from .file_kinds import told_kind
-from .language import (ACTS, ASKED, ENDED, KEYED_REFUSALS, KINDS, MAX_EVENTS, MAX_PROCESSES, MODES, NAME,
-                       REFUSALS, RULES, SPAWNED, WAITED)
+from .language import (
+    ACTS,
+    ASKED,
+    ENDED,
+    KEYED_REFUSALS,
+    KINDS,
+    MAX_EVENTS,
+    MAX_PROCESSES,
+    MODES,
+    NAME,
+    REFUSALS,
+    RULES,
+    SPAWNED,
+    WAITED,
+)
 from .values import Reply, Row, Value, changed_reply, refused_reply, rows_reply
 
 VERSIONS = {b"LDVPACK1": 1, b"LDVPACK2": 2}

@@ -113,7 +113,7 @@ def verdict_in(data: bytes, path: str) -> str:
 # ---- the command
 
 def given_words(words: Optional[Sequence[str]]) -> argparse.Namespace:
-    parser = words_of("page.py", __doc__, "package", "the package")
+    parser = words_of(__doc__, "package", "the package")
     parser.add_argument("--replayed", metavar="OUTCOME", help="the outcome of its replay")
     parser.add_argument("--ldv", metavar="PROGRAM", help="replay and audit it by this program, such as ./ldv")
     parser.add_argument("--steps", metavar="N", type=int, help="with --ldv: the budget of the replay")
@@ -147,7 +147,7 @@ def work(words: Optional[Sequence[str]]) -> int:
 
 
 def main(words: Optional[Sequence[str]] = None) -> int:
-    return command("page.py", work, words, "package")
+    return command(work, words, "package")
 
 
 if __name__ == "__main__":

@@ -267,7 +267,7 @@ def read(path: Optional[str]) -> str:
 
 
 def given_words(words: Optional[Sequence[str]]) -> argparse.Namespace:
-    parser = words_of("picture.py", __doc__, "trace", "what `inspect trace` wrote")
+    parser = words_of(__doc__, "trace", "what `inspect trace` wrote")
     parser.add_argument("--rows", metavar="FILE", help="what `inspect rows` wrote")
     parser.add_argument("--depends", metavar="FILE", help="what `inspect depends PATH` wrote")
     add_image_words(parser)
@@ -281,7 +281,7 @@ def work(words: Optional[Sequence[str]]) -> int:
 
 
 def main(words: Optional[Sequence[str]] = None) -> int:
-    return command("picture.py", work, words, "report")
+    return command(work, words, "report")
 
 
 if __name__ == "__main__":

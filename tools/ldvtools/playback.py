@@ -24,7 +24,7 @@ from .captured_run import program_of, run_program
 from .captured_values import from_json, made_rows, params_from_json
 from .captured_world import SEEN_FILE
 from .dialect_queries import Part, Plan
-from .errors import Malformed, Misused, Refused, command, words_of
+from .errors import Malformed, Misused, Refused, command, program_name, words_of
 from .outcomes import read_outcome
 from .packages import read_package
 from .program import answer_of
@@ -36,7 +36,7 @@ STEPS = 1_000_000
 
 
 def say(text: str) -> None:
-    print(f"playback.py: {text}", file=sys.stderr)
+    print(f"{program_name()}: {text}", file=sys.stderr)
 
 
 # ---- the answers
@@ -149,7 +149,7 @@ def conclude(folder: str, status: int, count: int) -> int:
 # ---- the command line
 
 def read_words(given: Optional[Sequence[str]]) -> argparse.Namespace:
-    parser = words_of("playback.py", __doc__)
+    parser = words_of(__doc__)
     parser.add_argument("package", help="the package of a captured program")
     parser.add_argument("--expect", metavar="FILE", help="compare the standard output of the program with "
                         "this file")
@@ -173,7 +173,7 @@ def work(given: Optional[Sequence[str]]) -> int:
 
 
 def main(given: Optional[Sequence[str]] = None) -> int:
-    return command("playback.py", work, given, "package of a captured program")
+    return command(work, given, "package of a captured program")
 
 
 if __name__ == "__main__":

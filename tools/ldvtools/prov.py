@@ -266,7 +266,7 @@ def reply_lines(provenance: Provenance, names: Names) -> Iterator[str]:
 # ---- the command
 
 def given_words(words: Optional[Sequence[str]]) -> argparse.Namespace:
-    parser = words_of("prov.py", __doc__, "document", "what `prov` wrote")
+    parser = words_of(__doc__, "document", "what `prov` wrote")
     parser.add_argument("--names", metavar="PACKAGE", help="name processes as the package's trace does, and "
                         "statements by their texts, where replies were recorded")
     parser.add_argument("--replayed", metavar="OUTCOME", help="with --names: the outcome of the replay of a "
@@ -306,7 +306,7 @@ def work(words: Optional[Sequence[str]]) -> int:
 
 
 def main(words: Optional[Sequence[str]] = None) -> int:
-    return command("prov.py", work, words, "provenance document")
+    return command(work, words, "provenance document")
 
 
 if __name__ == "__main__":

@@ -67,10 +67,10 @@ import random
 import sys
 from typing import Dict, Iterator, List, NamedTuple, Optional, Sequence, Tuple
 
-from .findings import check_joins, findings_of, warning_lines
 from .columns import FOLDER, path_of, script_lines
 from .documents import document, table_json, write_file
-from .errors import Misused, Refused, command, words_of
+from .errors import Misused, Refused, command, program_name, words_of
+from .findings import check_joins, findings_of, warning_lines
 from .language import MAX_FILE, MAX_FILES, MAX_PATH, MAX_START_WORDS, MAX_TABLES, MAX_TEXT
 from .progress import Progress
 from .proposal import accepted, proposal
@@ -79,9 +79,10 @@ from .sql_check import Schemas
 from .sql_rewrite import columns_by_table, renamed_columns, rewritten_text
 from .world_carried import carried_findings
 from .world_columns import Remark, Table
-from .world_digest import NO_DIGEST, digest_line, digest_of
 from .world_csv import named_file, read_csv, read_file, reading_once
+from .world_digest import NO_DIGEST, digest_line, digest_of
 from .world_foreign import settle_foreign
+from .world_frames import NOTHING, Given, read_frame
 from .world_known import known_column, known_files
 from .world_settings import Settings
 from .world_sqlite import note_types, read_database
@@ -93,8 +94,8 @@ MAIN = "main"
 
 # ---- what a world has
 
-def world_tables(words: argparse.Namespace, notes: List[str], hints: List[str],
-                 progress: Progress) -> List[Table]:
+def world_tables(words: argparse.Namespace, notes: List[str], hints: List[str], progress: Progress,
+                 given: Given = NOTHING) -> List[Table]:
     settings = Settings(words)
 
     def read_all() -> Iterator[List[Table]]:
@@ -102,6 +103,8 @@ def world_tables(words: argparse.Namespace, notes: List[str], hints: List[str],
             yield [read_csv(word, settings, hints, progress)]
         for path in words.sqlite:
             yield read_database(path, words.table, settings, notes)
+        for name, frame in given.frames.items():
+            yield [read_frame(name, frame, settings, hints)]
 
     tables: List[Table] = []
     left = read_all()
@@ -113,7 +116,7 @@ def world_tables(words: argparse.Namespace, notes: List[str], hints: List[str],
             check_names(tables, left, settings)
             raise
         for table in found:
-            if not table.from_text:
+            if table.is_of_database:
                 note_types(table, notes)
             progress.tell(f"{table.name}: {table.count:,} rows are settled")
     settle_foreign(tables, settings, notes)
@@ -221,7 +224,8 @@ def script_name(words: argparse.Namespace) -> str:
     return name if name and not name.startswith(".") else MAIN
 
 
-def world_files(words: argparse.Namespace, made: Made, tables: Sequence[Table]) -> Dict[str, bytes]:
+def world_files(words: argparse.Namespace, made: Made, tables: Sequence[Table],
+                given: Given = NOTHING) -> Dict[str, bytes]:
     """The files of the world by path, the start script first."""
     files = {script_name(words): made.data} if words.sql or words.ask else {}
     for word in ([words.script] if words.script else []) + words.file:
@@ -230,6 +234,10 @@ def world_files(words: argparse.Namespace, made: Made, tables: Sequence[Table]) 
         if name in files:
             raise Refused(f"two files have the path {name}; give NAME=FILE")
         files[name] = without_mark(read_file(path)) if word == words.script else read_file(path)
+    for name, content in given.files.items():
+        if name in files:
+            raise Refused(f"two files have the path {name}")
+        files[name] = content
     for name, content in ({} if words.no_columns else known_files(tables)).items():
         if name in files:
             raise Refused(f"two files have the path {name}, which says what columns are; give NAME=FILE, or "
@@ -292,7 +300,7 @@ def summary(table: Table) -> str:
 # ---- the command line
 
 def read_words(given: Optional[Sequence[str]]) -> argparse.Namespace:
-    parser = words_of("world.py", __doc__)
+    parser = words_of(__doc__)
 
     def many(option: str, metavar: str, text: str) -> None:
         parser.add_argument(option, metavar=metavar, action="append", default=[], help=text)
@@ -436,15 +444,15 @@ class World(NamedTuple):
     summaries: List[str]
 
 
-def made_world(words: argparse.Namespace) -> World:
-    progress = Progress("world.py", words.quiet)
+def made_world(words: argparse.Namespace, given: Given = NOTHING) -> World:
+    progress = Progress(program_name(), words.quiet)
     notes: List[str] = []
     hints: List[str] = []
-    tables = world_tables(words, notes, hints, progress)
+    tables = world_tables(words, notes, hints, progress, given)
     made = made_script(words, tables, hints)
     if words.look:
         return World(b"", notes, [], hints, [summary(table) for table in tables])
-    files = world_files(words, made, tables)
+    files = world_files(words, made, tables, given)
     start = start_words(files, words)
     warnings = [] if words.no_check else check_scripts(files, tables, made.places, hints)
     hints += [] if words.no_columns or words.no_check else unread_columns(files, tables)
@@ -460,7 +468,8 @@ def document_of(given: Sequence[str]) -> bytes:
     return made_world(read_words(given)).data
 
 
-def check_strict(words: argparse.Namespace, said: Sequence[str]) -> None:
+def check_strict(words: argparse.Namespace, made: World) -> None:
+    said = made.notes + made.warnings + [hint for hint in made.hints if not isinstance(hint, Remark)]
     left = [each for each in said if not any(text in each for text in words.accept)]
     if left and words.strict:
         raise Refused("a world hasn't all that the database has, a column isn't what it looks like, or a "
@@ -469,7 +478,7 @@ def check_strict(words: argparse.Namespace, said: Sequence[str]) -> None:
 
 def propose(given: Sequence[str], path: Optional[str]) -> int:
     """Writes the command line that carries the files that are given."""
-    progress = Progress("world.py", True)
+    progress = Progress(program_name(), True)
 
     def make(each: Sequence[str], notes: List[str], hints: List[str]) -> List[Table]:
         return world_tables(read_words(["--look", *plain_words(each)]), notes, hints, progress)
@@ -509,14 +518,13 @@ def work(given: Optional[Sequence[str]]) -> int:
     made = made_world(words)
     if not words.quiet:
         for note in made.notes:
-            print(f"world.py: note: {note}", file=sys.stderr)
-    check_strict(words, made.notes + made.warnings + [hint for hint in made.hints
-                                                      if not isinstance(hint, Remark)])
+            print(f"{program_name()}: note: {note}", file=sys.stderr)
+    check_strict(words, made)
     if not words.look:
         write_file(made.data, words.output)
     if not words.quiet:
         for line in made.warnings + made.hints + made.summaries:
-            print(f"world.py: {line}", file=sys.stderr)
+            print(f"{program_name()}: {line}", file=sys.stderr)
     return 0
 
 
@@ -525,7 +533,7 @@ def main(given: Optional[Sequence[str]] = None) -> int:
     was_on = gc.isenabled()
     gc.disable()
     try:
-        return command("world.py", work, given, "world")
+        return command(work, given, "world")
     finally:
         if was_on:
             gc.enable()

@@ -7,17 +7,30 @@ warning; of a number that meets a column of decimals it is said what it means, s
 from __future__ import annotations
 
 import itertools
-from typing import (AbstractSet, Dict, Iterator, List, Mapping, NamedTuple, Optional, Sequence, Set, Tuple,
-                    Union)
+from typing import (
+    AbstractSet,
+    Dict,
+    Iterator,
+    List,
+    Mapping,
+    NamedTuple,
+    Optional,
+    Sequence,
+    Set,
+    Tuple,
+    Union,
+)
 
-from .findings import Finding, operands_known, scripts_of, text_of
 from .errors import Unfit
+from .findings import Finding, operands_known, scripts_of, text_of
 from .language import MAX_INT
 from .scripts import Instruction, Operand
 from .sql import Core, Expr, Insert, NoReading, Query, Source, Statement, Update, parse_statement
 from .sql_check import shown
 from .values import Scaled, Value, plain_count
-from .world_cells import DATE, scaled_number, shown as shown_cell, whole_number
+from .world_cells import DATE, scaled_number
+from .world_cells import shown as shown_cell
+from .world_cells import whole_number
 from .world_columns import Column, Table
 from .world_dates import SAMPLE, said_of_date
 from .world_texts import alike, alike_in_case, folded, plain_text

@@ -10,7 +10,7 @@ from typing import Optional, Pattern
 from .errors import Unfit
 from .language import MAX_INT, MAX_TEXT, MIN_INT
 from .values import plain_count
-from .world_columns import PLAIN, BadText, Cell, Form
+from .world_columns import PLAIN, BadText, Cell, Form, OtherValue
 
 # A whole number; a decimal number.
 WHOLE = re.compile(r"[+-]?[0-9]+\Z")
@@ -30,16 +30,20 @@ def shown(value: Cell) -> str:
     """How a message shows a cell."""
     if isinstance(value, float):
         return f"the REAL value {value!r}"
+    if isinstance(value, Decimal):
+        return f"the decimal {value}"
     if isinstance(value, bytes):
         return f"a BLOB of {len(value)} bytes"
     if isinstance(value, BadText):
         return "a text that isn't UTF-8"
+    if isinstance(value, OtherValue):
+        return value.what
     text = repr(value)
     return text if len(text) <= 60 else text[:57] + ".."
 
 
 def has_no_equal(value: Cell) -> bool:
-    return isinstance(value, (float, bytes, BadText))
+    return isinstance(value, (float, Decimal, bytes, BadText, OtherValue))
 
 
 # ---- numbers
@@ -100,13 +104,15 @@ def decimal_text(value: Cell, form: Form) -> str:
     """A cell of a column of decimals with a point, as far as it is one."""
     if isinstance(value, float):
         return format(Decimal(repr(value)), "f")
+    if isinstance(value, Decimal):
+        return format(value, "f")
     return plain_number(str(value), form)
 
 
 def scaled_number(value: Cell, scale: int, form: Form, rounds: bool) -> int:
     """The number of a cell of an INT column that carries so many decimals."""
     text = decimal_text(value, form)
-    match = None if isinstance(value, (bytes, BadText)) else DECIMAL.match(text)
+    match = None if isinstance(value, (bytes, BadText, OtherValue)) else DECIMAL.match(text)
     if match is None:
         raise Unfit(f"{shown(value)} is no decimal number such as -1{form.decimal}25{form.unit}")
     sign, whole, part = match.group(1), match.group(2), match.group(3) or ""

@@ -18,6 +18,14 @@ class BadText:
     """A text of a database whose bytes aren't UTF-8."""
 
 
+class OtherValue:
+    """A value of a data frame that is neither a number nor a text, such as a date: what a message calls it,
+    and how its column becomes texts or numbers, where that is known."""
+
+    def __init__(self, what: str, advice: str = "") -> None:
+        self.what, self.advice = what, advice
+
+
 class Form(NamedTuple):
     """How numbers are written: the sign before the decimals, the one between thousands, and the unit."""
 
@@ -73,7 +81,7 @@ class Foreign(NamedTuple):
 
 class Table:
     """A table that is being read. `row_name` says how a message names one of its rows. It has its
-    file, and one of a database its name and foreign keys there."""
+    file, where it is of one, and one of a database its name and foreign keys there."""
 
     def __init__(self, name: str, columns: List[Column], count: int, key: Sequence[str] = (),
                  row_name: Optional[Callable[[int], str]] = None, from_text: bool = False) -> None:
@@ -85,6 +93,10 @@ class Table:
         self.digest = ""
         self.references: List[Reference] = []
         self.foreign: List[Foreign] = []
+
+    @property
+    def is_of_database(self) -> bool:
+        return bool(self.path) and not self.from_text
 
     def at(self, row: int, column: Column) -> str:
         return f"{self.row_name(row)}, column {column.name}"

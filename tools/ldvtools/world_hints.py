@@ -5,12 +5,23 @@ import collections
 import itertools
 import re
 import shlex
+from decimal import Decimal
 from typing import Collection, List, Match, NamedTuple, Optional, Pattern, Sequence, Tuple
 
 from .language import MAX_INT, MIN_INT
-from .world_cells import (DATE, DECIMAL, MAX_SCALE, OTHER_BLANKS, OTHER_MINUSES, TIME, decimal_text,
-                          padded_date, padded_time, shown)
-from .world_columns import PLAIN, BadText, Cell, Column, Form, Remark, Table
+from .world_cells import (
+    DATE,
+    DECIMAL,
+    MAX_SCALE,
+    OTHER_BLANKS,
+    OTHER_MINUSES,
+    TIME,
+    decimal_text,
+    padded_date,
+    padded_time,
+    shown,
+)
+from .world_columns import PLAIN, BadText, Cell, Column, Form, OtherValue, Remark, Table
 
 MANY_DIGITS = 15
 SAMPLE = 1000
@@ -28,7 +39,7 @@ def decimals_of(value: Cell, form: Form) -> Optional[int]:
 def scale_needed(column: Column) -> Optional[int]:
     """How many decimals the cells of a column need that are decimal numbers."""
     found = [decimals_of(cell, column.form) for cell in column.cells
-             if cell is not None and not isinstance(cell, (bytes, BadText))]
+             if cell is not None and not isinstance(cell, (bytes, BadText, OtherValue))]
     return max((each for each in found if each is not None), default=None)
 
 
@@ -36,7 +47,7 @@ def scale_advised(column: Column) -> Tuple[int, bool]:
     """The decimals for a column with REAL values, and whether some have more. A value of many digits, such as
     0.30000000000000004, is most often what arithmetic left, and doesn't count."""
     needed = scale_needed(column) or 0
-    numbers = [cell for cell in column.cells if isinstance(cell, (int, float))]
+    numbers = [cell for cell in column.cells if isinstance(cell, (int, float, Decimal))]
     short = [decimals_of(cell, PLAIN) or 0 for cell in numbers
              if len(decimal_text(cell, PLAIN).replace(".", "").strip("-0")) < MANY_DIGITS]
     scale = min(needed if len(short) == len(numbers) else min(needed, max(short + [1])), MAX_SCALE)
@@ -46,9 +57,10 @@ def scale_advised(column: Column) -> Tuple[int, bool]:
     return scale, needed > scale
 
 
-def largest(column: Column) -> float:
+def largest(column: Column) -> Decimal:
     """The largest number of a column without its sign."""
-    return max((abs(cell) for cell in column.cells if isinstance(cell, (int, float))), default=0)
+    return max((Decimal(cell).copy_abs() for cell in column.cells if isinstance(cell, (int, float, Decimal))),
+               default=Decimal(0))
 
 
 # ---- dates and clock times

@@ -38,7 +38,7 @@ def known_column(column: Column) -> Known:
 
 def known_table(table: Table) -> KnownTable:
     """What is known of a settled table."""
-    source = Source(os.path.basename(table.path), table.digest, "" if table.from_text else table.old)
+    source = Source(os.path.basename(table.path), table.digest, table.old if table.is_of_database else "")
     return KnownTable(table.name, source, tuple(map(known_column, table.columns)))
 
 

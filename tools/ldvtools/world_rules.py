@@ -10,8 +10,23 @@ import re
 from typing import Any, Callable, Dict, Iterator, List, NamedTuple, Optional, Sequence, Tuple
 
 from .file_kinds import told_kind
-from .language import (KINDS, MAX_COLUMNS, MAX_DOCUMENT, MAX_FILE, MAX_FILES, MAX_FOREIGN, MAX_INT, MAX_PATH,
-                       MAX_ROWS, MAX_START_WORDS, MAX_TABLES, MAX_TEXT, MIN_INT, NAME, RESERVED)
+from .language import (
+    KINDS,
+    MAX_COLUMNS,
+    MAX_DOCUMENT,
+    MAX_FILE,
+    MAX_FILES,
+    MAX_FOREIGN,
+    MAX_INT,
+    MAX_PATH,
+    MAX_ROWS,
+    MAX_START_WORDS,
+    MAX_TABLES,
+    MAX_TEXT,
+    MIN_INT,
+    NAME,
+    RESERVED,
+)
 from .scripts import BadLine, read_script
 from .values import plain_count
 

@@ -8,19 +8,19 @@ from __future__ import annotations
 import json.encoder
 import re
 import shlex
-from typing import Callable, Dict, Iterator, List, Optional, Sequence, Tuple
+from decimal import Decimal
+from typing import Callable, Dict, Iterator, List, Optional, Sequence, Tuple, Union
 
 from .date_forms import form_of as form_of_dates
 from .documents import Rows, row_lines
 from .errors import Misused, Refused, Unfit
 from .language import MAX_COLUMNS, MAX_INT, MAX_NAME, MAX_ROWS, MAX_TEXT, MIN_INT, NAME, RESERVED
-from .world_cells import (MAX_SCALE, comparable, has_no_equal, scaled_number, shown, text_value,
-                          whole_number)
-from .world_columns import NO_VALUE, Cell, Column, Form, Remark, Table
+from .world_cells import MAX_SCALE, comparable, has_no_equal, scaled_number, shown, text_value, whole_number
+from .world_columns import NO_VALUE, Cell, Column, Form, OtherValue, Remark, Table
 from .world_dates import hint_of_shapes
 from .world_hints import advice_of, hint_of_text, largest, scale_advised
-from .world_texts import odd_texts, plain_text
 from .world_settings import Settings, fold, tidy_names
+from .world_texts import odd_texts, plain_text
 
 # Written in C where that is built.
 spelled_text: Callable[[str], str] = getattr(json.encoder, "encode_basestring")
@@ -77,8 +77,10 @@ def are_within(numbers: Sequence[int], texts: Sequence[str]) -> bool:
 def no_equal(table: Table, column: Column, value: Cell) -> Unfit:
     name = table.full_name(column)
     advice = f"--leave-out {name} leaves the column out"
-    if isinstance(value, float):
+    if isinstance(value, (float, Decimal)):
         advice = f"--scale {name}=DECIMALS carries it as a whole number, {advice}"
+    elif isinstance(value, OtherValue) and value.advice:
+        advice = f"{value.advice}, {advice}"
     return Unfit(f"{shown(value)} has no equal here; {advice}")
 
 
@@ -154,7 +156,8 @@ def is_filled(column: Column) -> bool:
     types = set(map(type, column.cells)) - {type(None)}
     if column.kind == "TEXT":
         return types <= {str} and max(map(len, filter(None, column.cells)), default=0) * 4 <= MAX_TEXT
-    return types <= {int}
+    return types <= {int} and (min(filter(None, column.cells), default=0) >= MIN_INT
+                               and max(filter(None, column.cells), default=0) <= MAX_INT)
 
 
 def is_scaled(column: Column) -> bool:
@@ -308,9 +311,9 @@ def check_scales(tables: Sequence[Table], settings: Settings) -> None:
                   f"{table.full_name(column)} leaves the column out")
 
 
-def first_float(column: Column) -> Iterator[Tuple[int, float]]:
+def first_float(column: Column) -> Iterator[Tuple[int, Union[float, Decimal]]]:
     for row, value in enumerate(column.cells):
-        if isinstance(value, float):
+        if isinstance(value, (float, Decimal)):
             yield row, value
             return
 

@@ -4,6 +4,8 @@ It runs by itself, under an interpreter that has rdflib 6 or later. Its input is
 names the file that stands for the context of RO-Crate 1.1. It writes a JSON array of triples, each of three
 texts, in which the folder of the description is `http://crate.invalid/`.
 """
+from __future__ import annotations
+
 import json
 import sys
 

@@ -1,37 +1,38 @@
 """In place of ldv for bench/paper.py: the application by Python's sqlite3, with faults that are named.
 
-    paper_program.py FAULT run|record|record --excluded|replay|inspect rows
+    PYTHONPATH=bench paper_program.py FAULT run|record|record --excluded|replay|inspect rows
 
 A package is a letter with the world or the outcome behind it. FAULT is `none`, or one of these: `answer`,
 each answer has another row; `lost`, a row isn't updated; `replay`, replays write something else; `needed`, a
 row more is packed; `long`, no package is written; `differ`, one of the ten answers has a row less.
 """
+from __future__ import annotations
+
 import json
 import os
 import re
 import sqlite3
 import sys
 import tempfile
+from typing import Any
 
-ROOT = os.path.dirname(os.path.dirname(os.path.dirname(os.path.abspath(__file__))))
-sys.path.append(os.path.join(ROOT, "bench"))
-import paper_queries                                                         # noqa: E402
+import paper_queries
 
 TOO_LONG = 12
 
 
-def value_text(value):
+def value_text(value: Any) -> str:
     if value is None:
         return "null\n"
     return f"int {value}\n" if isinstance(value, int) else f"text {len(value.encode())}\n{value}\n"
 
 
-def reply_text(rows):
+def reply_text(rows: Any) -> str:
     return f"rows {len(rows)}\n" + "".join(
         f"row {len(row)}\n" + "".join(map(value_text, row)) for row in rows)
 
 
-def database_of(world, path=":memory:"):
+def database_of(world: Any, path: str = ":memory:") -> sqlite3.Connection:
     base = sqlite3.connect(path)
     for name, table in world["tables"].items():
         columns = ", ".join(column for column, _ in table["columns"])
@@ -42,11 +43,12 @@ def database_of(world, path=":memory:"):
     return base
 
 
-def query_of(world):
-    return re.search(r'^sql q "(SELECT .*)"$', world["files"]["main"], re.M)[1]
+def query_of(world: Any) -> str:
+    found, = re.findall(r'^sql q "(SELECT .*)"$', world["files"]["main"], re.M)
+    return str(found)
 
 
-def outcome_of(world, fault):
+def outcome_of(world: Any, fault: str) -> str:
     base, printed, replies = database_of(world), "", ""
     for statement in paper_queries.statements_before():
         replies += f"changed {base.execute(statement).rowcount}\n"
@@ -65,7 +67,7 @@ def outcome_of(world, fault):
     return f"outcome 1 0\nprocess 0 0 {len(printed)} {count}\n{printed}\n{replies}"
 
 
-def rows_text(world, fault):
+def rows_text(world: Any, fault: str) -> str:
     query = next(each for each in paper_queries.QUERIES if each.asked == query_of(world))
     with tempfile.TemporaryDirectory() as folder:
         path = os.path.join(folder, "base")
@@ -76,7 +78,7 @@ def rows_text(world, fault):
     return "".join(f"{table} {row} 0 L\n" for table in sorted(counts) for row in range(counts[table]))
 
 
-def main():
+def main() -> None:
     fault, *words = sys.argv[1:]
     given = sys.stdin.read()
     if words[0] == "record" and fault == "long":

@@ -5,8 +5,11 @@ of PROV-JSON. For each it writes a line: an array that has, of each text, the li
 package, whether it is the same after it was written in each format that the package has here and read again,
 and how many nodes and edges a picture of it has.
 """
+from __future__ import annotations
+
 import json
 import sys
+from typing import Any, Optional
 
 from prov.model import ProvDocument
 
@@ -19,7 +22,7 @@ for each, needed in (("xml", "lxml"), ("rdf", "rdflib")):
         pass
 
 
-def drawn(document):
+def drawn(document: bytes) -> Optional[list[int]]:
     """How many nodes and edges a picture of it has, or None where the package can't draw here."""
     try:
         from prov.dot import prov_to_dot
@@ -29,7 +32,7 @@ def drawn(document):
     return [len(picture.get_nodes()), len(picture.get_edges())]
 
 
-def looked_at(text):
+def looked_at(text: str) -> list[Any]:
     document = ProvDocument.deserialize(content=text, format="json")
     same = all(ProvDocument.deserialize(content=document.serialize(format=form), format=form) == document
                for form in FORMATS)

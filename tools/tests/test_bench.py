@@ -1,4 +1,6 @@
 """The benches, with programs and results that are given to them."""
+from __future__ import annotations
+
 import contextlib
 import io
 import json
@@ -7,53 +9,51 @@ import subprocess
 import sys
 import tempfile
 import unittest
+from typing import Any, Iterable, Optional
 from unittest import mock
+
+import aims
+import bench
+import compare
+import events
+import figures
+import gen
+import harness
+import plots
+import quiet
+import report
+import results
+import statements
+from harness import Took
+from results import Line, Results
 
 from .support import ROOT, InFolder, command, read, tool
 
 BENCH = os.path.join(ROOT, "bench")
-sys.path.append(BENCH)
-import aims                                                                  # noqa: E402
-import bench                                                                 # noqa: E402
-import compare                                                               # noqa: E402
-import events                                                                # noqa: E402
-import figures                                                               # noqa: E402
-import gen                                                                   # noqa: E402
-import harness                                                               # noqa: E402
-import plots                                                                 # noqa: E402
-import quiet                                                                 # noqa: E402
-import report                                                                # noqa: E402
-import results                                                               # noqa: E402
-import statements                                                            # noqa: E402
-from harness import Took                                                     # noqa: E402
-from results import Line, Results                                            # noqa: E402
-
-# Uses no processor and no memory to speak of.
-NOTHING = ["true"]
 
 
 class QuietRuns(unittest.TestCase):
     """quiet.py, with what the host is said to withhold and what a loop takes."""
 
-    def counted(self, runs, told, looped):
+    def counted(self, runs: int, told: Iterable[float], looped: Iterable[float]) -> tuple[Any, int]:
         """The numbers of the runs that count, and how many were made."""
-        made = []
+        made: list[int] = []
 
-        def run():
+        def run() -> Any:
             made.append(len(made) + 1)
             return made[-1]
 
-        told, looped = iter(told), iter(looped)
+        withheld, taken = iter(told), iter(looped)
         with mock.patch.object(sys, "stderr"), mock.patch.object(quiet, "least", [float("inf")]):
-            return quiet.counted(run, runs, lambda: next(told), lambda: next(looped)), len(made)
+            return quiet.counted(run, runs, lambda: next(withheld), lambda: next(taken)), len(made)
 
-    def test_counted(self):
+    def test_counted(self) -> None:
         """A run is made again where processors were withheld or the loop took longer than it can."""
         self.assertEqual(self.counted(2, [5, 5, 5, 6, 6, 6], [8, 8, 8]), ([1, 3], 3))
         self.assertEqual(self.counted(2, [0] * 6, [8, 11, 9]), ([1, 3], 3))
         self.assertEqual(self.counted(2, range(44), [8] * 22), ([21, 22], 22))
 
-    def test_withheld(self):
+    def test_withheld(self) -> None:
         """The eighth number of the first line, in ticks, or nothing."""
         with tempfile.TemporaryDirectory() as folder:
             path = os.path.join(folder, "stat")
@@ -64,7 +64,7 @@ class QuietRuns(unittest.TestCase):
             self.assertEqual(quiet.withheld(os.path.join(folder, "none")), 0.0)
             self.assertEqual(quiet.withheld(os.devnull), 0.0)
 
-    def test_pace(self):
+    def test_pace(self) -> None:
         """The loop takes some time of a processor."""
         self.assertGreater(quiet.pace(), 0.0)
 
@@ -72,34 +72,45 @@ class QuietRuns(unittest.TestCase):
 class Harness(InFolder):
     """What commands take."""
 
-    def measured(self, text, source=os.devnull):
+    def measured(self, text: str, source: str = os.devnull) -> Took:
         return harness.measure([sys.executable, "-c", text], source, os.path.join(self.folder, "out"))
 
-    def test_took(self):
+    def alone(self, text: str) -> bytes:
+        """What a process prints that does nothing else: the peak of a program's memory begins with that of
+        the process which starts it."""
+        status, out, err = command(["env", f"PYTHONPATH={BENCH}", sys.executable, "-c", text])
+        self.assertEqual((status, err), (0, b""))
+        return out
+
+    def test_took(self) -> None:
         """Time and memory are the command's own, its files are read and written, its status is told."""
         took = self.measured("import sys; x = 'a' * 150_000_000; print(sys.stdin.read()); sys.exit(7)",
                              self.put("in", "words"))
         self.assertEqual((took.status, read(os.path.join(self.folder, "out"))), (7, b"words\n"))
         self.assertGreater(took.memory * 1024, 150_000_000)
-        self.assertLess(harness.measure(NOTHING, os.devnull, os.devnull).memory * 1024, 150_000_000)
+        self.assertEqual(self.alone(
+            "import harness, os, sys\n"
+            "for words in [sys.executable, '-c', 'x = b\"a\" * 150_000_000'], ['true']:\n"
+            "    print(harness.measure(words, os.devnull, os.devnull).memory * 1024 > 150_000_000)"),
+            b"True\nFalse\n")
         busy = self.measured("import time\nwhile time.process_time() < 0.2: pass")
         self.assertGreaterEqual(busy.processor, 0.2)
         asleep = self.measured("import time; time.sleep(0.3)")
         self.assertGreaterEqual(asleep.clock, 0.3)
         self.assertLess(asleep.processor, asleep.clock)
 
-    def test_signals(self):
+    def test_signals(self) -> None:
         """A command that a signal ends is told, and no measure of one that has to end well."""
         text = "import os; os.kill(os.getpid(), 9)"
         self.assertEqual(self.measured(text).status, -9)
         with self.assertRaisesRegex(SystemExit, "ended with -9"):
             harness.measure_well([sys.executable, "-c", text], os.devnull, os.devnull)
 
-    def test_turns(self):
+    def test_turns(self) -> None:
         """Each turn has each run once, every second one in the other order."""
         made = []
 
-        def run(name):
+        def run(name: str) -> Any:
             made.append(name)
             return name + str(len(made))
 
@@ -107,21 +118,24 @@ class Harness(InFolder):
         self.assertEqual("".join(made), "abbaab")
         self.assertEqual(taken, [["a1", "a4", "a5"], ["b2", "b3", "b6"]])
 
-    def test_turns_that_count(self):
+    def test_turns_that_count(self) -> None:
         """A turn that isn't quiet is made again, whole."""
         numbers = iter(range(10))
         with mock.patch.object(quiet, "is_quiet", side_effect=[False, True, True]), \
                 mock.patch.object(quiet, "pace", return_value=1.0):
             self.assertEqual(harness.in_turn([lambda: next(numbers)], 2), [[1, 2]])
 
-    def test_apart(self):
+    def test_apart(self) -> None:
         """Work in another process gives its value, and its memory isn't this one's."""
-        self.assertEqual(harness.apart(lambda each: [each, len("x" * 100_000_000)], "a"), ["a", 100_000_000])
-        self.assertLess(harness.measure(NOTHING, os.devnull, os.devnull).memory * 1024, 100_000_000)
+        self.assertEqual(self.alone(
+            "import harness, os\n"
+            "print(harness.apart(lambda each: [each, len('x' * 100_000_000)], 'a'))\n"
+            "print(harness.measure(['true'], os.devnull, os.devnull).memory * 1024 < 100_000_000)"),
+            b"['a', 100000000]\nTrue\n")
         with contextlib.redirect_stderr(io.StringIO()), self.assertRaisesRegex(SystemExit, "failed"):
             harness.apart(lambda: [][0])
 
-    def test_host(self):
+    def test_host(self) -> None:
         told = self.put("cpuinfo", "processor\t: 0\nmodel name\t: A Processor @ 1 GHz\nmodel name\t: Other\n")
         self.assertEqual(harness.processor_name(told), "A Processor @ 1 GHz")
         self.assertNotEqual(harness.processor_name(os.path.join(self.folder, "none")), "")
@@ -129,7 +143,7 @@ class Harness(InFolder):
         with mock.patch.object(harness, "said", lambda words: {"rt": "kit", "git": "0" * 40}[words[0]]):
             self.assertEqual(harness.host()[-2:], ("kit", "0" * 40 + "+"))
 
-    def test_pinned(self):
+    def test_pinned(self) -> None:
         """A process is on one processor afterwards, if that is allowed."""
         script = ("import harness, os; p = harness.pinned(); "
                   "print(p is None or os.sched_getaffinity(0) == {p})")
@@ -139,7 +153,7 @@ class Harness(InFolder):
             self.assertIsNone(harness.pinned())
 
 
-def line(run, name, size, program="ldv", **values):
+def line(run: str, name: str, size: int, program: str = "ldv", **values: Any) -> Line:
     return Line(run, name, size, program, [(1.0, 2.0, 2048)],
                 {"seconds": 1.0, "median": 1.0, "clock": 2.0, "MiB": 2.0, **values})
 
@@ -148,19 +162,20 @@ FACTS = {"version": "1.0.0", "date": "2026-01-01", "runs": 5, "as_it_comes": Fal
          "host": {"name": "h", "system": "Linux 6", "processor": "P", "processors": 4, "kit": "kit",
                   "commit": "c" * 40}, "programs": {"ldv": "0"}, "pace": {"before": 80.0, "after": 81.5}}
 MEASURED = Results(FACTS, [
-    line("engine", "join2", 1000000, all=3.0, load=1.0, asked=2.0, of_sqlite3=1.68,
+    line("engine", "join2", 1000000, "ldv", all=3.0, load=1.0, asked=2.0, of_sqlite3=1.68,
          **{"MiB beyond load": 146}),
     line("engine", "join2", 1000000, "sqlite3", all=2.0, load=1.0, asked=1.0),
-    line("engine", "join2", 1000, all=0.1, load=0.05, asked=0.05, of_sqlite3=9.0, **{"MiB beyond load": 1}),
-    line("engine", "update", 1000000, asked=0.3, of_sqlite3=2.4, **{"MiB beyond load": 5}),
-    line("worlds", "rows", 60, of_input=9.06, **{"MB/s": 37.0}),
+    line("engine", "join2", 1000, "ldv", all=0.1, load=0.05, asked=0.05, of_sqlite3=9.0,
+         **{"MiB beyond load": 1}),
+    line("engine", "update", 1000000, "ldv", asked=0.3, of_sqlite3=2.4, **{"MiB beyond load": 5}),
+    line("worlds", "rows", 60, "ldv", of_input=9.06, **{"MB/s": 37.0}),
 ])
 
 
 class Data(InFolder):
     """The files of results."""
 
-    def test_written(self):
+    def test_written(self) -> None:
         """What is read is what was written, and a key leads to its value."""
         path = os.path.join(self.folder, "r.json")
         results.write(path, MEASURED)
@@ -172,7 +187,7 @@ class Data(InFolder):
         for key in ("engine/join2/1000/sqlite3/asked", "engine/join2/1000000/ldv/none", "engine"):
             self.assertIsNone(found.value(key), key)
 
-    def test_merged(self):
+    def test_merged(self) -> None:
         """A later line stands for an earlier one."""
         later = Results({}, [line("worlds", "rows", 60, of_input=5.0), line("worlds", "hex", 60)])
         found = results.merged([MEASURED, later])
@@ -180,14 +195,14 @@ class Data(InFolder):
         self.assertEqual(found.value("worlds/rows/60/ldv/of_input"), 5.0)
         self.assertEqual(found.facts, FACTS)
 
-    def test_line(self):
+    def test_line(self) -> None:
         """Of some runs the least, the median, and the greatest memory."""
         each = [Took(3.0, 4.0, 1024, 0), Took(1.0, 5.0, 3072, 0), Took(2.0, 6.0, 2048, 0)]
         made = results.line_of("run", "name", 7, "ldv", each, more=8.0)
         self.assertEqual(made.values, {"seconds": 1.0, "median": 2.0, "clock": 4.0, "MiB": 3.0, "more": 8.0})
         self.assertEqual(made.key(), "run/name/7/ldv")
 
-    def test_path(self):
+    def test_path(self) -> None:
         self.assertEqual(os.path.relpath(results.path_of("1.0.0", "a host.x"), BENCH),
                          "results/1.0.0-a_host_x.json")
 
@@ -195,14 +210,14 @@ class Data(InFolder):
 class Aims(unittest.TestCase):
     """What the benches aim at."""
 
-    def test_met(self):
+    def test_met(self) -> None:
         """A value meets its aim by its two decimals; of a rate the aim is the least."""
         most = aims.Aim("engine", "join2", 1000000, "of_sqlite3", 1.68)
         self.assertEqual([most.is_met(each) for each in (1.0, 1.684, 1.686)], [True, True, False])
         least = aims.Aim("worlds", "rows", 60, "MB/s", 120, is_least=True)
         self.assertEqual([least.is_met(each) for each in (130.0, 119.996, 119.0)], [True, True, False])
 
-    def test_judged(self):
+    def test_judged(self) -> None:
         """Each aim that has a line is judged, and misses are counted."""
         judged = aims.of_results(MEASURED)
         self.assertEqual([(each.aim.name, each.aim.value, each.is_met) for each in judged],
@@ -212,7 +227,7 @@ class Aims(unittest.TestCase):
         self.assertIsNone(aims.counted([]))
         self.assertEqual([len(aims.of_line(each)) for each in MEASURED.lines], [1, 0, 0, 1, 2])
 
-    def test_lines(self):
+    def test_lines(self) -> None:
         """Each aim is of a run, of one of its sizes, and stands once."""
         keys = [each.key() for each in aims.AIMS]
         self.assertEqual(len(keys), len(set(keys)))
@@ -242,16 +257,16 @@ else:
 class Runs(InFolder):
     """bench.py and compare.py, with programs that know some commands."""
 
-    def program(self, name, said="a", replayed=None):
+    def program(self, name: str, said: str = "a", replayed: Optional[str] = None) -> str:
         path = self.put(name, PROGRAM.replace("{said}", said).replace("{replayed}", replayed or said))
         os.chmod(path, 0o755)
         return path
 
-    def called(self, module, *words):
+    def called(self, module: Any, *words: str) -> tuple[Any, bytes, str]:
         with mock.patch("recorded.of_needed", return_value=1.0):
             return tool(module, *words)
 
-    def test_worlds(self):
+    def test_worlds(self) -> None:
         """Lines and values of a run, as they are printed and written."""
         path = os.path.join(self.folder, "r.json")
         words = ["worlds", "--least", "--lines", "hex,rows", "--program", self.program("ldv"), "-o", path]
@@ -266,8 +281,9 @@ class Runs(InFolder):
         self.assertIn(", however busy the host was, beside a gate. A turn", report.host_of(found)[1])
         for each in found.lines:
             self.assertLess(abs(each.values["bytes"] - 2**20), 1000)
-            self.assertAlmostEqual(each.values["of_input"],
-                                   each.values["MiB"] * 2**20 / each.values["bytes"], 3)
+            # Values are kept with six digits.
+            self.assertAlmostEqual(each.values["of_input"] * each.values["bytes"]
+                                   / (each.values["MiB"] * 2**20), 1, 3)
         # Another run is added to the file.
         words[3] = "texts"
         self.called(bench, *words)
@@ -277,11 +293,11 @@ class Runs(InFolder):
         self.assertIn("has results of another program", said)
         self.assertEqual(len(results.read(path).lines), 3)
 
-    def test_wrong_words(self):
+    def test_wrong_words(self) -> None:
         self.assertIn("there is no run none", self.called(bench, "none")[2])
         self.assertIn("is no program", str(self.called(bench, "worlds", "--program", self.folder)[0]))
 
-    def test_packages(self):
+    def test_packages(self) -> None:
         """A replay that doesn't write what the run wrote ends the bench."""
         words = ["package", "--sizes", "3", "--lines", "pick", "--least", "--program"]
         status, out, _ = self.called(bench, *words, self.program("right"))
@@ -289,7 +305,7 @@ class Runs(InFolder):
         self.assertEqual(out.decode().count("memory_of_run"), 6)
         self.assertIn("other bytes", str(self.called(bench, *words, self.program("wrong", replayed="b"))[0]))
 
-    def test_against(self):
+    def test_against(self) -> None:
         """Two programs are measured in turn, and have to write the same."""
         words = ["--lines", "pick", "--sizes", "3", "--least"]
         same, other = self.program("same"), self.program("other", "b")
@@ -304,7 +320,7 @@ class Runs(InFolder):
         os.chmod(failing, 0o755)
         self.assertIn("ended with 7", str(self.called(compare, same, failing, "package", *words)[0]))
 
-    def test_files(self):
+    def test_files(self) -> None:
         """Two files are compared line by line; a statement has two rows."""
         before, after = (os.path.join(self.folder, name) for name in ("a.json", "b.json"))
         results.write(before, MEASURED)
@@ -317,7 +333,7 @@ class Runs(InFolder):
                           ["engine", "join2,", "asked", "1000000", "2.000", "0.500", "0.25", "2.0", "4.0",
                            "2.00"]])
 
-    def test_csv(self):
+    def test_csv(self) -> None:
         """world.py takes each of the files."""
         status, out, err = tool(bench, "csv", "--sizes", "20", "--least", "--program", sys.executable)
         self.assertEqual((status, err), (0, ""))
@@ -328,23 +344,23 @@ class Runs(InFolder):
 class Worlds(InFolder):
     """What the runs read off outcomes and documents, beside what was worked out by hand."""
 
-    def test_found(self):
+    def test_found(self) -> None:
         """Rows and changed rows, the sum of their numbers, and refusals, whose key isn't summed."""
         path = self.put("outcome", "outcome 1 1\nprocess 0 0 0 3\n\nrows 2\nrow 1\nint 5\nrow 1\nint -2\n"
                                    "refused 5\nint 40\nchanged 3\n")
         self.assertEqual(statements.found_in(path), (5, 3, 1))
 
-    def test_edges(self):
+    def test_edges(self) -> None:
         path = self.put("document", '{"a":{"ldv:first":1},"b":{"ldv:first":2}}\n{"ldv:first":3}')
         self.assertEqual(events.count_edges(path), 3)
 
-    def test_gen(self):
+    def test_gen(self) -> None:
         """The length of the outcome that has what sqlite3 found."""
         outcome = ("outcome 1 1\nprocess 0 0 2 3\n7\n\nrows 1\nrow 2\ntext 2\nc0\nint 10\nchanged 4\nrows 1\n"
                    "row 1\nint 7\nfile 10 6\nreport.txt\nc0 10\n\n")
         self.assertEqual(gen.length_of(["c0,10", "4", "7"]), len(outcome))
 
-    def test_sqlite(self):
+    def test_sqlite(self) -> None:
         """sqlite3 finds what a statement has: of 20 rows two have g = 3, and v is 7,919 times the key."""
         done = command([sys.executable, os.path.join(BENCH, "statements_sqlite.py"), "update", "20"])
         self.assertEqual((done[0], json.loads(done[1])[2:]), (0, [2, 0, 0]))
@@ -365,7 +381,7 @@ LIST = ("# DOCUMENT | KEY | WORDS\n"
 class Reports(InFolder):
     """report.py, and the figures of documents."""
 
-    def setUp(self):
+    def setUp(self) -> None:
         super().setUp()
         os.makedirs(os.path.join(self.folder, "bench", "results"))
         self.put("bench/README.md", PAGE)
@@ -374,12 +390,12 @@ class Reports(InFolder):
         self.path = os.path.join(self.folder, "bench", "results", "1.0.0-h.json")
         results.write(self.path, MEASURED)
 
-    def test_tables(self):
+    def test_tables(self) -> None:
         """Aims with their misses and causes, memory, and growth."""
         status, out, err = tool(report, self.path, "--all")
         self.assertEqual((status, err), (0, ""))
         lines = out.decode().splitlines()
-        for due in ("| `engine`, 1,000,000 rows | of sqlite3 | join2 1.68 (1.68), **update 2.40 (1.20)** |",
+        for due in ("| `engine`, 1,000,000 rows | of sqlite3 | join2 1.68 (1.68), **update 2.40 (0.60)** |",
                     "| `worlds`, 60 MiB | MB a second, at least | **rows 37.00 (120.00)** |",
                     "| `worlds`, 60 MiB | times the bytes | **rows 9.06 (5.00)** |",
                     "Aims missed: 3 of 4. Causes:",
@@ -391,9 +407,9 @@ class Reports(InFolder):
             self.assertIn(due, lines)
         causes = [line for line in lines if line.startswith("- `")]
         self.assertEqual([line.partition(":")[0] for line in causes], ["- `update`", "- `rows`"])
-        self.assertIn("each row that changes gets a history", causes[0])
+        self.assertIn("a changed row takes some", causes[0])
 
-    def test_filled(self):
+    def test_filled(self) -> None:
         """--fill writes the page and the figures, and then nothing differs."""
         self.put("A.md", "A world\ntakes 1.0\ntimes its bytes, at 2 MB a second.\n")
         with mock.patch.object(harness, "ROOT", self.folder), mock.patch.object(plots, "drawn"), \
@@ -407,7 +423,7 @@ class Reports(InFolder):
                          "A world\ntakes 9.1\ntimes its bytes, at 37 MB a second.\n")
         self.assertEqual(self.differences(), [])
 
-    def test_length(self):
+    def test_length(self) -> None:
         """The page of a release has at most 150 lines, also if it misses all aims."""
         lines = [line(aim.run, aim.name, aim.size, aim.program, asked=1.0, memory_of_run=1.0,
                       **{"MiB beyond load": 1.0, "of_input": 9.0, "of_bytes": 9.0,
@@ -418,11 +434,11 @@ class Reports(InFolder):
         figures.fill_page(self.folder, self.path, made)
         self.assertLessEqual(read(os.path.join(self.folder, "bench/README.md")).count(b"\n"), 150)
 
-    def differences(self, version="1.0.0"):
+    def differences(self, version: str = "1.0.0") -> list[str]:
         return [f"{document}:{number}: {text}"
                 for document, number, text in figures.differences(self.folder, version)]
 
-    def test_differences(self):
+    def test_differences(self) -> None:
         """A figure that is another one, words that aren't there, and results that aren't of the version."""
         self.assertEqual(self.differences(), [])
         self.put("A.md", "A world takes 9.1 times its bytes.\n")
@@ -447,7 +463,7 @@ class Reports(InFolder):
         self.put("bench/README.md", "no marks")
         self.assertEqual(self.differences(), ["bench/README.md:1: has no marks of report.py"])
 
-    def test_plots(self):
+    def test_plots(self) -> None:
         """A plot is an SVG with a line for each program, or it is said why there is none."""
         path = os.path.join(self.folder, "plots", "1.0.0-h-growth.svg")
         status, _, err = tool(report, self.path, "--plots", os.path.join(self.folder, "plots"))
@@ -461,7 +477,7 @@ class Reports(InFolder):
         plots.drawn(again, *report.growth_of(MEASURED))
         self.assertEqual(read(again).decode(), text)
 
-    def test_no_plots(self):
+    def test_no_plots(self) -> None:
         """Without matplotlib in either Python there is no plot, which is said."""
         with mock.patch.dict(sys.modules, {"matplotlib": None}), \
                 mock.patch.object(plots, "DEBIAN", os.path.join(self.folder, "none")):

@@ -1,5 +1,7 @@
 """bundle.py: the archive, its replay elsewhere, its description, and what is refused. A program that answers
 as `ldv` does for one package stands in for it, and with the real one the examples are tried."""
+from __future__ import annotations
+
 import hashlib
 import json
 import os
@@ -11,19 +13,22 @@ import sys
 import tempfile
 import unittest
 import zipfile
+from typing import Any, Optional
+from unittest import mock
 from urllib.parse import unquote
 
-import check_page
-import spelling
-
-from ldvtools import __version__, bundle, bundle_parts, package, ro_crate, world
+from cases import encoder
+from checks import check_page
+from ldvtools import __version__, bundle, bundle_parts
+from ldvtools import outcome as outcome_command
+from ldvtools import package, page, ro_crate, world
 from ldvtools.errors import Misused, Refused
 from ldvtools.packages import Joined, read_any, read_package
 from ldvtools.program import least_libc
 from ldvtools.provenance import document_text, provenance_of
 
 from . import support, test_prov, version2
-from .support import EXAMPLES, HERE, InFolder, command, ldv, read, tool
+from .support import EXAMPLES, HERE, InFolder, command, each_of, ldv, read, tool
 from .test_page import orders
 
 # It takes one package, and answers as was said; of another one it says that it is damaged.
@@ -50,7 +55,7 @@ SCHEMA = "http://schema.org/"
 TYPE = "http://www.w3.org/1999/02/22-rdf-syntax-ns#type"
 
 
-def with_rdflib():
+def with_rdflib() -> Optional[str]:
     """An interpreter that has rdflib 6 or later, or None."""
     asked = "import rdflib; assert int(rdflib.__version__.split('.')[0]) >= 6"
     for program in (sys.executable, "/usr/bin/python3"):
@@ -62,13 +67,13 @@ def with_rdflib():
 class Bundles(InFolder):
     """A test that makes archives, by a program that knows one package."""
 
-    def setUp(self):
+    def setUp(self) -> None:
         super().setUp()
         self.package = self.put("orders.package", orders())
         self.outcome = read(f"{EXAMPLES}/orders.outcome")
         self.program = self.fake(orders(), self.outcome)
 
-    def fake(self, data, outcome, verdict="sound"):
+    def fake(self, data: bytes, outcome: bytes, verdict: str = "sound") -> str:
         found = read_any(data)
         prov = "" if isinstance(found, Joined) else document_text(provenance_of(found))
         path = self.put("fake", FAKE.format(digest=hashlib.sha256(data).hexdigest(), verdict=verdict,
@@ -76,7 +81,8 @@ class Bundles(InFolder):
         os.chmod(path, 0o755)
         return path
 
-    def made(self, *words, name="made.zip", package=None, program=None):
+    def made(self, *words: str, name: str = "made.zip", package: Optional[str] = None,
+             program: Optional[str] = None) -> str:
         path = os.path.join(self.folder, name)
         status, out, err = tool(bundle, package or self.package, "--ldv", program or self.program, "-o", path,
                                 *words)
@@ -84,7 +90,7 @@ class Bundles(InFolder):
         self.assertIn(f"{path}: {os.path.getsize(path):,} bytes", out.decode())
         return path
 
-    def unpacked(self, path, name="elsewhere"):
+    def unpacked(self, path: str, name: str = "elsewhere") -> str:
         """The archive in a new folder, without the permissions that it says, as many programs unpack it."""
         folder = os.path.join(self.folder, name)
         with zipfile.ZipFile(path) as archive:
@@ -92,20 +98,19 @@ class Bundles(InFolder):
             archive.extractall(folder)
         return folder
 
-    def replayed(self, folder, *words):
+    def replayed(self, folder: str, *words: str) -> tuple[int, str, str]:
         """What replay.sh does in a folder that isn't its own, with no variable set."""
         done = subprocess.run(["/usr/bin/env", "-i", "/bin/sh", os.path.join(folder, "replay.sh"), *words],
-                              cwd="/", stdin=subprocess.DEVNULL, stdout=subprocess.PIPE,
-                              stderr=subprocess.PIPE, check=False)
+                              cwd="/", stdin=subprocess.DEVNULL, capture_output=True, check=False)
         return done.returncode, done.stdout.decode(), done.stderr.decode()
 
-    def files_in(self, folder):
+    def files_in(self, folder: str) -> list[str]:
         return sorted(os.path.relpath(os.path.join(at, name), folder)
                       for at, _, names in os.walk(folder) for name in names)
 
 
 class Archives(Bundles):
-    def test_replay(self):
+    def test_replay(self) -> None:
         """The archive replays elsewhere, where nothing is set and nothing else is."""
         folder = self.unpacked(self.made())
         files = 14 if shutil.which("dot") else 13
@@ -125,7 +130,7 @@ class Archives(Bundles):
         self.assertTrue(read(os.path.join(folder, "provenance.provn")).startswith(b"document\n"))
         self.assertEqual(os.path.exists(os.path.join(folder, "picture.svg")), bool(shutil.which("dot")))
 
-    def test_changed_bytes(self):
+    def test_changed_bytes(self) -> None:
         """Where a byte of a file is another one, replay.sh says of which file, and doesn't replay."""
         folder = self.unpacked(self.made())
         for name in self.files_in(folder):
@@ -149,7 +154,7 @@ class Archives(Bundles):
         os.remove(os.path.join(folder, "tables/0-1.csv"))
         self.assertIn("tables/0-1.csv isn't there", self.replayed(folder)[2])
 
-    def test_places(self):
+    def test_places(self) -> None:
         """It is called from anywhere, in a folder of any name, and by other shells."""
         folder = self.unpacked(self.made(), "a folder's -n")
         for shell in ("sh", "bash", "dash", "zsh", "busybox sh"):
@@ -166,7 +171,7 @@ class Archives(Bundles):
                               stdout=subprocess.PIPE)
         self.assertEqual(done.stdout.decode().splitlines()[-1], "the same bytes")
 
-    def test_other_outcome(self):
+    def test_other_outcome(self) -> None:
         """A program that writes other bytes, or none, isn't taken for the one that does."""
         folder = self.unpacked(self.made())
         other = self.put("other", "#!/bin/sh\ncat > /dev/null\necho outcome\n")
@@ -179,7 +184,7 @@ class Archives(Bundles):
         self.assertEqual((status, err.splitlines()[0]), (1, "ldv: damaged: form"))
         self.assertEqual(self.replayed(folder, self.program)[1].splitlines()[-1], "the same bytes")
 
-    def test_same_bytes(self):
+    def test_same_bytes(self) -> None:
         """The same package, program, words and date give the same bytes, whatever else there is."""
         words = ["--date", "2026-11-30", "--author", "Bo Ek", "--title", "Ord"]
         first = read(self.made(*words))
@@ -197,7 +202,7 @@ class Archives(Bundles):
         self.assertEqual(read(self.made(*words[2:], name="third.zip")), first)
         self.assertNotEqual(read(self.made("--date", "2026-12-01", *words[2:], name="other.zip")), first)
 
-    def test_entries(self):
+    def test_entries(self) -> None:
         """Every entry is deflated, has the date and the permissions of its kind, and comes in one order."""
         with zipfile.ZipFile(self.made("--date", "2001-02-03")) as archive:
             entries = archive.infolist()
@@ -209,28 +214,28 @@ class Archives(Bundles):
         self.assertEqual([entry.filename for entry in entries][:6], [
             "README.txt", "replay.sh", "SHA256SUMS", "ro-crate-metadata.json", "recorded.package", "ldv"])
 
-    def test_early_date(self):
+    def test_early_date(self) -> None:
         """A date that an entry can't have is that of the description alone."""
         path = self.made("--date", "1965-02-03", "--without-program")
         with zipfile.ZipFile(path) as archive:
             self.assertEqual({entry.date_time for entry in archive.infolist()}, {(1980, 1, 1, 0, 0, 0)})
             self.assertIn(b'"datePublished": "1965-02-03"', archive.read("ro-crate-metadata.json"))
 
-    def test_sums(self):
+    def test_sums(self) -> None:
         """SHA256SUMS has each other file once, and the sums of hashlib."""
         folder = self.unpacked(self.made())
         lines = read(os.path.join(folder, "SHA256SUMS")).decode().splitlines()
-        found = dict(reversed(line.split("  ", 1)) for line in lines)
+        found = {name: digest for digest, name in (line.split("  ", 1) for line in lines)}
         self.assertEqual(len(found), len(lines))
         self.assertEqual(sorted([*found, "SHA256SUMS"]), self.files_in(folder))
         for name, digest in found.items():
             self.assertEqual(hashlib.sha256(read(os.path.join(folder, name))).hexdigest(), digest, name)
 
-    def test_readme(self):
+    def test_readme(self) -> None:
         """At most 60 lines of at most 78 columns, also where much is said, with what somebody looks for."""
         many = [word for place in range(40) for word in ("--author", f"Somebody Numbered {place}")]
         long = ["--title", "long " * 200, "--description", "words " * 2000, "--licence", "x " * 900, *many]
-        for words in ([], long, ["--without-program"]):
+        for words in each_of([], long, ["--without-program"]):
             path = self.made(*words, name=f"made{len(words)}.zip")
             with zipfile.ZipFile(path) as archive:
                 text = archive.read("README.txt").decode()
@@ -240,7 +245,7 @@ class Archives(Bundles):
             for said in ("sh NAME/replay.sh", "Proved", "Not proved", "isn't secret", "recorded.package"):
                 self.assertIn(said, text)
 
-    def test_without_program(self):
+    def test_without_program(self) -> None:
         """An archive without the program takes the one that is named, or the one on the path."""
         folder = self.unpacked(self.made("--without-program"))
         self.assertNotIn("ldv", os.listdir(folder))
@@ -253,7 +258,7 @@ class Archives(Bundles):
                               env={"PATH": f"{self.folder}:/usr/bin:/bin"})
         self.assertEqual(done.stdout.decode().splitlines()[-1], "the same bytes")
 
-    def test_replies(self):
+    def test_replies(self) -> None:
         """Of a package of recorded replies it is the same; there is nothing to audit."""
         package = self.put("orders.replies", orders(2))
         folder = self.unpacked(self.made(package=package, program=self.fake(orders(2), self.outcome)))
@@ -263,7 +268,7 @@ class Archives(Bundles):
         self.assertIn("each statement with its reply", text)
         self.assertNotIn("audit", text)
 
-    def test_joined(self):
+    def test_joined(self) -> None:
         """Of a joined package it has both runs."""
         first = read_package(orders())
         data = version2.joined(first, first._replace(seed=7))
@@ -278,7 +283,7 @@ class Archives(Bundles):
         script = read(os.path.join(folder, "replay.sh")).decode()
         self.assertIn("same run-2/recorded.outcome replay --run 2 --steps 28\n", script)
 
-    def test_sizes(self):
+    def test_sizes(self) -> None:
         """It says what the archive takes beside the package and the world, whose run has the same outcome."""
         path = os.path.join(self.folder, "made.zip")
         world = self.put("world", f"{{}} {'x' * 1443}")
@@ -297,7 +302,8 @@ class Archives(Bundles):
 
 
 class Refusals(Bundles):
-    def refused(self, message, *words, status=1, package=None, program=None, name="new.zip"):
+    def refused(self, message: str, *words: str, status: int = 1, package: Optional[str] = None,
+                program: Optional[str] = None, name: str = "new.zip") -> None:
         """Nothing is left where it is refused."""
         before = self.files_in(self.folder)
         path = name if name.startswith("/") else os.path.join(self.folder, name)
@@ -308,14 +314,14 @@ class Refusals(Bundles):
         self.assertNotIn("Traceback", err)
         self.assertEqual(self.files_in(self.folder), before)
 
-    def test_packages(self):
+    def test_packages(self) -> None:
         self.refused("its digest is another one", package=self.put("p", orders()[:-1] + b"x"))
         self.refused("it doesn't begin with LDVPACK1", package=self.put("q", b""))
         self.refused("no/such", package=os.path.join(self.folder, "no/such"))
-        other = spelling.encode(spelling.package())
+        other = encoder.encode(encoder.package())
         self.refused("ends with 8: ldv: damaged: digest", package=self.put("r", other))
 
-    def test_outputs(self):
+    def test_outputs(self) -> None:
         self.put("there.zip", "kept")
         self.refused("there.zip is there already", name="there.zip")
         self.assertEqual(read(os.path.join(self.folder, "there.zip")), b"kept")
@@ -329,21 +335,18 @@ class Refusals(Bundles):
             self.refused("nothing can be written in", name="closed/new.zip")
         self.refused("/proc/new.zip: ", name="/proc/new.zip")
 
-    def test_full(self):
+    def test_full(self) -> None:
         """Where the disk is full while the archive is written, nothing is left of it."""
         real = zipfile.ZipFile.writestr
 
-        def full(*given, **named):
+        def full(*given: Any, **named: Any) -> None:
             real(*given, **named)
             raise OSError(28, "No space left on device")
 
-        zipfile.ZipFile.writestr = full
-        try:
+        with mock.patch.object(zipfile.ZipFile, "writestr", full):
             self.refused("new.zip: No space left on device")
-        finally:
-            zipfile.ZipFile.writestr = real
 
-    def test_programs(self):
+    def test_programs(self) -> None:
         self.refused("No such file or directory", program=os.path.join(self.folder, "none"))
         plain = self.put("plain", "#!/bin/sh\n")
         self.refused("Permission denied", program=plain)
@@ -351,12 +354,12 @@ class Refusals(Bundles):
         self.refused("isn't what ldv audit writes", program=plain)
         self.refused("ends with 7: ldv: not ended", program=self.failing(7, "ldv: not ended after 28 steps"))
 
-    def failing(self, status, said):
+    def failing(self, status: int, said: str) -> str:
         path = self.put("failing", f"#!/bin/sh\ncat > /dev/null\necho '{said}' >&2\nexit {status}\n")
         os.chmod(path, 0o755)
         return path
 
-    def test_words(self):
+    def test_words(self) -> None:
         for message, *words in (("is no ORCID iD", "--author", "Ada=0000-0002-1825-0098"),
                                 ("give NAME or NAME=ORCID", "--author", "=0000-0002-1825-0097"),
                                 ("two of them have one", "--author", "A=0000-0002-1825-0097",
@@ -368,7 +371,7 @@ class Refusals(Bundles):
 
 
 class Words(unittest.TestCase):
-    def test_orcid(self):
+    def test_orcid(self) -> None:
         """Check digits by hand: ORCID's own example, and one that ends with X."""
         self.assertEqual(ro_crate.check_digit("000000021825009"), "7")
         self.assertEqual(ro_crate.check_digit("000000021694233"), "X")
@@ -378,13 +381,13 @@ class Words(unittest.TestCase):
         with self.assertRaises(Misused):
             ro_crate.author_of("  ")
 
-    def test_licences(self):
+    def test_licences(self) -> None:
         self.assertEqual(ro_crate.licence_of("CC-BY-4.0").address, "https://spdx.org/licenses/CC-BY-4.0")
         self.assertEqual(ro_crate.licence_of("https://example.org/l").address, "https://example.org/l")
         self.assertEqual(ro_crate.licence_of("only to be read"), ro_crate.Licence("only to be read", None))
         self.assertIn("ask whoever made", ro_crate.licence_of(None).name)
 
-    def test_places(self):
+    def test_places(self) -> None:
         """Paths of a run stay below their folder, each at another place, whatever they are."""
         paths = ["a", "a/b", "a/b/c", "/etc/passwd", "../../up", "a/..", ".", "..", "x//y", "x/", "a%2Fb",
                  "%", "a\\b", "C:evil", "blank ", "dot.", "é/ü", "%%", "w" * 255, "\\" * 255, "%" * 200]
@@ -402,12 +405,12 @@ class Words(unittest.TestCase):
                 self.assertLessEqual(len(part.encode()), 255)
                 self.assertNotIn("\\", part)
 
-    def test_libc(self):
+    def test_libc(self) -> None:
         """The version of the C library is the greatest one by its numbers."""
         self.assertEqual(least_libc(b"\0GLIBC_2.2.5\0GLIBC_2.34\0GLIBC_2.4\0x"), "2.34")
         self.assertEqual(least_libc(b"GLIBC_2.2\0\0GLIBC_PRIVATE\0\0GLIBC_2.2.5x\0"), None)
 
-    def test_script(self):
+    def test_script(self) -> None:
         """Of the script of a checkout the compiled program is taken, where it is that of these sources; it
         isn't built for an archive."""
         folder = os.path.realpath(tempfile.mkdtemp())
@@ -431,7 +434,7 @@ class Words(unittest.TestCase):
         shutil.rmtree(f"{folder}/crates")
         self.assertEqual(bundle.compiled(script), script)
 
-    def test_default(self):
+    def test_default(self) -> None:
         """The program is the one above the tools, beside the installed ones, or on the path."""
         folder = os.path.realpath(tempfile.mkdtemp())
         self.addCleanup(shutil.rmtree, folder)
@@ -452,7 +455,7 @@ class Words(unittest.TestCase):
         with self.assertRaisesRegex(Refused, "there is no ldv here"):
             bundle.default_program()
 
-    def test_provenance(self):
+    def test_provenance(self) -> None:
         """The document of a package is the one that `ldv prov` has to write, byte by byte."""
         count = 0
         for name, words, given, status, output in test_prov.cases():
@@ -466,16 +469,16 @@ class Words(unittest.TestCase):
 class Descriptions(Bundles):
     """ro-crate-metadata.json, as an RDF library reads it."""
 
-    def graph(self, folder):
-        done = subprocess.run([with_rdflib(), os.path.join(HERE, "crate_graph.py"),
+    def graph(self, folder: str) -> Any:
+        done = subprocess.run([with_rdflib() or "", os.path.join(HERE, "crate_graph.py"),
                                os.path.join(HERE, "crate_context.json")], check=True, stdout=subprocess.PIPE,
                               input=read(os.path.join(folder, "ro-crate-metadata.json")))
-        found = {}
+        found: dict[str, dict[str, list[Any]]] = {}
         for subject, predicate, value in json.loads(done.stdout):
             found.setdefault(subject, {}).setdefault(predicate, []).append(value)
         return found
 
-    def looked_at(self, path, name="elsewhere"):
+    def looked_at(self, path: str, name: str = "elsewhere") -> Any:
         """The graph of an archive, whose files it has to name, each with its size and its digest."""
         folder = self.unpacked(path, name)
         graph = self.graph(folder)
@@ -494,7 +497,7 @@ class Descriptions(Bundles):
         self.assertEqual(about[SCHEMA + "about"], [BASE])
         return graph
 
-    def test_description(self):
+    def test_description(self) -> None:
         graph = self.looked_at(self.made(
             "--title", "Orders", "--description", "Who bought what?", "--licence", "CC0-1.0", "--date",
             "2026-11-30", "--author", "Ada Ek=0000-0002-1825-0097", "--author", "Bo Ek"))
@@ -509,7 +512,7 @@ class Descriptions(Bundles):
                          {"Ada Ek", "Bo Ek"})
         self.assertEqual(graph[BASE + "#author-2"][TYPE], [SCHEMA + "Person"])
 
-    def test_action(self):
+    def test_action(self) -> None:
         """The replay is of the package, by the program with its version, and its results are files."""
         graph = self.looked_at(self.made())
         replay = graph[BASE + "#replay"]
@@ -523,13 +526,13 @@ class Descriptions(Bundles):
                               BASE + "tables/0-1.csv"}, set(replay[SCHEMA + "result"]))
         self.assertLessEqual(set(replay[SCHEMA + "result"]), set(graph[BASE][SCHEMA + "hasPart"]))
 
-    def test_without_program(self):
+    def test_without_program(self) -> None:
         graph = self.looked_at(self.made("--without-program"))
         program = graph[graph[BASE + "#replay"][SCHEMA + "instrument"][0]]
         self.assertEqual(program[SCHEMA + "version"], [__version__])
         self.assertIn(hashlib.sha256(read(self.program)).hexdigest(), program[SCHEMA + "description"][0])
 
-    def test_joined(self):
+    def test_joined(self) -> None:
         first = read_package(orders())
         data = version2.joined(first, first._replace(seed=7))
         graph = self.looked_at(self.made(package=self.put("both.joined", data), name="both.zip",
@@ -538,23 +541,21 @@ class Descriptions(Bundles):
         self.assertEqual(len(results[0]), len(results[1]))
         self.assertEqual(results[0] & results[1], set())
 
-    def test_hostile_paths(self):
+    def test_hostile_paths(self) -> None:
         """Files with any names are named as they are, and unpacked below their folder."""
         paths = ["../up", "/abs", "a b", "a", "a/b", "50%", "é", 'q"<>', "back\\slash", "-n", "#1", "?x"]
         outcome = f"outcome 1 {len(paths)}\nprocess 0 0 0 0\n\n"
         for path in sorted(paths, key=str.encode):
             outcome += f"file {len(path.encode())} 2\n{path}\nx\n\n"
-        trace = [spelling.started()]
-        trace += [spelling.act("wrote", path, step) for step, path in enumerate(sorted(paths), 1)]
-        data = spelling.encode(spelling.package(steps=20, trace=[*trace, spelling.ended(20)]))
+        trace = [encoder.started()]
+        trace += [encoder.act("wrote", path, step) for step, path in enumerate(sorted(paths), 1)]
+        data = encoder.encode(encoder.package(steps=20, trace=[*trace, encoder.ended(20)]))
         script = self.fake(data, outcome.encode())
         path = os.path.join(self.folder, "hostile.zip")
-        replies = bundle.outcome.asked_in
-        bundle.outcome.asked_in = lambda document, outcome: {}
-        self.addCleanup(setattr, bundle.outcome, "asked_in", replies)
-        page = bundle.page.page_json
-        bundle.page.page_json = lambda *given: {"name": "x"}
-        self.addCleanup(setattr, bundle.page, "page_json", page)
+        for module, name, answer in ((outcome_command, "asked_in", {}), (page, "page_json", {"name": "x"})):
+            patch = mock.patch.object(module, name, return_value=answer)
+            patch.start()
+            self.addCleanup(patch.stop)
         status, _, err = tool(bundle, self.put("hostile.package", data), "--ldv", script, "-o", path)
         self.assertEqual(status, 0, err)
         graph = self.looked_at(path, "hostile-folder")
@@ -569,12 +570,12 @@ class Descriptions(Bundles):
 class Examples(Bundles):
     """With the real program."""
 
-    def setUp(self):
+    def setUp(self) -> None:
         super().setUp()
         if not os.access(support.PROGRAM, os.X_OK):
             self.skipTest(f"{support.PROGRAM} isn't there; compile it with ./ldv")
 
-    def test_examples(self):
+    def test_examples(self) -> None:
         """Each example, of both kinds, is replayed from its archive, and its outcome is that of the page."""
         count = 0
         for name in sorted(os.listdir(EXAMPLES)):
@@ -594,7 +595,7 @@ class Examples(Bundles):
                 count += 1
         self.assertGreaterEqual(count, 16)
 
-    def test_joined(self):
+    def test_joined(self) -> None:
         """Both runs of a joined package, whose worlds have other seeds."""
         world = json.loads(read(f"{EXAMPLES}/nightly.json"))
         worlds = [json.dumps({**world, "seed": seed}).encode() for seed in (3, 0)]
@@ -607,7 +608,7 @@ class Examples(Bundles):
             self.assertEqual(read(os.path.join(folder, f"run-{run}/recorded.outcome")), ldv(["run"], text)[1])
         self.assertEqual(self.replayed(folder)[1].splitlines()[-1], "the same bytes")
 
-    def test_columns(self):
+    def test_columns(self) -> None:
         """Replies as CSV and as a text have decimals with their mark, and heads with their unit; the page and
         the package in it have them too."""
         table = self.put("t.csv", "id;cost;kilo\n1;1.890,75 €;0.5\n2;12,50 €;1.25\n")
@@ -632,7 +633,7 @@ class Examples(Bundles):
         self.assertEqual(found.execute('SELECT "cost (€)", kilo FROM t').fetchall(),
                          [(1890.75, 0.5), (12.5, 1.25)])
 
-    def test_command(self):
+    def test_command(self) -> None:
         """The command of examples/README.md."""
         page = read(f"{EXAMPLES}/README.md").decode()
         lines = [line.strip() for line in page.splitlines() if "weather.package" in line]
@@ -644,7 +645,7 @@ class Examples(Bundles):
         folder = self.unpacked(os.path.join(self.folder, "weather.zip"))
         self.assertEqual(self.replayed(folder)[1].splitlines()[-1], "the same bytes")
 
-    def test_many_steps(self):
+    def test_many_steps(self) -> None:
         """A run of more steps than `replay` has without words is replayed by as many as it had."""
         loop = b'{"start":["m"],"files":{"m":"let n = 0\\nl:\\nlet n = n + 1\\nif n < 600000 goto l\\n"}}'
         status, data, err = ldv(["record", "--steps", "2000000"], loop)

@@ -1,4 +1,6 @@
 """capture.py and playback.py over sqlite3: a program captured, recorded and played back."""
+from __future__ import annotations
+
 import contextlib
 import json
 import os
@@ -8,13 +10,16 @@ import sqlite3
 import subprocess
 import sys
 import textwrap
+import unittest
+from typing import Any, Optional
+from unittest import mock
 
 from ldvtools import capture, playback
 from ldvtools.captured import read_logs
 from ldvtools.captured_run import run_program
 
 from . import support
-from .support import TOOLS, InFolder, command, make_database, read
+from .support import TOOLS, InFolder, command, each_of, make_database, read
 
 TABLES = """
 CREATE TABLE people (id INTEGER PRIMARY KEY, name TEXT NOT NULL, born INT, height REAL, site TEXT);
@@ -33,29 +38,29 @@ class Programs(InFolder):
     tables = TABLES
     begin = BEGIN
 
-    def setUp(self):
+    def setUp(self) -> None:
         super().setUp()
         before = os.getcwd()
         os.chdir(self.folder)
         self.addCleanup(os.chdir, before)
         self.make()
 
-    def make(self):
+    def make(self) -> None:
         for name in os.listdir("."):
             if name.startswith("study.db"):
                 os.remove(name)
         make_database("study.db", self.tables)
 
-    def program(self, text, begin=None):
+    def program(self, text: str, begin: Optional[str] = None) -> list[str]:
         self.put("program.py", (self.begin if begin is None else begin) + textwrap.dedent(text))
         return [sys.executable, "program.py"]
 
-    def plain(self, words):
+    def plain(self, words: list[str]) -> tuple[int, bytes, bytes]:
         """What a program writes without a recorder, and its status."""
         self.make()
         return command(words)
 
-    def capture(self, words, *options, status=0):
+    def capture(self, words: list[str], *options: str, status: int = 0) -> tuple[bytes, str]:
         """Captures a program over the database as it was: what it writes, and what capture.py says."""
         self.make()
         got, out, err = command([sys.executable, os.path.join(TOOLS, "capture.py"), "-q", "--ldv",
@@ -64,19 +69,19 @@ class Programs(InFolder):
         self.assertEqual(got, status, err.decode())
         return out, err.decode()
 
-    def world(self):
+    def world(self) -> Any:
         return json.loads(read("world.json"))
 
-    def statements(self):
+    def statements(self) -> list[str]:
         """The statements of the script."""
         return [line for line in self.world()["files"]["main"].split("\n") if line.startswith("sql ")]
 
-    def record(self, *kind):
+    def record(self, *kind: str) -> None:
         done = subprocess.run([support.PROGRAM, "record", *kind], input=read("world.json"),
                               stdout=subprocess.PIPE, check=True)
         self.put("package", done.stdout)
 
-    def play(self, words, *options, status=0):
+    def play(self, words: list[str], *options: str, status: int = 0) -> tuple[bytes, str]:
         """Plays a program without the database: what it writes, and what playback.py says."""
         with contextlib.suppress(FileNotFoundError):
             os.rename("study.db", "study.gone")
@@ -86,7 +91,7 @@ class Programs(InFolder):
         self.assertFalse(os.path.exists("study.db"))
         return out, err.decode()
 
-    def whole(self, text, *options, begin=None):
+    def whole(self, text: str, *options: str, begin: Optional[str] = None) -> tuple[str, str]:
         """A program whose output is the same by itself, captured, and played back of either package."""
         words = self.program(text, begin)
         expected = self.plain(words)
@@ -100,8 +105,8 @@ class Programs(InFolder):
 
     needs_ldv = True
 
-    def run(self, result=None):
-        if self.needs_ldv and not os.access(support.PROGRAM, os.X_OK):
+    def run(self, result: Optional[unittest.TestResult] = None) -> Optional[unittest.TestResult]:
+        if result is not None and self.needs_ldv and not os.access(support.PROGRAM, os.X_OK):
             reason = f"{support.PROGRAM} isn't there; compile it with ./ldv"
             result.startTest(self)
             result.addSkip(self, reason)
@@ -111,7 +116,7 @@ class Programs(InFolder):
 
 
 class Whole(Programs):
-    def test_queries(self):
+    def test_queries(self) -> None:
         """Rows, heads and kinds come back: decimals as floats, averages, counts of joins, LIKE, named
         parameters."""
         out, said = self.whole("""
@@ -133,7 +138,7 @@ class Whole(Programs):
         self.assertIn("5 of 5 statements have the answers that SQLite gave", said)
         self.assertEqual(sorted(self.world()["tables"]), ["people", "visits"])
 
-    def test_changes(self):
+    def test_changes(self) -> None:
         """Keys that the database gives, executemany, commits, refusals, and what is rolled back."""
         out, said = self.whole("""
             cursor = con.cursor()
@@ -170,7 +175,7 @@ class Whole(Programs):
         self.assertIn('sql q "INSERT INTO visits VALUES (4, ?, ?, ?)" 3 "2019-03-03" 5', self.statements())
         self.assertFalse([line for line in self.statements() if "DELETE" in line])
 
-    def test_refusal(self):
+    def test_refusal(self) -> None:
         """A refusal of a statement that is asked by itself is one here too."""
         _, said = self.whole("""
             con.isolation_level = None
@@ -192,7 +197,7 @@ class Whole(Programs):
         self.assertIn("6 of 6 statements have the answers", said)
         self.assertIn("foreign", self.world()["tables"]["visits"])
 
-    def test_orders(self):
+    def test_orders(self) -> None:
         """Rows that no order settles come back as they were seen, also where ldv has them in another
         order."""
         self.tables = TABLES + "CREATE INDEX by_site ON people (site DESC, name DESC);"
@@ -203,7 +208,7 @@ class Whole(Programs):
             """, *SCALES)
         self.assertIn('"order"', self.world()["files"]["capture.json"])
 
-    def test_own_classes(self):
+    def test_own_classes(self) -> None:
         """Factories and subclasses of the program, converters, and text_factory."""
         self.whole("""
             import datetime
@@ -226,7 +231,7 @@ class Whole(Programs):
             print(con.execute("SELECT name FROM people ORDER BY id").fetchall())
             """, *SCALES, begin="import sqlite3\n")
 
-    def test_connections(self):
+    def test_connections(self) -> None:
         """Two connections: what one has committed only later the other one doesn't see yet, and it isn't
         asked so."""
         self.whole("""
@@ -245,7 +250,7 @@ class Whole(Programs):
             """)
         self.assertEqual(self.statements()[0], 'sql q "SELECT x FROM other"')
 
-    def test_threads(self):
+    def test_threads(self) -> None:
         """Each thread has its connection, and gets its answers, whichever comes first."""
         out, said = self.whole("""
             import threading
@@ -264,7 +269,7 @@ class Whole(Programs):
         self.assertEqual(len([line for line in self.world()["files"]["capture.txt"].split("\n")
                               if line.startswith("process 0, connection")]), 3)
 
-    def test_processes(self):
+    def test_processes(self) -> None:
         """A shell that starts two programs, and a program that forks: each process has its own log."""
         self.program("print(con.execute('SELECT name FROM people ORDER BY id').fetchall())\n")
         self.put("fork.py", BEGIN + textwrap.dedent("""
@@ -285,7 +290,7 @@ class Whole(Programs):
         self.record()
         self.assertEqual(self.play(words)[0], expected)
 
-    def test_streams(self):
+    def test_streams(self) -> None:
         """A program has its words, its standard input, its error stream and its status."""
         words = self.program("""
             print(sys.argv[1:], sys.stdin.readline())
@@ -311,13 +316,13 @@ class Whole(Programs):
         _, said = self.play_with(words, b"a line\n")
         self.assertIn("differ at byte", said)
 
-    def play_with(self, words, given):
+    def play_with(self, words: list[str], given: bytes) -> tuple[int, str]:
         status, out, err = command([sys.executable, os.path.join(TOOLS, "playback.py"), "--ldv",
                                     support.PROGRAM,
                                     "--expect", "expected", "package", "--", *words], given)
         return status, err.decode()
 
-    def test_files(self):
+    def test_files(self) -> None:
         """The package has the program, what was seen, the report, and what --file names."""
         words = self.program("print(con.execute('SELECT COUNT(*) FROM people').fetchone())\n")
         self.put("notes.txt", "a note")
@@ -331,7 +336,7 @@ class Whole(Programs):
                          read("program.py"))
         self.assertEqual(read("report.txt").decode(), self.world()["files"]["capture.txt"])
 
-    def test_many_rows(self):
+    def test_many_rows(self) -> None:
         """An answer of many rows, of which the program reads some or all."""
         self.tables = TABLES + "".join(f"INSERT INTO other VALUES ({number});" for number in range(300))
         self.whole("""
@@ -342,7 +347,7 @@ class Whole(Programs):
 
 
 class Named(Programs):
-    def test_unreadable(self):
+    def test_unreadable(self) -> None:
         """What can't be asked is named with its line, why and a way around; --skip-unreadable leaves it
         out."""
         words = self.program("""
@@ -379,7 +384,7 @@ class Named(Programs):
         self.assertIn("7 more can't be asked here", world["files"]["main"])
         self.assertIn("played back from what was seen alone", world["files"]["capture.txt"])
 
-    def test_other_answers(self):
+    def test_other_answers(self) -> None:
         """Where a reply isn't what SQLite gave, both are shown, the world is written, and the status is
         1."""
         self.tables = TABLES + """CREATE TRIGGER more AFTER INSERT ON other BEGIN
@@ -397,7 +402,7 @@ class Named(Programs):
             self.assertIn(line, said)
         self.assertTrue(os.path.exists("world.json"))
 
-    def test_limit(self):
+    def test_limit(self) -> None:
         """LIMIT after an order that doesn't settle which rows it keeps."""
         self.tables = TABLES + "CREATE INDEX by_site ON people (site, name DESC);"
         words = self.program("""
@@ -406,34 +411,34 @@ class Named(Programs):
         _, said = self.capture(words, *SCALES, status=1)
         self.assertIn("order by a key too", said)
 
-    def test_databases(self):
+    def test_databases(self) -> None:
         """A file that is none, one that isn't there, and one that is locked."""
         words = self.program("pass\n")
-        for prepare, message in ((lambda: self.put("study.db", b"no database at all" * 100),
-                                  "not a database"),
-                                 (lambda: os.remove("study.db"), "there is no such file")):
+        for prepare, message in each_of((lambda: self.put("study.db", b"no database at all" * 100),
+                                         "not a database"),
+                                        (lambda: os.remove("study.db"), "there is no such file")):
             self.make()
             prepare()
-            self.make, before = (lambda: None), self.make
-            _, said = self.capture(words, status=1)
-            self.make = before
+            with mock.patch.object(self, "make"):
+                _, said = self.capture(words, status=1)
             self.assertIn(message, said)
         self.put("study.db", b"")
         self.make()
         with contextlib.closing(sqlite3.connect("study.db", isolation_level=None)) as base:
             base.execute("BEGIN EXCLUSIVE")
-            self.make = lambda: None
-            _, said = self.capture_soon(words)
+            with mock.patch.object(self, "make"):
+                said = self.capture_soon(words)
         self.assertIn("locked", said)
 
-    def capture_soon(self, words):
+    def capture_soon(self, words: list[str]) -> str:
+        """What capture.py says where it waits for no other."""
         from ldvtools import captured_tables
         before, captured_tables.SECONDS = captured_tables.SECONDS, 0
         self.addCleanup(setattr, captured_tables, "SECONDS", before)
         return support.tool(capture, "--ldv", support.PROGRAM, "--sqlite", "study.db", "-o", "world.json",
-                            "--", *words)[::2]
+                            "--", *words)[2]
 
-    def test_nothing(self):
+    def test_nothing(self) -> None:
         """Nothing was asked: why that may be."""
         self.put("program.py", "print(1)\n")
         for words, message in (([sys.executable, "program.py"], "no statement was asked"),
@@ -447,7 +452,7 @@ class Named(Programs):
                                                                   status=1)[1])
         self.assertIn("No such file", self.capture(["./nothing"], status=1)[1])
 
-    def test_no_program(self):
+    def test_no_program(self) -> None:
         """A program or an ldv that isn't there is said before a database is looked at."""
         self.put("plain", b"")
         ldv = ["--ldv", support.PROGRAM]
@@ -462,7 +467,7 @@ class Named(Programs):
                                       "world.json", "--", "true")
         self.assertEqual((status, err), (1, "capture.py: ./nothing: No such file or directory\n"))
 
-    def test_words(self):
+    def test_words(self) -> None:
         for words in (["--sqlite", "study.db", "-o", "w"], ["-o", "w", "--", "true"],
                       ["--sqlite", "a", "--postgres", "b", "-o", "w", "--", "true"]):
             self.assertEqual(support.tool(capture, *words)[0], 2)
@@ -472,14 +477,14 @@ class Named(Programs):
         self.assertEqual(status, 1)
         self.assertIn("no package of a captured program", err)
 
-    def test_decimals(self):
+    def test_decimals(self) -> None:
         """Decimals need --scale, and the message has it."""
         words = self.program("print(con.execute('SELECT height FROM people').fetchall())\n")
         self.assertIn("--scale people.height=2", self.capture(words, status=1)[1])
 
 
 class Killed(Programs):
-    def test_killed(self):
+    def test_killed(self) -> None:
         """A program that is killed: what was asked until then is in the world, and what wasn't committed
         isn't."""
         words = self.program("""
@@ -497,7 +502,7 @@ class Killed(Programs):
         self.record()
         self.assertEqual(self.play(words, status=128 + signal.SIGKILL)[0], out)
 
-    def test_raised(self):
+    def test_raised(self) -> None:
         """A program that ends with an exception does so played back too."""
         words = self.program("""
             print(con.execute("SELECT COUNT(*) FROM people").fetchone())
@@ -510,7 +515,7 @@ class Killed(Programs):
 
 
 class Diverged(Programs):
-    def setUp(self):
+    def setUp(self) -> None:
         super().setUp()
         self.words = self.program("""
             number = int(sys.argv[1])
@@ -524,17 +529,17 @@ class Diverged(Programs):
         self.capture([*self.words, "2", "1"], *SCALES)
         self.record()
 
-    def test_same(self):
+    def test_same(self) -> None:
         self.assertEqual(self.play([*self.words, "2", "1"])[0], b"('Ada',)\n('Bo',)\n")
 
-    def test_parameter(self):
+    def test_parameter(self) -> None:
         out, said = self.play([*self.words, "2", "2"], status=9)
         self.assertEqual(out, b"diverged:\n")
         self.assertIn("playback.py: diverged: program.py line 8: the program asks 'SELECT name FROM people "
                       "WHERE id = ?' with (2,), and it was captured with (1,)\n", said)
         self.assertEqual(said.count("SELECT"), 1)
 
-    def test_again(self):
+    def test_again(self) -> None:
         """A program that asks it again and again: each line of the report stands once."""
         self.put("program.py", read("program.py") + textwrap.dedent("""
             for _ in range(50):
@@ -547,35 +552,35 @@ class Diverged(Programs):
         self.assertEqual((out, said.count("diverged: ")),
                          (b"('Ada',)\n('Bo',)\n" + b"diverged\n" * 50, 1))
 
-    def test_call(self):
+    def test_call(self) -> None:
         """The same statement by another call."""
         text = read("program.py").replace(b"con.execute(", b"con.executemany(")
         self.put("program.py", text)
         self.assertIn("by executemany, and it was captured by execute\n",
                       self.play([*self.words, "2", "1"], status=9)[1])
 
-    def test_statement(self):
+    def test_statement(self) -> None:
         text = read("program.py").replace(b"SELECT name", b"SELECT born")
         self.put("program.py", text)
         self.assertIn("SELECT born", self.play([*self.words, "2", "1"], status=9)[1])
 
-    def test_more(self):
+    def test_more(self) -> None:
         out, said = self.play([*self.words, "3", "1"], status=9)
         self.assertEqual(out, b"('Ada',)\n('Bo',)\ndiverged:\n")
         self.assertIn("no more was captured of this connection", said)
 
-    def test_less(self):
+    def test_less(self) -> None:
         """Less is no divergence, and said."""
         self.assertIn("asked 1 of the 2 statements", self.play([*self.words, "1", "1"])[1])
 
-    def test_kind(self):
+    def test_kind(self) -> None:
         """1.0 isn't 1."""
         text = read("program.py").replace(b"(place + int(sys.argv[2]),)",
                                           b"(float(place + int(sys.argv[2])),)")
         self.put("program.py", text)
         self.play([*self.words, "2", "1"], status=9)
 
-    def test_other_package(self):
+    def test_other_package(self) -> None:
         """A package of another world isn't one of a program."""
         self.put("package", subprocess.run([support.PROGRAM, "record"],
                                            input=b'{"start":["a"],"files":{"a":""}}',
@@ -588,14 +593,14 @@ class Log(Programs):
 
     needs_ldv = False
 
-    def log(self, words):
+    def log(self, words: list[str]) -> tuple[int, bytes, Any]:
         os.makedirs("log", exist_ok=True)
         self.make()
         with open("out", "wb") as file:
             status = run_program(words, "record", "log", file)
         return status, read("out"), read_logs("log")
 
-    def test_same(self):
+    def test_same(self) -> None:
         """A program behaves as without a recorder, to the names of classes and the messages of
         exceptions."""
         words = self.program("""
@@ -633,7 +638,7 @@ class Log(Programs):
         self.assertEqual(*lines)
         self.assertGreater(len(log.events), 8)
 
-    def test_again(self):
+    def test_again(self) -> None:
         """The same text from several lines, connections and threads, in and out of a transaction, and with
         other columns: each event has its own."""
         words = self.program("""
@@ -665,7 +670,7 @@ class Log(Programs):
                          (15, 2, False, 2, head, 0), (15, 2, False, 3, head, 0)]
         self.assertEqual(found, expected)
 
-    def test_kinds(self):
+    def test_kinds(self) -> None:
         """Rows are noted as the database gave them, whatever converters and factories make of them, also
         where these change between two questions."""
         words = self.program("""
@@ -692,7 +697,7 @@ class Log(Programs):
             [text], [(b"Ada",)], [(b"Ada",)], [(("list", [b"Ada"]),)], [text], [text], [text],
             [(("date", "2019-01-02"),)]])
 
-    def test_memory(self):
+    def test_memory(self) -> None:
         """The recorder keeps nothing of a statement that is over."""
         words = self.program("""
             import gc
@@ -709,7 +714,7 @@ class Log(Programs):
         self.assertEqual((status, len(log.events)), (0, 18_000))
         self.assertLess(abs(int(out)), 100)
 
-    def test_places(self):
+    def test_places(self) -> None:
         """Each statement has the line of the program that asks it, also through a library."""
         words = self.program("""
             def asked(text):
@@ -724,7 +729,7 @@ class Log(Programs):
                                                               "line 7"),
                           ("commit", "program.py line 8")])
 
-    def test_own_sitecustomize(self):
+    def test_own_sitecustomize(self) -> None:
         """A sitecustomize of the user's own runs too."""
         self.put("sitecustomize.py", "print('own')\n")
         words = self.program("pass\n")

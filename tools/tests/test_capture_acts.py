@@ -1,19 +1,21 @@
 """What connections do beside asking, captured and played back: commits that fail, backups, other
 databases; and what the columns of a package are."""
+from __future__ import annotations
+
 import os
 import sys
+import unittest
 
 from ldvtools.captured_values import kind_of, made_value
 from ldvtools.dialect_queries import Part
 from ldvtools.dialects import POSTGRES
 
-from . import support
 from .support import TOOLS, command, read
 from .test_capture import SCALES, TABLES, Programs
 
 
 class Acts(Programs):
-    def test_forked(self):
+    def test_forked(self) -> None:
         """A process that asks over a connection from before its fork is named."""
         words = self.program("""
             import os
@@ -27,7 +29,7 @@ class Acts(Programs):
         said = self.capture(words, *SCALES, status=1)[1]
         self.assertIn("a process asks over a connection that the process before its fork made", said)
 
-    def test_deferred(self):
+    def test_deferred(self) -> None:
         """A commit that a deferred foreign key refuses leaves the transaction open, here and played back."""
         self.tables = """CREATE TABLE a (id INTEGER PRIMARY KEY);
             CREATE TABLE b (id INTEGER PRIMARY KEY, a INT REFERENCES a (id) DEFERRABLE INITIALLY DEFERRED);"""
@@ -55,7 +57,7 @@ class Acts(Programs):
         self.assertEqual([line for line in self.statements() if "INSERT" in line],
                          ['sql q "INSERT INTO b VALUES (3, NULL)"'])
 
-    def test_locked(self):
+    def test_locked(self) -> None:
         """A commit that another connection's reading keeps from its lock, and the same one later."""
         self.tables = TABLES + "INSERT INTO other VALUES (1), (2);"
         out, _ = self.whole("""
@@ -74,7 +76,7 @@ class Acts(Programs):
             """, begin="import sqlite3\n")
         self.assertEqual(out, "(1,)\ndatabase is locked\n[(1,), (2,), (3,)]\n")
 
-    def test_other_database(self):
+    def test_other_database(self) -> None:
         """Another file and a copy in memory: what is asked there is named, also where a table of the same
         name is here, and played back as seen without the file."""
         words = self.program("""
@@ -102,7 +104,7 @@ class Acts(Programs):
         self.assertEqual(self.play(words)[0], expected)
         self.assertFalse(os.path.exists("side.db"))
 
-    def test_columns(self):
+    def test_columns(self) -> None:
         """A package of a program shows decimals and names as the database has them."""
         words = self.program("""
             print(con.execute("SELECT * FROM people WHERE id = 2").fetchone())
@@ -119,8 +121,8 @@ class Acts(Programs):
         self.assertNotIn("sha256", known)
 
 
-class Zones(support.unittest.TestCase):
-    def test_zones(self):
+class Zones(unittest.TestCase):
+    def test_zones(self) -> None:
         """Times of a session in Berlin: an hour from UTC in winter, two in summer, as the zone database has
         it."""
         part = Part("take", 0, 0)
@@ -134,7 +136,7 @@ class Zones(support.unittest.TestCase):
                                ("2019-08-01 00:00:00+00:00", ("datetime", "2019-08-01 02:00:00+02:00"))):
             self.assertEqual(made_value(kind, 0, text), expected)
 
-    def test_utc(self):
+    def test_utc(self) -> None:
         """Those of UTC and those without a zone are as they stand."""
         for text in ("2019-01-02 10:00:00+00:00", "2019-01-02 10:00:00"):
             kind = kind_of([("datetime", text)], Part("take", 0, 0), POSTGRES)

@@ -1,15 +1,16 @@
 """What the columns of a captured database were, as the other tools show it."""
+from __future__ import annotations
+
 import csv
 import io
 import json
-import re
 import sqlite3
 import subprocess
 
 from ldvtools import outcome, package, page
 
 from . import support
-from .support import read
+from .support import match_in, read
 from .test_capture import SCALES, Programs
 
 
@@ -17,7 +18,7 @@ class Columns(Programs):
     """The world says what columns were in the database, and by that the other tools show decimals and units
     as they were there."""
 
-    def setUp(self):
+    def setUp(self) -> None:
         super().setUp()
         words = self.program("""
             print(con.execute("SELECT id, height, name FROM people WHERE born > 1980").fetchall())
@@ -32,18 +33,18 @@ class Columns(Programs):
                                      "ORDER BY id").fetchall()
         self.most = base.execute("SELECT MAX(height), COUNT(*) FROM people").fetchall()
 
-    def rows_of(self, data):
+    def rows_of(self, data: bytes) -> tuple[list[str], list[tuple[str, ...]]]:
         found = list(csv.reader(io.StringIO(data.decode())))
         return found[0], [tuple(row) for row in found[1:]]
 
-    def test_file(self):
+    def test_file(self) -> None:
         known = json.loads(self.world()["files"]["ldv-columns/people.json"])
         self.assertEqual([each for each in known["columns"] if each["name"] == "height"], [
             {"name": "height", "source": "height", "kind": "decimal", "scale": 2, "unit": "m",
              "declared": "REAL"}])
         self.assertEqual(known["source"], {"file": "study.db", "table": "people"})
 
-    def test_outcome(self):
+    def test_outcome(self) -> None:
         self.put("o", subprocess.run([support.PROGRAM, "run"], input=read("world.json"),
                                      stdout=subprocess.PIPE, check=True).stdout)
         for of in (["--world", "world.json"], ["--package", "package"]):
@@ -54,7 +55,7 @@ class Columns(Programs):
             out = support.tool(outcome, *of, "--csv", "--reply", "2", "o")[1]
             self.assertEqual(self.rows_of(out)[1], [(f"{self.most[0][0]:.2f}", str(self.most[0][1]))])
 
-    def test_package(self):
+    def test_package(self) -> None:
         self.assertEqual(support.tool(package, "--csv", "tables", "package"), (0, b"", ""))
         head, rows = self.rows_of(read("tables/people.csv"))
         self.assertEqual(head, ["id", "name", "born", "height (m)", "site"])
@@ -66,10 +67,10 @@ class Columns(Programs):
         text = 'SELECT id, name, born, "height (m)", site, typeof("height (m)") FROM people ORDER BY id'
         self.assertEqual(base.execute(text).fetchall(), self.all_rows)
 
-    def test_page(self):
+    def test_page(self) -> None:
         words = ["--ldv", support.PROGRAM, "package", "-o", "page.html"]
         self.assertEqual(support.tool(page, *words), (0, b"", ""))
-        found = re.search(r'(?s)<script type="application/json" id="data">(.*?)</script>',
+        found = match_in(r'(?s)<script type="application/json" id="data">(.*?)</script>',
                           read("page.html").decode())
         shown = json.loads(found[1])
         table = next(each for each in shown["tables"] if each["name"] == "people")

@@ -1,5 +1,8 @@
 """Programs with pandas and SQLAlchemy, captured and played back."""
+from __future__ import annotations
+
 import unittest
+from typing import Optional
 
 from .support import python_with
 from .test_capture import SCALES, Programs
@@ -67,7 +70,7 @@ with engine.begin() as con:
 
 @unittest.skipUnless(PANDAS, "python3-pandas isn't installed")
 class Frames(Programs):
-    def test_frames(self):
+    def test_frames(self) -> None:
         """read_sql with parameters, dates, an index and chunks; to_sql into a table that is there."""
         _, said = self.whole("""
             import sqlite3
@@ -89,17 +92,17 @@ class Frames(Programs):
             """, *SCALES, begin=QUIET)
         self.assertIn("6 of 6 statements", said)
 
-    def program(self, text, begin=""):
-        return [PANDAS, *super().program(text, begin)[1:]]
+    def program(self, text: str, begin: Optional[str] = "") -> list[str]:
+        return [PANDAS or "", *super().program(text, begin)[1:]]
 
 
 @unittest.skipUnless(SQLALCHEMY, "python3-sqlalchemy isn't installed")
 class Mapped(Programs):
-    def test_orm(self):
+    def test_orm(self) -> None:
         """SQLAlchemy's ORM and its Core."""
         out, said = self.whole(ORM, *SCALES, begin=QUIET)
         self.assertIn("IntegrityError", out)
         self.assertIn("statements have the answers that SQLite gave", said)
 
-    def program(self, text, begin=""):
-        return [SQLALCHEMY, *super().program(text, begin)[1:], "sqlite:///study.db"]
+    def program(self, text: str, begin: Optional[str] = "") -> list[str]:
+        return [SQLALCHEMY or "", *super().program(text, begin)[1:], "sqlite:///study.db"]

@@ -1,8 +1,11 @@
 """capture.py and playback.py over psycopg2: a server that the test starts; played back there is none."""
+from __future__ import annotations
+
 import os
 import subprocess
 import sys
 import unittest
+from typing import Optional
 
 from . import support
 from .server import Server, program
@@ -41,7 +44,7 @@ INSERT INTO visits (person, day, dose, at) VALUES (1, '2019-01-02', 10, '2019-01
 BEGIN = "import psycopg2, psycopg2.extras, datetime, decimal, sys\ncon = psycopg2.connect(sys.argv[1])\n"
 
 
-def setUpModule():
+def setUpModule() -> None:
     global SERVER
     if PYTHON is None:
         raise unittest.SkipTest("python3-psycopg2 isn't installed")
@@ -50,44 +53,50 @@ def setUpModule():
     SERVER = Server()
 
 
-def tearDownModule():
+def tearDownModule() -> None:
     if SERVER is not None:
         SERVER.stop()
 
 
-class Programs(Programs):
+def server() -> Server:
+    """The server of these tests."""
+    assert SERVER is not None
+    return SERVER
+
+
+class OverServer(Programs):
     """Programs over a server: it is at the address that is their last word, and none is played back."""
 
     python = PYTHON
     begin = BEGIN
 
-    def make(self):
+    def make(self) -> None:
         with open("tables.py", "w", encoding="utf-8") as file:
             file.write(TABLES)
-        status, _, err = command([PYTHON, "tables.py", SERVER.dsn])
+        status, _, err = command([PYTHON or "", "tables.py", server().dsn])
         self.assertEqual(status, 0, err.decode())
 
-    def program(self, text, begin=None):
-        return [self.python, *super().program(text, begin)[1:], self.address()]
+    def program(self, text: str, begin: Optional[str] = None) -> list[str]:
+        return [self.python or "", *super().program(text, begin)[1:], self.address()]
 
-    def address(self):
-        return SERVER.dsn
+    def address(self) -> str:
+        return server().dsn
 
-    def capture(self, words, *options, status=0):
+    def capture(self, words: list[str], *options: str, status: int = 0) -> tuple[bytes, str]:
         self.make()
         got, out, err = command([sys.executable, os.path.join(TOOLS, "capture.py"), "-q", "--ldv",
                                  support.PROGRAM,
-                                 "--postgres", SERVER.dsn, "-o", "world.json", *options, "--", *words])
+                                 "--postgres", server().dsn, "-o", "world.json", *options, "--", *words])
         self.assertEqual(got, status, err.decode())
         return out, err.decode()
 
-    def play(self, words, *options, status=0):
-        words = [word.replace(SERVER.folder, "/nowhere") for word in words]
+    def play(self, words: list[str], *options: str, status: int = 0) -> tuple[bytes, str]:
+        words = [word.replace(server().folder, "/nowhere") for word in words]
         return super().play(words, *options, status=status)
 
 
-class Whole(Programs):
-    def test_queries(self):
+class Whole(OverServer):
+    def test_queries(self) -> None:
         """Decimals, dates, times and truths come back as they were, averages with their digits."""
         out, said = self.whole("""
             cursor = con.cursor()
@@ -112,7 +121,7 @@ class Whole(Programs):
         self.assertIn("5 of 5 statements have the answers that PostgreSQL gave", said)
         self.assertIn('"ORDER BY', read("world.json").decode().replace("ORDER BY", '"ORDER BY'))
 
-    def test_factories(self):
+    def test_factories(self) -> None:
         """Cursors of psycopg2.extras, one of the server, and statements of psycopg2.sql."""
         self.whole("""
             from psycopg2 import sql
@@ -135,7 +144,7 @@ class Whole(Programs):
             print(dict(cursor.fetchone()))
             """)
 
-    def test_changes(self):
+    def test_changes(self) -> None:
         """Keys of sequences, RETURNING, execute_values, refusals and rollbacks."""
         out, said = self.whole("""
             cursor = con.cursor()
@@ -175,7 +184,7 @@ class Whole(Programs):
         self.assertIn("statements have the answers", said)
         self.assertNotIn("DELETE FROM visits WHERE id = 1", "".join(self.statements()))
 
-    def test_zones(self):
+    def test_zones(self) -> None:
         """Times come back in the zone of the session, in summer and in winter, and one that the program gives
         in a third zone is the same instant."""
         out, _ = self.whole("""
@@ -193,7 +202,7 @@ class Whole(Programs):
         self.assertEqual(out, "1 2019-01-02T11:00:00+01:00\n2 2019-07-01T12:00:00+02:00\n"
                          "3 2019-12-24T10:00:00+01:00\n")
 
-    def test_deferred(self):
+    def test_deferred(self) -> None:
         """A commit that a deferred foreign key refuses undoes the transaction."""
         out, _ = self.whole("""
             cursor = con.cursor()
@@ -208,7 +217,7 @@ class Whole(Programs):
         self.assertEqual(out, "ForeignKeyViolation 23503 0\n(0,)\n")
         self.assertFalse([line for line in self.statements() if "INSERT" in line])
 
-    def test_named(self):
+    def test_named(self) -> None:
         """A view, a column that isn't carried, and what the dialect hasn't."""
         words = self.program("""
             cursor = con.cursor()
@@ -228,7 +237,7 @@ class Whole(Programs):
         self.record()
         self.assertEqual(self.play(words)[0], expected)
 
-    def test_elsewhere(self):
+    def test_elsewhere(self) -> None:
         """A table of another schema, and another database of the server."""
         words = self.program("""
             cursor = con.cursor()
@@ -252,7 +261,7 @@ class Whole(Programs):
         self.record()
         self.assertEqual(self.play(words)[0], expected)
 
-    def test_diverged(self):
+    def test_diverged(self) -> None:
         words = self.program("""
             cursor = con.cursor()
             cursor.execute("SELECT name FROM people WHERE id = %s", (len(sys.argv),))
@@ -264,7 +273,7 @@ class Whole(Programs):
         _, said = self.play([*words, "more"], status=9)
         self.assertIn("psycopg2.OperationalError: diverged: the program asks", said)
 
-    def test_no_server(self):
+    def test_no_server(self) -> None:
         words = self.program("pass\n")
         done = subprocess.run([sys.executable, os.path.join(TOOLS, "capture.py"), "--ldv", support.PROGRAM,
                                "--postgres", "host=/nowhere", "-o", "world.json", "--", *words],
@@ -274,13 +283,13 @@ class Whole(Programs):
 
 
 @unittest.skipUnless(SQLALCHEMY, "python3-sqlalchemy isn't installed")
-class Mapped(Programs):
+class Mapped(OverServer):
     python = SQLALCHEMY
 
-    def address(self):
-        return SERVER.url
+    def address(self) -> str:
+        return server().url
 
-    def test_orm(self):
+    def test_orm(self) -> None:
         from .test_capture_libraries import ORM
         out, said = self.whole(ORM, begin="import sys, warnings\nwarnings.simplefilter('ignore')\n")
         self.assertIn("IntegrityError", out)

@@ -1,8 +1,11 @@
 """world.py: constants of statements that meet a column which is carried in another form."""
+from __future__ import annotations
+
 import json
 import os
 import re
 import sqlite3
+from typing import Any
 
 from ldvtools import world
 
@@ -18,11 +21,11 @@ OPTIONS = ["--delimiter", ";", "--date", "log.time=time", "--date", "log.day=dmy
 
 
 class Carried(InFolder):
-    def words(self):
+    def words(self) -> list[str]:
         text = "id;time;day;temp;price;note\n" + "".join(";".join(map(str, row)) + "\n" for row in ROWS)
         return ["--csv", self.put("log.csv", text), *OPTIONS]
 
-    def said(self, *words):
+    def said(self, *words: str) -> tuple[list[str], Any]:
         """What is said of the statements of a world, and the world."""
         status, out, err = tool(world, *self.words(), *words)
         self.assertEqual(status, 0, err)
@@ -30,13 +33,13 @@ class Carried(InFolder):
                  if line.startswith("world.py: ") and " rows; " not in line]
         return lines, json.loads(out)
 
-    def answered(self, made):
+    def answered(self, made: Any) -> list[Any]:
         """What SQLite answers to the first statement of a world."""
         base = in_sqlite(made["tables"])
         (text, parameters), *_ = asked(made["files"]["main"])
         return [row[0] for row in base.execute(text, parameters)]
 
-    def check(self, condition, said, written, ids):
+    def check(self, condition: str, said: Any, written: Any, ids: Any) -> None:
         """A condition as a reader of the file writes it is said, and as it is advised it finds these rows."""
         lines, _ = self.said("--ask", f"SELECT id FROM log WHERE {condition}")
         self.assertEqual(lines, [f"warning: --ask 1: {said}"])
@@ -44,13 +47,13 @@ class Carried(InFolder):
         self.assertEqual(lines, [])
         self.assertEqual(self.answered(made), ids)
 
-    def test_times(self):
+    def test_times(self) -> None:
         like = "time has texts such as 09:05: "
         self.check("time < '9:00'", like + "'9:00' is written '09:00'", "time < '09:00'", [3])
         self.check("'1:05 PM' <= time", like + "'1:05 PM' is written '13:05'", "'13:05' <= time", [4])
         self.check("time > '9'", like + "'9' isn't, and compares as a text", "time > '09'", [1, 2, 4])
 
-    def test_dates(self):
+    def test_dates(self) -> None:
         like = "day has texts such as 2019-01-31: "
         self.check("day < '1.2.2024'", like + "'1.2.2024' is written '2024-02-01'", "day < '2024-02-01'", [4])
         self.check("log.day = '15.2.2024'", "log." + like + "'15.2.2024' is written '2024-02-15'",
@@ -62,7 +65,7 @@ class Carried(InFolder):
         self.assertEqual(lines, ["warning: --ask 1: day has texts such as 2019-01-31: '1.2.2024' is written "
                                  "'2024-02-01'"])
 
-    def test_nulls(self):
+    def test_nulls(self) -> None:
         null = " is NULL here, and no comparison with NULL is true; write note IS "
         self.check("note = 'NA'", f"'NA' of note{null}NULL", "note IS NULL", [2, 3])
         self.check("note <> ''", f"an empty cell of note{null}NOT NULL", "note IS NOT NULL", [1, 4])
@@ -70,7 +73,7 @@ class Carried(InFolder):
         self.assertEqual(self.said("--ask", "SELECT id FROM log WHERE time = ''")[0],
                          ["warning: --ask 1: time has texts such as 09:05: '' isn't, and compares as a text"])
 
-    def test_numbers(self):
+    def test_numbers(self) -> None:
         """A number beside a column of decimals is said with what it means; a product and 0 need no word."""
         for condition, said, written, ids in (
                 ("temp > 20", "temp is carried times 10, so 20 means 2.0; 20 itself is written 200",
@@ -102,7 +105,7 @@ class Carried(InFolder):
         self.refused("--ask 1: time has texts such as 09:05", *self.words(), "--strict", "--ask",
                      "SELECT id FROM log WHERE time < '9:00'")
 
-    def test_units(self):
+    def test_units(self) -> None:
         """A number with its unit is refused as a text, and said as it is written."""
         lines, _ = self.said("--ask", "SELECT id FROM log WHERE price > '1.000 €' OR temp = '3,5'")
         self.assertEqual(lines[1:], ["warning: --ask 1: price is carried times 100: '1.000 €' is written "
@@ -113,7 +116,7 @@ class Carried(InFolder):
         err = tool(world, "--csv", path, "--unit", "t.k=kg", "--ask", "SELECT k FROM t WHERE k > '5 kg'")[2]
         self.assertIn("warning: --ask 1: k is carried as it is: '5 kg' is written 5\n", err)
 
-    def test_columns(self):
+    def test_columns(self) -> None:
         """Columns that are carried times other numbers don't compare."""
         for condition, said, written, ids in (
                 ("price > temp", "price is carried times 100, and temp carried times 10: write temp * 10",
@@ -127,7 +130,7 @@ class Carried(InFolder):
                           "write "
                           "temp * 100"])
 
-    def test_changes(self):
+    def test_changes(self) -> None:
         lines, _ = self.said("--ask", "UPDATE log SET time = '7:00', temp = 20, note = '' WHERE day = "
                                       "'1.2.2024'",
                              "--ask", "INSERT INTO log VALUES (5, '7:30', '2024-02-01', 5, 0, 'NA')",
@@ -142,7 +145,7 @@ class Carried(InFolder):
             "--ask 1: temp is carried times 10, so 20 means 2.0; 20 itself is written 200",
             "--ask 2: temp is carried times 10, so 5 means 0.5; 5 itself is written 50"])
 
-    def test_places(self):
+    def test_places(self) -> None:
         """It is said of files of statements, of scripts and of parameters that are known."""
         path = self.put("q.sql", "-- early\nSELECT id FROM log\nWHERE time < '9:00';\nSELECT id FROM log "
                                  "WHERE temp > 2;\n")
@@ -162,7 +165,7 @@ class Carried(InFolder):
                          ["main.ldv line 3", "main.ldv line 4", "child.ldv line 1", "main.ldv line 3"])
         self.assertEqual(self.said("--no-check", "--sql", path)[0], [])
 
-    def test_as_read(self):
+    def test_as_read(self) -> None:
         """Texts that were dates and clock times in this form already are looked at too, and others aren't."""
         rows = "2024-02-01,09:00,1.2\n2024-03-01,10:00,9:00\n2024-03-02,,x\n"
         path = self.put("t.csv", "day,hour,name\n" + rows)
@@ -178,7 +181,7 @@ class Carried(InFolder):
             err = tool(world, "--csv", path, "--ask", f"SELECT day FROM t WHERE {condition}")[2]
             self.assertEqual(re.findall("warning: --ask 1: (.*)", err), [said] if said else [], condition)
 
-    def test_databases(self):
+    def test_databases(self) -> None:
         path = os.path.join(self.folder, "t.db")
         make_database(path, "CREATE TABLE t (day DATE, fee REAL); INSERT INTO t VALUES ('3.1.2020', 1.5), "
                             "('13.1.2020', 2), (NULL, NULL);")
@@ -189,7 +192,7 @@ class Carried(InFolder):
         self.assertIn("world.py: --ask 1: fee is carried times 10, so 2 means 0.2; 2 itself is written "
                       "20\n", err)
 
-    def test_documents(self):
+    def test_documents(self) -> None:
         """--help and the tutorial say what is written."""
         text = " ".join(tool(world, "--help")[1].decode().split())
         self.assertIn("A statement asks for values as they are carried: 2024-02-01 and 09:05, and 1250 for "

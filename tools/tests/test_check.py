@@ -1,9 +1,12 @@
 """check.py: bad lines and refused statements, against the program's answers in the cases."""
+from __future__ import annotations
+
 import glob
 import hashlib
 import json
 import os
 import re
+from typing import Any, Iterator
 
 from ldvtools import check, diff, outcome, package, world
 from ldvtools.errors import Malformed
@@ -14,7 +17,7 @@ from ldvtools.scripts import FORMS, BadLine, read_script
 from ldvtools.sql_check import UNKNOWN, judge
 from ldvtools.worlds import read_world, world_of_package
 
-from .support import ASK, EXAMPLES, ROOT, InFolder, read, tool
+from .support import ASK, EXAMPLES, ROOT, InFolder, match_in, read, tool
 
 SCHEMAS = {"t": [("k", "INT NOT NULL"), ("g", "TEXT"), ("v", "INT")],
            "u": [("k", "INT"), ("w", "TEXT NOT NULL")]}
@@ -37,11 +40,13 @@ PLACES = {
     "no start": r"the first start word, \""}
 
 
-def bytes_of(text):
-    return bytes.fromhex(text["hex"]) if isinstance(text, dict) else text.encode("utf-8", "surrogatepass")
+def bytes_of(text: Any) -> bytes:
+    if isinstance(text, dict):
+        return bytes.fromhex(text["hex"])
+    return str(text).encode("utf-8", "surrogatepass")
 
 
-def cases():
+def cases() -> Iterator[Any]:
     """The cases of the program: the words, the input, the status, the output and the line."""
     for path in sorted(glob.glob(os.path.join(ROOT, "crates/conformance/data/*/*.json"))):
         with open(path, encoding="utf-8") as file:
@@ -51,7 +56,7 @@ def cases():
 
 
 class AgainstCases(InFolder):
-    def test_bad_lines(self):
+    def test_bad_lines(self) -> None:
         """A line is bad exactly where the program says so."""
         bad = good = 0
         for words, data, status, _, error in cases():
@@ -69,7 +74,7 @@ class AgainstCases(InFolder):
                 bad += 1
         self.assertTrue(bad > 20 and good > 200, (bad, good))
 
-    def test_codes(self):
+    def test_codes(self) -> None:
         """A statement is refused by a code from 1 to 4 exactly where the reply says so,
         and has as many columns."""
         codes = {0: 0, 1: 0, 2: 0, 3: 0, 4: 0}
@@ -79,6 +84,7 @@ class AgainstCases(InFolder):
             document = read_world(data)
             for question in questions_of(document.world, read_outcome(output)):
                 judged = judge(question.text, question.params, document.schemas)
+                assert question.reply is not None
                 code = question.reply.code if question.reply.code <= 4 else 0
                 self.assertEqual(judged.finding.code if judged.finding else 0, code, (question, judged))
                 codes[code] += 1
@@ -86,7 +92,7 @@ class AgainstCases(InFolder):
                     self.assertEqual(len(row), len(judged.names), question)
         self.assertTrue(all(count >= 5 for count in codes.values()), codes)
 
-    def test_replays(self):
+    def test_replays(self) -> None:
         """The scripts of each package lead to the outcome of its replay, whatever its kind and version."""
         count = 0
         for words, data, status, output, _ in cases():
@@ -95,7 +101,7 @@ class AgainstCases(InFolder):
                 count += 1
         self.assertGreater(count, 50)
 
-    def test_worlds(self):
+    def test_worlds(self) -> None:
         """Each world that the program refuses is refused by the same rule, with a place; each that it takes
         is taken."""
         refused, taken, seen = set(), 0, set()
@@ -105,21 +111,21 @@ class AgainstCases(InFolder):
             seen.add(data)
             found = re.fullmatch(r"ldv: not a world: (.*)\n", error)
             got, out, err = tool(check, given=data)
-            said = re.search(r"(?m)^check\.py: no world: (.*)$", err)
             if found is None:
-                self.assertIsNone(said, data)
+                self.assertNotIn("check.py: no world: ", err, data)
                 taken += 1
             elif BAD_LINE.fullmatch(error):
                 self.assertRegex(out.decode(), rf" line {found[1].split()[-1]}: bad: ..")
                 refused.add("bad script line")
             else:
                 self.assertEqual((got, out), (1, b""), data)
+                said = match_in(r"(?m)^check\.py: no world: (.*)$", err)
                 self.assertRegex(said[1], rf"^{found[1]}: ({PLACES[found[1]]})", data)
                 refused.add(found[1])
         self.assertEqual(refused, {*PLACES, "bad script line"})
         self.assertGreater(taken, 2000)
 
-    def test_other_outcomes(self):
+    def test_other_outcomes(self) -> None:
         """An outcome of another world is found."""
         document = read_world(b'{"start":["m"],"files":{"m":"print 1\\nsql q \\"SELECT 1 FROM t\\"\\n"}}')
         for text in ("outcome 1 0\nprocess 0 0 2 0\n1\n\n", "outcome 1 0\nprocess 0 0 2 1\n2\n\nrefused 2\n",
@@ -133,7 +139,7 @@ class AgainstCases(InFolder):
 class Hints(InFolder):
     """What it says is wrong, and what to write instead."""
 
-    def test_statements(self):
+    def test_statements(self) -> None:
         for text, code, said in (
                 ("SELECT AVG(v) FROM t", 1, "ask SUM(x) and COUNT(x)"),
                 ("SELECT * FROM t WHERE k IN (1, 2)", 1, "write x = 1 OR x = 2"),
@@ -188,14 +194,15 @@ class Hints(InFolder):
                 ("INSERT INTO t VALUES (1, 'a')", 4, "2 values for 3 columns (k, g, v)"),
                 ("UPDATE t SET v = 'a'", 4, "v is INT")):
             found = judge(text, [], SCHEMAS).finding
-            self.assertEqual(found and found.code, code, text)
+            assert found is not None, text
+            self.assertEqual(found.code, code, text)
             self.assertIn(said, found.cause, text)
             self.assertFalse(found.cause.endswith((",", ";", " ")), found.cause)
         self.assertIsNone(judge("SELECT k FROM t WHERE k = ? LIMIT ?", [UNKNOWN, UNKNOWN], SCHEMAS).finding)
         self.assertEqual(judge("SELECT k, v + 1, g AS x FROM t", [], SCHEMAS).names, ["k", None, "x"])
         self.assertEqual(judge("SELECT * FROM u, t", [], SCHEMAS).names, ["k", "w", "k", "g", "v"])
 
-    def test_joins(self):
+    def test_joins(self) -> None:
         """Words of other dialects that are names here are found before JOIN."""
         for word in ("LEFT", "right", "Full", "CROSS", "NATURAL", "OUTER"):
             judged = judge(f"SELECT 1 FROM t {word} JOIN u ON 1 = 1", [], SCHEMAS)
@@ -203,14 +210,16 @@ class Hints(InFolder):
             self.assertIn("this is an inner join", judged.warnings[0])
         self.assertEqual(judge("SELECT 1 FROM t AS left JOIN u ON 1 = 1", [], SCHEMAS).warnings, [])
 
-    def test_partners(self):
+    def test_partners(self) -> None:
         """What finds rows without a partner is a script, and the hint names a section that is there."""
         said = "for each row SELECT COUNT(*) of its partners (docs/SCRIPTS.md, Rows without a partner)"
         self.assertIn(said, judge("SELECT 1 FROM t LEFT JOIN u ON 1 = 1", [], SCHEMAS).warnings[0])
-        self.assertIn(said, judge("SELECT 1 FROM t LEFT OUTER JOIN u ON 1 = 1", [], SCHEMAS).finding.cause)
+        found = judge("SELECT 1 FROM t LEFT OUTER JOIN u ON 1 = 1", [], SCHEMAS).finding
+        assert found is not None
+        self.assertIn(said, found.cause)
         self.assertIn(b"\n### Rows without a partner\n", read(f"{ROOT}/docs/SCRIPTS.md"))
 
-    def test_nulls(self):
+    def test_nulls(self) -> None:
         """A comparison with NULL runs and is never true, which is said; SET takes NULL."""
         given = '{"start":["m"],"files":{"m":"sql q \\"%s\\"\\n"},"tables":{"t":{"columns":[["g","TEXT"]]}}}'
         for condition, said in (("g = NULL", "g = NULL is never true, and NOT of it neither; write g IS"),
@@ -229,15 +238,16 @@ class Hints(InFolder):
         path = self.put("w.json", given % "UPDATE t SET g = NULL")
         self.assertEqual(tool(check, path)[:2], (0, b""))
 
-    def test_deep_texts(self):
+    def test_deep_texts(self) -> None:
         """A text of many parentheses or minuses has no reading, and needs no deep stack."""
         for text in ("(" * 30000, "NOT " * 10000, "- " * 30000):
-            self.assertEqual(judge(f"SELECT k FROM t WHERE {text}", [], SCHEMAS).finding.code, 1)
+            found = judge(f"SELECT k FROM t WHERE {text}", [], SCHEMAS).finding
+            self.assertEqual(found.code if found else 0, 1)
         for depth, code in ((63, None), (64, 1)):
             found = judge("SELECT " + "(" * depth + "k" + ")" * depth + " FROM t", [], SCHEMAS).finding
             self.assertEqual(found and found.code, code, depth)
 
-    def test_lines(self):
+    def test_lines(self) -> None:
         for line, said in (
                 ("prin 1", "perhaps print v v*"), ("x = 1", "let x = v"), ("let x=1", "blanks stand between"),
                 ("let x = 1.5", "no decimals"), ("let x = 'a'", 'a text stands in "'),
@@ -267,7 +277,7 @@ WORLD = {"start": ["main"], "files": {
 
 
 class Command(InFolder):
-    def test_world(self):
+    def test_world(self) -> None:
         """Both kinds of findings, in a child too, with the place that is meant."""
         path = self.put("w.json", json.dumps(WORLD))
         status, out, err = tool(check, path)
@@ -288,13 +298,13 @@ child line 1: bad: 'prin' is no instruction; perhaps print v v*
         self.assertIn(b"code 3", tool(check, "--statement", "SELECT x FROM t", path)[1])
         self.assertEqual(tool(check, given=b"{}")[0], 1)
 
-    def test_good(self):
+    def test_good(self) -> None:
         made = {"start": ["m"], "files": {"m": 'sql q "SELECT 1 FROM t"\n'},
                 "tables": {"t": {"columns": [["k", "INT"]]}}}
         status, out, err = tool(check, given=json.dumps(made).encode())
         self.assertEqual((status, out, err), (0, b"", "no bad line, and no refused statement among 1\n"))
 
-    def test_outcome(self):
+    def test_outcome(self) -> None:
         """Of a run: each refused statement and each misuse, with its cause."""
         made = {"start": ["m"], "files": {"m": 'sql q "INSERT INTO t VALUES (?)" "x"\nprint 1\nlet a = a + '
                                                '1\n'},
@@ -312,7 +322,7 @@ process 0: line 3 of its script is misuse: a wrong kind of value, or a name that
         shown = tool(outcome, "--world", world_path, path)[1].decode()
         self.assertIn("  > INSERT INTO t VALUES (?)\n  > with x\n", shown)
 
-    def test_numbers(self):
+    def test_numbers(self) -> None:
         """A statement has one number in all tools, from 0, as `inspect` and `diverged` count."""
         from .test_page import orders
         data = orders()
@@ -340,7 +350,7 @@ process 0: line 3 of its script is misuse: a wrong kind of value, or a name that
             self.assertIn("statements from 0" if name != "docs/PACKAGES.md" else "are counted, from 0 too",
                           " ".join(read(os.path.join(ROOT, name)).decode().split()), name)
 
-    def test_world_maker(self):
+    def test_world_maker(self) -> None:
         """world.py warns of what it makes, and refuses a join that would mean another one."""
         path = self.put("t.csv", "k,g\n1,a\n")
         words = ["--csv", path]

@@ -1,5 +1,8 @@
 """Statements of SQLite and PostgreSQL in the dialect: what is exact, and what is named."""
+from __future__ import annotations
+
 import unittest
+from typing import Any, Optional
 
 from ldvtools.captured_values import divided, made_value, quotient
 from ldvtools.dialect_changes import Given, plan_of
@@ -8,7 +11,7 @@ from ldvtools.dialects import POSTGRES, SQLITE, Unreadable, read_statement
 from ldvtools.world_columns import Column, Table
 
 
-def shape(name, key, *columns, **more):
+def shape(name: str, key: Any, *columns: Any, **more: Any) -> Shape:
     """A table of columns (name, kind, declared type, NOT NULL, decimals, default)."""
     found = []
     for place, (own, kind, declared, not_null, scale, default) in enumerate(columns, 1):
@@ -18,11 +21,12 @@ def shape(name, key, *columns, **more):
     return Shape(Table(name.lower(), found, 0, key), [column[0] for column in columns], **more)
 
 
-def number(name, declared="INT", not_null=False, scale=None, default=None):
+def number(name: str, declared: str = "INT", not_null: bool = False, scale: Optional[int] = None,
+           default: Any = None) -> tuple[Any, ...]:
     return name, "INT", declared, not_null, scale, default
 
 
-def text(name, declared="TEXT", default=None):
+def text(name: str, declared: str = "TEXT", default: Any = None) -> tuple[Any, ...]:
     return name, "TEXT", declared, False, None, default
 
 
@@ -39,22 +43,24 @@ SERVER = {
 
 
 class Dialects(unittest.TestCase):
-    def plan(self, statement, params=(), driver=SQLITE, keys=(), shapes=None):
+    def plan(self, statement: str, params: Any = (), driver: Any = SQLITE, keys: Any = (),
+             shapes: Any = None) -> Any:
         shapes = shapes or (SHAPES if driver == SQLITE else SERVER)
         return plan_of(read_statement(statement), shapes, driver, params, Given(keys))
 
-    def becomes(self, statement, expected, params=(), given=None, **more):
+    def becomes(self, statement: str, expected: Any, params: Any = (), given: Any = None,
+                **more: Any) -> Any:
         plan = self.plan(statement, params, **more)
         self.assertEqual(plan.text, expected)
         self.assertEqual(plan.params, list(params) if given is None else given)
         return plan
 
-    def named(self, statement, reason, params=(), **more):
+    def named(self, statement: str, reason: str, params: Any = (), **more: Any) -> None:
         with self.assertRaises(Unreadable) as caught:
             self.plan(statement, params, **more)
         self.assertIn(reason, caught.exception.reason)
 
-    def test_comparisons(self):
+    def test_comparisons(self) -> None:
         for condition, expected in (
                 ("v BETWEEN 1 AND ?", "v >= 1 AND v <= ?"), ("NOT v BETWEEN 1 AND ?",
                                                              "NOT (v >= 1 AND v <= ?)"),
@@ -72,12 +78,12 @@ class Dialects(unittest.TestCase):
                 self.becomes(f"SELECT id FROM t WHERE {condition}", f"SELECT id FROM t WHERE {expected}",
                              params)
 
-    def test_long_in(self):
+    def test_long_in(self) -> None:
         """A long IN is no deep chain: 200 values are 8 halves and a chain of 16 at most."""
         plan = self.plan(f"SELECT id FROM t WHERE v IN ({', '.join('?' * 200)})", tuple(range(200)))
         self.assertEqual(plan.params, list(range(200)))
 
-    def test_parameters(self):
+    def test_parameters(self) -> None:
         self.becomes("SELECT id FROM t WHERE v = :b AND id = @a OR v = $b",
                      "SELECT id FROM t WHERE v = ? AND id = ? "
                      "OR v = ?", {"a": 1, "b": 2}, [2, 1, 2])
@@ -91,7 +97,7 @@ class Dialects(unittest.TestCase):
                      (("list", [1, 2]),), [1, 2], driver=POSTGRES)
         self.named("SELECT id FROM t WHERE v = ?", "no value", ())
 
-    def test_like(self):
+    def test_like(self) -> None:
         self.becomes("SELECT id FROM u WHERE day LIKE '2019-0%'",
                      "SELECT id FROM u WHERE day >= '2019-0' AND day < '2019-1'")
         # SQLite takes small and large letters for the same.
@@ -106,7 +112,7 @@ class Dialects(unittest.TestCase):
             self.named(f"SELECT id FROM t WHERE name LIKE '{pattern}'", "LIKE")
         self.named("SELECT id FROM t WHERE v LIKE '1%'", "LIKE")
 
-    def test_answers(self):
+    def test_answers(self) -> None:
         """What a program's columns are made of: AVG of two, COUNT in a join of a sum, hidden columns of an
         order."""
         plan = self.becomes("SELECT AVG(v) m, name FROM t GROUP BY name",
@@ -126,7 +132,7 @@ class Dialects(unittest.TestCase):
                      "SELECT t.name, SUM(u.id * 0 + 1) FROM t, u WHERE t.id = u.id GROUP BY t.id, t.name")
         self.becomes("SELECT u.* FROM t CROSS JOIN main.u", "SELECT u.id, u.t, u.w, u.day FROM t, u")
 
-    def test_kinds(self):
+    def test_kinds(self) -> None:
         """Constants beside columns: as SQLite converts them, and as decimals are carried."""
         self.becomes("SELECT id FROM t WHERE v = '3' AND name = 4", "SELECT id FROM t WHERE v = 3 AND name "
                      "= '4'")
@@ -142,7 +148,7 @@ class Dialects(unittest.TestCase):
         self.named("SELECT price * 2 FROM t", "floats")
         self.becomes("SELECT MAX(price), SUM(v * 2) FROM t", "SELECT MAX(price), SUM(v * 2) FROM t")
 
-    def test_server(self):
+    def test_server(self) -> None:
         for condition, params, expected, given in (
                 ("price * 2 > 5", (), "price * 2 > 500", []), ("day = %s", (("date", "2019-01-02"),),
                                                                "day = ?", ["2019-01-02"]),
@@ -164,7 +170,7 @@ class Dialects(unittest.TestCase):
         self.assertFalse(self.plan("SELECT id FROM t ORDER BY price NULLS FIRST", driver=POSTGRES).is_loose)
         self.named("SELECT id FROM t ORDER BY price LIMIT 1", "LIMIT", driver=POSTGRES)
 
-    def test_changes(self):
+    def test_changes(self) -> None:
         self.becomes("INSERT INTO t (name, v) VALUES (?, 2)", "INSERT INTO t (id, name, v) VALUES (9, ?, 2)",
                      ("a",),
                      keys=[9])
@@ -181,7 +187,7 @@ class Dialects(unittest.TestCase):
                      "id = 3", (1.5,), [150])
         self.becomes("DELETE FROM t AS x WHERE x.name IN ('a')", "DELETE FROM t WHERE name = 'a'")
 
-    def test_named(self):
+    def test_named(self) -> None:
         """What isn't exact has a reason."""
         for statement, reason in (
                 ("SELECT id FROM t LEFT JOIN u ON t.id = u.t", "an outer join"), ("SELECT (SELECT 1)",
@@ -219,7 +225,7 @@ class Dialects(unittest.TestCase):
             with self.subTest(statement):
                 self.named(statement, reason)
 
-    def test_values(self):
+    def test_values(self) -> None:
         """Values of replies as the program gets them; averages as SQLite and PostgreSQL 15 write them."""
         self.assertEqual(made_value("float", 2, 1250), 12.5)
         self.assertEqual(made_value("decimal", 2, 1250), ("decimal", "12.50"))

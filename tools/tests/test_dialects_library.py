@@ -1,15 +1,20 @@
 """Statements as tools read them, and as the library sqlglot does, which is another reader of dialects."""
+from __future__ import annotations
+
 import json
 import os
 import random
 import subprocess
 import unittest
+from typing import Any, Optional
 
-import against_programs
+from checks import against_programs
 from ldvtools.dialects import Delete, Insert, Query, Update, read_statement
 
 from .support import HERE, python_with
 
+# A statement or a part of it: what it is, and its parts.
+Tree = list[Any]
 PYTHON = python_with("sqlglot")
 # Statements that both read, of each dialect.
 BOTH = {
@@ -42,7 +47,7 @@ OWN = (
     ("sqlite", "DELETE FROM t AS x WHERE x.v = 1"), ("sqlite", "SELECT id FROM t LIMIT 5, 10"))
 
 
-def expr(found):
+def expr(found: Any) -> Tree:
     """An expression in the form of sqlglot_trees.py."""
     parts = [expr(part) for part in found.parts]
     if found.form == "constant":
@@ -57,7 +62,7 @@ def expr(found):
     return ["not", made] if found.is_negative else made
 
 
-def constant(value):
+def constant(value: Any) -> Tree:
     if value is None:
         return ["null"]
     if isinstance(value, bool):
@@ -67,18 +72,18 @@ def constant(value):
     return ["number", value[1] if isinstance(value, tuple) else str(value)]
 
 
-def optional(found):
+def optional(found: Any) -> Optional[Tree]:
     return None if found is None else expr(found)
 
 
-def core(found):
+def core(found: Any) -> Tree:
     items = [[expr(item.expr), item.name.lower()] for item in found.items]
     sources = sorted([source.table.lower(), source.name.lower()] for source in found.sources)
     return ["core", found.is_distinct, items, sources, list(map(expr, found.picks)),
             list(map(expr, found.group)), optional(found.having)]
 
 
-def tree(text):
+def tree(text: str) -> Tree:
     """A statement as the tools read it, in the form of sqlglot_trees.py."""
     found = read_statement(text)
     if isinstance(found, Query):
@@ -96,24 +101,24 @@ def tree(text):
     return ["delete", table, found.name.lower(), optional(found.pick)]
 
 
-def trees_of_library(corpus):
-    done = subprocess.run([PYTHON, os.path.join(HERE, "sqlglot_trees.py")], input=json.dumps(corpus).encode(),
-                          stdout=subprocess.PIPE, check=True)
+def trees_of_library(corpus: Any) -> Any:
+    done = subprocess.run([PYTHON or "", os.path.join(HERE, "sqlglot_trees.py")],
+                          input=json.dumps(corpus).encode(), stdout=subprocess.PIPE, check=True)
     return json.loads(done.stdout)
 
 
 @unittest.skipUnless(PYTHON, "python3-sqlglot isn't installed")
 class Library(unittest.TestCase):
-    def check(self, corpus):
+    def check(self, corpus: Any) -> None:
         for (dialect, text), found in zip(corpus, trees_of_library(corpus)):
             with self.subTest(text, dialect=dialect):
                 self.assertEqual(tree(text), found)
 
-    def test_both(self):
+    def test_both(self) -> None:
         """Both readers find the same in the forms that both know."""
         self.check([(dialect, text) for dialect, texts in BOTH.items() for text in texts])
 
-    def test_random(self):
+    def test_random(self) -> None:
         """And in random statements, in random spellings."""
         corpus = []
         for seed in range(1, 11):
@@ -125,7 +130,7 @@ class Library(unittest.TestCase):
         random.Random(1).shuffle(corpus)
         self.check(corpus)
 
-    def test_own(self):
+    def test_own(self) -> None:
         """What the library doesn't read, or reads as something else: why it isn't the tools' reader."""
         for (dialect, text), found in zip(OWN, trees_of_library(OWN)):
             with self.subTest(text, dialect=dialect):

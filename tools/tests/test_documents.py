@@ -1,4 +1,6 @@
 """The checks of documents, with what they have to find."""
+from __future__ import annotations
+
 import contextlib
 import io
 import json
@@ -7,27 +9,23 @@ import re
 import shutil
 import sys
 import unittest
+from typing import Any
 
-import check_docs
-import crate_map
-import check_page
-import check_scripts
-
+from checks import check_docs, check_page, check_scripts, crate_map
 from ldvtools.sql_check import judge
 
 from .support import ROOT, InFolder, command, read, tool
 from .test_examples import asked, in_sqlite, reply_text
-
 
 INSTRUCTIONS = """let cut goto if print exit open readline write copy close remove exists spawn wait sql fetch
     count status""".split()
 
 
 class ScriptsPage(unittest.TestCase):
-    def setUp(self):
+    def setUp(self) -> None:
         self.examples, self.tables = check_scripts.read_page(read(check_scripts.PAGE).decode())
 
-    def test_examples(self):
+    def test_examples(self) -> None:
         """Each instruction and each status of misuse is in an example, and nothing is passed over."""
         lines = [line.split() for example in self.examples for line in example.script.split("\n")]
         used = {words[0] for words in lines if len(words) > 1}
@@ -41,7 +39,7 @@ class ScriptsPage(unittest.TestCase):
         self.assertEqual([len(example.runs) for example in self.examples if len(example.runs) > 1], [2])
         self.assertEqual([table[:2] for table in self.tables], [("items", "id")])
 
-    def test_wrong_pages(self):
+    def test_wrong_pages(self) -> None:
         """A page that says something else than the run is found."""
         page = ("# a\n\nWith the file `f`:\n\n    x\n\nthis script\n\n    print 1\n\nprints\n\n    1\n\n"
                 "and leaves no `f`.\n")
@@ -57,7 +55,7 @@ class ScriptsPage(unittest.TestCase):
                                                                         b"steps\n")), (1, 1))
         self.assertEqual(printed.getvalue().count("\n"), 4)
 
-    def test_first_line(self):
+    def test_first_line(self) -> None:
         self.assertEqual(check_scripts.pieces("    a\n"), [("block", 1, "a\n"), ("text", 3, "end")])
 
 
@@ -79,12 +77,12 @@ text
 
 
 class Pages(InFolder):
-    def program(self):
+    def program(self) -> str:
         path = self.put("fake", '#!/bin/sh\nprintf "said $1\\r\\nmore\\n" >&2\n')
         os.chmod(path, 0o755)
         return path
 
-    def test_page(self):
+    def test_page(self) -> None:
         program = self.program()
         shown = [(each.command, each.lines) for each in check_page.commands(PAGE)]
         self.assertEqual(shown, [("echo one \\\n        two; ls", ["one two"]), ("false", []),
@@ -104,7 +102,7 @@ class Pages(InFolder):
         self.assertIn(b"now:  more", tool(check_page, *words)[1])
         self.assertEqual(tool(check_page, "--program", program + "x", path)[0], 1)
 
-    def test_empty_lines(self):
+    def test_empty_lines(self) -> None:
         """An empty line that a command writes is kept on the page,
         and a line that isn't written is missed."""
         path = self.put("page.md", "    $ printf 'a\\n\\nb\\n'\n\ntext\n")
@@ -120,14 +118,14 @@ class Pages(InFolder):
 class StatementTables(InFolder):
     """The tutorial's table of what to write in place of what the dialect leaves out."""
 
-    def asked(self, data):
+    def asked(self, data: bytes) -> bytes:
         """The outcome of a world whose script asks statements, by SQLite."""
         made = json.loads(data)
         base = in_sqlite(made["tables"])
         replies = [reply_text(base.execute(text).fetchall()) for text, _ in asked(made["files"]["main"])]
         return f"outcome 1 0\nprocess 0 0 0 {len(replies)}\n\n{''.join(replies)}".encode()
 
-    def test_tutorial(self):
+    def test_tutorial(self) -> None:
         """Each statement has its reply in SQLite too, and is one of the dialect."""
         page = read(check_page.TUTORIAL).decode()
         (files, rows), = check_page.statement_tables(page)
@@ -135,13 +133,13 @@ class StatementTables(InFolder):
         self.assertGreater(len(rows), 15)
         self.assertEqual(list(check_page.table_differences(page, self.asked)), [])
         made = json.loads(check_page.asked_world(files, [text for _, texts, _ in rows for text in texts]))
-        schemas = {name: [tuple(column) for column in table["columns"]]
+        schemas = {name: [(column[0], column[1]) for column in table["columns"]]
                    for name, table in made["tables"].items()}
         for number, texts, _ in rows:
             for text in texts:
                 self.assertEqual(judge(text, [], schemas)[::2], (None, []), number)
 
-    def test_wrong_reply(self):
+    def test_wrong_reply(self) -> None:
         """A reply that is another one is found."""
         page = read(check_page.TUTORIAL).decode()
         wrong = page.replace("| (60, 3) |", "| (60, 4) |", 1)
@@ -151,7 +149,7 @@ class StatementTables(InFolder):
 
 
 class ManualPage(InFolder):
-    def test_formatted(self):
+    def test_formatted(self) -> None:
         """groff and mandoc have nothing to say against the page."""
         page = os.path.join(ROOT, check_docs.MANUAL)
         for words in (["groff", "-mandoc", "-ww", "-Tutf8", page], ["mandoc", "-Tlint", page]):
@@ -160,7 +158,7 @@ class ManualPage(InFolder):
                 self.assertEqual((status, err), (0, b""), words)
                 self.assertTrue(words[0] == "groff" or out == b"", out)
 
-    def test_compared(self):
+    def test_compared(self) -> None:
         """A command or a status that one of the two pages has is found where the other hasn't."""
         listed = ("| Words | Input |\n|---|---|\n| `run` | a |\n| `inspect why TABLE ROW` | b |\n\n"
                   "| Status | Message on standard error | When |\n|---|---|---|\n| 0 | none | |\n"
@@ -180,14 +178,14 @@ docs/COMMANDS.md:9: docs/ldv.1 has no status 2 ldv: usage
 docs/ldv.1:4: docs/COMMANDS.md has no status 2 ldv: use
 """)
 
-    def differences(self):
+    def differences(self) -> str:
         with contextlib.redirect_stdout(io.StringIO()) as printed:
             check_docs.check_manual(self.folder, check_docs.Differences())
         return printed.getvalue()
 
 
 class Documents(InFolder):
-    def test_paths(self):
+    def test_paths(self) -> None:
         """A path that isn't there is found, whatever its letters; one with a word for others is none."""
         os.makedirs(os.path.join(self.folder, "docs"))
         self.put("docs/HERE.md", "`docs/HERE.md`, `docs/NONE.md`, `docs/none`, `docs/PART/x.md`, "
@@ -197,12 +195,12 @@ class Documents(InFolder):
         self.assertEqual(printed.getvalue(), "docs/HERE.md:1: there is no docs/NONE.md\n"
                                              "docs/HERE.md:1: there is no docs/none\n")
 
-    def told(self, check):
+    def told(self, check: Any) -> str:
         with contextlib.redirect_stdout(io.StringIO()) as printed:
             check(self.folder, check_docs.Differences())
         return printed.getvalue()
 
-    def test_pages(self):
+    def test_pages(self) -> None:
         """A page or a heading that a program names and that isn't there is found, but for tests of tools."""
         for folder in ("docs", "tools/tests", "bench"):
             os.makedirs(os.path.join(self.folder, folder))
@@ -215,7 +213,7 @@ class Documents(InFolder):
                          "bench/b.sh:2: docs/HERE.md has no heading two\n"
                          "ldv:2: the link docs/GONE.md leads nowhere\n")
 
-    def test_lengths(self):
+    def test_lengths(self) -> None:
         """A document that is longer than it may be is found, and one that is just as long isn't."""
         os.makedirs(os.path.join(self.folder, "docs/internals/notes"))
         for name, most in (("README.md", 130), ("docs/internals/ARCHITECTURE.md", 350),
@@ -226,7 +224,7 @@ class Documents(InFolder):
         self.assertEqual(self.told(check_docs.check_lengths),
                          "README.md:131: 131 lines, and 130 are the most\n")
 
-    def test_indexes(self):
+    def test_indexes(self) -> None:
         """A page that the index of its folder doesn't lead to is found."""
         os.makedirs(os.path.join(self.folder, "docs/internals"))
         for name in ("SQL.md", "ldv.1", "internals/CASES.md"):
@@ -236,7 +234,7 @@ class Documents(InFolder):
         self.assertEqual(self.told(check_docs.check_indexes),
                          "docs/internals/README.md:1: CASES.md is missing\n")
 
-    def test_versions(self):
+    def test_versions(self) -> None:
         """The files that name the version name one."""
         os.makedirs(os.path.join(self.folder, "docs"))
         os.makedirs(os.path.join(self.folder, "tools"))
@@ -259,14 +257,14 @@ class Documents(InFolder):
                                           "tools/pyproject.toml:1: there is no version\n"
                                           "CITATION.cff:2: version 1.2.0, and 1.1.3 in CHANGELOG.md\n")
 
-    def versions(self):
+    def versions(self) -> str:
         with contextlib.redirect_stdout(io.StringIO()) as printed:
             check_docs.check_version(self.folder, check_docs.Differences())
         return printed.getvalue()
 
 
 class Citation(InFolder):
-    def test_citation(self):
+    def test_citation(self) -> None:
         """CITATION.cff has what version 1.2.0 of its format asks for, and the papers that README names."""
         text = read(os.path.join(ROOT, check_docs.CITATION)).decode()
         known = dict(re.findall(r'(?m)^([a-z-]+): (?:"(.*)"|.*)$', text))
@@ -288,7 +286,7 @@ class Citation(InFolder):
             self.assertIn(f"{given} {family}", papers)
         self.assertNotIn("licen", text.lower())
 
-    def test_format(self):
+    def test_format(self) -> None:
         """It is a document of YAML, where a Python with the package yaml is there to read it."""
         for program in (sys.executable, "/usr/bin/python3"):
             if os.access(program, os.X_OK) and command([program, "-I", "-c", "import yaml"])[0] == 0:
@@ -307,7 +305,7 @@ class Citation(InFolder):
 class Layout(InFolder):
     """A small tree of crates: `low`, and `high` over it, which uses a library too."""
 
-    def setUp(self):
+    def setUp(self) -> None:
         super().setUp()
         for folder in ("low/src", "low/specs", "low/out/src", "high/src", "high/specs", "high/proofs/f"):
             os.makedirs(os.path.join(self.folder, "crates", folder))
@@ -315,12 +313,12 @@ class Layout(InFolder):
         self.put("crates/low/src/lib.rt", "//! Low.\n")
         self.put("crates/high/src/lib.rt", "use low::add;\nuse itoa::Buffer;\n")
 
-    def differences(self, check):
+    def differences(self, check: Any) -> str:
         with contextlib.redirect_stdout(io.StringIO()) as printed:
             check(self.folder, check_docs.Differences())
         return printed.getvalue()
 
-    def test_uses(self):
+    def test_uses(self) -> None:
         """What a crate lists is used by a path, in its sources, its specs or its proofs."""
         self.assertEqual(self.differences(check_docs.check_list), "")
         self.put("crates/high/src/lib.rt", "// use low::add;\n//! Of low.\nlet x = itoa::Buffer::new();\n")
@@ -332,7 +330,7 @@ class Layout(InFolder):
             self.assertEqual(self.differences(check_docs.check_list), "crates.txt:3: high uses no low\n")
             os.remove(path)
 
-    def test_order(self):
+    def test_order(self) -> None:
         """A crate comes after those that it stands on, and all crates are listed."""
         self.put("crates.txt", "# Part\nhigh: low itoa\nlow:\nhigher: high\n")
         self.assertEqual(self.differences(check_docs.check_list),
@@ -342,7 +340,7 @@ class Layout(InFolder):
         self.assertEqual(self.differences(check_docs.check_list),
                          "crates.txt:1: high is no crate of the list\n")
 
-    def test_chains(self):
+    def test_chains(self) -> None:
         """No chain of crates is longer than eight; libraries of the kit don't count."""
         lines = ["c1: itoa"] + [f"c{n}: c{n - 1} c1" for n in range(2, 11)]
         self.put("crates.txt", "# Part\n" + "\n".join(lines) + "\n")
@@ -350,7 +348,7 @@ class Layout(InFolder):
         self.assertEqual(found, ["crates.txt:10: c9 ends a chain of 9 crates",
                                  "crates.txt:11: c10 ends a chain of 10 crates"])
 
-    def test_meanings(self):
+    def test_meanings(self) -> None:
         """A file of specs that another crate's sources or specs cite is named in the row of its crate."""
         os.makedirs(os.path.join(self.folder, "docs", "internals"))
         self.put("crates/low/specs/Adding.antt", "use Rattle.low.specs.Digits.{digits}\n")
@@ -369,7 +367,7 @@ class Layout(InFolder):
                 lambda root, differ: check_docs.check_meanings(root, check_docs.crates_in(root), differ))
             self.assertEqual(differences, found and "docs/internals/DEFINITIONS.md:3: " + found, meaning)
 
-    def test_map(self):
+    def test_map(self) -> None:
         """The map is made from crates.txt and the heads, and what these name is there."""
         os.makedirs(os.path.join(self.folder, "docs", "internals"))
         self.put(check_docs.ARCHITECTURE, f"# Map\n\n{crate_map.BEGIN}\nold\n{crate_map.END}\n\nMore.\n")
@@ -380,7 +378,8 @@ class Layout(InFolder):
                  "pub fn add() {}\n")
         self.put("crates/high/src/lib.rt",
                  "//! SQL sums.\n//!\n//! Read first: `specs/Adding.antt` of `low`.\n")
-        stale = "docs/internals/ARCHITECTURE.md:1: the map of crates is stale: tools/check_docs.py --fill\n"
+        stale = "docs/internals/ARCHITECTURE.md:1: the map of crates is stale: "
+        stale += "python3 tools check_docs --fill\n"
         self.assertEqual(self.differences(check_docs.check_map), stale)
         check_docs.fill(self.folder)
         self.assertEqual(self.differences(check_docs.check_map), "")
@@ -396,7 +395,7 @@ class Layout(InFolder):
                          "crates/low/src/lib.rt:1: crates/low/src/lib.rt has no function sum\n"
                          "crates/low/src/lib.rt:1: there is no crates/low/specs/Sums.antt\n" + stale)
 
-    def test_lines(self):
+    def test_lines(self) -> None:
         """Lines of sources and specs have at most 110 columns, but for imports and attributes."""
         self.assertEqual(self.differences(check_docs.check_lines), "")
         laid_out = ("use low::{%s};", "pub use low::{%s};", "ghost use Rattle.low.{%s};",

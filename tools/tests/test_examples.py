@@ -1,18 +1,21 @@
 """The examples, and the worlds of the tutorial, against SQLite."""
+from __future__ import annotations
+
 import glob
 import json
 import os
 import re
 import shlex
 import sqlite3
+from typing import Any, Iterator
 
 from ldvtools import outcome, world
 from ldvtools.outcomes import read_outcome
 
-from .support import EXAMPLES, LIBRARY, ROOT, TUTORIAL, WEATHER, InFolder, make_database, read, tool
+from .support import EXAMPLES, LIBRARY, ROOT, TUTORIAL, WEATHER, InFolder, make_database, match_in, read, tool
 
 
-def asked(script):
+def asked(script: str) -> Iterator[tuple[str, list[Any]]]:
     """The statements of a plain script, with their parameters."""
     for line in script.split("\n"):
         words = re.findall(r'"(?:\\.|[^"\\])*"|\S+', line)
@@ -21,7 +24,7 @@ def asked(script):
             yield json.loads(words[2]), [json.loads(word) for word in words[3:]]
 
 
-def in_sqlite(tables):
+def in_sqlite(tables: Any) -> sqlite3.Connection:
     """The tables of a world in an SQLite database."""
     base = sqlite3.connect(":memory:", isolation_level=None)
     for name, table in tables.items():
@@ -34,13 +37,13 @@ def in_sqlite(tables):
     return base
 
 
-def value_text(value):
+def value_text(value: Any) -> str:
     if value is None:
         return "null\n"
     return f"int {value}\n" if isinstance(value, int) else f"text {len(value.encode())}\n{value}\n"
 
 
-def reply_text(rows):
+def reply_text(rows: Any) -> str:
     texts = (f"row {len(row)}\n" + "".join(map(value_text, row)) for row in rows)
     return f"rows {len(rows)}\n" + "".join(texts)
 
@@ -50,7 +53,7 @@ def reply_text(rows):
 NORTH, SOUTH = "0.0", "0.1"
 
 
-ASKED = {
+ASKED: dict[str, Any] = {
     "orders": [("0", "INSERT", (13, 3, "cap")), ("0", "INSERT", (10, 2, "pen")), ("0.0", "SELECT", (1,))],
     "nightly": [
         (SOUTH, "INSERT", (201, "south", "nib", 5)), (SOUTH, "UPDATE", (5, "nib")),
@@ -76,12 +79,12 @@ KEY_TAKEN = 6
 
 
 class Examples(InFolder):
-    def names(self):
+    def names(self) -> list[str]:
         names = [path[:-len(".json")] for path in sorted(glob.glob(EXAMPLES + "/*.json"))]
         self.assertGreaterEqual(len(names), 8)
         return names
 
-    def test_scripts(self):
+    def test_scripts(self) -> None:
         """The script beside each document is the document's, and so are all files of a folder beside it."""
         for name in self.names():
             made = json.loads(read(name + ".json"))
@@ -91,7 +94,7 @@ class Examples(InFolder):
             else:
                 self.assertEqual(read(name + ".script").decode(), made["files"][made["start"][0]], name)
 
-    def test_documents(self):
+    def test_documents(self) -> None:
         """The commands of the page make the documents of the examples that have a folder."""
         page = read(os.path.join(EXAMPLES, "README.md")).decode().replace("\\\n", " ")
         made = set()
@@ -106,12 +109,12 @@ class Examples(InFolder):
                 made.add(words[-1][:-len(".json")])
         self.assertEqual(made, {name for name in self.names() if os.path.isdir(name)})
 
-    def placed(self, word):
+    def placed(self, word: str) -> str:
         """A word of a command that is typed at the top of the checkout, with a path that is right here."""
         word = re.sub(r"^((?:\w+=)?)((?:examples|tools)/)", rf"\g<1>{ROOT}/\g<2>", word)
         return os.path.join(self.folder, word) if word.endswith(".db") else word
 
-    def test_rows(self):
+    def test_rows(self) -> None:
         """The rows in each outcome are those that SQLite gives."""
         for name in self.names():
             if os.path.isdir(name) or not os.path.exists(name + ".outcome"):
@@ -125,7 +128,7 @@ class Examples(InFolder):
                 if not reply.startswith("refused"):
                     self.assertEqual(reply_text(base.execute(text, parameters).fetchall()), reply, text)
 
-    def test_changes(self):
+    def test_changes(self) -> None:
         """The replies in the outcomes of the others are those that SQLite gives to the same statements."""
         for path in filter(os.path.isdir, self.names()):
             name, made = os.path.basename(path), json.loads(read(path + ".json"))
@@ -140,7 +143,7 @@ class Examples(InFolder):
             self.assertFalse(any(replies.values()), name)
 
     @staticmethod
-    def reply(base, text, parameters):
+    def reply(base: sqlite3.Connection, text: str, parameters: Any) -> Any:
         """What SQLite replies, as `read_outcome` gives replies; of a refusal, its code only."""
         try:
             done = base.execute(text, parameters)
@@ -150,14 +153,14 @@ class Examples(InFolder):
             return "changed", done.rowcount
         return "rows", [list(row) for row in done.fetchall()]
 
-    def replies(self, name):
+    def replies(self, name: str) -> list[str]:
         """The replies of an outcome of one process, each as its text."""
         text = read(name + ".outcome").decode()
-        head = re.match(r"outcome 1 0\nprocess 0 \d+ (\d+) \d+\n", text)
+        head = match_in(r"\Aoutcome 1 0\nprocess 0 \d+ (\d+) \d+\n", text)
         rest = text.encode()[len(head.group().encode()) + int(head.group(1)) + 1:].decode()
         return re.split(r"(?m)^(?=rows |refused )", rest)[1:]
 
-    def test_tutorial_notes(self):
+    def test_tutorial_notes(self) -> None:
         """What world.py says of the tutorial's database is what the page shows, line by line."""
         path = os.path.join(self.folder, "library.db")
         make_database(path, read(TUTORIAL + "/library.sql").decode())
@@ -169,7 +172,7 @@ class Examples(InFolder):
         block = page.partition(noted)[2].partition("\n\n")[0]
         self.assertEqual([line[4:] for line in block.split("\n")], said)
 
-    def test_tutorial(self):
+    def test_tutorial(self) -> None:
         """The tutorial's worlds give what SQLite gives for the same questions."""
         path = os.path.join(self.folder, "library.db")
         make_database(path, read(TUTORIAL + "/library.sql").decode())

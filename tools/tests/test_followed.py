@@ -1,5 +1,7 @@
 """What the tools advise, followed: the words that a message says are typed in a shell, after those that were
 given, and what comes of them is what was meant."""
+from __future__ import annotations
+
 import json
 import os
 import re
@@ -7,15 +9,14 @@ import shlex
 import sqlite3
 import subprocess
 import sys
-from typing import NamedTuple
+from typing import Any, NamedTuple
 
-import spelling
-
+from cases import encoder
 from ldvtools import world
 from ldvtools.packages import read_package
 
 from . import version2
-from .support import TOOLS, InFolder, tool
+from .support import TOOLS, InFolder, match_in, tool
 from .test_page import orders
 
 FILES = {
@@ -44,7 +45,7 @@ class Case(NamedTuple):
 
     given: str
     said: str
-    rows: list
+    rows: list[list[Any]]
     meant: str = ""
     without: str = ""
 
@@ -96,7 +97,7 @@ CASES = [
 
 
 class Followed(InFolder):
-    def setUp(self):
+    def setUp(self) -> None:
         super().setUp()
         os.mkdir(os.path.join(self.folder, "x"))
         for name, content in FILES.items():
@@ -106,17 +107,17 @@ class Followed(InFolder):
             base.executescript(text)
             base.close()
 
-    def shell(self, words):
+    def shell(self, words: str) -> tuple[int, str, str]:
         """What a shell makes of words as they are typed."""
         done = subprocess.run(["sh", "-c", f"{sys.executable} {TOOLS}/world.py {words}"], cwd=self.folder,
-                              stdout=subprocess.PIPE, stderr=subprocess.PIPE, check=False)
+                              capture_output=True, check=False)
         return done.returncode, done.stdout.decode(), done.stderr.decode()
 
-    def said(self, given):
+    def said(self, given: Any) -> str:
         """What world.py says of words that were given."""
         return self.called(given, "SELECT * FROM t")[1]
 
-    def called(self, given, statement):
+    def called(self, given: Any, statement: str) -> tuple[int, str]:
         """The status of world.py and what it says."""
         before = os.getcwd()
         os.chdir(self.folder)
@@ -126,13 +127,12 @@ class Followed(InFolder):
             os.chdir(before)
         return status, err
 
-    def test_words(self):
+    def test_words(self) -> None:
         """The words of each message."""
         for case in CASES:
             with self.subTest(case.given, said=case.said):
                 err = self.said(case.given)
-                found = re.search(case.said, err, re.MULTILINE)
-                self.assertIsNotNone(found, err)
+                found = match_in(f"(?m){case.said}", err)
                 words = " ".join(found.groups())
                 if case.meant:
                     words = re.sub("NAME=FILE|NAME|$", case.meant, words, count=1)
@@ -141,23 +141,23 @@ class Followed(InFolder):
                 self.assertEqual(status, 0, err)
                 self.assertEqual(json.loads(out)["tables"]["t"]["rows"], case.rows, words)
 
-    def test_accept(self):
+    def test_accept(self) -> None:
         """--strict says which text lets a note pass, and with it a world is made."""
         given = "--csv t=comma.csv --delimiter ';' --strict"
         err = self.said(given)
-        option, note = re.search(r"(--accept) TEXT lets one pass\): (.*)\n", err).groups()
+        option, note = match_in(r"(--accept) TEXT lets one pass\): (.*)\n", err).groups()
         status, out, err = self.shell(f"{given} {option} {shlex.quote(note)} --ask 'SELECT * FROM t'")
         self.assertEqual(status, 0, err)
         self.assertEqual(json.loads(out)["tables"]["t"]["rows"], [["1,5", "x"], ["2,25", "y"]])
 
-    def test_kinds(self):
+    def test_kinds(self) -> None:
         """Of a column that is TEXT since a number in it is written in no plain way."""
         err = self.said("--csv t=zeros.csv")
         self.assertIn("--null, --kind or --scale say otherwise", err)
         status, out, err = self.shell("--csv t=zeros.csv --kind t.a=INT --ask 'SELECT * FROM t'")
         self.assertEqual((status, json.loads(out)["tables"]["t"]["rows"]), (0, [[150, 1], [200, 3]]), err)
 
-    def test_parents(self):
+    def test_parents(self) -> None:
         """Of a column that refers to one of another kind, or with other decimals."""
         begin, end = "--csv parents.csv --csv t.csv", "--key parents=k --foreign t.a=parents"
         for words, said, rows in (
@@ -166,13 +166,12 @@ class Followed(InFolder):
                 ("--scale t.a=2", r"; (--scale parents\.k=2) gives both the same", [[100, 2]]),
                 ("--scale parents.k=1", r"; (--scale t\.a=1) gives both the same", [[10, 2]])):
             given = f"{begin} {words} {end}"
-            found = re.search(said, self.said(given))
-            self.assertIsNotNone(found, given)
+            found = match_in(said, self.said(given))
             status, out, err = self.shell(f"{given} {found[1]} --ask 'SELECT * FROM t'")
             self.assertEqual(status, 0, err)
             self.assertEqual(json.loads(out)["tables"]["t"]["rows"], rows)
 
-    def test_statements(self):
+    def test_statements(self) -> None:
         """What is to be written in a statement, in place of what stands there."""
         for given, text, said, mended in (
                 ("--csv t=gap.csv", "SELECT a FROM t WHERE b = ''",
@@ -184,7 +183,7 @@ class Followed(InFolder):
             with self.subTest(text):
                 status, err = self.called(given, text)
                 self.assertEqual(status, 0, err)
-                found = re.search(said, err)
+                found = match_in(said, err)
                 self.assertIsNotNone(found, err)
                 self.assertIn(found[1], mended)
                 status, err = self.called(given + " --strict", mended)
@@ -195,28 +194,27 @@ class Followed(InFolder):
 class Others(InFolder):
     """What outcome.py, package.py and page.py advise."""
 
-    def shell(self, line):
+    def shell(self, line: str) -> tuple[int, bytes, str]:
         done = subprocess.run(["sh", "-c", f"{sys.executable} {TOOLS}/{line}"], cwd=self.folder,
-                              stdout=subprocess.PIPE, stderr=subprocess.PIPE, check=False)
+                              capture_output=True, check=False)
         return done.returncode, done.stdout, done.stderr.decode()
 
-    def followed(self, line, said, *places):
+    def followed(self, line: str, said: str, *places: str) -> bytes:
         """What is written where the words that are said of a line stand behind it."""
         err = self.shell(line)[2]
-        found = re.search(said, err)
-        self.assertIsNotNone(found, err)
-        words = found[1].replace(*places) if places else found[1]
+        found = match_in(said, err)
+        words = found[1].replace(places[0], places[1]) if places else found[1]
         status, out, err = self.shell(f"{line} {words}")
         self.assertEqual(status, 0, err)
         return out
 
-    def test_null(self):
+    def test_null(self) -> None:
         """A NULL that would be an empty line of CSV."""
         self.put("o", "outcome 1 0\nprocess 0 0 0 1\n\nrows 2\nrow 1\nnull\nrow 1\nint 5\n")
         out = self.followed("outcome.py --csv --reply 1 o", r"; (--null WORD) writes a word")
         self.assertEqual(out, b"1\nWORD\n5\n")
 
-    def test_heads(self):
+    def test_heads(self) -> None:
         """A head that is known only by the statement."""
         self.put("o", "outcome 1 0\nprocess 0 0 0 1\n\nrows 1\nrow 1\nint 1250\n")
         tables = {"t": {"columns": [["cost", "INT"]], "rows": [[1250]]}}
@@ -226,7 +224,7 @@ class Others(InFolder):
                             r"; (--world) or --package gives names", "--world", "--world w.json")
         self.assertEqual(out, b"cost\n12.50\n")
 
-    def test_runs(self):
+    def test_runs(self) -> None:
         """A joined package, of which each run is named by what is said."""
         first = read_package(orders())
         self.put("both", version2.joined(first, first._replace(seed=7)))
@@ -235,15 +233,15 @@ class Others(InFolder):
             self.assertIn(seed, self.shell_of(out))
             self.followed(f"page.py both -o page{number}.html", rf"(?:; |or )(--run {number}) ")
 
-    def shell_of(self, data):
+    def shell_of(self, data: bytes) -> bytes:
         """What package.py says of a package."""
         self.put("p", data)
         return self.shell("package.py p")[1]
 
-    def test_path(self):
+    def test_path(self) -> None:
         """A file whose path leads out of a folder, and would be several words of a shell."""
         path = "../it's \"mine\" $HOME"
-        self.put("p", spelling.encode(spelling.package(files=[spelling.file(path, "content")], start=[path])))
+        self.put("p", encoder.encode(encoder.package(files=[encoder.file(path, "content")], start=[path])))
         err = self.shell("package.py --files new p")[2]
-        words = re.search(r"; (--file .*) writes it", err)[1]
+        words = match_in(r"; (--file .*) writes it", err)[1]
         self.assertEqual(self.shell(f"package.py {words} p"), (0, b"content", ""))

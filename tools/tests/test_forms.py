@@ -1,27 +1,30 @@
 """world.py: numbers, dates and headers as people write them, what is said of them, and options by file
 and by column."""
+from __future__ import annotations
+
 import json
 import os
 import re
 import shlex
+from typing import Any, Sequence, Union
 
 from ldvtools import world
 from ldvtools.world_settings import tidy_names
 
-from .support import ASK, ROOT, InFolder, make_database, read, tool
+from .support import ASK, ROOT, InFolder, each_of, make_database, read, tool
 
 
 class Forms(InFolder):
-    def said(self, content, *words):
+    def said(self, content: Union[str, bytes], *words: str) -> str:
         """What is said of the table t."""
         status, _, err = tool(world, "--csv", self.put("t.csv", content), *ASK, *words)
         self.assertEqual(status, 0, err)
         return err
 
-    def column(self, cells):
+    def column(self, cells: Sequence[str]) -> str:
         return "a;b\n" + "".join(f"{cell};x\n" for cell in cells)
 
-    def words_said(self, cells, advice):
+    def words_said(self, cells: Sequence[str], advice: str) -> list[Any]:
         """What is advised for a column of these cells, and what comes of it."""
         err = self.said(self.column(cells), "--delimiter", ";")
         self.assertIn(f"; {advice} carries it as whole numbers", err)
@@ -31,7 +34,7 @@ class Forms(InFolder):
 
 
 class Numbers(Forms):
-    def test_units(self):
+    def test_units(self) -> None:
         """Numbers with a unit are said, and carried by what is advised."""
         self.assertEqual(self.words_said(["5%", "12.5%", "0%"], "--unit t.a=% --scale t.a=1"), [50, 125, 0])
         self.assertEqual(self.words_said(["5 %", "-7 %"], "--unit t.a=%"), [5, -7])
@@ -55,7 +58,7 @@ class Numbers(Forms):
                       ["0150", "0170", "NA"]):
             self.assertNotIn("looks like", self.said(self.column(cells), "--delimiter", ";"), cells)
 
-    def test_minus(self):
+    def test_minus(self) -> None:
         """A sign for minus that isn't that of ASCII is said, and read where a number is asked for."""
         for minus in "\u2212\u2013":
             self.assertEqual(self.words_said([f"{minus}5", "7"], "--kind t.a=INT"), [-5, 7])
@@ -63,7 +66,7 @@ class Numbers(Forms):
         self.assertIn("looks like numbers with another sign than -, such as '\u22125'",
                       self.said("a\n7\n\u22125\n8\n"))
 
-    def test_thousands(self):
+    def test_thousands(self) -> None:
         for cells, advice, numbers in (
                 (["1.234.567", "12.345"], "--thousands t.a=. --kind t.a=INT", [1234567, 12345]),
                 (["1'234,5", "7"], "--decimal t.a=, --thousands 't.a='\"'\"'' --scale t.a=1", [12345, 70]),
@@ -89,7 +92,7 @@ class Numbers(Forms):
         table = self.table("a;b\n1.234;x.123\n", *words)
         self.assertEqual(table["rows"], [[1234, "x.123"]])
 
-    def test_words_for_null(self):
+    def test_words_for_null(self) -> None:
         """A word where a number is due is said with the option that takes it for NULL."""
         for cell, word in (("-", "-"), ("n/a", "n/a"), ("k. A.", "'k. A.'")):
             self.csv_refused(f"column a: {cell!r} is no decimal number such as -1.25; where it stands "
@@ -122,11 +125,11 @@ class Numbers(Forms):
 
 
 class Dates(Forms):
-    def dated(self, cells, form):
+    def dated(self, cells: Sequence[str], form: str) -> list[Any]:
         return [row[0] for row in self.table(self.column(cells), "--delimiter", ";", "--date",
                                              f"t.a={form}")["rows"]]
 
-    def test_times(self):
+    def test_times(self) -> None:
         """Clock times with one digit for the hour sort wrongly as texts: this is said, and mended."""
         looks = "t.a is TEXT, and looks like clock times such as '9:05': these don't compare as times do; "
         err = self.said(self.column(["10:30", "9:05", ""]), "--delimiter", ";")
@@ -146,7 +149,7 @@ class Dates(Forms):
             self.csv_refused(f"column a: {cell!r} is no clock time such as 9:05 (--date time)",
                              f"a\n{cell}\n", "--date", "t.a=time")
 
-    def test_dates(self):
+    def test_dates(self) -> None:
         """Dates that don't compare as dates are said, with the options that make them so."""
         looks = "t.a is TEXT, and looks like dates such as {!r}: these don't compare as dates; "
         both = ("--date t.a=dmy reads the day first and carries it as 2020-02-01, and --date t.a=mdy "
@@ -177,7 +180,7 @@ class Dates(Forms):
             self.assertNotIn("looks like", self.said(self.column(cells), "--delimiter", ";"), cells)
         self.assertIn("'2020-2-1'", self.said("a\n" + "2020-02-01\n" * 5000 + "2020-2-1\n"))
 
-    def test_carried(self):
+    def test_carried(self) -> None:
         self.assertEqual(self.dated(["1.2.2020", "31.12.1999 9:05", "", "2020-03-04"], "dmy"),
                          ["2020-02-01", "1999-12-31 09:05", None, "2020-03-04"])
         self.assertEqual(self.dated(["1/2/2020", "12/31/1999 9:05 PM"], "mdy"),
@@ -192,7 +195,7 @@ class Dates(Forms):
                       ["--date", "t.a=dmy", "--kind", "t.a=INT"], ["--date", "t.b=dmy"]):
             self.csv_refused("world.py: --", "a\n1\n", *words, status=2)
 
-    def test_databases(self):
+    def test_databases(self) -> None:
         """Of texts of a database the same is said."""
         path = os.path.join(self.folder, "t.db")
         make_database(path, "CREATE TABLE t (day DATE, note TEXT); INSERT INTO t VALUES ('3.1.2020', 'a'), "
@@ -209,7 +212,7 @@ class Dates(Forms):
 class OneOfMany(Forms):
     """Options that hold for all CSV files, for one, or for a column."""
 
-    def tables(self, *words):
+    def tables(self, *words: str) -> dict[str, Any]:
         first = self.put("plots.csv", "id;size;rest\n1;2,5;NA\n2;-;-\n")
         second = self.put("trees.csv", "id,size,rest\n1,2.5,NA\n2,,-\n".encode("utf-8"))
         third = self.put("sites.csv", "id\tname\n1\tBod\xf8\n".encode("latin-1"))
@@ -218,7 +221,7 @@ class OneOfMany(Forms):
         self.assertEqual(status, 0, err)
         return {name: table["rows"] for name, table in json.loads(out)["tables"].items()}
 
-    def test_by_file(self):
+    def test_by_file(self) -> None:
         words = ["--delimiter", "plots=;", "--delimiter", "sites=tab", "--encoding", "sites=latin-1",
                  "--scale", "plots.size=1", "--scale", "trees.size=1"]
         found = self.tables(*words, "--decimal", "plots=,", "--null", "plots=-")
@@ -229,7 +232,7 @@ class OneOfMany(Forms):
         self.assertEqual(found, {"plots": [[1, 25, None], [2, None, None]],
                                  "trees": [[1, 25, None], [2, None, None]], "sites": [[1, "Bodø"]]})
 
-    def test_general_and_own(self):
+    def test_general_and_own(self) -> None:
         """What is said of a file or a column stands above what is said of all."""
         found = self.tables("--delimiter", ";", "--delimiter", "trees=,", "--delimiter", "sites=tab",
                             "--encoding", "latin-1", "--encoding", "trees=utf-8", "--decimal", ",",
@@ -238,13 +241,13 @@ class OneOfMany(Forms):
         self.assertEqual(found["trees"], [[1, 25, "NA"], [2, None, None]])
         self.assertEqual(found["plots"], [[1, 25, "NA"], [2, None, None]])
 
-    def test_signs(self):
+    def test_signs(self) -> None:
         """An = may be what stands between cells, and a word may have one."""
         self.assertEqual(self.table("a=b\n1=2\n", "--delimiter", "=")["rows"], [[1, 2]])
         self.assertEqual(self.table("a=b\n1=2\n", "--delimiter", "t==")["rows"], [[1, 2]])
         self.assertEqual(self.table("a,b\n1,x=y\n", "--null", "t.b=x=y")["rows"], [[1, None]])
 
-    def test_wrong_names(self):
+    def test_wrong_names(self) -> None:
         nothing = "nothing that was read has this name; "
         for words, message in ((["--delimiter", "u=;"], f"--delimiter u: {nothing}the tables are t"),
                                (["--null", "t.b=NA"], f"--null t.b: {nothing}t has a"),
@@ -256,17 +259,17 @@ class OneOfMany(Forms):
                                (["--unit", "t.a=%", "--kind", "t.a=TEXT"], "by --kind the column is TEXT")):
             self.csv_refused(message, "a\n1\n", *words, status=2)
 
-    def test_unknown_key(self):
+    def test_unknown_key(self) -> None:
         """A key of a table that isn't there is said with the tables that there are."""
         first, second = self.put("t.csv", "Id,A\n1,x\n"), self.put("u.csv", "b\nx\n")
-        for words in ([], ["--lower"], ["--lower", "--kind", "t.a=INT"]):
+        for words in each_of([], ["--lower"], ["--lower", "--kind", "t.a=INT"]):
             for key in ("obs=id", "obs=none", "T=id"):
                 self.refused(f"--key {key.partition('=')[0]}: nothing that was read has this name; the "
                              f"tables are "
                              "t, u", "--csv", first, "--csv", second, *ASK, "--key", key, *words, status=2)
         self.refused("--key id: give TABLE=COLUMN,..", "--csv", first, *ASK, "--key", "id", status=2)
 
-    def test_first_line_of_excel(self):
+    def test_first_line_of_excel(self) -> None:
         """The line by which Excel is told what stands between cells."""
         table = self.table("\ufeffsep=;\r\na;b\r\n1;x\r\n")
         self.assertEqual((table["columns"], table["rows"]), ([["a", "INT"], ["b", "TEXT"]], [[1, "x"]]))
@@ -274,7 +277,7 @@ class OneOfMany(Forms):
 
 
 class Headers(Forms):
-    def test_leave_out_by_place(self):
+    def test_leave_out_by_place(self) -> None:
         """A column is left out by its place, whatever its header is."""
         table = self.table("a,,b,\n1,2,3,4\n", "--leave-out", "t.#2", "--leave-out", "t.#4")
         self.assertEqual((table["columns"], table["rows"]), ([["a", "INT"], ["b", "INT"]], [[1, 3]]))
@@ -287,7 +290,7 @@ class Headers(Forms):
         status, out, err = tool(world, "--sqlite", path, *ASK, "--leave-out", "t.#2")
         self.assertEqual((status, json.loads(out)["tables"]["t"]["rows"]), (0, [[1]]), err)
 
-    def test_tidy_table(self):
+    def test_tidy_table(self) -> None:
         """What the tutorial and --help say of --tidy is what it does."""
         page = read(os.path.join(ROOT, "docs", "TUTORIAL.md")).decode()
         rows = re.findall(r"(?m)^\| (`[^|]*`|an empty cell) \| (\d+) \| `(\w+)` \|", page)
@@ -304,7 +307,7 @@ class Headers(Forms):
         self.assertEqual(tidy_names(["Count", "b", "c", "d", "Count"]), ["count_", "b", "c", "d", "count__5"])
         self.assertEqual(tidy_names(["", "b", ""]), ["column", "b", "column_3"])
 
-    def test_name_of_file(self):
+    def test_name_of_file(self) -> None:
         """A file whose name is no name of a table."""
         path = self.put("My data 2023.csv", "a\n1\n")
         self.refused("the table 'My data 2023' isn't a name: a letter a to z or _, then such letters, digits "
@@ -312,7 +315,7 @@ class Headers(Forms):
         for words in (["--csv", f"t={path}"], ["--csv", path, "--tidy"]):
             self.assertEqual(tool(world, *words, *ASK)[0], 0)
 
-    def test_tidy_names(self):
+    def test_tidy_names(self) -> None:
         """No name is made twice, and none is too long."""
         self.assertEqual(tidy_names(["a", "a_3", "a"]), ["a", "a_3", "a_3_3"])
         self.assertEqual(tidy_names(["Ærø", "Øl", "Maße (cm)", "2nd", "__x__", "!"]),

@@ -1,9 +1,11 @@
 """The check of guarantees, with what it has to find."""
+from __future__ import annotations
+
 import contextlib
 import io
 import os
 
-import check_docs
+from checks import check_docs
 
 from .support import InFolder
 
@@ -11,7 +13,7 @@ from .support import InFolder
 class Guarantees(InFolder):
     """A crate `low` with a promise, and a page that says it."""
 
-    def setUp(self):
+    def setUp(self) -> None:
         super().setUp()
         for folder in ("docs/internals", "crates/low/src", "crates/low/specs"):
             os.makedirs(os.path.join(self.folder, folder))
@@ -25,7 +27,7 @@ class Guarantees(InFolder):
                  "pub record SumLaw : Type 0 where\n  pub same : N\n  -- more\n  pub one : N\n\n"
                  "pub record Other : Type 0 where\n  pub two : N\n")
 
-    def differences(self, cell):
+    def differences(self, cell: str) -> str:
         self.put(check_docs.GUARANTEES, "## [`low`](../crates/low/src/lib.rt)\n\n| | | |\n|---|---|---|\n"
                                         f"| Proved | sums | {cell} |\n\n## Tested\n\n| | | |\n|---|---|---|\n"
                                         "| a | b | `none` (`lost`) |\n")
@@ -33,9 +35,9 @@ class Guarantees(InFolder):
             check_docs.check_guarantees(self.folder, check_docs.Differences())
         return printed.getvalue()
 
-    def test_assumed(self):
+    def test_assumed(self) -> None:
         """A library that a crate uses is in its table, in a row of what is assumed."""
-        def told(row):
+        def told(row: str) -> str:
             self.put(check_docs.GUARANTEES, "## [`low`](../crates/low/src/lib.rt)\n\n| | | |\n|---|---|---|\n"
                                             f"| Proved | sums | |\n{row}\n\n## Trusted\n\n`itoa`, `hex`\n")
             with contextlib.redirect_stdout(io.StringIO()) as printed:
@@ -52,7 +54,7 @@ class Guarantees(InFolder):
             self.assertEqual(told(row), f"{check_docs.GUARANTEES}:1: the table of low assumes nothing of "
                                         "hex\n", row)
 
-    def test_promises(self):
+    def test_promises(self) -> None:
         """A function is one of the crate; in brackets are clauses, what they cite, and fields of that."""
         for cell in ("`Sum::add` (`ok`, `small`, `IsSum`)", "`law` (`SumLaw`, `same`, `one`), `add`", "`Sum`",
                      "`run_tests/src/lib.rt`", "what is said"):
@@ -63,6 +65,6 @@ class Guarantees(InFolder):
                             ("`law` (`two`)", "the contract of law has no two")):
             self.assertEqual(self.differences(cell), f"docs/internals/GUARANTEES.md:5: {found}\n", cell)
 
-    def test_crates(self):
+    def test_crates(self) -> None:
         self.put("crates.txt", "# Part\nlow:\nhigh: low\n")
         self.assertEqual(self.differences("`add`"), "docs/internals/GUARANTEES.md:1: high is missing\n")

@@ -1,5 +1,7 @@
 """Three sets of data with the mess that people have: each number that comes out of the tools is that of
 SQLite over the same data, imported another way, or it is named that it isn't."""
+from __future__ import annotations
+
 import csv
 import io
 import json
@@ -7,8 +9,10 @@ import os
 import random
 import sqlite3
 import unittest
+from typing import Any, Sequence
 
 from ldvtools import outcome, package, world
+from ldvtools.proposal import accepted
 
 from . import support
 from .support import InFolder, ldv, make_database, read, tool
@@ -16,7 +20,7 @@ from .support import InFolder, ldv, make_database, read, tool
 
 @unittest.skipUnless(os.access(support.PROGRAM, os.X_OK), "the program isn't built")
 class Mess(InFolder):
-    def replies(self, *words, sql):
+    def replies(self, *words: str, sql: Sequence[str]) -> tuple[list[Any], str]:
         """The replies to statements as CSV, and what was said."""
         query, path = self.put("q.sql", ";\n".join(sql)), os.path.join(self.folder, "w.json")
         status, _, err = tool(world, *words, "--sql", query, "-o", path)
@@ -29,9 +33,9 @@ class Mess(InFolder):
         return found, err
 
     @staticmethod
-    def value(row):
+    def value(row: Any) -> tuple[Any, ...]:
         """Cells as numbers where they are some, whatever sign stands before decimals."""
-        found = []
+        found: list[Any] = []
         for cell in row:
             try:
                 found.append(float(cell.replace(",", ".")))
@@ -39,13 +43,13 @@ class Mess(InFolder):
                 found.append(cell or None)
         return tuple(found)
 
-    def compared(self, base, found, sql):
+    def compared(self, base: sqlite3.Connection, found: Any, sql: Sequence[str]) -> None:
         for text, rows in zip(sql, found):
             due = [tuple(float(value) if isinstance(value, (int, float)) else value for value in row)
                    for row in base.execute(text)]
             self.assertEqual(rows, due, text)
 
-    def test_samples(self):
+    def test_samples(self) -> None:
         """A file of cp1252 with decimal commas, units, dates, `<0,5`, and lines of delimiters alone."""
         chance, rows = random.Random(1), []
         for number in range(1, 201):
@@ -62,17 +66,17 @@ class Mess(InFolder):
         words = ["--csv", path]
         proposed = tool(world, "--propose", *words)[1].decode()
         self.assertIn("'proben.nitrat=<0,5'", proposed)
-        options = world.accepted(proposed, "p")
+        options = accepted(proposed, "p")
         options.remove("--look")
         base = sqlite3.connect(":memory:")
         base.execute("CREATE TABLE proben (nr INT, stelle TEXT, datum TEXT, nitrat REAL, kosten REAL, anteil "
                      "REAL)")
-        for number, site, day, nitrate, cost, part in rows:
+        for number, site, day, nitrate, price, part in rows:
             d, m, y = map(int, day.split("."))
             base.execute("INSERT INTO proben VALUES (?, ?, ?, ?, ?, ?)", (
                 number, site, f"{y}-{m:02}-{d:02}",
                 None if nitrate == "<0,5" else float(nitrate.replace(",", ".")),
-                float(cost[:-2].replace(".", "").replace(",", ".")), float(part[:-1].replace(",", "."))))
+                float(price[:-2].replace(".", "").replace(",", ".")), float(part[:-1].replace(",", "."))))
         sql = ["SELECT MAX(nitrat), MIN(kosten), MAX(anteil) FROM proben",
                "SELECT nr, nitrat FROM proben WHERE nitrat > 20.5 AND nitrat < 30.25 ORDER BY nr",
                "SELECT stelle, COUNT(*) AS n, COUNT(nitrat) AS m FROM proben GROUP BY stelle ORDER BY stelle",
@@ -89,7 +93,7 @@ class Mess(InFolder):
         self.assertEqual(sums[0][0][1], 200)
         self.assertAlmostEqual(sums[1][0][0], base.execute("SELECT SUM(anteil) FROM proben").fetchone()[0], 1)
 
-    def test_field(self):
+    def test_field(self) -> None:
         """A database with REAL, NOCASE, a reserved name: its package gives SQLite the same numbers again."""
         path, chance = os.path.join(self.folder, "field.db"), random.Random(2)
         make_database(path, 'CREATE TABLE survey (id INTEGER PRIMARY KEY, dist REAL, "Order" TEXT, red_list '
@@ -118,7 +122,7 @@ class Mess(InFolder):
         base.close()
         other.close()
 
-    def test_sites(self):
+    def test_sites(self) -> None:
         """Two files, one with a byte order mark: cells with line feeds, delimiters and quotes, clock times, a
         station that isn't in the other file."""
         chance, remarks = random.Random(3), ["trüb; Ölfilm", 'sagt "klar"', "siehe\nProtokoll", "ok"]
@@ -126,14 +130,14 @@ class Mess(InFolder):
                  remarks[number % 4]) for number in range(1, 101)]
         sites = [(f"S{number}", town, 10 * number) for number, town in
                  enumerate(["Köln", "Bonn", "Mainz", "Köln", "Trier", "Worms", "Speyer"], 1) if number != 6]
-        text = io.StringIO(newline="")
-        writer = csv.writer(text, delimiter=";", lineterminator="\r\n")
+        written = io.StringIO(newline="")
+        writer = csv.writer(written, delimiter=";", lineterminator="\r\n")
         writer.writerows([("Nr", "Stelle", "Zeit", "Bemerkung"), *rows])
-        samples = self.put("Proben.csv", text.getvalue().encode("cp1252"))
+        samples = self.put("Proben.csv", written.getvalue().encode("cp1252"))
         text = "".join(";".join(map(str, row)) + "\r\n" for row in [("Id", "Ort", "Km"), *sites])
         stations = self.put("Messstellen.csv", text.encode("utf-8-sig"))
         words = ["--csv", samples, "--csv", stations]
-        options = world.accepted(tool(world, "--propose", *words)[1].decode(), "p")
+        options = accepted(tool(world, "--propose", *words)[1].decode(), "p")
         options.remove("--look")
         base = sqlite3.connect(":memory:")
         self.addCleanup(base.close)
@@ -167,7 +171,7 @@ class Mess(InFolder):
         self.refused(f"Proben.csv line {line} ", *options, "--key", "messstellen=id", "--foreign",
                      "proben.stelle=messstellen", "--ask", "SELECT nr FROM proben")
 
-    def shown(self, *words, sql):
+    def shown(self, *words: str, sql: str) -> list[list[str]]:
         """The cells of a reply, as they are shown."""
         path = os.path.join(self.folder, "w.json")
         status, _, err = tool(world, *words, "--ask", sql, "-o", path)
@@ -176,7 +180,7 @@ class Mess(InFolder):
         out = tool(outcome, "--csv", "--reply", "1", "--world", path, result)[1].decode()
         return list(csv.reader(io.StringIO(out)))[1:]
 
-    def test_program(self):
+    def test_program(self) -> None:
         """A program of its own gives the same over the database and over that which its package makes."""
         path, chance = os.path.join(self.folder, "field.db"), random.Random(4)
         make_database(path, """
@@ -217,7 +221,7 @@ class Mess(InFolder):
         for text in program:
             self.assertEqual(other.execute(text).fetchall(), one.execute(text).fetchall(), text)
 
-    def test_authors(self):
+    def test_authors(self) -> None:
         """Three files of two delimiters: a word among the years, quotes and backslashes, blanks that aren't
         seen."""
         odd = ["O'Neil", 'the "best"', "back\\slash", "a\u00a0b", "ze\u200bro", "soft\u00ady", "Иванов", "王",
@@ -231,7 +235,7 @@ class Mess(InFolder):
         words = [word for name in ("pubs.tsv", "authors.tsv", "done.csv")
                  for word in ("--csv", os.path.join(self.folder, name))]
         proposed = tool(world, "--propose", *words)[1].decode()
-        options = world.accepted(proposed, "p")
+        options = accepted(proposed, "p")
         options.remove("--look")
         base = sqlite3.connect(":memory:")
         self.addCleanup(base.close)
@@ -257,7 +261,7 @@ class Mess(InFolder):
         _, err = self.replies(*options, sql=["SELECT COUNT(*) FROM pubs WHERE author = 'a b'"])
         self.assertIn("look like 'a b' and are other texts", err)
 
-    def test_texts(self):
+    def test_texts(self) -> None:
         """A table of several scripts, with two spellings of a name: groups are named, and --plain joins
         them."""
         names = ["Müller", "Mu\u0308ller", "Иванов", "王", "عمر", "O'Neil", "a\u00a0b", "a b"]

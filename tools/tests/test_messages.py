@@ -1,32 +1,48 @@
 """What the tools say of an input that is wrong: what it is and what is due, in no word of Python."""
+from __future__ import annotations
+
 import gzip
 import json
 import os
 import re
 import sqlite3
+from typing import Any
 
-import spelling
+from cases import encoder
+from ldvtools import (
+    bundle,
+    capture,
+    check,
+    diff,
+    join,
+    orders,
+    outcome,
+    package,
+    page,
+    picture,
+    playback,
+    prov,
+    world,
+)
 
-from ldvtools import (bundle, capture, check, diff, join, orders, outcome, package, page, picture, playback,
-                      prov, world)
-
-from .support import EXAMPLES, InFolder, read, tool
+from .support import EXAMPLES, InFolder, each_of, read, tool
 from .test_page import orders as orders_package
 
 PYTHON = re.compile(r"Traceback|\w+Error\b|\bcodec\b|NoneType|object has no|not subscriptable|to unpack|"
                     r"\bb['\"]|<class|\bindices\b|argument of type|unhashable|positional argument|"
                     r"\bExpecting\b|__\w+__|\bint\(\)|literal for")
-COMMANDS = {bundle: ["-o", "x"], check: [], diff: ["a", "b"], join: ["a", "b"], orders: ["a"], outcome: [],
-            package: [], page: [], picture: [], prov: [], world: []}
+COMMANDS: dict[Any, list[str]] = {
+    bundle: ["-o", "x"], check: [], diff: ["a", "b"], join: ["a", "b"], orders: ["a"], outcome: [],
+    package: [], page: [], picture: [], prov: [], world: []}
 
 
 class Messages(InFolder):
-    def setUp(self):
+    def setUp(self) -> None:
         super().setUp()
         self.world, self.outcome = f"{EXAMPLES}/hello.json", f"{EXAMPLES}/hello.outcome"
         self.package = self.put("x.package", orders_package())
 
-    def said(self, due, module, *words, given=b"", status=1):
+    def said(self, due: str, module: Any, *words: str, given: bytes = b"", status: int = 1) -> str:
         """A call that is refused with a line that says this, and nothing of Python."""
         got, out, err = tool(module, *words, given=given)
         self.assertEqual((got, out), (status, b""), (words, err))
@@ -34,7 +50,7 @@ class Messages(InFolder):
         self.assertIsNone(PYTHON.search(err), err)
         return err
 
-    def test_shapes(self):
+    def test_shapes(self) -> None:
         """A document of JSON that is no world: where, and what is due there."""
         begin = '{"start":["m"],"files":{"m":""},"tables":{"t":{"columns":[["a","INT"]],'
         for text, due in (
@@ -59,7 +75,7 @@ class Messages(InFolder):
         self.said("w.json: no world document: shape: the document is null, and an object is due", outcome,
                   "--world", self.put("w.json", "null"), self.outcome)
 
-    def test_other_kinds(self):
+    def test_other_kinds(self) -> None:
         """A file of another kind is called what it is, by the name of that file."""
         joined = self.put("both.joined", b"LDVJOIN1" + bytes(40))
         packed = self.put("world.gz", gzip.compress(read(self.world)))
@@ -83,7 +99,7 @@ class Messages(InFolder):
         self.said("its digest is another one: bytes were lost or changed on the way", package,
                   self.put("bad", bytes(bad)))
 
-    def test_programs(self):
+    def test_programs(self) -> None:
         """A program that isn't ldv, and a script that is a program in another language."""
         self.said("/bin/true replay wrote no outcome: it isn't the program ldv", page, "--ldv", "/bin/true",
                   self.package)
@@ -107,7 +123,7 @@ class Messages(InFolder):
         made = tool(world, "--csv", table, "--script", self.put("m.ldv", "prin 1\n"))[2]
         self.assertNotIn("looks like", made)
 
-    def test_tables(self):
+    def test_tables(self) -> None:
         """Files that world.py can't read."""
         wide = self.put("wide.csv", "a,b\n1,2\n".encode("utf-16-le"))
         self.said("looks like UTF-16 without a byte order mark; give --encoding utf-16-le", world, "--csv",
@@ -117,19 +133,19 @@ class Messages(InFolder):
         base.executescript("CREATE TABLE t (a); DROP TABLE t; VACUUM;")
         base.close()
         for path in (empty, dropped):
-            for words in (["--ask", "SELECT 1 FROM t"], ["--look"], []):
+            for words in each_of(["--ask", "SELECT 1 FROM t"], ["--look"], []):
                 status = 1 if words else 2
                 due = "has no table: it is an empty database" if words else "give a start script"
                 self.said(due, world, "--sqlite", path, *words, status=status)
 
-    def test_traces(self):
+    def test_traces(self) -> None:
         """Of two traces that differ only in what a statement needed it is said in what."""
-        def made(row):
-            needs = [spelling.group("t", spelling.read(row))]
-            trace = [spelling.started(), spelling.asked(0, tables=["t"], reads=needs), spelling.ended(2)]
-            rows = [spelling.row(number, number) for number in range(2)]
-            tables = [spelling.table("t", [spelling.column("k")], rows=rows)]
-            return spelling.encode(spelling.package(steps=2, tables=tables, trace=trace))
+        def made(row: Any) -> bytes:
+            needs = [encoder.group("t", encoder.read(row))]
+            trace = [encoder.started(), encoder.asked(0, tables=["t"], reads=needs), encoder.ended(2)]
+            rows = [encoder.row(number, number) for number in range(2)]
+            tables = [encoder.table("t", [encoder.column("k")], rows=rows)]
+            return encoder.encode(encoder.package(steps=2, tables=tables, trace=trace))
 
         status, out, err = tool(diff, self.put("1", made(0)), self.put("2", made(1)))
         self.assertEqual((status, err.count("nothing says")), (1, err.count("\n")))
@@ -139,7 +155,7 @@ class Messages(InFolder):
             "  - 1 0 asked 0 tables 1 reads 1 made 0", "  + 1 0 asked 0 tables 1 reads 1 made 0",
             "    first in: t 0 version 0 rule L, and t 1 version 0 rule L"])
 
-    def test_words(self):
+    def test_words(self) -> None:
         """Wrong words are one line, which names the word, and where there is more."""
         for module, words in COMMANDS.items():
             err = self.said("--nonsense", module, *words, "--nonsense", status=2)
@@ -153,7 +169,7 @@ class Messages(InFolder):
             err = self.said(due, module, *words, status=2)
             self.assertEqual(err.count("\n"), 1)
 
-    def test_columns(self):
+    def test_columns(self) -> None:
         """A file of columns that is none, in each tool that reads it."""
         made = {"start": ["m"], "files": {"m": "", "ldv-columns/t.json": '{"table":"t","columns":5}'},
                 "tables": {"t": {"columns": [["a", "INT"]]}}}

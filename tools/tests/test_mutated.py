@@ -1,12 +1,15 @@
 """1,000 inputs for each tool that were cut, flipped, doubled or mixed: each is read or refused, with no
 traceback."""
+from __future__ import annotations
+
 import json
 import os
 import random
+from typing import Any, Iterator
 
 from ldvtools import check, diff, join, orders, outcome, package, page, picture, prov, world
-from ldvtools.provenance import Edge, Node, Provenance, document_text
 from ldvtools.packages import read_package
+from ldvtools.provenance import Edge, Node, Provenance, document_text
 from ldvtools.trace import graph_of
 
 from .support import InFolder, make_database, read, tool
@@ -29,7 +32,7 @@ INSERT INTO a VALUES (1, 1.25, 'Müller', NULL, '2024/03/11'), (2, 0.5, 'a b', x
 INSERT INTO b (a, "Order") VALUES (1, 'x'), (2, NULL);"""
 
 
-def mutated(data, chance):
+def mutated(data: bytes, chance: random.Random) -> bytes:
     """A few changes at places by chance. A package keeps a right digest half of the time."""
     for _ in range(chance.randint(1, 4)):
         at = chance.randrange(len(data) + 1)
@@ -48,7 +51,7 @@ def mutated(data, chance):
     return data
 
 
-def sealed(data, chance):
+def sealed(data: bytes, chance: random.Random) -> bytes:
     """A mutated package whose digest is right."""
     import hashlib
     body = mutated(data[8:-32], chance)
@@ -56,7 +59,7 @@ def sealed(data, chance):
 
 
 class Mutated(InFolder):
-    def setUp(self):
+    def setUp(self) -> None:
         super().setUp()
         self.chance = random.Random(54)
         tables = {"t": {"columns": [list(column) for column in KINDS["t"]], "key": ["id"], "rows": ROWS}}
@@ -64,7 +67,7 @@ class Mutated(InFolder):
         self.document = json.dumps({"start": ["main"], "files": files, "tables": tables}).encode()
         self.packed = packed(ROWS, script=SCRIPT)
 
-    def tried(self, calls):
+    def tried(self, calls: Any) -> None:
         """Calls of tools over mutated inputs: a status of their own, and no line of Python."""
         for number in range(COUNT):
             for module, words, data in calls(number):
@@ -75,12 +78,12 @@ class Mutated(InFolder):
                 self.assertIn(status, (0, 1, 2), (words, data))
                 self.assertNotIn("Traceback", err)
 
-    def test_packages(self):
+    def test_packages(self) -> None:
         """package.py, page.py, outcome.py over packages; half have a right digest."""
         replies = self.put("o", OUTCOME)
         ways = [[], ["--rows"], ["--statement", "0"], ["--sizes"], ["--byte", "100"], ["--world"]]
 
-        def calls(number):
+        def calls(number: int) -> Iterator[Any]:
             change = sealed if number % 2 else mutated
             data = change(self.packed, self.chance)
             yield package, ways[number % len(ways)], data
@@ -89,25 +92,25 @@ class Mutated(InFolder):
 
         self.tried(calls)
 
-    def test_documents(self):
+    def test_documents(self) -> None:
         """check.py and outcome.py over world documents."""
         replies = self.put("o", OUTCOME)
 
-        def calls(_):
+        def calls(_: Any) -> Iterator[Any]:
             data = mutated(self.document, self.chance)
             yield check, [], data
             yield outcome, ["--world", self.put("w", data), replies], b""
 
         self.tried(calls)
 
-    def test_outcomes(self):
+    def test_outcomes(self) -> None:
         """outcome.py and diff.py over outcomes, join.py over packages, prov.py over documents."""
         whole, one = self.put("w.json", self.document), self.put("one", self.packed)
         graph = graph_of(read_package(self.packed))
         nodes = [Node(str(node[0]), "/".join(map(str, node[1:]))) for node in graph.nodes]
         text = document_text(Provenance(nodes, [Edge(*ends, *times) for ends, times in graph.edges.items()]))
 
-        def calls(number):
+        def calls(number: int) -> Iterator[Any]:
             data = mutated(OUTCOME.encode(), self.chance)
             yield outcome, ["--world", whole], data
             yield diff, [self.put("a", data), self.put("b", OUTCOME)], b""
@@ -117,12 +120,12 @@ class Mutated(InFolder):
 
         self.tried(calls)
 
-    def test_reports(self):
+    def test_reports(self) -> None:
         """picture.py over the reports of a trace, orders.py over packages."""
         rows, depends = "t 0 0 L\nt 7 0 H\n", "path main\nprocess 0.0\nrow t 0 0\nask 0\nreply 0\n"
 
-        def calls(number):
-            given = [mutated(text.encode(), self.chance) if number % 3 == place else text
+        def calls(number: int) -> Iterator[Any]:
+            given = [mutated(text.encode(), self.chance) if number % 3 == place else text.encode()
                      for place, text in enumerate((TRACE, rows, depends))]
             names = [self.put(f"report {place}", text) for place, text in enumerate(given)]
             yield picture, ["--rows", names[1], "--depends", names[2], names[0]], b""
@@ -130,13 +133,13 @@ class Mutated(InFolder):
 
         self.tried(calls)
 
-    def test_databases(self):
+    def test_databases(self) -> None:
         """world.py over a database of SQLite whose bytes were changed, whole or at its pages alone."""
         path = os.path.join(self.folder, "whole.db")
         make_database(path, BASE)
         whole, shown = read(path), ["--no-check", "--propose", "--tidy", "--lower"]
 
-        def calls(number):
+        def calls(number: int) -> Iterator[Any]:
             # The first 100 bytes say what the file is; with them changed nothing behind them is read.
             begin = 0 if number % 4 == 0 else 100
             name = self.put("f.db", whole[:begin] + mutated(whole[begin:], self.chance))
@@ -145,9 +148,9 @@ class Mutated(InFolder):
 
         self.tried(calls)
 
-    def test_tables(self):
+    def test_tables(self) -> None:
         """world.py over CSV files and statements, with options that it proposed."""
-        def calls(number):
+        def calls(number: int) -> Iterator[Any]:
             data = mutated(SAMPLES.encode("cp1252" if number % 2 else "utf-8"), self.chance)
             query = mutated(b"SELECT nr, AVG(kosten) FROM t WHERE kosten BETWEEN 1.5 AND 20 GROUP BY nr;\n"
                             b"SELECT nr FROM t WHERE datum IN ('1.2.2024', 'x') AND zeit LIKE '06%' -- x\n",

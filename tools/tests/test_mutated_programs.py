@@ -1,22 +1,24 @@
 """1,000 inputs for bundle.py, playback.py and capture.py that were cut, flipped, doubled or mixed: each is
 taken or refused, with no traceback and no word of Python. What the program ldv would answer is made up."""
+from __future__ import annotations
+
 import contextlib
 import json
 import os
 import random
 import shutil
 import sys
+from typing import Any, Callable
 from unittest import mock
 
-import spelling
-
-from ldvtools import bundle, capture, playback
+from cases import encoder
+from ldvtools import bundle, capture, picture, playback
 from ldvtools.captured_file import read_seen
 from ldvtools.captured_run import run_program
 from ldvtools.errors import Malformed
 from ldvtools.packages import read_package
 from ldvtools.provenance import document_text, provenance_of
-from ldvtools.values import changed_reply, rows_reply
+from ldvtools.values import Reply, changed_reply, rows_reply
 
 from .support import InFolder, make_database, read, tool
 from .test_as_read import OUTCOME, ROWS, SCRIPT, packed
@@ -66,11 +68,11 @@ con.execute("SELECT * FROM v WHERE name LIKE 'A%'").fetchall()
 
 
 class MutatedPrograms(InFolder):
-    def setUp(self):
+    def setUp(self) -> None:
         super().setUp()
         self.chance = random.Random(54)
 
-    def tried(self, module, words):
+    def tried(self, module: Any, words: list[str]) -> Any:
         """How a call ends; a status of its own, and no word of Python."""
         try:
             status, _, err = tool(module, *words)
@@ -81,10 +83,10 @@ class MutatedPrograms(InFolder):
             self.assertNotIn(word, err)
         return status
 
-    def change(self, data, number):
+    def change(self, data: bytes, number: int) -> bytes:
         return (sealed if number % 2 else mutated)(data, self.chance)
 
-    def test_bundles(self):
+    def test_bundles(self) -> None:
         """bundle.py over packages, half of them with a right digest, and over what a program answers."""
         data = packed(ROWS, script=SCRIPT)
         prov = document_text(provenance_of(read_package(data))).encode()
@@ -92,34 +94,34 @@ class MutatedPrograms(InFolder):
         path, package = os.path.join(self.folder, "made.zip"), os.path.join(self.folder, "p.package")
         ended = set()
 
-        def answer(number):
-            def answered(_, words, __):
+        def answer(number: int) -> Callable[..., tuple[int, bytes, str]]:
+            def answered(_: Any, words: list[str], __: Any) -> tuple[int, bytes, str]:
                 found = {"replay": OUTCOME.encode(), "audit": b"sound\n", "prov": prov}[words[0]]
                 return 0, mutated(found, self.chance) if number % 6 == 0 else found, ""
             return answered
 
-        def image(_, path, __):
+        def image(_: Any, path: str, __: Any) -> None:
             with open(path, "wb") as file:
                 file.write(b"<svg/>")
 
         for number in range(COUNT):
             self.put("p.package", data if number % 3 == 0 else self.change(data, number))
             with mock.patch.object(bundle, "answer_of", answer(number)), \
-                    mock.patch.object(bundle.picture, "write_svg", image):
+                    mock.patch.object(picture, "write_svg", image):
                 ended.add(self.tried(bundle, [package, "--ldv", program, "-o", path]))
             with contextlib.suppress(FileNotFoundError):
                 os.remove(path)
         self.assertEqual(ended, {0, 1})
 
-    def test_playbacks(self):
+    def test_playbacks(self) -> None:
         """playback.py over packages, over what a program saw, and over replies."""
         seen, ended, taken = json.dumps(SEEN).encode(), set(), 0
         self.assertEqual(read_seen(seen), SEEN)
 
-        def package(content):
-            files = [spelling.file("capture.json", content), spelling.file("main", "exit 0")]
-            trace = [spelling.started(), spelling.ended()]
-            return spelling.encode(spelling.package(files=files, trace=trace))
+        def package(content: Any) -> bytes:
+            files = [encoder.file("capture.json", content), encoder.file("main", "exit 0")]
+            trace = [encoder.started(), encoder.ended()]
+            return encoder.encode(encoder.package(files=files, trace=trace))
 
         for number in range(COUNT):
             content = mutated(seen, self.chance) if number % 3 == 0 else seen
@@ -136,7 +138,7 @@ class MutatedPrograms(InFolder):
         self.assertEqual(ended, {0, 1})
         self.assertGreater(taken, 0)
 
-    def test_captures(self):
+    def test_captures(self) -> None:
         """capture.py over databases and over the log of a program, which may be cut off anywhere."""
         self.put("program.py", PROGRAM)
         before = os.getcwd()
@@ -149,15 +151,15 @@ class MutatedPrograms(InFolder):
         self.assertEqual(run_program([sys.executable, "program.py"], "record", logs), 0)
         kept = {name: read(os.path.join(logs, name)) for name in os.listdir(logs)}
 
-        def recorded(number):
-            def ran(_, __, folder):
+        def recorded(number: int) -> Callable[..., int]:
+            def ran(_: Any, __: Any, folder: str) -> int:
                 for name, data in kept.items():
                     with open(os.path.join(folder, name), "wb") as file:
                         file.write(mutated(data, self.chance) if number % 3 == 0 else data)
                 return 0
             return ran
 
-        def replies(_, __, count):
+        def replies(_: Any, __: Any, count: int) -> list[Reply]:
             return [self.chance.choice((rows_reply([["Ada", 170], ["Bo", 182]]), changed_reply(1),
                                         rows_reply([]))) for _ in range(count)]
 

@@ -1,7 +1,9 @@
 """The check of names, with what it has to find."""
+from __future__ import annotations
+
 import os
 
-import check_names
+from checks import check_names
 
 from .support import InFolder, read, tool
 
@@ -50,7 +52,7 @@ low src sooner
 class Names(InFolder):
     """A crate `low` with some names, of which the list has some."""
 
-    def setUp(self):
+    def setUp(self) -> None:
         super().setUp()
         os.makedirs(os.path.join(self.folder, "tools"))
         for folder in ("src", "specs", "proofs", "out/src"):
@@ -61,10 +63,10 @@ class Names(InFolder):
         self.put("crates/low/out/src/made.rt", "pub fn made() {}\n")
         self.list("")
 
-    def list(self, text):
+    def list(self, text: str) -> str:
         return self.put(check_names.LIST, text)
 
-    def test_bare(self):
+    def test_bare(self) -> None:
         """A bare name is a participle or an adjective, whatever adverb stands beside it."""
         for name in ("held", "looked_up", "all_extended", "not_given", "sorted_once", "greatest", "first_bad",
                      "fixing", "unset", "Sorted", "AllTaken", "WellFormed", "Valid"):
@@ -74,7 +76,7 @@ class Names(InFolder):
                      "first", "put", "add", "all", "up", "Reads", "Stops", "whole_bytes", "too_many_rows"):
             self.assertFalse(check_names.is_bare(name), name)
 
-    def test_looked_at(self):
+    def test_looked_at(self) -> None:
         """Functions of src but for tests, and public definitions of specs."""
         status, out, _ = tool(check_names, self.folder)
         self.assertEqual((status, out.decode()), (1, """\
@@ -87,7 +89,7 @@ crates/low/src/lib.rt:9: looked_up is a bare participle or adjective: say what i
 crates/low/src/lib.rt:17: sooner is a bare participle or adjective: say what it gives or does
 """))
 
-    def test_list(self):
+    def test_list(self) -> None:
         """What is listed may stand; what is listed and gone has to leave the list."""
         self.list(f"# Names.\n{STANDING}")
         self.assertEqual(tool(check_names, self.folder)[:2], (0, b""))
@@ -99,7 +101,7 @@ crates/low/src/lib.rt:17: sooner is a bare participle or adjective: say what it 
         self.assertEqual((status, out.count(b"\n")), (1, 1))
         self.assertTrue(out.startswith(b"crates/low/src/lib.rt:18: joined is a bare "), out)
 
-    def test_rewritten(self):
+    def test_rewritten(self) -> None:
         """--drop takes off what is gone, --add puts on what is new, and both keep the other lines."""
         path = self.list(f"# Names.\n{STANDING}")
         self.put("crates/low/src/lib.rt", SOURCE.replace("fn held", "fn made"))
@@ -113,6 +115,6 @@ crates/low/src/lib.rt:17: sooner is a bare participle or adjective: say what it 
         self.assertEqual(tool(check_names, "--drop", "--add", self.folder)[:2], (0, b""))
         self.assertEqual(read(path).decode(), f"# Names.\n{STANDING}")
 
-    def test_words(self):
+    def test_words(self) -> None:
         self.assertEqual(tool(check_names, "--other")[0], 2)
         self.assertEqual(tool(check_names, self.folder, self.folder)[0], 2)

@@ -1,11 +1,13 @@
-"""orders.py, over packages that spelling.py spells, with a program in place of ldv; runs in all orders."""
+"""orders.py, over packages that encoder.py spells, with a program in place of ldv; runs in all orders."""
+from __future__ import annotations
+
 import json
 import os
 import random
 import shlex
+from typing import Any, Iterator, Optional, Sequence
 
-import spelling
-
+from cases import encoder
 from ldvtools import orders
 from ldvtools.outcomes import read_outcome
 from ldvtools.rerun import Machine, World, answers_of, differences
@@ -39,28 +41,28 @@ SHARED = {"apart": [], "jobs": [], "orders": [], "handed": ["sum.txt"], "nightly
 STEPS = {"apart": 82, "jobs": 66, "orders": 28}
 
 
-def spelled(*trace, children=2, **parts):
+def spelled(*trace: Any, children: int = 2, **parts: Any) -> bytes:
     """A package of a run of two children and of these events."""
-    made = [spelling.spawned(1 + place, 0, "s") for place in range(children)]
-    trace = [spelling.started(), *made, *trace, spelling.ended(9)]
-    given = dict(version=2, mode=EXCLUDED, steps=9, trace=trace)
-    return spelling.encode(spelling.package(**{**given, **parts}))
+    made = [encoder.spawned(1 + place, 0, "s") for place in range(children)]
+    given: dict[str, Any] = dict(version=2, mode=EXCLUDED, steps=9,
+                                 trace=[encoder.started(), *made, *trace, encoder.ended(9)])
+    return encoder.encode(encoder.package(**{**given, **parts}))
 
 
-def act(name, process, path="f", step=3):
-    return spelling.act(name, path, step, process)
+def act(name: str, process: int, path: str = "f", step: int = 3) -> Any:
+    return encoder.act(name, path, step, process)
 
 
 class Shared(InFolder):
     """What processes share."""
 
-    def kind(self, *trace, **parts):
+    def kind(self, *trace: Any, **parts: Any) -> str:
         status, out, err = tool(orders, given=spelled(*trace, **parts))
         self.assertEqual(err, "")
         self.assertEqual(status, 0 if out.startswith(b"private") else 1)
         return out.decode()
 
-    def test_acts(self):
+    def test_acts(self) -> None:
         """A path that one changes is named by no other, whatever the other does, and in whatever order."""
         for changing in CHANGING:
             for naming in NAMING:
@@ -71,27 +73,27 @@ class Shared(InFolder):
                     self.assertIn("private: ", self.kind(act(changing, one), act(naming, one)))
                     self.assertIn("private: ", self.kind(act(changing, one), act(naming, other, "g")))
 
-    def test_looking(self):
+    def test_looking(self) -> None:
         """A path that none changes may be named by all."""
         looking = [name for name in NAMING if name not in CHANGING]
         for one in looking:
             for other in looking:
                 self.assertEqual(self.kind(act(one, 1), act(other, 2), children=2)[:7], "private")
 
-    def test_absent(self):
+    def test_absent(self) -> None:
         """A path that isn't there, and is asked for, is named too."""
         for name in ("tested", "unopened", "unspawned"):
-            events = [act("removed", 1), spelling.act(name, "f", 4, 2, found=0)]
+            events = [act("removed", 1), encoder.act(name, "f", 4, 2, found=0)]
             self.assertIn("file f\n  process 0.0: removed it\n", self.kind(*events))
 
-    def test_script(self):
+    def test_script(self) -> None:
         """A script that one starts and another changes."""
         self.assertIn("file main\n  process 0: started the script\n  process 0.0: wrote it\n",
                       self.kind(act("wrote", 1, "main")))
         self.assertIn("file s\n  process 0: made a child of the script\n  process 0.1: removed it\n",
                       self.kind(act("removed", 2, "s")))
 
-    def test_lines(self):
+    def test_lines(self) -> None:
         """All paths in the order of their bytes, each act once, and processes in the order of the trace."""
         trace = [act("opened append", 2, "b"), act("wrote", 2, "b"), act("wrote", 2, "b", 4),
                  act("opened append", 1, "b", 5), act("removed", 1, "B", 6), act("tested", 0, "B", 7),
@@ -106,28 +108,28 @@ file b
   process 0.0: opened it for appending
 """)
 
-    def test_one_process(self):
-        trace = [spelling.started(), act("wrote", 0, "main", 1), spelling.ended()]
-        self.assertEqual(tool(orders, given=spelling.encode(spelling.package(mode=EXCLUDED, trace=trace))),
+    def test_one_process(self) -> None:
+        trace = [encoder.started(), act("wrote", 0, "main", 1), encoder.ended()]
+        self.assertEqual(tool(orders, given=encoder.encode(encoder.package(mode=EXCLUDED, trace=trace))),
                          (0, b"private: one process, which has one order of steps\n", ""))
 
-    def test_rows(self):
+    def test_rows(self) -> None:
         """A package with rows isn't run under other seeds; its paths are told all the same."""
         found = self.kind(act("wrote", 1), act("read", 2), mode=1)
         self.assertTrue(found.startswith("not private\nit has rows, and its processes share"), found)
         self.assertIn("file f\n", found)
 
-    def test_processes(self):
+    def test_processes(self) -> None:
         """The first process and 65,533 others are fewer than 65,535."""
         for times, said in ((65_533, "private: 65534 processes,"), (65_534, "65535 processes were made")):
-            runs = [spelling.run(spelling.started()), spelling.run(spelling.spawned(1, 0, "s"), times, 1),
-                    spelling.run(spelling.ended(70_000))]
-            data = spelling.encode(spelling.package(version=2, mode=EXCLUDED, steps=70_000, runs=runs))
+            runs = [encoder.run(encoder.started()), encoder.run(encoder.spawned(1, 0, "s"), times, 1),
+                    encoder.run(encoder.ended(70_000))]
+            data = encoder.encode(encoder.package(version=2, mode=EXCLUDED, steps=70_000, runs=runs))
             status, out, err = tool(orders, given=data)
             self.assertEqual((status, err), (1 if times == 65_534 else 0, ""))
             self.assertIn(said, out.decode())
 
-    def test_many(self):
+    def test_many(self) -> None:
         """Twenty paths and twenty processes are shown, or all."""
         trace = [act("wrote", process, f"f{path:02}") for path in range(22) for process in (1, 2)]
         self.assertIn(".. and 2 paths more (--all shows all)\n", self.kind(*trace))
@@ -135,7 +137,7 @@ file b
         trace = [act("wrote", process) for process in range(1, 24)]
         self.assertIn("  .. and 3 lines more (--all shows all)\n", self.kind(*trace, children=23))
 
-    def test_no_package(self):
+    def test_no_package(self) -> None:
         for data, said in ((b"", "no package: it doesn't begin"), (spelled()[:-1], "no package: its digest"),
                            (spelled(act("wrote", 1), act("wrote", 7)), "process 7, which nothing made")):
             status, out, err = tool(orders, given=data)
@@ -150,7 +152,7 @@ file b
 class Tried(InFolder):
     """Other seeds, with a program in place of ldv."""
 
-    def tried(self, answers=None, *words, steps=9):
+    def tried(self, answers: Any = None, *words: str, steps: int = 9) -> tuple[Any, list[list[str]]]:
         path, quoted = os.path.join(self.folder, "calls"), shlex.quote
         open(path, "w").close()
         lines = [f"{seed}) printf %s {quoted(output)}; printf %s {quoted(error)} >&2; exit {status};;"
@@ -162,7 +164,7 @@ class Tried(InFolder):
         with open(path) as file:
             return found, [line.split() for line in file]
 
-    def test_agree(self):
+    def test_agree(self) -> None:
         """It is replayed within its own steps, under its own seed and under each other one."""
         (status, out, err), calls = self.tried(None, "--seeds", "3")
         self.assertEqual((status, err), (0, ""))
@@ -171,11 +173,11 @@ class Tried(InFolder):
         self.assertEqual(calls, [["replay", "--steps", "9"]] + [
             ["replay", "--seed", seed, "--steps", "9"] for seed in "012"])
 
-    def test_hundred(self):
+    def test_hundred(self) -> None:
         found, calls = self.tried()
         self.assertEqual((found[0], len(calls), calls[-1][2]), (0, 101, "99"))
 
-    def test_elsewhere(self):
+    def test_elsewhere(self) -> None:
         """Each seed that leads elsewhere is told: a divergence, no end, or another outcome."""
         (status, out, err), _ = self.tried({"1": [9, "", "ldv: diverged: process 0.1 statement 0\n"],
                                             "2": [7, "", "ldv: not ended after 9 steps\n"],
@@ -186,7 +188,7 @@ class Tried(InFolder):
             "seed 4: another outcome", "  process 0: status 0, and 1",
             "2 of 5 seeds: the outcome of the recorded run, after no more than its 9 steps", ""])
 
-    def test_own(self):
+    def test_own(self) -> None:
         """A package whose own run diverges has no outcome to compare with."""
         diverged = [9, "", "ldv: diverged: process 0 statement 1\n"]
         (status, out, err), _ = self.tried({"own": diverged, "0": diverged}, "--seeds", "2")
@@ -196,7 +198,7 @@ class Tried(InFolder):
             "seed 0: ldv: diverged: process 0 statement 1", "seed 1: another outcome",
             "0 of 2 seeds: the outcome of the recorded run, after no more than its 9 steps", ""])
 
-    def test_many(self):
+    def test_many(self) -> None:
         answers = {str(seed): [9, "", f"ldv: diverged: process 0 statement {seed}\n"] for seed in range(30)}
         (status, out, _), _ = self.tried(answers, "--seeds", "30")
         self.assertEqual((status, len(out.split(b"\n"))), (1, 24))
@@ -204,11 +206,11 @@ class Tried(InFolder):
         (_, out, _), _ = self.tried(answers, "--seeds", "30", "--all")
         self.assertIn(b"statement 29", out)
 
-    def test_no_steps(self):
+    def test_no_steps(self) -> None:
         """A budget is at least 1, whatever the package says."""
         self.assertEqual(self.tried(None, "--seeds", "1", steps=0)[1][0], ["replay", "--steps", "1"])
 
-    def test_refused(self):
+    def test_refused(self) -> None:
         """A program that isn't there, or that takes no package."""
         (status, out, err), _ = self.tried({"own": [8, "", "ldv: damaged: form\n"]})
         self.assertEqual((status, out[:8]), (2, b"private:"))
@@ -229,19 +231,20 @@ class Chosen(Machine):
     `choices` has how many could take each step.
     """
 
-    def __init__(self, world, answer, picks):
+    def __init__(self, world: Any, answer: Any, picks: Sequence[int]) -> None:
         super().__init__(world, answer)
-        self.picks, self.choices = picks, []
+        self.picks = picks
+        self.choices: list[int] = []
 
-    def turn(self):
+    def turn(self) -> Any:
         self.choices.append(len(self.runnable))
         made = len(self.choices) - 1
         return self.runnable[self.picks[made] % len(self.runnable) if made < len(self.picks) else 0]
 
 
-def every_order(world, answer):
+def every_order(world: Any, answer: Any) -> Iterator[Any]:
     """Each run of a world, once for each list of who takes a step."""
-    picks = []
+    picks: Optional[list[int]] = []
     while picks is not None:
         machine = Chosen(world, answer, picks)
         machine.run(10_000)
@@ -252,16 +255,16 @@ def every_order(world, answer):
         picks = taken[:-1] + [taken[-1] + 1] if taken else None
 
 
-def ended(machine):
+def ended(machine: Any) -> Any:
     """What a run comes to, by the names of processes."""
     made = [(process.name, process.status, "".join(process.printed)) for process in machine.processes]
     return sorted(made), sorted((path, bytes(machine.files.get(path, b"gone"))) for path in machine.touched)
 
 
-def asked_of_tables(tables):
+def asked_of_tables(tables: Any) -> Any:
     base = in_sqlite(tables)
 
-    def answer(process, place, text, params):
+    def answer(process: str, place: int, text: str, params: Sequence[Any]) -> Any:
         done = base.execute(text, params)
         return changed_reply(done.rowcount) if done.description is None else rows_reply(
             [list(row) for row in done.fetchall()])
@@ -297,7 +300,7 @@ PAIRS = [
 class Orders(InFolder):
     """The examples and small worlds in other orders of steps, by the runs of rerun.py."""
 
-    def test_examples(self):
+    def test_examples(self) -> None:
         """Over SQLite, each example has its outcome, and under other seeds those whose statements don't meet
         have it too."""
         for name, always in (("apart", True), ("handed", True), ("jobs", False)):
@@ -312,7 +315,7 @@ class Orders(InFolder):
                     self.assertEqual(list(differences(machine, wanted)), [], name)
             self.assertEqual(len(seen) == 1, always, name)
 
-    def test_replies(self):
+    def test_replies(self) -> None:
         """Over its recorded replies, a private example has its outcome in any order, after as many steps."""
         for name, steps in STEPS.items():
             world = read_world(read(f"{EXAMPLES}/{name}.json")).world
@@ -325,7 +328,7 @@ class Orders(InFolder):
                 machine.run()
                 self.assertEqual((list(differences(machine, outcome)), machine.step), ([], steps), name)
 
-    def test_every_order(self):
+    def test_every_order(self) -> None:
         """Small worlds in all orders of their steps: one outcome after one number of steps where they are
         private, and several where two processes share what one of them changes."""
         for one, two, is_private in PAIRS:
@@ -338,13 +341,13 @@ class Orders(InFolder):
             self.assertGreater(count, 10)
             self.assertEqual(len(seen) == 1, is_private, (one, two, sorted(seen)))
 
-    def test_program(self):
+    def test_program(self) -> None:
         """The packages of the examples, by the program: what they share, and a few seeds."""
         if not os.access(support.PROGRAM, os.X_OK):
             self.skipTest(f"{support.PROGRAM} isn't there; compile it with ./ldv")
         for name, paths in SHARED.items():
-            status, data, err = ldv(["record", "--excluded"], read(f"{EXAMPLES}/{name}.json"))
-            self.assertEqual((status, err), (0, b""))
+            status, data, told = ldv(["record", "--excluded"], read(f"{EXAMPLES}/{name}.json"))
+            self.assertEqual((status, told), (0, b""))
             status, out, err = tool(orders, "--ldv", support.PROGRAM, "--seeds", "10", given=data)
             self.assertEqual((status, err), (1 if paths else 0, ""), name)
             found = [line[5:] for line in out.decode().split("\n") if line.startswith("file ")]
@@ -354,19 +357,19 @@ class Orders(InFolder):
                 self.assertEqual((status, outcome), (14, b"") if paths else (
                     0, read(f"{EXAMPLES}/{name}.outcome")), name)
 
-    def test_lying_trace(self):
+    def test_lying_trace(self) -> None:
         """A package by hand whose trace names no path that its scripts share: it is private by its trace, and
         another order leads elsewhere, which is told."""
         if not os.access(support.PROGRAM, os.X_OK):
             self.skipTest(f"{support.PROGRAM} isn't there; compile it with ./ldv")
         # The first child removes d, and the second one asks SELECT 0 where d is gone, else SELECT 1.
-        files = [spelling.file("d", ""), spelling.file("m", 'spawn a "o" else z\nspawn b "t" else z\nz:\n'),
-                 spelling.file("o", 'remove "d" else z\nz:\n'),
-                 spelling.file("t", 'exists x "d"\nlet q = "SELECT " ++ x\nsql c q\n')]
-        trace = [spelling.started("m"), spelling.spawned(1, 0, "o"), spelling.spawned(2, 0, "t"),
-                 spelling.ended(9)]
-        logs = [spelling.log([0, 1], spelling.entry("SELECT 0"))]
-        data = spelling.encode(spelling.package(version=2, mode=EXCLUDED, start=["m"], steps=9, files=files,
+        files = [encoder.file("d", ""), encoder.file("m", 'spawn a "o" else z\nspawn b "t" else z\nz:\n'),
+                 encoder.file("o", 'remove "d" else z\nz:\n'),
+                 encoder.file("t", 'exists x "d"\nlet q = "SELECT " ++ x\nsql c q\n')]
+        trace = [encoder.started("m"), encoder.spawned(1, 0, "o"), encoder.spawned(2, 0, "t"),
+                 encoder.ended(9)]
+        logs = [encoder.log([0, 1], encoder.entry("SELECT 0"))]
+        data = encoder.encode(encoder.package(version=2, mode=EXCLUDED, start=["m"], steps=9, files=files,
                                                 logs=logs, trace=trace))
         status, out, err = tool(orders, "--ldv", support.PROGRAM, "--seeds", "9", given=data)
         self.assertEqual((status, err), (1, ""))

@@ -1,4 +1,6 @@
 """outcome.py."""
+from __future__ import annotations
+
 import json
 import os
 
@@ -6,7 +8,6 @@ from ldvtools import outcome
 
 from .support import EXAMPLES, TOOLS, InFolder, command, read, tool
 from .test_page import orders
-
 
 FAMILY = (b"outcome 3 2\nprocess 0 240 8 2\ntotal 3\n\nchanged 1\nrefused 6 orders 2\nint -10\nnull\n"
           b"process 0.0 0 0 0\n\nprocess 0.1 1 3 1\n\xc3\xb8\n\nrows 2\n"
@@ -20,7 +21,7 @@ ENDS = "outcome.py: 1 of 3 statements was refused\noutcome.py: 1 process ended b
 
 
 class Outcomes(InFolder):
-    def test_shown(self):
+    def test_shown(self) -> None:
         status, out, err = tool(outcome, given=FAMILY)
         self.assertEqual((status, err), (0, ""))
         self.assertEqual(out.decode(), """\
@@ -56,7 +57,7 @@ file bb was removed
 1 process ended by misuse
 """)
 
-    def test_control_characters(self):
+    def test_control_characters(self) -> None:
         """What a terminal could take for a command is shown as an escape."""
         given = FAMILY.replace(b"text 3\na\nb\n",
                                b"text 5\na\x7f\xc2\x9b1\n").replace(b"a\nx\ny", b"a\n\x1bxy").replace(
@@ -66,7 +67,7 @@ file bb was removed
         for shown in ('"a\\u007f\\u009b1"', "| \\u001bxy", "file \\u009b was removed"):
             self.assertIn(shown, out.decode())
 
-    def test_csv(self):
+    def test_csv(self) -> None:
         rows = b'1,2\n"a\nb",7\n"",\n'
         sections = (b"# process 0 reply 1: 1 row changed\nchanged\n1\n\n"
                     b"# process 0 reply 2: refused with code 6: two rows would have one key "
@@ -84,7 +85,7 @@ file bb was removed
         self.assertEqual(sorted(os.listdir(self.folder)), ["0-1.csv", "0.1-1.csv", "o"])
         self.assertIn(f"no {self.folder}/0-2.csv: refused with code 6".encode(), out)
 
-    def test_no_data(self):
+    def test_no_data(self) -> None:
         """A refused statement is no data: no file and no line is made of it. A change is a column."""
         refused = ("outcome.py: process 0 reply 2: refused with code 6: two rows would have one key (table "
                    "orders, "
@@ -98,7 +99,7 @@ file bb was removed
         self.assertEqual(tool(outcome, "--csv", "--reply", "1", "--world", path, given=given),
                          (0, b"k,2\n", NOTE))
 
-    def test_malformed(self):
+    def test_malformed(self) -> None:
         for old, new, message in (
                 (b"outcome 3", b"outcom 3", "byte 0 (line 1)"),
                 (b"outcome 3", b"outcome 0", "the number of processes"),
@@ -131,7 +132,7 @@ file bb was removed
         for end in range(len(FAMILY)):
             self.assertEqual(tool(outcome, given=FAMILY[:end])[0], 1, end)
 
-    def test_commands(self):
+    def test_commands(self) -> None:
         """The tools as commands."""
         for name in ("world.py", "outcome.py"):
             status, out, err = command([os.path.join(TOOLS, name), "--help"])
@@ -144,7 +145,7 @@ file bb was removed
         none = command([os.path.join(TOOLS, "outcome.py"), path + "x"])
         self.assertEqual((none[0], none[1]), (1, b""))
 
-    def test_strict(self):
+    def test_strict(self) -> None:
         """A refused statement and misuse are a status of their own, on demand."""
         self.assertEqual(tool(outcome, "--strict", given=FAMILY)[0], 1)
         self.assertEqual(tool(outcome, "--strict", "--csv", given=FAMILY)[0], 1)
@@ -156,7 +157,7 @@ file bb was removed
                              given=many)[1].endswith(b"\n2 of 2 statements were refused\n2 processes ended "
                                                      b"by misuse\n"))
 
-    def test_part(self):
+    def test_part(self) -> None:
         """What a process printed, or one file, and nothing else."""
         self.assertEqual(tool(outcome, "--printed", given=FAMILY), (0, b"total 3\n", ENDS))
         self.assertEqual(tool(outcome, "--printed", "--process", "0.1", given=FAMILY)[1], "\u00f8\n".encode())
@@ -174,7 +175,7 @@ file bb was removed
                       ["--folder", "x", "--file", "a"], ["--printed", "--scale", "a=1"]):
             self.assertEqual(tool(outcome, *words, given=FAMILY)[0], 2, words)
 
-    def test_scale(self):
+    def test_scale(self) -> None:
         """Whole numbers of hundredths are shown as the decimals that they were."""
         numbers = (0, 5, -5, 300, -12345, 9223372036854775807)
         rows = b"".join(b"row 2\nint %d\ntext 1\n7\n" % number for number in numbers)
@@ -194,8 +195,8 @@ file bb was removed
                                           "tables": {"t": {"columns": [["cents", "INT"]]}}}))
         given = b"outcome 1 0\nprocess 0 0 0 1\n\nrows 1\nrow 2\nint 1250\nint 2500\n"
         words = ["--world", world, "--scale", "cents=2"]
-        shown = b"cents | 2\n    ------+-----\n    12.50 | 2500\n"
-        self.assertIn(shown, tool(outcome, *words, given=given)[1])
+        due = b"cents | 2\n    ------+-----\n    12.50 | 2500\n"
+        self.assertIn(due, tool(outcome, *words, given=given)[1])
         self.assertEqual(tool(outcome, *words, "--scale", "2=2", "--csv", given=given)[1].split(b"\n")[-2],
                          b"12.50,25.00")
         folder = os.path.join(self.folder, "replies")
@@ -209,7 +210,7 @@ file bb was removed
             self.assertEqual((status, out), (2, b""))
             self.assertIn(said, err)
 
-    def test_statements(self):
+    def test_statements(self) -> None:
         """With its world or its package each reply has its statement and its columns' names."""
         path = f"{EXAMPLES}/orders.outcome"
         for words in (["--world", f"{EXAMPLES}/orders.json"], ["--package", self.put("p", orders())],

@@ -1,24 +1,26 @@
 """page.py: what is in the page, and in Chromium, where it is installed, what it shows."""
+from __future__ import annotations
+
 import hashlib
 import json
 import os
 import re
 import time
 import unittest
+from typing import Any, Optional
 
-import spelling
-
+from cases import encoder
 from ldvtools import package, page
-from ldvtools.packages import read_any, read_package
+from ldvtools.packages import Joined, read_any, read_package
 from ldvtools.trace import graph_of
 
 from . import chromium, version2
-from .support import EXAMPLES, ROOT, InFolder, read, tool
+from .support import EXAMPLES, ROOT, InFolder, match_in, read, tool
 
 HOSTILE = "</script><img src=x onerror=alert(1)><!--'\"&amp;"
 
 
-def orders(mode=1):
+def orders(mode: int = 1) -> bytes:
     """The package of examples/orders.json, whose bytes stand in the cases."""
     from .test_check import cases
     words = ["record"] if mode == 1 else ["record", "--excluded"]
@@ -27,49 +29,49 @@ def orders(mode=1):
         if (given == words and status == 0 and json.loads(data)["start"] == document["start"]
                 and b"report.ldv" in data):
             if json.loads(data)["files"] == document["files"]:
-                return output
+                return bytes(output)
     raise unittest.SkipTest("no case records the orders world")
 
 
-def large(count):
+def large(count: int) -> bytes:
     """A package of many rows, each needed by one of two statements."""
-    columns = [spelling.column("k", "INT NOT NULL"), spelling.column("g", "TEXT")]
-    rows = [spelling.row(n, n, f"row {n}") for n in range(count)]
-    needs = [spelling.group("t", *(spelling.read(n) for n in range(count)))]
-    trace = [spelling.started(), spelling.asked(0, tables=["t"], reads=needs), spelling.ended(2)]
-    return spelling.encode(spelling.package(steps=2, tables=[spelling.table("t", columns, [0], count, rows)],
+    columns = [encoder.column("k", "INT NOT NULL"), encoder.column("g", "TEXT")]
+    rows = [encoder.row(n, n, f"row {n}") for n in range(count)]
+    needs = [encoder.group("t", *(encoder.read(n) for n in range(count)))]
+    trace = [encoder.started(), encoder.asked(0, tables=["t"], reads=needs), encoder.ended(2)]
+    return encoder.encode(encoder.package(steps=2, tables=[encoder.table("t", columns, [0], count, rows)],
                                             trace=trace))
 
 
-def hostile():
+def hostile() -> bytes:
     """Names and texts that would be HTML, and numbers that JavaScript doesn't carry exactly."""
-    columns = [spelling.column("k"), spelling.column("g", "TEXT")]
-    rows = [spelling.row(0, 9223372036854775807, HOSTILE), spelling.row(1, None, "")]
-    trace = [spelling.started(HOSTILE), spelling.act("wrote", HOSTILE, 1),
-             spelling.asked(0, 2, tables=["t"], reads=[spelling.group("t", spelling.read(0))]),
-             spelling.ended(3)]
-    return spelling.encode(spelling.package(start=[HOSTILE], steps=3,
-                                            files=[spelling.file(HOSTILE, "exit 0")],
-                                            tables=[spelling.table("t", columns, next=2, rows=rows)],
+    columns = [encoder.column("k"), encoder.column("g", "TEXT")]
+    rows = [encoder.row(0, 9223372036854775807, HOSTILE), encoder.row(1, None, "")]
+    trace = [encoder.started(HOSTILE), encoder.act("wrote", HOSTILE, 1),
+             encoder.asked(0, 2, tables=["t"], reads=[encoder.group("t", encoder.read(0))]),
+             encoder.ended(3)]
+    return encoder.encode(encoder.package(start=[HOSTILE], steps=3,
+                                            files=[encoder.file(HOSTILE, "exit 0")],
+                                            tables=[encoder.table("t", columns, next=2, rows=rows)],
                                             trace=trace))
 
 
 class PageMaker(InFolder):
-    def made(self, data, *words, outcome=None):
+    def made(self, data: bytes, *words: str, outcome: Optional[bytes] = None) -> str:
         path = os.path.join(self.folder, "page.html")
         given = ["--replayed", self.put("o", outcome)] if outcome is not None else []
         status, out, err = tool(page, self.put("p.package", data), *given, *words, "-o", path)
         self.assertEqual((status, out, err), (0, b"", ""))
         return path
 
-    def data_of(self, path):
-        found = re.search(r'(?s)<script type="application/json" id="data">(.*?)</script>',
+    def data_of(self, path: str) -> Any:
+        found = match_in(r'(?s)<script type="application/json" id="data">(.*?)</script>',
                           read(path).decode())
         return json.loads(found[1])
 
 
 class Pages(PageMaker):
-    def test_kinds(self):
+    def test_kinds(self) -> None:
         """Both kinds, both versions and joined packages have a page."""
         outcome = read(f"{EXAMPLES}/orders.outcome")
         for data in (orders(), version2.spelled(read_package(orders()))):
@@ -87,7 +89,9 @@ class Pages(PageMaker):
         first = read_package(orders())
         other = first._replace(start=[*first.start, "again"], seed=7)
         joined = version2.joined(first, other)
-        self.assertEqual(read_any(joined).run(2).start, other.start)
+        both = read_any(joined)
+        assert isinstance(both, Joined)
+        self.assertEqual(both.run(2).start, other.start)
         for run, seed in (("1", "0"), ("2", "7")):
             shown = self.data_of(self.made(joined, "--run", run))
             self.assertEqual((shown["seed"], len(shown["tables"]), shown["replayed"]), (seed, 3, False))
@@ -95,7 +99,7 @@ class Pages(PageMaker):
                                                     "runs; --run 1 or --run 2 says which one\n"))
         self.assertIn("page.py: it isn't a joined package", tool(page, "--run", "1", given=orders())[2])
 
-    def test_safe(self):
+    def test_safe(self) -> None:
         """Nothing of a package ends the data or begins an element,
         and the policy takes the page's own script alone."""
         text = read(self.made(hostile())).decode()
@@ -103,14 +107,14 @@ class Pages(PageMaker):
         self.assertEqual(text.count("</script>"), 2)
         self.assertNotIn("<img", text)
         self.assertNotIn("http://", text.replace("http://www.w3.org/2000/svg", ""))
-        policy = re.search(r'Content-Security-Policy" content="([^"]*)"', text)[1]
+        policy = match_in(r'Content-Security-Policy" content="([^"]*)"', text)[1]
         self.assertIn("default-src 'none'", policy)
-        script = re.search(r"(?s)<script>(.*?)</script>", text)[1]
+        script = match_in(r"(?s)<script>(.*?)</script>", text)[1]
         self.assertIn(page.source_hash(script), policy)
         self.assertEqual(self.data_of(self.made(hostile()))["tables"][0]["rows"][0][3],
                          {"i": "9223372036854775807"})
 
-    def test_program(self):
+    def test_program(self) -> None:
         """--ldv replays and audits the package by a program."""
         outcome = read(f"{EXAMPLES}/orders.outcome")
         self.put("outcome", outcome)
@@ -124,12 +128,12 @@ class Pages(PageMaker):
         status, _, err = tool(page, os.path.join(self.folder, "p.package"), "--ldv", program)
         self.assertEqual((status, err), (1, f"page.py: {program} replay ends with 8: ldv: damaged: form\n"))
 
-    def test_not_audited(self):
+    def test_not_audited(self) -> None:
         """Without a program a page is made of what the bytes say, also where rows are out of order, which
         `replay` refuses. It says that nobody audited it, and so do the documents."""
-        table = spelling.table("t", [spelling.column("k")], rows=[spelling.row(2, 1), spelling.row(0, 2)])
-        trace = [spelling.started(), spelling.asked(0), spelling.ended()]
-        data = spelling.encode(spelling.package(tables=[table], trace=trace))
+        table = encoder.table("t", [encoder.column("k")], rows=[encoder.row(2, 1), encoder.row(0, 2)])
+        trace = [encoder.started(), encoder.asked(0), encoder.ended()]
+        data = encoder.encode(encoder.package(tables=[table], trace=trace))
         path = self.made(data)
         shown = self.data_of(path)
         self.assertEqual((shown["verdict"], [row[0] for row in shown["tables"][0]["rows"]]), (None, [2, 0]))
@@ -138,7 +142,7 @@ class Pages(PageMaker):
             text = " ".join(read(os.path.join(ROOT, name)).decode().split())
             self.assertIn("says that it wasn't audited", text, name)
 
-    def test_refused(self):
+    def test_refused(self) -> None:
         path = self.put("p", orders())
         status, out, err = tool(page, path, "--replayed", self.put("o", "outcome 1 0\nprocess 0 0 0 0\n\n"))
         self.assertEqual((status, out), (1, b""))
@@ -150,12 +154,12 @@ class Pages(PageMaker):
 class Browsers(PageMaker):
     """The page in a real browser."""
 
-    def opened(self, data, *words, outcome=None):
+    def opened(self, data: bytes, *words: str, outcome: Optional[bytes] = None) -> chromium.Browser:
         browser = chromium.Browser(self.made(data, *words, outcome=outcome))
         self.addCleanup(browser.close)
         return browser
 
-    def test_clicks(self):
+    def test_clicks(self) -> None:
         """What is shown after clicks is what the package has."""
         whole = read_package(orders())
         browser = self.opened(orders(), outcome=read(f"{EXAMPLES}/orders.outcome"))
@@ -177,22 +181,23 @@ class Browsers(PageMaker):
         self.assertEqual(browser.texts("#detail"), ["Statement 1, which process 0 asked at step 14"])
         self.assertEqual(browser.problems(), [])
 
-    def test_all_kinds(self):
+    def test_all_kinds(self) -> None:
         """Packages of each kind and version, with each act, and without a statement or a file are shown."""
         first = read_package(orders())
-        acts = spelling.encode(spelling.changed("acts", {}))
-        trace = [spelling.started(), spelling.spawned(1, 0), spelling.spawned(2, 1), spelling.spawned(3, 0),
-                 spelling.act("read", "\uffee", 4, 3), spelling.act("read", "\U0001f600", 4, 2),
-                 spelling.waited(1, 5), spelling.waited(2, 5, 1), spelling.waited(3, 6),
-                 spelling.waited(1, 6), spelling.act("wrote", "out", 7),
-                 spelling.ended(8)]
-        order = spelling.encode(spelling.package(steps=8, trace=trace))
+        acts = encoder.encode(encoder.changed("acts", {}))
+        trace = [encoder.started(), encoder.spawned(1, 0), encoder.spawned(2, 1), encoder.spawned(3, 0),
+                 encoder.act("read", "\uffee", 4, 3), encoder.act("read", "\U0001f600", 4, 2),
+                 encoder.waited(1, 5), encoder.waited(2, 5, 1), encoder.waited(3, 6),
+                 encoder.waited(1, 6), encoder.act("wrote", "out", 7),
+                 encoder.ended(8)]
+        order = encoder.encode(encoder.package(steps=8, trace=trace))
         self.assertEqual(graph_of(read_package(order)).depends("out"), [
             "path f", "path main", "path \uffee", "path \U0001f600", "process 0", "process 0.0",
             "process 0.0.0", "process 0.1"])
-        kinds = [(order, []), (orders(2), []), (version2.spelled(first), []), (acts, []),
-                 (version2.joined(first, first), ["--run", "2"]), (spelling.encode(spelling.package()), []),
-                 (spelling.encode(spelling.changed("logs", {})), [])]
+        kinds: list[tuple[bytes, list[str]]] = [
+                 (order, []), (orders(2), []), (version2.spelled(first), []), (acts, []),
+                 (version2.joined(first, first), ["--run", "2"]), (encoder.encode(encoder.package()), []),
+                 (encoder.encode(encoder.changed("logs", {})), [])]
         for data, words in kinds:
             browser = self.opened(data, *words)
             self.assertEqual(browser.problems(), [])
@@ -202,11 +207,11 @@ class Browsers(PageMaker):
             for kind, *name in list(graph.nodes):
                 if kind == "path":
                     browser.value(f"choosePath({json.dumps(name[0])})")
-                    self.assertEqual(browser.named("li[data-node]", "data-node"), graph.depends(name[0]),
+                    self.assertEqual(browser.named("li[data-node]", "data-node"), graph.depends(str(name[0])),
                                      name)
             self.assertEqual(browser.problems(), [])
 
-    def test_came_from(self):
+    def test_came_from(self) -> None:
         """The list of what a file came from is that of `inspect depends`, for each path."""
         graph = graph_of(read_package(orders()))
         browser = self.opened(orders(), outcome=read(f"{EXAMPLES}/orders.outcome"))
@@ -219,7 +224,7 @@ class Browsers(PageMaker):
         self.assertEqual(browser.texts("#came-none"), ["It came from nothing: the run never wrote it."])
         self.assertEqual(browser.problems(), [])
 
-    def test_came_first(self):
+    def test_came_first(self) -> None:
         """Files that the run wrote are the first that can be chosen, then come replies, then other files; and
         what the first of all came from is there without a click."""
         browser = self.opened(orders(), outcome=read(f"{EXAMPLES}/orders.outcome"))
@@ -232,18 +237,18 @@ class Browsers(PageMaker):
                          graph_of(read_package(orders())).depends("report.txt"))
         self.assertEqual(browser.problems(), [])
 
-    def test_came_replies(self):
+    def test_came_replies(self) -> None:
         """Where no file was written, it is shown of each reply what it came from: its statement and rows, the
         replies that its process had before, and what these came from."""
-        rows = [spelling.row(number, number, statement=number // 2) for number in range(3)]
-        needs = [[spelling.read(0), spelling.read(1)], [spelling.read(2)]]
-        trace = [spelling.started(), *(spelling.asked(place, 1 + place, tables=["t"],
-                                                      reads=[spelling.group("t", *each)])
-                                       for place, each in enumerate(needs)), spelling.ended(3)]
-        data = spelling.encode(spelling.package(
-            steps=3, files=[spelling.file("main", 'sql q "SELECT k FROM t WHERE k < 2"\n'
+        rows = [encoder.row(number, number, statement=number // 2) for number in range(3)]
+        needs = [[encoder.read(0), encoder.read(1)], [encoder.read(2)]]
+        trace = [encoder.started(), *(encoder.asked(place, 1 + place, tables=["t"],
+                                                      reads=[encoder.group("t", *each)])
+                                       for place, each in enumerate(needs)), encoder.ended(3)]
+        data = encoder.encode(encoder.package(
+            steps=3, files=[encoder.file("main", 'sql q "SELECT k FROM t WHERE k < 2"\n'
                                           'sql q "SELECT k FROM t WHERE k = 2"\n')],
-            tables=[spelling.table("t", [spelling.column("k")], next=3, rows=rows)], trace=trace))
+            tables=[encoder.table("t", [encoder.column("k")], next=3, rows=rows)], trace=trace))
         browser = self.opened(data)
         self.assertEqual(browser.texts("#came-path option"), [
             "reply 0: SELECT k FROM t WHERE k < 2", "reply 1: SELECT k FROM t WHERE k = 2", "main"])
@@ -254,7 +259,7 @@ class Browsers(PageMaker):
                          [*first[:4], "row t 2 0", "ask 0", "ask 1", "reply 0"])
         self.assertEqual(browser.problems(), [])
 
-    def test_saved(self):
+    def test_saved(self) -> None:
         """Tables and files are saved as they are."""
         browser = self.opened(orders(), outcome=read(f"{EXAMPLES}/orders.outcome"))
         browser.value("window.saved = []; URL.createObjectURL = blob => { saved.push(blob); return "
@@ -274,7 +279,7 @@ class Browsers(PageMaker):
         self.assertEqual(browser.value("saved[0].text()"), "Ada 14\n")
         self.assertEqual(browser.problems(), [])
 
-    def test_hostile(self):
+    def test_hostile(self) -> None:
         """Texts that would be HTML are shown as they are, and great numbers exactly."""
         browser = self.opened(hostile())
         cells = browser.texts("tr[data-row] td")
@@ -283,7 +288,7 @@ class Browsers(PageMaker):
         self.assertEqual(browser.value("document.querySelectorAll('img').length"), 0)
         self.assertEqual(browser.problems(), [])
 
-    def test_many_rows(self):
+    def test_many_rows(self) -> None:
         """Of ten thousand rows a hundred are made at a time, and another page is there at once."""
         browser = self.opened(large(10_000))
         self.assertEqual(browser.value("document.querySelectorAll('tr[data-row]').length"), 100)
@@ -295,7 +300,7 @@ class Browsers(PageMaker):
         self.assertEqual(browser.problems(), [])
 
 
-    def test_without_program(self):
+    def test_without_program(self) -> None:
         """Without the program the page shows statements as they are written, and rows; of a package of
         replies each statement as it was asked, and its reply."""
         browser = self.opened(orders())
@@ -312,12 +317,12 @@ class Browsers(PageMaker):
         self.assertEqual(browser.texts('tr[data-statement="2"] table.preview tr')[1:], ["Ada14"])
         self.assertEqual(browser.texts("div.written"), [])
 
-    def test_order(self):
+    def test_order(self) -> None:
         """Processes stand in the order in which they were made, whoever of them acts first."""
-        trace = [spelling.started(), *(spelling.spawned(step, 0) for step in range(1, 12)),
-                 *(spelling.act("read", "f", 12 + 11 - child, child) for child in range(11, 0, -1)),
-                 spelling.ended(30)]
-        browser = self.opened(spelling.encode(spelling.package(steps=30, trace=trace)))
+        trace = [encoder.started(), *(encoder.spawned(step, 0) for step in range(1, 12)),
+                 *(encoder.act("read", "f", 12 + 11 - child, child) for child in range(11, 0, -1)),
+                 encoder.ended(30)]
+        browser = self.opened(encoder.encode(encoder.package(steps=30, trace=trace)))
         names = ["0", *(f"0.{number}" for number in range(11))]
         lanes = [name for name in browser.named("svg#time text[data-lane]", "data-lane")
                  if name.startswith("process ")]
@@ -350,18 +355,18 @@ class Looks(PageMaker):
     NAMED = {"button", "link", "checkbox", "spinbutton", "combobox", "ComboBoxSelect", "textbox", "image",
              "img", "columnheader", "DisclosureTriangle", "navigation", "heading", "option"}
 
-    def page_at(self, width):
+    def page_at(self, width: int) -> chromium.Browser:
         path = self.made(self.data, outcome=self.outcome)
         browser = chromium.Browser(path, width=width)
         self.addCleanup(browser.close)
         return browser
 
-    def setUp(self):
+    def setUp(self) -> None:
         from .test_as_read import OUTCOME, ROWS, SCRIPT, packed
         super().setUp()
         self.data, self.outcome = packed(ROWS, script=SCRIPT), OUTCOME.encode()
 
-    def test_widths(self):
+    def test_widths(self) -> None:
         """No number or date is broken over two lines, and no number of the axis is cut."""
         for width in (480, 900, 1600):
             browser = self.page_at(width)
@@ -374,7 +379,7 @@ class Looks(PageMaker):
             self.assertEqual(browser.texts("svg#time text.axis")[-1], "2")
             self.assertEqual(browser.problems(), [])
 
-    def test_without_clicks(self):
+    def test_without_clicks(self) -> None:
         """Replies with their units are there at once, and both digests under their names."""
         browser = self.page_at(1280)
         self.assertEqual(browser.texts("tr[data-statement] table.preview th")[:2], ["s (€)", "n"])
@@ -387,14 +392,14 @@ class Looks(PageMaker):
                                                                 "n FROM t")
         self.assertIn("3 rows", browser.texts("#came-count")[0])
 
-    def press(self, browser, key, code):
+    def press(self, browser: chromium.Browser, key: str, code: int) -> None:
         for kind in ("rawKeyDown", "char", "keyUp"):
             text = {"text": "\r"} if kind == "char" and key == "Enter" else {}
             if kind != "char" or text:
                 browser.send("Input.dispatchKeyEvent", type=kind, key=key, code=key,
                              windowsVirtualKeyCode=code, **text)
 
-    def test_keyboard(self):
+    def test_keyboard(self) -> None:
         """By the keyboard alone: Tab reaches each control, in the order of the page and with a frame around
         it; Enter shows a statement, and what a file came from."""
         browser = self.page_at(1280)
@@ -427,13 +432,13 @@ class Looks(PageMaker):
         self.assertEqual(browser.value("document.activeElement.id"), "came-path")
         self.assertEqual(browser.problems(), [])
 
-    def names_of(self, browser):
+    def names_of(self, browser: chromium.Browser) -> list[tuple[str, str]]:
         """The role and the name of all that a screen reader finds, as the browser gives them to it."""
         found = browser.send("Accessibility.getFullAXTree")["nodes"]
         return [(node["role"]["value"], node.get("name", {}).get("value", "").strip())
                 for node in found if not node["ignored"]]
 
-    def test_read_out(self):
+    def test_read_out(self) -> None:
         """Each control, picture and head has a name that is read out, and no two buttons for other things
         have one; and the rules of read_out.js hold, before and after a statement is chosen."""
         rules = read(os.path.join(os.path.dirname(__file__), "read_out.js")).decode()
@@ -453,7 +458,7 @@ class Looks(PageMaker):
 
 
 class WithoutProgram(PageMaker):
-    def test_texts(self):
+    def test_texts(self) -> None:
         """Without a replay, the statements of a script that asks one after the other have their texts."""
         from .test_as_read import ROWS, packed
         path = self.made(packed(ROWS, script='sql q "SELECT cost FROM t WHERE id > ?" 1\nopen f r "x" else '
@@ -468,7 +473,7 @@ class WithoutProgram(PageMaker):
         shown = self.data_of(self.made(packed(ROWS), "--raw"))
         self.assertEqual(shown["tables"][0]["rows"][1][3:6], [2, "2024-12-03", 1250])
 
-    def test_loops(self):
+    def test_loops(self) -> None:
         """Of a script that loops the statements are shown that it has, each with its parameters as they are
         written; a statement of other tables is none of them."""
         shown = self.data_of(self.made(orders()))
@@ -481,17 +486,17 @@ class WithoutProgram(PageMaker):
                              rf'^sql \w+ "{re.escape(text)}" {" ".join(params)}$')
         self.assertEqual({each["text"] for each in shown["statements"]}, {None})
 
-    def test_several(self):
+    def test_several(self) -> None:
         """Where a statement may be one of several, it is told which: of the tables that the trace names."""
-        number = spelling.column("k", "INT NOT NULL")
-        tables = [spelling.table("c", [number], foreign=[spelling.foreign([0], "p")]),
-                  spelling.table("p", [number], [0]), spelling.table("t", [number])]
+        number = encoder.column("k", "INT NOT NULL")
+        tables = [encoder.table("c", [number], foreign=[encoder.foreign([0], "p")]),
+                  encoder.table("p", [number], [0]), encoder.table("t", [number])]
         lines = ["a:", 'sql q "SELECT k FROM t"', 'sql q "SELECT k FROM t WHERE k = ?" x',
                  'sql q "DELETE FROM t"', 'sql q "SELECT k FROM p"', 'sql q "SELECT k FROM absent"',
                  'sql q "SELEC"', "sql q x", 'sql q "SELECT k FROM c"', 'sql q "SELECT k FROM t"', "goto a"]
-        trace = [spelling.started(), spelling.asked(0, 2, tables=["t"]), spelling.asked(1, 3, tables=["p"]),
-                 spelling.asked(2, 4), spelling.asked(3, 5, tables=["c", "p"]), spelling.ended(6)]
-        data = spelling.encode(spelling.package(2, steps=6, files=[spelling.file("main", "\n".join(lines))],
+        trace = [encoder.started(), encoder.asked(0, 2, tables=["t"]), encoder.asked(1, 3, tables=["p"]),
+                 encoder.asked(2, 4), encoder.asked(3, 5, tables=["c", "p"]), encoder.ended(6)]
+        data = encoder.encode(encoder.package(2, steps=6, files=[encoder.file("main", "\n".join(lines))],
                                                 tables=tables, trace=trace))
         shown = self.data_of(self.made(data))
         found = [[shown["written"][place][1] for place in each["written"]] for each in shown["statements"]]

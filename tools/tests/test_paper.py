@@ -1,4 +1,6 @@
 """The evaluation of the paper: its data, its queries beside SQLite, what is compared, and its page."""
+from __future__ import annotations
+
 import contextlib
 import functools
 import io
@@ -8,55 +10,54 @@ import re
 import shutil
 import sqlite3
 import sys
-import tempfile
 import unittest
+from typing import Any, Iterator, Optional
 from unittest import mock
 
+import harness
+import paper
+import paper_answers
+import paper_plots
+import paper_queries
+import paper_report
+import paper_worlds
+import results
+from harness import Took
 from ldvtools import check
+from paper_queries import QUERIES
+from paper_worlds import COLUMNS, Data
 
 from . import support
 from .support import ROOT, InFolder, command, python_with, read, tool
 
 BENCH = os.path.join(ROOT, "bench")
-sys.path.append(BENCH)
-import harness                                                               # noqa: E402
-import paper                                                                 # noqa: E402
-import paper_answers                                                         # noqa: E402
-import paper_queries                                                         # noqa: E402
-import paper_report                                                          # noqa: E402
-import paper_worlds                                                          # noqa: E402
-import results                                                               # noqa: E402
-from harness import Took                                                     # noqa: E402
-from paper_queries import QUERIES                                            # noqa: E402
-from paper_worlds import COLUMNS, Data                                       # noqa: E402
-
 PROGRAM = os.path.join(support.HERE, "paper_program.py")
 SCALE = paper_worlds.LEAST_SCALE
 HAS_SQLITE = unittest.skipUnless(shutil.which("sqlite3"), "sqlite3 isn't installed")
 
 
-@functools.lru_cache(maxsize=None)
-def rows_of(table, seed=1):
+@functools.cache
+def rows_of(table: str, seed: int = 1) -> list[Any]:
     return list(Data(SCALE, seed).rows(table))
 
 
 class Shape(InFolder):
     """The data."""
 
-    def test_seed(self):
+    def test_seed(self) -> None:
         """A seed gives the same rows each time, and another one other rows."""
         for table in COLUMNS:
             self.assertEqual(rows_of(table), list(Data(SCALE, 1).rows(table)))
             self.assertNotEqual(rows_of(table), rows_of(table, 2))
 
-    def test_shape(self):
+    def test_shape(self) -> None:
         """Numbers of rows, keys and names as TPC-H has them."""
         customers, orders, lines = map(rows_of, COLUMNS)
         self.assertEqual((len(customers), len(orders)), (90, 900))
         self.assertEqual(customers[0][:2], [1, "Customer#000000001"])
         self.assertEqual([row[0] for row in orders[:9]], [1, 2, 3, 4, 5, 6, 7, 8, 33])
         self.assertTrue(all(row[1] % 3 and 1 <= row[1] <= 90 for row in orders))
-        by_order = {}
+        by_order: dict[int, list[int]] = {}
         for row in lines:
             by_order.setdefault(row[0], []).append(row[3])
         self.assertEqual(set(by_order), {row[0] for row in orders})
@@ -70,7 +71,7 @@ class Shape(InFolder):
                                                ("l", 10, 43, 15, lines)):
             self.assertTrue(all(least - 1 <= len(row[place]) <= most for row in rows), name)
 
-    def test_files(self):
+    def test_files(self) -> None:
         """The document and the SQLite file have the rows, and no file is greater than a limit."""
         tables, base = (os.path.join(self.folder, name) for name in ("tables", "base"))
         counts = paper_worlds.write_tables(tables, Data(SCALE))
@@ -94,12 +95,12 @@ class Shape(InFolder):
 class Queries(InFolder):
     """The eighteen queries."""
 
-    def setUp(self):
+    def setUp(self) -> None:
         super().setUp()
         self.path = os.path.join(self.folder, "base")
         paper_worlds.write_database(self.path, Data(SCALE))
 
-    def test_forms(self):
+    def test_forms(self) -> None:
         """ldv is asked for the same rows as sqlite3, though otherwise, and each has some."""
         self.assertEqual([query.form for query in QUERIES], [1] * 5 + [2] * 4 + [3] * 4 + [4] * 5)
         self.assertEqual([query.parameter for query in QUERIES[:9]],
@@ -111,7 +112,7 @@ class Queries(InFolder):
                 self.assertTrue(rows[0] and rows[0][0][0], query.name())
                 self.assertNotRegex(query.asked, "LIKE|BETWEEN|COUNT")
 
-    def test_needed(self):
+    def test_needed(self) -> None:
         """What SQLite counts is what the rows of the generator give."""
         changed = {32 * n + 1 for n in range(100)}
         buyers = {row[0]: row[1] for row in rows_of("orders")}
@@ -128,7 +129,7 @@ class Queries(InFolder):
                              {"customer": len(customers), "orders": len(orders | changed),
                               "lineitem": len(lines)}, query.name())
 
-    def test_work(self):
+    def test_work(self) -> None:
         """The script and what sqlite3 is given have so many statements."""
         for text in (paper_queries.script_of(QUERIES[0]), paper_queries.work_of(QUERIES[0], "base")):
             self.assertIn("INSERT INTO orders", text)
@@ -136,7 +137,7 @@ class Queries(InFolder):
         for word, count in (("INSERT INTO orders", 1000), (QUERIES[0].beside, 10), ("UPDATE orders", 100)):
             self.assertEqual(work.count(word), count)
 
-    def test_dialect(self):
+    def test_dialect(self) -> None:
         """Scripts and statements are those of ldv, as tools/check.py reads them; others aren't."""
         tables, world = (os.path.join(self.folder, name) for name in ("tables", "world"))
         paper_worlds.write_tables(tables, Data(0.0))
@@ -150,7 +151,7 @@ class Queries(InFolder):
 
     @HAS_SQLITE
     @unittest.skipUnless(os.access(support.PROGRAM, os.X_OK), "the program isn't built")
-    def test_answers(self):
+    def test_answers(self) -> None:
         """Each answer of ldv is that of sqlite3, in all eighteen."""
         tables, world, work, outcome, found = (os.path.join(self.folder, name) for name in (
             "tables", "world", "work", "outcome", "found"))
@@ -170,13 +171,13 @@ class Answers(InFolder):
                + "rows 2\nrow 2\ntext 3\na b\nint -4\nrow 2\nnull\nint 5\n" * 10 + "changed 4\n")
     FOUND = "===\nNULL|5\na b|-4\n" * 10 + "===\n7\n"
 
-    def difference(self, outcome=OUTCOME, found=FOUND):
+    def difference(self, outcome: str = OUTCOME, found: str = FOUND) -> Optional[str]:
         return paper_answers.difference(self.put("outcome", outcome), self.put("found", found))
 
-    def test_same(self):
+    def test_same(self) -> None:
         self.assertIsNone(self.difference())
 
-    def test_differences(self):
+    def test_differences(self) -> None:
         for message, outcome, found in (
                 ("the row 'a b|-4'", self.OUTCOME, self.FOUND.replace("a b|-4", "a b|-5")),
                 ("finds 2 rows, sqlite3 1", self.OUTCOME, self.FOUND.replace("NULL|5\n", "")),
@@ -195,22 +196,23 @@ class Answers(InFolder):
 class Runs(InFolder):
     """paper.py, with a program that does the same by Python's sqlite3."""
 
-    def program(self, fault="none"):
-        path = self.put(f"program {fault}", f'#!/bin/sh\nexec "{sys.executable}" "{PROGRAM}" {fault} "$@"\n')
+    def program(self, fault: str = "none") -> str:
+        words = f'PYTHONPATH="{BENCH}" exec "{sys.executable}" "{PROGRAM}" {fault} "$@"'
+        path = self.put(f"program {fault}", f"#!/bin/sh\n{words}\n")
         os.chmod(path, 0o755)
         return path
 
-    def ran(self, fault="none", rows="1", *words):
+    def ran(self, fault: str = "none", rows: str = "1", *words: str) -> tuple[int, str, str, dict[str, Any]]:
         """What it ends with, prints and says, and the lines that it wrote."""
         output = os.path.join(self.folder, "results.json")
-        words = [sys.executable, os.path.join(BENCH, "paper.py"), "--scale", str(SCALE), "--rows", rows,
-                 "--least", "--program", self.program(fault), "-o", output, *words]
-        status, out, err = command(words)
+        status, out, err = command([
+            sys.executable, os.path.join(BENCH, "paper.py"), "--scale", str(SCALE), "--rows", rows, "--least",
+            "--program", self.program(fault), "-o", output, *words])
         found = {line.name: line for line in results.read(output).lines} if status == 0 else {}
         return status, out.decode(), err.decode(), found
 
     @HAS_SQLITE
-    def test_sizes(self):
+    def test_sizes(self) -> None:
         """The sizes are those of the files, and add up."""
         status, _, err, found = self.ran()
         self.assertEqual((status, err), (0, ""))
@@ -240,7 +242,7 @@ class Runs(InFolder):
             self.assertIn("Q1 10 backup", found)
 
     @HAS_SQLITE
-    def test_wrong(self):
+    def test_wrong(self) -> None:
         """A program whose answers, changes, replays or packed rows are others is found."""
         for fault, message in (("answer", "ldv finds the row"), ("differ", "the replies to a query differ"),
                                ("lost", "ldv changed 1099 rows, sqlite3 1100"),
@@ -250,7 +252,7 @@ class Runs(InFolder):
             self.assertEqual(status, 1, fault)
             self.assertIn(message, err)
 
-    def test_long(self):
+    def test_long(self) -> None:
         """A package that is too long has no replay, and its row says so. Without sqlite3 that is said too."""
         status, out, err, found = self.ran("long", "1", "--sqlite", "")
         self.assertEqual((status, err), (0, ""))
@@ -264,7 +266,20 @@ class Runs(InFolder):
         self.assertEqual(status, 1)
         self.assertIn("has results of another program", err)
 
-    def test_places(self):
+    def test_stopped(self) -> None:
+        """What was measured before a run is stopped stands in its file."""
+        output = os.path.join(self.folder, "results.json")
+
+        def stopped(_: Any) -> Iterator[list[results.Line]]:
+            yield [line_of("Q1 10 run", "ldv", 2.0)]
+            raise KeyboardInterrupt
+
+        with mock.patch.object(paper, "queries", stopped), contextlib.redirect_stdout(io.StringIO()), \
+                self.assertRaises(KeyboardInterrupt):
+            paper.main(["--program", self.program("none"), "--least", "-o", output])
+        self.assertEqual([line.name for line in results.read(output).lines], ["Q1 10 run"])
+
+    def test_places(self) -> None:
         self.assertEqual(paper.places("1-3,18"), [1, 2, 3, 18])
         for text in ("0", "17-19"):
             with self.assertRaisesRegex(Exception, "1 to 18"):
@@ -273,7 +288,7 @@ class Runs(InFolder):
             paper.main(["--program", self.folder, "--least"])
 
 
-def line_of(name, program, seconds, **values):
+def line_of(name: str, program: str, seconds: float, **values: Any) -> results.Line:
     return results.line_of("paper", name, 1000, program, [Took(seconds, seconds, 1024, 0)],
                            of_run=seconds / 2, **values)
 
@@ -295,10 +310,10 @@ class Pages(InFolder):
              "host": {"commit": "0" * 40, "kit": "kit", "processors": 4, "processor": "one",
                       "system": "Linux"}}
 
-    def found(self):
+    def found(self) -> results.Results:
         return results.Results(self.FACTS, self.LINES)
 
-    def test_page(self):
+    def test_page(self) -> None:
         page = "\n".join(paper_report.page(self.found(), {}))
         for text in ("package of rows 0.25; package of replies 2.00 |",
                      "`record` as a multiple of `run`: package of rows 1.50; package of replies 1.25 |",
@@ -316,7 +331,7 @@ class Pages(InFolder):
         self.assertEqual(paper_report.page(results.Results(self.FACTS, []), {}),
                          ["No query of these was measured."])
 
-    def test_fill(self):
+    def test_fill(self) -> None:
         """The page is filled between its marks, and all eighteen rows fit into its length."""
         text = read(paper_report.PAGE).decode()
         once = paper_report.filled(text, "results/x.json", ["one"])
@@ -331,7 +346,7 @@ class Pages(InFolder):
         self.assertLessEqual(outside.count("\n") + 2 + len(page) - 1 + 9, 80)
 
     @unittest.skipUnless(python_with("matplotlib"), "python3-matplotlib isn't installed")
-    def test_figures(self):
+    def test_figures(self) -> None:
         """The three figures are drawn, the same bytes each time, with the names of queries and series."""
         path = os.path.join(self.folder, "x.json")
         self.assertEqual(list(paper_report.draw(path, self.found())), ["sizes", "recording", "replaying"])
@@ -343,11 +358,11 @@ class Pages(InFolder):
         paper_report.draw(path, self.found())
         self.assertEqual([read(file) for file in files], once)
 
-    def test_no_figures(self):
+    def test_no_figures(self) -> None:
         """Without matplotlib that is said, and no figure is named."""
         err = io.StringIO()
         with mock.patch.dict(sys.modules, {"matplotlib": None}), contextlib.redirect_stderr(err), \
-                mock.patch.object(paper_report.paper_plots, "DEBIAN", os.path.join(self.folder, "none")):
+                mock.patch.object(paper_plots, "DEBIAN", os.path.join(self.folder, "none")):
             self.assertEqual(paper_report.draw(os.path.join(self.folder, "y.json"), self.found()), {})
         self.assertIn("matplotlib isn't installed", err.getvalue())
 

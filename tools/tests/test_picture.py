@@ -1,15 +1,16 @@
 """picture.py, with dot where it is installed."""
+from __future__ import annotations
+
 import html
 import os
 import re
 import shutil
+from typing import Any
 
-import check_page
-
+from checks import check_page
 from ldvtools import picture
 
 from .support import EXAMPLES, InFolder, read, tool
-
 
 # A script that tests a file, starts a child with an argument, waits for it and removes a file; the child asks
 # twice.
@@ -62,7 +63,7 @@ DRAWN = r"""digraph trace {
 """
 
 
-def shown_names(image):
+def shown_names(image: Any) -> list[tuple[str, list[str]]]:
     """The lines of each node of an image that dot made, and each arrow by the places of its nodes."""
     found = []
     for name, body in re.findall(r"(?s)class=\"(?:node|edge)\">\s*<title>(.*?)</title>(.*?)</g>", image):
@@ -72,7 +73,7 @@ def shown_names(image):
     return sorted(found)
 
 
-def drawn_names(graph):
+def drawn_names(graph: Any) -> list[tuple[str, list[str]]]:
     """The same of the graph that it was made of."""
     found = []
     for name, label in re.findall(r'(?m)^  (n\d+(?: -> n\d+)?) \[.*label="(.*)"\];$', graph):
@@ -82,18 +83,18 @@ def drawn_names(graph):
 
 
 class Pictures(InFolder):
-    def words(self):
+    def words(self) -> list[str]:
         rows, depends = "t 0 0 L\nt 7 0 H\n", "path main\nprocess 0.0\nrow t 7 2\nrow u 1 0\nask 0\nreply 0\n"
         return ["--rows", self.put("rows", rows), "--depends", self.put("depends", depends)]
 
-    def test_drawn(self):
+    def test_drawn(self) -> None:
         self.assertEqual(tool(picture, *self.words(), given=TRACE.encode()), (0, DRAWN.encode(), ""))
         alone = tool(picture, self.put("trace", TRACE))
         self.assertEqual((alone[0], alone[2]), (0, ""))
         self.assertNotIn(b"filled", alone[1])
         self.assertNotIn(b"note", alone[1])
 
-    def test_limit(self):
+    def test_limit(self) -> None:
         self.assertEqual(tool(picture, "--limit", "13", given=TRACE.encode())[0], 1)
         self.assertEqual(tool(picture, "--limit", "14", given=TRACE.encode())[0], 0)
         self.assertEqual(tool(picture, "--limit", "14", *self.words(), given=TRACE.encode())[0], 1)
@@ -104,7 +105,7 @@ class Pictures(InFolder):
             1, b"",
             "picture.py: trace, line 201: the picture would have more than 200 arrows; --limit N takes N\n"))
 
-    def test_malformed(self):
+    def test_malformed(self) -> None:
         for old, new, message in (
                 ("0 0 started", "0 1 started", "line 1: there is no process 1"),
                 ("3 0.0 opened", "3 0.1 opened", "line 4: there is no process 0.1"),
@@ -133,7 +134,7 @@ class Pictures(InFolder):
             self.assertEqual(status, 1)
             self.assertIn(message, err)
 
-    def test_image(self):
+    def test_image(self) -> None:
         """By a program in place of dot, by one that fails, by none, and by dot where it is installed."""
         path, script = os.path.join(self.folder, "t.svg"), self.put("fake", '#!/bin/sh\necho "$@"; cat\n')
         os.chmod(script, 0o755)
@@ -150,7 +151,7 @@ class Pictures(InFolder):
             self.assertEqual(shown_names(read(path).decode()), drawn_names(DRAWN))
             self.assertIn((['a "b" \\ c & &lt;']), [texts for _, texts in shown_names(read(path).decode())])
 
-    def test_stored_image(self):
+    def test_stored_image(self) -> None:
         """The image of the page on packages is of the reports that the page shows."""
         page = read(check_page.PAGE).decode()
         shown = {each.command: "".join(line + "\n" for line in each.lines)

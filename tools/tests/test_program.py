@@ -1,4 +1,6 @@
 """The script ./ldv, and with the program the examples, the tutorial and the pages."""
+from __future__ import annotations
+
 import contextlib
 import glob
 import hashlib
@@ -11,21 +13,33 @@ import resource
 import shlex
 import shutil
 import subprocess
+import sys
+from typing import Optional
 
-import against_sqlite
-import check_docs
-import check_page
-import check_scripts
-import spelling
-
+from cases import encoder
+from checks import against_sqlite, check_docs, check_page, check_scripts
 from ldvtools import outcome, package, world
 from ldvtools.language import RESERVED
 from ldvtools.outcomes import read_outcome
 
 from . import random_worlds, support
-from .support import (ASK, EXAMPLES, LIBRARY, ROOT, TOOLS, TUTORIAL, WEATHER, InFolder, command, ldv,
-                      make_database, read, tool)
-
+from .support import (
+    ASK,
+    EXAMPLES,
+    LIBRARY,
+    ROOT,
+    TOOLS,
+    TUTORIAL,
+    WEATHER,
+    InFolder,
+    command,
+    each_of,
+    ldv,
+    make_database,
+    match_in,
+    read,
+    tool,
+)
 
 # In place of rt: it "builds" a program that says how often it was built, by its words or what it does without
 # input.
@@ -49,7 +63,7 @@ echo '1 passed, 0 failed'
 class Script(InFolder):
     """The script ./ldv, in a checkout of its own and with another rt."""
 
-    def setUp(self):
+    def setUp(self) -> None:
         super().setUp()
         self.root = self.put_folder("checkout")
         for name in ("crates/ldv/src", "crates/other/src"):
@@ -67,25 +81,26 @@ class Script(InFolder):
                     "XDG_CACHE_HOME": os.path.join(self.folder, "cache"),
                     "RT_CALLS": os.path.join(self.folder, "calls")}
 
-    def put_folder(self, name):
+    def put_folder(self, name: str) -> str:
         path = os.path.join(self.folder, name)
         os.makedirs(path)
         return path
 
-    def run_script(self, *words, root=None, cwd=None):
+    def run_script(self, *words: str, root: Optional[str] = None,
+                   cwd: Optional[str] = None) -> tuple[int, bytes, str]:
         done = subprocess.run([os.path.join(root or self.root, "ldv"), *words], stdin=subprocess.DEVNULL,
-                              stdout=subprocess.PIPE, stderr=subprocess.PIPE, env=self.env, check=False,
+                              capture_output=True, env=self.env, check=False,
                               cwd=cwd or self.folder)
         return done.returncode, done.stdout, done.stderr.decode()
 
-    def builds(self):
+    def builds(self) -> int:
         return len(read(self.env["RT_CALLS"]).split()) if os.path.exists(self.env["RT_CALLS"]) else 0
 
-    def test_words_first(self):
+    def test_words_first(self) -> None:
         """Words that are no command are refused before anything is built, and those of COMMANDS aren't."""
-        for words in ([], ["help"], ["--help", "run"], ["--version", "x"], ["walk", "world.json"],
-                      ["run", "world.json"], ["inspect"], ["inspect", "all"], ["gen"],
-                      ["record", "-x", "-y", "-z", "1"]):
+        for words in each_of([], ["help"], ["--help", "run"], ["--version", "x"], ["walk", "world.json"],
+                             ["run", "world.json"], ["inspect"], ["inspect", "all"], ["gen"],
+                             ["record", "-x", "-y", "-z", "1"]):
             self.assertEqual(self.run_script(*words), (2, b"", "ldv: usage\n"), words)
             self.assertEqual(self.on_terminal(*words).partition("\n")[0], "ldv: usage", words)
         self.assertEqual(self.builds(), 0)
@@ -99,13 +114,13 @@ class Script(InFolder):
                 self.assertEqual(self.run_script(*words, "--steps", "9")[0], 126, words)
         self.assertGreaterEqual(self.builds(), len(commands))
 
-    def test_own_words(self):
+    def test_own_words(self) -> None:
         """--version, --help and -h are answered by the script, which builds nothing for them."""
         self.put_folder("checkout/docs")
         for name in ("ldv.1", "COMMANDS.md"):
             shutil.copy(os.path.join(ROOT, "docs", name), os.path.join(self.root, "docs"))
         self.put("bin/rt", "#!/bin/sh\n[ $1 = version ] && echo kit-1 logic 0 || echo x >> \"$RT_CALLS\"\n")
-        version = re.search(r"(?m)^Version (.*)\.$", read(os.path.join(ROOT, check_docs.MANUAL)).decode())[1]
+        version = match_in(r"(?m)^Version (.*)\.$", read(os.path.join(ROOT, check_docs.MANUAL)).decode())[1]
         self.assertEqual(self.run_script("--version"), (
             0, f"ldv {version}\ncommit unknown\nkit kit-1 logic 0\nprogram not built\n".encode(), ""))
         text = read(os.path.join(ROOT, check_docs.COMMANDS)).decode()
@@ -117,7 +132,7 @@ class Script(InFolder):
             self.assertIn("  a world document -> the outcome of its run\n", out.decode())
         self.assertEqual(self.builds(), 0)
 
-    def test_version_of_commit(self):
+    def test_version_of_commit(self) -> None:
         """--version has the commit, whether files were changed since, and the sum of the program."""
         if shutil.which("git") is None:
             self.skipTest("git isn't installed")
@@ -138,7 +153,7 @@ class Script(InFolder):
         inner = shutil.copytree(self.root, os.path.join(self.root, "inner"), ignore=lambda *_: [".git"])
         self.assertIn(b"commit unknown\n", self.run_script("--version", root=inner)[1])
 
-    def test_ended_build(self):
+    def test_ended_build(self) -> None:
         """A build that is ended from outside leaves nothing but its logs."""
         self.put("bin/rt", "#!/bin/sh\nkill -TERM $PPID\n")
         status, out, err = self.run_script("run")
@@ -146,7 +161,7 @@ class Script(InFolder):
         self.assertEqual(os.listdir(os.path.join(self.root, "crates/ldv/out")), ["logs"])
         self.assertEqual(os.listdir(self.env["TMPDIR"]), [])
 
-    def test_built_once(self):
+    def test_built_once(self) -> None:
         """A source that is changed is built, and one that has the same content again isn't;
         nor is one of no matter."""
         status, out, err = self.run_script("migrate")
@@ -178,7 +193,7 @@ class Script(InFolder):
         self.assertEqual((self.run_script("migrate"), self.builds()), ((0, b"built\n", ""), 5))
         self.assertEqual(os.listdir(self.env["TMPDIR"]), [])
 
-    def test_other_program(self):
+    def test_other_program(self) -> None:
         """A program that something else put in its place isn't taken for the one of these sources."""
         self.run_script("migrate")
         program = self.put("checkout/crates/ldv/out/ldv", "#!/bin/sh\necho other\n")
@@ -190,7 +205,7 @@ class Script(InFolder):
         os.chmod(program, 0o755)
         self.assertEqual((self.run_script("migrate")[1], self.builds()), (b"built\n", 2))
 
-    def test_changed_meanwhile(self):
+    def test_changed_meanwhile(self) -> None:
         """A source that is changed during the build is built by the next call."""
         source = os.path.join(self.root, "crates/ldv/src/main.rt")
         self.put("bin/rt", RT + f"[ -e {self.folder}/changed ] || echo two > {source}\ntouch "
@@ -200,7 +215,7 @@ class Script(InFolder):
             self.run_script("migrate")
             self.assertEqual(self.builds(), builds)
 
-    def test_copies(self):
+    def test_copies(self) -> None:
         """A copy of a built checkout has its program, and so has one that was only cloned,
         by another name or link too."""
         self.run_script("migrate")
@@ -219,7 +234,7 @@ class Script(InFolder):
         self.assertEqual(self.run_script("migrate", root="copy", cwd=self.folder), (0, b"built\n", ""))
         self.assertEqual(len(os.listdir(os.path.join(self.env["XDG_CACHE_HOME"], "ldv"))), 1)
 
-    def test_read_only(self):
+    def test_read_only(self) -> None:
         """Where nothing can be written this is said before anything else."""
         out = os.path.join(self.root, "crates/ldv/out")
         self.put("checkout/crates/ldv/out", "in the way")
@@ -227,14 +242,14 @@ class Script(InFolder):
         self.assertEqual((status, err.count("\n"), self.builds()), (126, 1, 0))
         self.assertIn(f"{out} can't be written", err)
 
-    def test_no_rt(self):
+    def test_no_rt(self) -> None:
         os.remove(os.path.join(self.folder, "bin/rt"))
         self.env["PATH"] = os.path.join(self.folder, "bin") + ":/usr/bin:/bin"
         status, _, err = self.run_script("migrate")
         self.assertEqual((status, err), (
             127, "ldv: the program must be proved and compiled first, and there is no rt to do it\n"))
 
-    def on_terminal(self, *words, is_input=False):
+    def on_terminal(self, *words: str, is_input: bool = False) -> str:
         """What is written to a terminal that is standard error, and on demand standard input too."""
         main, other = pty.openpty()
         if is_input:
@@ -252,7 +267,7 @@ class Script(InFolder):
         os.close(main)
         return shown.decode().replace("\r\n", "\n")
 
-    def test_terminal(self):
+    def test_terminal(self) -> None:
         """On a terminal wrong words get a second line, and a file's name another one."""
         self.run_script("migrate")
         self.assertEqual(self.on_terminal("walk"), "ldv: usage\nldv: the words are in the manual page: "
@@ -263,7 +278,7 @@ class Script(InFolder):
                                                                  "from standard input: ldv .. < world.json\n")
         self.assertEqual(self.run_script("walk"), (2, b"", "ldv: usage\n"))
 
-    def test_terminal_words(self):
+    def test_terminal_words(self) -> None:
         """The second line has the commands of the manual page, which are those of COMMANDS."""
         self.run_script("migrate")
         os.makedirs(os.path.join(self.root, "docs"))
@@ -272,14 +287,14 @@ class Script(InFolder):
         rows = table.partition("There are no")[0]
         words = list(dict.fromkeys(re.findall(r"(?m)^\| `([a-z]+)[^`|]*` \| ", rows)))
         self.assertEqual(words[:3], ["run", "record", "replay"])
-        for given in (["walk"], []):
+        for given in each_of(["walk"], []):
             first, second, *rest = self.on_terminal(*given).split("\n")
             self.assertEqual((first, rest), ("ldv: usage", [""]))
-            found = re.fullmatch("ldv: the first word is one of (.*); the words are in the manual page: "
-                                 f"man -l {re.escape(self.root)}/docs/ldv.1", second)
+            found = match_in(r"\Aldv: the first word is one of (.*); the words are in the manual page: "
+                             rf"man -l {re.escape(self.root)}/docs/ldv\.1\Z", second)
             self.assertEqual(sorted(found[1].split(", ")), sorted(words))
 
-    def test_terminal_input(self):
+    def test_terminal_input(self) -> None:
         """Where the input would come from the terminal, this is said."""
         self.run_script("migrate")
         said = "ldv: the input is read from this terminal; of a file: ldv run < world.json\n"
@@ -288,19 +303,19 @@ class Script(InFolder):
         self.assertNotIn("is read", self.on_terminal("run"))
         self.assertNotIn("is read", self.on_terminal("walk", is_input=True))
 
-    def test_no_program(self):
-        status, out, err = command([os.path.join(TOOLS, "check_program.py"), self.folder + "/none"])
+    def test_no_program(self) -> None:
+        status, out, err = command([sys.executable, TOOLS, "check_program", self.folder + "/none"])
         self.assertEqual((status, out), (1, b""))
         self.assertIn(b"none is no program", err)
 
 
-def with_digest(body):
+def with_digest(body: str) -> bytes:
     """The bytes of some hex digits, followed by their digest."""
     data = bytes.fromhex(body)
     return data + hashlib.sha256(data).digest()
 
 
-def within_64_mib():
+def within_64_mib() -> None:
     """Lets this process have 64 MiB of addresses."""
     resource.setrlimit(resource.RLIMIT_AS, (64 << 20, 64 << 20))
 
@@ -308,12 +323,12 @@ def within_64_mib():
 class Program(InFolder):
     """With the real program."""
 
-    def setUp(self):
+    def setUp(self) -> None:
         super().setUp()
         if not os.access(support.PROGRAM, os.X_OK):
             self.skipTest(f"{support.PROGRAM} isn't there; compile it with ./ldv")
 
-    def check_run(self, document, expected):
+    def check_run(self, document: bytes, expected: bytes) -> bytes:
         """The outcome of a run, and that of the replay of what was recorded."""
         self.assertEqual(ldv(["run"], document), (0, expected, b""))
         status, package, err = ldv(["record"], document)
@@ -324,7 +339,7 @@ class Program(InFolder):
         self.assertEqual(ldv(["replay"], replies), (0, expected, b""))
         return package
 
-    def test_examples(self):
+    def test_examples(self) -> None:
         for path in sorted(glob.glob(EXAMPLES + "/*.outcome")):
             self.check_run(read(path[:-len(".outcome")] + ".json"), read(path))
         for path in sorted(glob.glob(EXAMPLES + "/*.error")):
@@ -332,7 +347,7 @@ class Program(InFolder):
                 document = read(path[:-len(".error")] + ".json")
                 self.assertEqual(ldv([word], document), (6, b"", read(path)), path)
 
-    def test_tutorial(self):
+    def test_tutorial(self) -> None:
         path = os.path.join(self.folder, "library.db")
         make_database(path, read(TUTORIAL + "/library.sql").decode())
         for words, name in ((WEATHER, "weather"), (["--sqlite", path] + LIBRARY, "library")):
@@ -342,14 +357,14 @@ class Program(InFolder):
         self.assertNotIn(b"Middlemarch", package)
         self.assertEqual(ldv(["replay"], package[:-1]), (8, b"", b"ldv: damaged: digest\n"))
 
-    def test_package(self):
+    def test_package(self) -> None:
         """What the orders world packs of its customers, with the statement and the rule of each row."""
         path = self.put("orders.package", ldv(["record"], read(f"{EXAMPLES}/orders.json"))[1])
         self.assertEqual(tool(package, "--csv", self.folder, "--reasons", path)[0], 0)
         self.assertEqual(read(f"{self.folder}/customers.csv"), b"ldv_row,ldv_statement,ldv_rule,id,name\r\n"
                          b"0,2,L,1,Ada\r\n1,2,H,2,Bo\r\n2,2,H,3,Cy\r\n")
 
-    def test_unsound(self):
+    def test_unsound(self) -> None:
         """Where a package was changed, `audit` names the byte, and package.py what stands there."""
         whole = ldv(["record"], read(f"{EXAMPLES}/orders.json"))[1]
         self.assertEqual(ldv(["audit"], whole), (0, b"sound\n", b""))
@@ -365,11 +380,11 @@ class Program(InFolder):
                 "section trace", "event 5, counted from 0: 14 0 asked 1 tables 1 reads 1 made 0",
                 "rows of orders that it needed", said])
 
-    def test_manual_page(self):
+    def test_manual_page(self) -> None:
         """The examples of the manual page, in their order."""
         check_page.folder_with(support.PROGRAM, self.folder)
         for name in ("old.package", "first.package", "second.package"):
-            self.put(name, spelling.encode(spelling.package()))
+            self.put(name, encoder.encode(encoder.package()))
         page = read(os.path.join(ROOT, check_docs.MANUAL)).decode()
         lines = re.findall(r"(?m)^\.Dl (.*)$", page)
         for block in re.findall(r"(?s)\n\.Bd .*?\n(.*?)\n\.Ed", page):
@@ -382,24 +397,24 @@ class Program(InFolder):
                 line = "python3 -m zipfile -e orders.zip orders"
             if no_dot:
                 line = line.replace(" --svg report.svg", "")
-            done = subprocess.run(["sh", "-c", line], cwd=self.folder, stdout=subprocess.PIPE,
-                                  stderr=subprocess.PIPE, env={**os.environ, "PATH": path}, check=False)
+            done = subprocess.run(["sh", "-c", line], cwd=self.folder, capture_output=True,
+                                  env={**os.environ, "PATH": path}, check=False)
             # Of a package that says nothing of its columns, or has refusals, that is said.
             said = [each for each in done.stderr.splitlines()
                     if not re.search(rb": nothing says what the c|\d of \d+ statements was refused$", each)
                     and not (no_dot and b": no picture: dot isn't installed" in each)]
             self.assertEqual((done.returncode, said), (0, []), line)
 
-    def test_packages_page(self):
+    def test_packages_page(self) -> None:
         status, out, err = tool(check_page, "--program", support.PROGRAM)
         self.assertEqual((status, err), (0, ""), out.decode())
 
-    def test_scripts_page(self):
+    def test_scripts_page(self) -> None:
         with contextlib.redirect_stdout(io.StringIO()) as printed:
             status = check_scripts.main(["--program", shlex.join([support.PROGRAM, "run"])])
         self.assertEqual(status, 0, printed.getvalue())
 
-    def test_against_sqlite(self):
+    def test_against_sqlite(self) -> None:
         """A few random statements; a run of many is made by hand."""
         words = ["--program", shlex.join([support.PROGRAM, "run"]), "--databases", "10", "--folder",
                  self.folder]
@@ -407,7 +422,7 @@ class Program(InFolder):
             status = against_sqlite.main(words)
         self.assertEqual(status, 0, printed.getvalue())
 
-    def test_findings(self):
+    def test_findings(self) -> None:
         """On random worlds check.py finds a bad line, and a statement that is refused
         by a code from 1 to 4, exactly where the program does."""
         seen = set()
@@ -422,7 +437,7 @@ class Program(InFolder):
             seen |= {*codes}
         self.assertEqual(seen, {0, 1, 2, 3, 4})
 
-    def test_rows_by_hand(self):
+    def test_rows_by_hand(self) -> None:
         path = self.put("t.csv", 'id,name\n2,"Ada, x"\n1,\n-3,Bo\n')
         document = tool(world, "--no-columns", "--csv", path, "--ask", "SELECT * FROM t WHERE id < 2",
                         "--ask", "SELECT * FROM t WHERE nome = 1")[1]
@@ -431,7 +446,7 @@ class Program(InFolder):
         shown = tool(outcome, "--csv", "--reply", "1", given=ldv(["run"], document)[1])
         self.assertEqual(shown, (0, b"1,2\n1,\n-3,Bo\n", "outcome.py: 1 of 2 statements was refused\n"))
 
-    def test_limits(self):
+    def test_limits(self) -> None:
         """What world.py lets through at its limits is a world, and reserved words aren't names."""
         table = ",".join(["a" * 63] + [f"c{n}" for n in range(63)])
         row = ",".join(["9223372036854775807", "-9223372036854775808", "é" * 32768] + ["x"] * 61)
@@ -446,7 +461,7 @@ class Program(InFolder):
             document = json.dumps({"start": ["m"], "files": {"m": ""}, "tables": tables}).encode()
             self.assertEqual(ldv(["run"], document), (6, b"", b"ldv: not a world: name\n"), word)
 
-    def test_memory_of_runs(self):
+    def test_memory_of_runs(self) -> None:
         """A few bytes that stand for more events than a package may have are refused within 64 MiB, so before
         an event is made of them. Of as many as may be, only a report on events makes them."""
         files = "00000001 000000046d61696e 01 00000000"

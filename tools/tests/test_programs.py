@@ -1,4 +1,6 @@
 """The programs of examples/programs: captured, recorded and played back, each file as it stands there."""
+from __future__ import annotations
+
 import os
 import shutil
 import sys
@@ -13,7 +15,7 @@ PROGRAMS = os.path.join(EXAMPLES, "programs")
 
 
 class Examples(Programs):
-    def whole_example(self, name, module, words, *options):
+    def whole_example(self, name: str, module: str, words: list[str], *options: str) -> list[str]:
         """Captures and plays an example back, and compares all with its files."""
         python = python_with(module)
         if python is None:
@@ -41,18 +43,18 @@ class Examples(Programs):
         self.assertEqual(tool(page, f"{name}.package")[1], expected["html"])
         return program
 
-    def test_study(self):
+    def test_study(self) -> None:
         program = self.whole_example("study", "pandas", ["--year", "2019"], "--scale", "people.weight=2")
         _, said = self.play([*program[:-1], "2018"], status=9)
         self.assertIn("study.py line 13: the program asks", said)
         self.assertIn("{'first': '2018-01-01', 'last': '2018-12-31'}", said)
 
-    def test_shop(self):
+    def test_shop(self) -> None:
         program = self.whole_example("shop", "sqlalchemy", ["Ada", "pad", "2"])
         _, said = self.play([*program[:-1], "1"], status=9)
         self.assertIn("UPDATE items SET stock=?", said)
 
-    def test_page(self):
+    def test_page(self) -> None:
         """The page names what is there."""
         text = read(os.path.join(PROGRAMS, "README.md")).decode()
         for name in os.listdir(PROGRAMS):

@@ -1,4 +1,6 @@
 """world.py --propose and --accept: one round in place of several."""
+from __future__ import annotations
+
 import json
 import os
 from unittest import mock
@@ -12,7 +14,7 @@ SAMPLES = ("Nr;Datum;Zeit;Nitrat mg/l;Kosten;Anteil\n1;27.07.2024;6:00;14,4;1.89
 
 
 class Proposals(InFolder):
-    def setUp(self):
+    def setUp(self) -> None:
         super().setUp()
         self.samples = self.put("samples.csv", SAMPLES.encode("cp1252"))
         self.base = os.path.join(self.folder, "f.db")
@@ -20,7 +22,7 @@ class Proposals(InFolder):
                                  "VALUES (1, 1.25, '2024/03/11'); CREATE TABLE b (x REAL); INSERT INTO b "
                                  "VALUES (0.5);")
 
-    def test_accepted(self):
+    def test_accepted(self) -> None:
         """A file of many forms and a database: one command line, each choice with why, and its world."""
         query = self.put("q.sql", "SELECT kosten FROM samples;\n")
         out = os.path.join(self.folder, "w.json")
@@ -43,14 +45,14 @@ class Proposals(InFolder):
         self.assertEqual(made["tables"]["a"]["rows"], [[1, 125, "2024-03-11"]])
         self.assertEqual(made["tables"]["b"]["rows"], [[5]])
 
-    def test_read_once(self):
+    def test_read_once(self) -> None:
         """Each file is read once."""
         with mock.patch.object(world_csv, "read_anew", wraps=world_csv.read_anew) as read_anew:
             self.assertEqual(tool(world, "--propose", "--csv", self.samples)[0], 0)
         paths = [call.args[0] for call in read_anew.call_args_list if call.args[1] < 0]
         self.assertEqual(paths, [self.samples])
 
-    def test_refused(self):
+    def test_refused(self) -> None:
         for text, said in (("{}", "no proposal of world.py --propose"),
                            ("tools/world.py 'x", "a quote in it")):
             path = self.put("p", text)

@@ -1,5 +1,7 @@
 """prov.py: documents, PROV-JSON and PROV-N, the latter by the Python package prov where it is installed, and
 pictures, by dot where it is installed."""
+from __future__ import annotations
+
 import json
 import os
 import re
@@ -7,15 +9,23 @@ import shutil
 import subprocess
 import sys
 import unittest
+from typing import Any, Optional
 from urllib.parse import unquote
 
-import spelling
-
+from cases import encoder
 from ldvtools import prov
 from ldvtools.errors import Malformed, Refused
 from ldvtools.packages import read_package
-from ldvtools.provenance import (GROUP, RELATIONS, Edge, Node, Provenance, document_text, node_of,
-                                 read_provenance)
+from ldvtools.provenance import (
+    GROUP,
+    RELATIONS,
+    Edge,
+    Node,
+    Provenance,
+    document_text,
+    node_of,
+    read_provenance,
+)
 from ldvtools.trace import graph_of
 
 from . import version2
@@ -59,11 +69,11 @@ DRAWN = """digraph provenance {
 """
 
 
-def octets(value):
-    return bytes.fromhex(value["hex"]) if isinstance(value, dict) else value.encode()
+def octets(value: Any) -> bytes:
+    return bytes.fromhex(value["hex"]) if isinstance(value, dict) else str(value).encode()
 
 
-def cases():
+def cases() -> list[Any]:
     """The cases of `prov`: their words, their input, their status and their output."""
     found = []
     for name in ("provenance/documents.json", "provenance/whole.json"):
@@ -72,9 +82,9 @@ def cases():
             for each in found]
 
 
-def documents():
+def documents() -> list[Any]:
     """Each document of the cases once: those that `prov` writes, and those that `prov depends` reads."""
-    found = {}
+    found: dict[bytes, None] = {}
     for _, words, given, status, output in cases():
         if status == 0 and words == ["prov"]:
             found[output] = None
@@ -83,14 +93,15 @@ def documents():
     return list(found)
 
 
-def back(text):
+def back(text: str) -> str:
     """The document of which PROV-JSON was made: no label, type or prefix."""
     made = json.loads(text)
 
-    def value(name):
+    def value(name: Any) -> Any:
         return int(name["$"]) if isinstance(name, dict) else f"ldv:{unquote(name[4:])}"
 
-    document = {name: {} for name in ["activity", "entity", *(each.name for each in RELATIONS.values())]}
+    document: dict[str, dict[str, Any]] = {
+        name: {} for name in ["activity", "entity", *(each.name for each in RELATIONS.values())]}
     for group in document:
         for name, members in made.get(group, {}).items():
             document[group][f"ldv:{unquote(name[4:])}"] = {
@@ -99,7 +110,7 @@ def back(text):
     return json.dumps(document, ensure_ascii=False, separators=(",", ":"), sort_keys=True)
 
 
-def with_package():
+def with_package() -> Optional[str]:
     """An interpreter that has the Python package prov, or None."""
     for program in (sys.executable, "/usr/bin/python3"):
         if os.access(program, os.X_OK) and command([program, "-I", "-c", "import prov.model"])[0] == 0:
@@ -108,7 +119,7 @@ def with_package():
 
 
 class Documents(unittest.TestCase):
-    def test_read(self):
+    def test_read(self) -> None:
         """A document is read exactly where the program reads it, and written as it was."""
         counts = {True: 0, False: 0}
         for name, words, given, status, output in cases():
@@ -124,14 +135,15 @@ class Documents(unittest.TestCase):
         self.assertGreater(counts[False], 20)
         self.assertGreater(counts[True], 40)
 
-    def test_graph(self):
+    def test_graph(self) -> None:
         """The graph of a package's trace, as the tools make it, is that of the document."""
         for name, words, given, status, output in cases():
             if words == ["prov"] and status == 0:
                 document, package = read_provenance(output), read_package(given)
                 made = {process: place for place, process in enumerate(package.process_names())}
                 graph = graph_of(package)
-                nodes = [Node(kind, "/".join(str(made[each] if kind == "process" else each) for each in rest))
+                nodes = [Node(str(kind), "/".join(
+                    str(made[str(each)] if kind == "process" else each) for each in rest))
                          for kind, *rest in graph.nodes]
                 self.assertEqual(sorted(nodes), sorted(document.nodes), name)
                 self.assertEqual(
@@ -140,7 +152,7 @@ class Documents(unittest.TestCase):
                     sorted((document.nodes[edge.source], document.nodes[edge.target], edge.first, edge.last)
                            for edge in document.edges), name)
 
-    def test_malformed(self):
+    def test_malformed(self) -> None:
         for old, new, message in (
                 ('"ldv:place":1', '"ldv:place":2', "a node before it has place"),
                 ('"ldv:place":1', '"ldv:place":3', "ldv:place is no number from 0 to 2"),
@@ -173,7 +185,7 @@ class Documents(unittest.TestCase):
 
 
 class Standard(InFolder):
-    def test_written(self):
+    def test_written(self) -> None:
         status, out, err = tool(prov, given=DOCUMENT.encode())
         self.assertEqual((status, err), (0, ""))
         made = json.loads(out)
@@ -190,13 +202,13 @@ class Standard(InFolder):
         other = tool(prov, "--provn", "--namespace", "https://example.org/run/1#", given=DOCUMENT.encode())[1]
         self.assertEqual(other.decode(), PROV_N.replace("<urn:ldv:>", "<https://example.org/run/1#>"))
 
-    def test_back(self):
+    def test_back(self) -> None:
         """Nothing is left out: a document can be made of its PROV-JSON again."""
         for document in [DOCUMENT.encode(), *documents()]:
             self.assertEqual(back(prov.prov_json(read_provenance(document), None, "urn:ldv:")),
                              document.decode())
 
-    def test_names(self):
+    def test_names(self) -> None:
         """Every name is one of PROV-N, and no two ids have one name."""
         ids = [f"ldv:path/{path}" for path in (
             "a", "a.", "a%2E", "a.b", ".", "-", "a b", "a+b", "a%20b", "a/b/", "é", "\u200d", "<>", "'",
@@ -209,7 +221,7 @@ class Standard(InFolder):
             self.assertRegex(name, r"\A([A-Za-z0-9_/]|%[0-9A-F]{2})(([A-Za-z0-9_/.-]|%[0-9A-F]{2})*"
                                    r"([A-Za-z0-9_/-]|%[0-9A-F]{2}))?\Z")
 
-    def test_process_names(self):
+    def test_process_names(self) -> None:
         """By the package of the document: those of `inspect`."""
         by_name = {name: (given, output) for name, words, given, status, output in cases()
                    if words == ["prov"] and status == 0}
@@ -225,15 +237,14 @@ class Standard(InFolder):
         self.assertIn("a joined package has two runs", tool(prov, "--names", both, given=document)[2])
 
     @unittest.skipUnless(with_package(), "python3-prov isn't installed")
-    def test_package(self):
+    def test_package(self) -> None:
         """The Python package prov reads PROV-JSON, means by it what PROV-N says, writes it in its own formats
         and draws it."""
         given = [DOCUMENT.encode(), *documents()]
         read_ones = [read_provenance(document) for document in given]
         texts = [prov.prov_json(each, None, "urn:ldv:") for each in read_ones]
-        done = subprocess.run([with_package(), "-I", os.path.join(HERE, "prov_package.py")],
-                              input=json.dumps(texts).encode(), check=False, stdout=subprocess.PIPE,
-                              stderr=subprocess.PIPE)
+        done = subprocess.run([with_package() or "", "-I", os.path.join(HERE, "prov_package.py")],
+                              input=json.dumps(texts).encode(), check=False, capture_output=True)
         self.assertEqual(done.returncode, 0, done.stderr.decode())
         seen = json.loads(done.stdout)
         self.assertEqual(len(seen), len(given))
@@ -249,7 +260,7 @@ class Standard(InFolder):
 
 
 class Pictures(InFolder):
-    def test_ancestry(self):
+    def test_ancestry(self) -> None:
         """The nodes of a picture are those that `prov depends` lists, and the path."""
         count = 0
         for name, words, given, status, output in cases():
@@ -267,7 +278,7 @@ class Pictures(InFolder):
                 count += 1
         self.assertGreater(count, 20)
 
-    def test_drawn(self):
+    def test_drawn(self) -> None:
         words = ["--ancestry", 'a "b" é.']
         self.assertEqual(tool(prov, *words, given=DOCUMENT.encode()), (0, DRAWN.encode(), ""))
         self.assertEqual(tool(prov, *words, "--limit", "3", self.put("d", DOCUMENT)), (0, DRAWN.encode(), ""))
@@ -276,14 +287,14 @@ class Pictures(InFolder):
         self.assertIn("the picture would have 3 arrows, more than 2; --limit N takes N", err)
         self.assertIn("no node is the path q", tool(prov, "--ancestry", "q", given=DOCUMENT.encode())[2])
 
-    def test_times(self):
+    def test_times(self) -> None:
         """What a process read after it wrote for the last time isn't in the picture, nor the way there."""
         document = {name: (given, output) for name, words, given, status, output in cases()
                     if words == ["prov"]}["reading came later"][1]
         text = tool(prov, "--ancestry", "g", given=document)[1].decode()
         self.assertEqual(re.findall(r'label="(\D[^"]*)"', text), ["main", "process 0", "g"])
 
-    def test_image(self):
+    def test_image(self) -> None:
         path, script = os.path.join(self.folder, "t.svg"), self.put("fake", '#!/bin/sh\necho "$@"; cat\n')
         os.chmod(script, 0o755)
         words = ["--ancestry", 'a "b" é.', "--svg", path]
@@ -293,7 +304,7 @@ class Pictures(InFolder):
             self.assertEqual(tool(prov, *words, given=DOCUMENT.encode()), (0, b"", ""))
             self.assertEqual(read(path).count(b'class="edge"'), 3)
 
-    def test_words(self):
+    def test_words(self) -> None:
         for words, message in (
                 (["--svg", "x"], "--svg goes with --ancestry"),
                 (["--namespace", "a b:"], "'a b:' is no IRI"),
@@ -309,31 +320,31 @@ class Pictures(InFolder):
 class Replies(InFolder):
     """What replies came from, over a package of many rows."""
 
-    def setUp(self):
+    def setUp(self) -> None:
         super().setUp()
-        columns = [spelling.column("k", "INT NOT NULL")]
-        rows = [spelling.row(number, number, statement=int(number >= 50)) for number in range(1000)]
-        trace = [spelling.started(), spelling.asked(0, 1, tables=["pubs"], reads=[
-            spelling.group("pubs", *(spelling.read(number) for number in range(50)))]),
-            spelling.asked(1, 2, tables=["pubs"], reads=[
-                spelling.group("pubs", *(spelling.read(number) for number in range(1000)))]),
-                 spelling.ended(3)]
+        columns = [encoder.column("k", "INT NOT NULL")]
+        rows = [encoder.row(number, number, statement=int(number >= 50)) for number in range(1000)]
+        trace = [encoder.started(), encoder.asked(0, 1, tables=["pubs"], reads=[
+            encoder.group("pubs", *(encoder.read(number) for number in range(50)))]),
+            encoder.asked(1, 2, tables=["pubs"], reads=[
+                encoder.group("pubs", *(encoder.read(number) for number in range(1000)))]),
+                 encoder.ended(3)]
         script = 'sql q "SELECT * FROM pubs WHERE k < 50"\nsql q "SELECT * FROM pubs"\n'
-        self.data = spelling.encode(spelling.package(
-            steps=3, files=[spelling.file("main", script)], trace=trace,
-            tables=[spelling.table("pubs", columns, [0], 1000, rows)]))
+        self.data = encoder.encode(encoder.package(
+            steps=3, files=[encoder.file("main", script)], trace=trace,
+            tables=[encoder.table("pubs", columns, [0], 1000, rows)]))
         graph = graph_of(read_package(self.data))
         numbers = {"0": "0"}
-        nodes = [Node(str(node[0]), numbers[node[1]] if node[0] == "process" else
+        nodes = [Node(str(node[0]), numbers[str(node[1])] if node[0] == "process" else
                       "/".join(map(str, node[1:]))) for node in graph.nodes]
         edges = [Edge(*ends, *times) for ends, times in graph.edges.items()]
         self.document = self.put("d.prov", document_text(Provenance(nodes, edges)))
         self.package = self.put("p.package", self.data)
-        rows = "".join(f"row 1\nint {number}\n" for number in range(50))
+        few = "".join(f"row 1\nint {number}\n" for number in range(50))
         more = "".join(f"row 1\nint {number}\n" for number in range(1000))
-        self.outcome = self.put("o", f"outcome 1 0\nprocess 0 0 0 2\n\nrows 50\n{rows}rows 1000\n{more}")
+        self.outcome = self.put("o", f"outcome 1 0\nprocess 0 0 0 2\n\nrows 50\n{few}rows 1000\n{more}")
 
-    def test_replies(self):
+    def test_replies(self) -> None:
         self.assertEqual(tool(prov, "--replies", self.document), (
             0, b"reply 0 came from 50 rows of pubs; files main\n"
                b"reply 1 came from 1,000 rows of pubs; files main; replies 0\n", ""))
@@ -341,7 +352,7 @@ class Replies(InFolder):
         self.assertIn(b"reply 0: SELECT * FROM pubs WHERE k < 50 came from 50 rows of pubs; files main\n",
                       tool(prov, "--replies", *words, self.document)[1])
 
-    def test_folded(self):
+    def test_folded(self) -> None:
         """A picture of 1,000 rows has a node for those with the same arrows, and few arrows."""
         status, out, err = tool(prov, "--reply", "1", self.document)
         self.assertEqual((status, err), (0, ""))
@@ -352,10 +363,10 @@ class Replies(InFolder):
             prov, "--reply", "1", "--names", self.package, "--replayed", self.outcome, self.document)[1])
         self.assertIn("no node is the reply 7", tool(prov, "--reply", "7", self.document)[2])
 
-    def test_other_package(self):
+    def test_other_package(self) -> None:
         """Names of another package aren't taken, though it has as many processes."""
-        other = self.put("other", spelling.encode(spelling.package(
-            steps=1, trace=[spelling.started(), spelling.asked(0), spelling.ended(1)])))
+        other = self.put("other", encoder.encode(encoder.package(
+            steps=1, trace=[encoder.started(), encoder.asked(0), encoder.ended(1)])))
         self.assertEqual(tool(prov, "--names", other, self.document)[::2],
                          (1, "prov.py: the document isn't of the trace of this package: its graph is another "
                              "one\n"))

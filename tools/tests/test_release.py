@@ -1,5 +1,7 @@
 """Makefile and release.py: what is installed, the archives of a release, and both in an empty root; the
 completions, as real shells give them; and the words of the script ./ldv that are its own."""
+from __future__ import annotations
+
 import gzip
 import hashlib
 import os
@@ -9,16 +11,16 @@ import subprocess
 import sys
 import tarfile
 import unittest
+from typing import Any, Optional, Sequence
 
-import check_docs
 import completions
 import release
-
+from checks import check_docs
 from ldvtools import __version__
 from ldvtools.program import least_libc
 
 from . import support
-from .support import EXAMPLES, ROOT, InFolder, command, read
+from .support import EXAMPLES, ROOT, InFolder, command, each_of, read
 
 # In place of the program: it is asked for nothing but its words.
 STUB = "#!/bin/sh\necho 'ldv: usage' >&2\nexit 2\n"
@@ -27,7 +29,7 @@ VERDICT = ("logic=proved functions={} sum=dac8208d650f15bf native=nat,char,strin
 WITHOUT_NETWORK = ["unshare", "-mn"] if os.geteuid() == 0 else ["unshare", "-rmn"]
 
 
-def log_text(names):
+def log_text(names: Sequence[str]) -> str:
     """A log as `rt ci` writes one of these crates, with the time before each line."""
     lines = []
     for place, name in enumerate(names):
@@ -39,7 +41,7 @@ def log_text(names):
 class Checkout(InFolder):
     """A test with a checkout of its own, of the files of this one, and a program and a log for it."""
 
-    def setUp(self):
+    def setUp(self) -> None:
         super().setUp()
         if shutil.which("git") is None:
             self.skipTest("git isn't installed")
@@ -50,11 +52,11 @@ class Checkout(InFolder):
         os.chmod(self.program, 0o755)
         self.log = self.put("gate.log", log_text(release.crates_of(ROOT)))
 
-    def git(self, folder, *words):
+    def git(self, folder: str, *words: str) -> bytes:
         return subprocess.run(["git", "-C", folder, *words], env=self.git_env, check=True,
-                              stdout=subprocess.PIPE, stderr=subprocess.PIPE).stdout
+                              capture_output=True).stdout
 
-    def checkout(self, name="checkout"):
+    def checkout(self, name: str = "checkout") -> str:
         """A repository with one commit of what a release is made of."""
         top = os.path.join(self.folder, name)
         os.makedirs(top)
@@ -70,13 +72,13 @@ class Checkout(InFolder):
         self.git(top, "-c", "user.name=A", "-c", "user.email=a@b.example", "commit", "-q", "-m", "All")
         return top
 
-    def make(self, top, *words, env=None):
+    def make(self, top: str, *words: str, env: Optional[dict[str, str]] = None) -> tuple[int, str, str]:
         done = subprocess.run(["make", "-C", top, *words, f"PYTHON={sys.executable}"],
-                              stdin=subprocess.DEVNULL, stdout=subprocess.PIPE, stderr=subprocess.PIPE,
+                              stdin=subprocess.DEVNULL, capture_output=True,
                               check=False, env={**os.environ, **(env or {})})
         return done.returncode, done.stdout.decode(), done.stderr.decode()
 
-    def dist(self, top, env=None):
+    def dist(self, top: str, env: Optional[dict[str, str]] = None) -> dict[str, bytes]:
         status, out, err = self.make(top, "dist", f"LDV_PROGRAM={self.program}", f"LOG={self.log}", env=env)
         self.assertEqual(status, 0, out + err)
         folder = os.path.join(top, "dist")
@@ -85,7 +87,7 @@ class Checkout(InFolder):
 
 @unittest.skipUnless(shutil.which("make"), "make isn't installed")
 class Archives(Checkout):
-    def test_same_bytes(self):
+    def test_same_bytes(self) -> None:
         """The same commit gives the same bytes in two folders, by another user's mask, clock, zone and
         language."""
         first = self.checkout()
@@ -107,10 +109,11 @@ class Archives(Checkout):
             self.assertEqual(hashlib.sha256(data).hexdigest(), digests[name], name)
         self.assertIn(f"ldv-{__version__}-linux-x86_64.tar.gz", made)
         self.assertEqual(f"ldv_{__version__}_amd64.deb" in made, shutil.which("dpkg-deb") is not None)
-        sums = dict(reversed(line.split("  ")) for line in made["SHA256SUMS"].decode().splitlines())
+        lines = made["SHA256SUMS"].decode().splitlines()
+        sums = {name: digest for digest, name in (line.split("  ") for line in lines)}
         self.assertEqual({**sums, "SHA256SUMS": digests["SHA256SUMS"]}, digests)
 
-    def test_contents(self):
+    def test_contents(self) -> None:
         """The archive has the program, the tools, the manual page, completions, documents, examples and
         BUILD, owned by root, at the time of the commit."""
         top = self.checkout()
@@ -118,8 +121,9 @@ class Archives(Checkout):
         path = os.path.join(top, f"dist/{release.NAME}.tar.gz")
         with tarfile.open(path) as archive:
             entries = {entry.name: entry for entry in archive}
-            build = archive.extractfile(f"{release.NAME}/share/doc/ldv/BUILD").read().decode()
-            program = archive.extractfile(f"{release.NAME}/bin/ldv").read()
+            written, program = (file.read() for file in map(archive.extractfile, (
+                f"{release.NAME}/share/doc/ldv/BUILD", f"{release.NAME}/bin/ldv")) if file is not None)
+        build = written.decode()
         self.assertEqual(list(entries), sorted(entries))
         self.assertEqual(program, read(self.program))
         for entry in entries.values():
@@ -129,9 +133,10 @@ class Archives(Checkout):
                  if entry.isfile()}
         self.assertLessEqual({"share/man/man1/ldv.1", "share/bash-completion/completions/ldv",
                               "share/zsh/site-functions/_ldv", "share/fish/vendor_completions.d/ldv.fish",
-                              "share/ldv/ldvtools/page.js", "share/doc/ldv/README.md",
-                              "share/doc/ldv/docs/TUTORIAL.md", "share/doc/ldv/examples/weather.json"},
-                             set(modes))
+                              "share/ldv/ldvtools/page.js", "share/ldv/ldvtools/py.typed",
+                              "share/ldv/ldvtools/notebook/worlds.py", "share/doc/ldv/README.md",
+                              "share/doc/ldv/docs/TUTORIAL.md", "share/doc/ldv/examples/weather.json",
+                              "share/doc/ldv/examples/notebook/visits.ipynb"}, set(modes))
         tools = sorted(name[len("bin/ldv-"):] for name in modes if name.startswith("bin/ldv-"))
         self.assertEqual(tools, sorted(release.tool_names(ROOT)))
         self.assertGreaterEqual(len(tools), 11)
@@ -149,7 +154,7 @@ class Archives(Checkout):
         self.assertIn("make dist", build)
 
     @unittest.skipUnless(shutil.which("dpkg-deb"), "dpkg-deb isn't installed")
-    def test_debian(self):
+    def test_debian(self) -> None:
         """The package has the same files below /usr, and depends on the C library that the program names."""
         self.put("program", STUB.encode() + b"# \0libgcc_s.so.1\0GLIBC_2.2.5\0GLIBC_2.34\0\n")
         top = self.checkout()
@@ -157,7 +162,7 @@ class Archives(Checkout):
         path = os.path.join(top, "dist", release.DEBIAN)
         fields = command(["dpkg-deb", "--field", path])[1].decode()
         for line in ("Package: ldv", f"Version: {__version__}", "Architecture: amd64",
-                     "Depends: libc6 (>= 2.34), libgcc-s1, python3 (>= 3.8)"):
+                     "Depends: libc6 (>= 2.34), libgcc-s1, python3 (>= 3.9)"):
             self.assertIn(line, fields.splitlines())
         listed = command(["dpkg-deb", "--contents", path])[1].decode().splitlines()
         files = {line.split()[5]: line.split()[:2] for line in listed}
@@ -174,7 +179,7 @@ class Archives(Checkout):
             digest, _, name = line.partition("  ")
             self.assertEqual(hashlib.md5(read(f"{unpacked}/{name}")).hexdigest(), digest)
 
-    def test_refused(self):
+    def test_refused(self) -> None:
         """What isn't of one commit, with one program and all verdicts, is no release."""
         top = self.checkout()
         given = f"LDV_PROGRAM={self.program}"
@@ -198,7 +203,7 @@ class Archives(Checkout):
         self.assertIn("files were changed since the commit", err)
         self.assertFalse(os.path.exists(os.path.join(top, "dist")))
 
-    def test_stale(self):
+    def test_stale(self) -> None:
         """Without a program that is given, that of these sources is taken, and none else."""
         top = self.checkout()
         for name in release.crates_of(ROOT):
@@ -207,8 +212,8 @@ class Archives(Checkout):
         words = [sys.executable, os.path.join(top, "tools/release.py"), "install", "--destdir", self.folder]
         env = {**os.environ, "XDG_CACHE_HOME": os.path.join(self.folder, "cache")}
 
-        def installed():
-            done = subprocess.run(words, stdout=subprocess.PIPE, stderr=subprocess.PIPE, env=env, check=False)
+        def installed() -> tuple[int, str]:
+            done = subprocess.run(words, capture_output=True, env=env, check=False)
             return done.returncode, done.stderr.decode()
 
         self.assertEqual(installed(), (1, "release.py: the program isn't built of these sources: `make` "
@@ -220,7 +225,7 @@ class Archives(Checkout):
         said = command([os.path.join(top, "ldv"), "--version"])[1].decode()
         self.assertIn("program not built", said)
 
-    def test_clean(self):
+    def test_clean(self) -> None:
         """`clean` takes the archives and the program away, and no proof."""
         top = self.checkout()
         self.dist(top)
@@ -232,7 +237,7 @@ class Archives(Checkout):
             "dist", "crates/ldv/out/ldv", "crates/ldv/out/rlib/kept", "crates/reach/out/kept")],
             [False, False, True, True])
 
-    def test_targets(self):
+    def test_targets(self) -> None:
         """`make` builds the program by ./ldv, and `make check` is the gate."""
         top = self.checkout()
         self.put("checkout/ldv", "#!/bin/sh\nwc -c; echo \"$@\" >> words\n")
@@ -248,7 +253,7 @@ class Archives(Checkout):
 
 @unittest.skipUnless(shutil.which("make"), "make isn't installed")
 class Installed(Checkout):
-    def test_install(self):
+    def test_install(self) -> None:
         """What is installed runs with a path that has Python alone, without the checkout; it goes again."""
         top = self.checkout()
         place = os.path.join(self.folder, "root of it")
@@ -261,10 +266,15 @@ class Installed(Checkout):
         os.symlink(sys.executable, os.path.join(path, "python3"))
         for name in release.tool_names(ROOT):
             tool = os.path.join(place, "opt/l/bin", f"ldv-{name}")
-            done = subprocess.run([tool, "--help"], stdout=subprocess.PIPE, stderr=subprocess.PIPE,
+            done = subprocess.run([tool, "--help"], capture_output=True,
                                   check=False, env={"PATH": path}, cwd="/")
             self.assertEqual((done.returncode, done.stderr), (0, b""), name)
-            self.assertIn(f"usage: {name}.py".encode(), done.stdout)
+            self.assertIn(f"usage: ldv-{name} ".encode(), done.stdout)
+        library = os.path.join(place, "opt/l/share/ldv")
+        told = (f"import sys; sys.path.insert(0, {library!r}); import ldvtools; "
+                "print(ldvtools.World.run.__doc__)")
+        done = subprocess.run([sys.executable, "-I", "-c", told], stdout=subprocess.PIPE, check=True, cwd="/")
+        self.assertTrue(done.stdout.startswith(b"The outcome of its run"))
         shown = command([os.path.join(place, "opt/l/bin/ldv-outcome"), f"{EXAMPLES}/orders.outcome"])
         self.assertIn(b"process 0.0 ended with status 0", shown[1])
         self.put("root of it/opt/l/share/doc/ldv/mine.txt", "kept")
@@ -273,8 +283,7 @@ class Installed(Checkout):
         left = [os.path.join(at, name) for at, _, names in os.walk(place) for name in names]
         self.assertEqual(left, [os.path.join(place, "opt/l/share/doc/ldv/mine.txt")])
 
-
-    def test_replay(self):
+    def test_replay(self) -> None:
         """With the real program: an example is recorded, replayed, shown and put into an archive by what is
         installed, with a path that has Python and what replay.sh calls alone."""
         if not os.access(support.PROGRAM, os.X_OK):
@@ -288,19 +297,19 @@ class Installed(Checkout):
         os.makedirs(path)
         os.symlink(sys.executable, os.path.join(path, "python3"))
         for name in ("sh", "cmp", "sha256sum", "cut", "grep", "chmod"):
-            os.symlink(shutil.which(name), os.path.join(path, name))
+            os.symlink(shutil.which(name) or name, os.path.join(path, name))
         commands = (f"cd {self.folder}; set -e; e={place}/usr/share/doc/ldv/examples; b={place}/usr/bin; "
                     "$b/ldv record < $e/weather.json > p; $b/ldv replay < p > o; cmp o $e/weather.outcome; "
                     "$b/ldv-outcome --package p o; $b/ldv-bundle p -o p.zip; "
                     "python3 -m zipfile -e p.zip unpacked; sh unpacked/replay.sh")
-        done = subprocess.run(["/bin/sh", "-c", commands], env={"PATH": path}, stdout=subprocess.PIPE,
-                              stderr=subprocess.PIPE, check=False)
+        done = subprocess.run(["/bin/sh", "-c", commands], env={"PATH": path}, check=False,
+                              capture_output=True)
         self.assertEqual(done.returncode, 0, done.stderr)
         self.assertIn("reply 1: 3 rows", done.stdout.decode())
         self.assertEqual(done.stdout.decode().splitlines()[-1], "the same bytes")
 
 
-def can_unshare():
+def can_unshare() -> bool:
     """Whether a mount and a network of one's own may be had here."""
     return (shutil.which("unshare") is not None and sys.platform == "linux"
             and command([*WITHOUT_NETWORK, "mount", "-t", "tmpfs", "none", "/mnt"])[0] == 0)
@@ -343,7 +352,7 @@ exec /usr/sbin/chroot . /usr/bin/env -i PATH=/usr/sbin:/usr/bin:/sbin:/bin HOME=
 class EmptyRoots(Checkout):
     """With the real program: what is installed, unpacked or sent runs where there is nothing else."""
 
-    def setUp(self):
+    def setUp(self) -> None:
         super().setUp()
         if not os.access(support.PROGRAM, os.X_OK):
             self.skipTest(f"{support.PROGRAM} isn't there; compile it with ./ldv")
@@ -359,14 +368,14 @@ class EmptyRoots(Checkout):
         os.makedirs(self.given)
         os.makedirs(self.room)
 
-    def inside(self, commands, room=ROOM):
+    def inside(self, commands: Sequence[str], room: Any = ROOM) -> str:
         """What commands write in the room, to which the folder `given` is given."""
         text = room.format(room=self.room, given=self.given, commands=commands)
         status, out, err = command([*WITHOUT_NETWORK, "sh", "-c", text])
         self.assertEqual(status, 0, out.decode() + err.decode())
         return out.decode()
 
-    def test_archive(self):
+    def test_archive(self) -> None:
         """The archive, unpacked: an example is recorded, replayed and shown."""
         self.dist(self.checkout())
         shutil.copy(os.path.join(self.folder, f"checkout/dist/{release.NAME}.tar.gz"), self.given)
@@ -381,14 +390,14 @@ class EmptyRoots(Checkout):
         self.assertIn("reply 1: 3 rows", out)
         self.assertEqual(out.splitlines()[-1], "the same bytes")
 
-    def test_bundle(self):
+    def test_bundle(self) -> None:
         """An archive of the package of weather.json replays where there is neither Python nor ldv."""
         from ldvtools import bundle
 
         if shutil.which("unzip") is None:
             self.skipTest("unzip isn't installed")
-        status, package, err = support.ldv(["record"], read(f"{EXAMPLES}/weather.json"))
-        self.assertEqual(status, 0, err)
+        status, package, told = support.ldv(["record"], read(f"{EXAMPLES}/weather.json"))
+        self.assertEqual(status, 0, told)
         path = os.path.join(self.folder, "weather.zip")
         status, _, err = support.tool(bundle, self.put("weather.package", package), "--ldv", support.PROGRAM,
                                       "-o", path)
@@ -397,7 +406,7 @@ class EmptyRoots(Checkout):
         out = self.inside("env -i sh /given/replay.sh")
         self.assertEqual(out.splitlines()[-1], "the same bytes")
 
-    def test_debian(self):
+    def test_debian(self) -> None:
         """dpkg and apt install the package and remove it, on a system whose changes are forgotten."""
         for name in ("dpkg", "dpkg-deb", "apt-get"):
             if shutil.which(name) is None:
@@ -421,7 +430,7 @@ class EmptyRoots(Checkout):
 
 
 class Completions(InFolder):
-    def beginnings(self):
+    def beginnings(self) -> dict[tuple[str, ...], set[str]]:
         """What may follow each beginning of a command, by hand from docs/COMMANDS.md."""
         table = read(os.path.join(ROOT, check_docs.COMMANDS)).decode().partition("There are no")[0]
         commands = [each.split() for each in re.findall(r"(?m)^\| `([^`|]*)` \| ", table)]
@@ -430,7 +439,7 @@ class Completions(InFolder):
                   ["replay", "--run", "K"], ["audit"], ["table", "NAME", "STEP"]]
         for each in budget:
             self.assertIn(each, commands)
-        found = {}
+        found: dict[tuple[str, ...], set[str]] = {}
         for words in commands + [each + ["--steps", "N"] for each in budget]:
             for end in range(len(words)):
                 before = tuple("7" if word.isupper() else word for word in words[:end])
@@ -440,13 +449,13 @@ class Completions(InFolder):
             found.setdefault(tuple("7" if word.isupper() else word for word in words), set())
         return found
 
-    def check(self, answers):
+    def check(self, answers: Any) -> None:
         """What a shell offers after each beginning is what may follow it."""
         beginnings = self.beginnings()
         for before, words in beginnings.items():
             self.assertEqual(sorted(answers(before)), sorted(words), before)
 
-    def asked(self, shell, script, text):
+    def asked(self, shell: str, script: str, text: str) -> list[list[str]]:
         """The lines that a shell writes, as a list of words for each question."""
         self.put(f"completions.{shell}", completions.completions(shell, completions.manual()))
         words = [shell, "-f"] if shell == "zsh" else [shell]
@@ -455,7 +464,7 @@ class Completions(InFolder):
         return [line.split() for line in out.decode().splitlines()]
 
     @unittest.skipUnless(shutil.which("bash"), "bash isn't installed")
-    def test_bash(self):
+    def test_bash(self) -> None:
         script = f""". {self.folder}/completions.bash
         complete -p ldv > /dev/null || exit 1
         last=
@@ -474,7 +483,7 @@ class Completions(InFolder):
         self.assertEqual(lines, [["record", "replay"], [], ["why"], ["--steps"]])
 
     @unittest.skipUnless(shutil.which("bash"), "bash isn't installed")
-    def test_bash_pressed(self):
+    def test_bash_pressed(self) -> None:
         """A real bash with a terminal, in which Tab is pressed: words, and after `<` the names of files."""
         import pty
         import select
@@ -490,7 +499,7 @@ class Completions(InFolder):
         self.addCleanup(os.waitpid, pid, 0)
         self.addCleanup(os.close, terminal)
 
-        def until(wanted):
+        def until(wanted: Any) -> Any:
             seen = b""
             while wanted not in seen:
                 ready = select.select([terminal], [], [], 30)[0]
@@ -506,7 +515,7 @@ class Completions(InFolder):
         os.write(terminal, b"\x15exit\n")
 
     @unittest.skipUnless(shutil.which("zsh"), "zsh isn't installed")
-    def test_zsh(self):
+    def test_zsh(self) -> None:
         script = f"""compadd() {{ shift; print -r -- "$*" }}
         while read -r line; do
             words=(ldv ${{=line}} ''); CURRENT=$#words
@@ -518,7 +527,7 @@ class Completions(InFolder):
         self.check(lambda words: found[words])
 
     @unittest.skipUnless(shutil.which("fish"), "fish isn't installed")
-    def test_fish(self):
+    def test_fish(self) -> None:
         script = f"""source {self.folder}/completions.fish
         echo "$argv[1]" | while read -l line
             echo (complete -C "ldv $line " | string replace -r '\\t.*' '')
@@ -528,7 +537,7 @@ class Completions(InFolder):
         found = dict(zip(before, self.asked("fish", script, "\n".join(map(" ".join, before)))))
         self.check(lambda words: found[words])
 
-    def test_synopsis(self):
+    def test_synopsis(self) -> None:
         """Groups that may be left out, alternatives and arguments, by hand."""
         text = (".Sh SYNOPSIS\n.Nm\n.Cm a\n.Op Fl -x\n.Op Fl -y Ar N\n.Nm\n.Cm b\n.Cm c | d Ar E F\n"
                 ".Nm\n.Cm a Fl -z Op Fl -y Ar N\n.Sh NEXT\n.Nm\n.Cm no\n")
@@ -537,15 +546,16 @@ class Completions(InFolder):
             ("a", "--y"): ["*"], ("a", "--z"): ["--y"], ("a", "--z", "--y"): ["*"], ("b",): ["c", "d"],
             ("b", "c"): ["*"], ("b", "c", "*"): ["*"], ("b", "d"): ["*"], ("b", "d", "*"): ["*"]})
 
-    def test_words(self):
+    def test_words(self) -> None:
         program = os.path.join(ROOT, "tools/completions.py")
         self.assertIn(b"complete -F _ldv ldv", command([program, "bash"])[1])
         self.assertIn(b"record --excluded: --steps\n", command([program, "--states"])[1])
-        self.assertEqual([command([program, *words])[0] for words in (["--help"], ["tcsh"], [])], [0, 2, 2])
+        ends = [command([program, *words])[0] for words in each_of(["--help"], ["tcsh"], [])]
+        self.assertEqual(ends, [0, 2, 2])
 
 
 class CLibrary(unittest.TestCase):
-    def test_readme(self):
+    def test_readme(self) -> None:
         """README says from which C library on the real program runs; objdump agrees, where it is there."""
         if not os.access(support.PROGRAM, os.X_OK):
             self.skipTest(f"{support.PROGRAM} isn't there; compile it with ./ldv")
@@ -561,7 +571,7 @@ class CLibrary(unittest.TestCase):
 
 
 class Log(unittest.TestCase):
-    def test_verdicts(self):
+    def test_verdicts(self) -> None:
         """The last verdict before a crate is said to be proved, with or without the time; no other line."""
         text = ("== a\nlogic=proved functions=1 sum=x\nlogic=proved functions=2 sum=x\nrt: a proved\n"
                 "== b\nrt: b proved\nrt: c is kept: an earlier run on this machine proved the same files\n"
@@ -570,14 +580,14 @@ class Log(unittest.TestCase):
         self.assertEqual(release.verdicts_in(text), {"a": "logic=proved functions=2 sum=x",
                                                      "d": "logic=proved functions=4 sum=y"})
 
-    def test_crates(self):
+    def test_crates(self) -> None:
         """The crates of the program are those of the script ./ldv; crates of tests aren't among them."""
         found = release.crates_of(ROOT)
         self.assertLessEqual({"ldv", "ldv_top", "ldv_value", "sql_engine"}, set(found))
         self.assertFalse({"conformance", "library_tests", "run_tests"} & set(found))
         self.assertEqual(found[-1], "ldv")
 
-    def test_tar(self):
+    def test_tar(self) -> None:
         """No name of a file, no time and no system stands in the compressed archive."""
         data = release.tar_of({"a/b": release.Item(b"x")}, "top", 7)
         self.assertEqual(data[4:8], b"\0\0\0\0")

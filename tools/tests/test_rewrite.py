@@ -1,4 +1,6 @@
 """Statements as they are written for other databases: put into the dialect, with the replies of SQLite."""
+from __future__ import annotations
+
 import json
 import os
 import re
@@ -36,7 +38,7 @@ WRITTEN = [
 ]
 
 
-def filled(scaled):
+def filled(scaled: bool) -> sqlite3.Connection:
     base = sqlite3.connect(":memory:")
     base.execute("CREATE TABLE plots (id INTEGER NOT NULL PRIMARY KEY, site INT NOT NULL, name TEXT, mass "
                  "NUMERIC, "
@@ -53,7 +55,7 @@ def filled(scaled):
 
 
 class Rewritten(InFolder):
-    def setUp(self):
+    def setUp(self) -> None:
         super().setUp()
         path = os.path.join(self.folder, "f.db")
         base = sqlite3.connect(path)
@@ -61,14 +63,14 @@ class Rewritten(InFolder):
         base.close()
         self.words = ["--sqlite", path, "--scale", "plots.mass=2", "--scale", "sites.area=2", "--no-columns"]
 
-    def asked(self, *words):
+    def asked(self, *words: str) -> tuple[list[str], str]:
         """The statements that the world asks, and what is said."""
         status, out, err = tool(world, *self.words, *words)
         self.assertEqual(status, 0, err)
         script = json.loads(out)["files"]["main"]
         return [json.loads(f'"{text}"') for text in re.findall(r'(?m)^sql q "(.*)"$', script)], err
 
-    def test_sqlite(self):
+    def test_sqlite(self) -> None:
         """Over the carried table each gives what SQLite gives for what was written, over the table as it is;
         what is asked is shown."""
         plain, carried = filled(False), filled(True)
@@ -79,7 +81,7 @@ class Rewritten(InFolder):
             self.assertNotIn("will be refused", err)
             self.assertEqual(carried.execute(asked).fetchall(), plain.execute(text).fetchall(), (text, asked))
 
-    def test_average(self):
+    def test_average(self) -> None:
         (asked,), err = self.asked("--ask", "SELECT site, AVG(n) AS mean FROM plots GROUP BY site")
         self.assertEqual(asked, "SELECT site, SUM(n) AS mean_sum, COUNT(n) AS mean_count FROM plots GROUP BY "
                                 "site")
@@ -89,7 +91,7 @@ class Rewritten(InFolder):
                 "SELECT site, AVG(n) FROM plots GROUP BY site")):
             self.assertEqual((site, total / count), (other, mean))
 
-    def test_not_exact(self):
+    def test_not_exact(self) -> None:
         """What isn't the same is left as it is, and refused or told with its way around; all in one run."""
         for text, said in (
                 ("SELECT id FROM plots WHERE name LIKE 'plot%'", "texts are compared whole"),
@@ -108,7 +110,7 @@ class Rewritten(InFolder):
         for line in (1, 2, 4):
             self.assertIn(f"{path} line {line}: ", err)
 
-    def test_lines(self):
+    def test_lines(self) -> None:
         """What is said of a statement names its line, also behind one that was put otherwise."""
         path = self.put("q.sql", "-- one\nSELECT id FROM plots\nWHERE n IN (1,\n2);\nSELECT id FROM plot;\n")
         asked, err = self.asked("--sql", path)
@@ -116,7 +118,7 @@ class Rewritten(InFolder):
         self.assertIn(f"{path} line 2 is asked as: SELECT id FROM plots WHERE (n = 1 OR n = 2)\n", err)
         self.assertIn(f"{path} line 5: the statement will be refused with code 2", err)
 
-    def test_as_read(self):
+    def test_as_read(self) -> None:
         """With --as-read a constant is as the source has it."""
         path = self.put("t.csv", "id;d;at;cost\n1;1.2.2024;9:05;12,5\n2;3.11.2024;10:30;20\n")
         self.words = ["--csv", path, "--delimiter", ";", "--decimal", ",", "--date", "t.d=dmy", "--date",
@@ -132,7 +134,7 @@ class Rewritten(InFolder):
         self.assertEqual(asked, "SELECT id FROM t WHERE cost >= 20")
         self.assertIn("so 20 means 0.20", err)
 
-    def test_with_script(self):
+    def test_with_script(self) -> None:
         """Statements and a script together: the script runs as a child, with the words of the start."""
         script = self.put("never.ldv", 'print "hello " arg1\nexit 7\n')
         status, out, err = tool(world, *self.words, "--ask", "SELECT id FROM plots", "--script", script,

@@ -1,25 +1,28 @@
 """What is said of forms that can't be read, what is refused with a way out, and what can't be told apart."""
+from __future__ import annotations
+
 import json
 import os
 import re
 import shlex
 import sqlite3
+from typing import Any, Sequence
 
 from ldvtools import check, outcome, page, world
 
-from .support import ASK, ROOT, InFolder, make_database, read, tool
+from .support import ASK, ROOT, InFolder, each_of, make_database, read, tool
 from .test_forms import Forms
 
 IN_FILE = " in the file first"
 
 
 class Numbers(Forms):
-    def hinted(self, cells, *words):
+    def hinted(self, cells: Sequence[str], *words: str) -> list[str]:
         """The hints of the column a of these cells."""
         err = self.said(self.column(cells), "--delimiter", ";", *words)
         return re.findall(r"(?m)^world.py: (t\.a .*)$", err)
 
-    def test_leading_zero(self):
+    def test_leading_zero(self) -> None:
         """0.500 is no number with a sign between thousands."""
         for sign, words in ((".", ["--kind", "t.a=INT"]), (".", ["--scale", "t.a=1"]), (",", ["--scale",
                                                                                               "t.a=1"]),
@@ -37,7 +40,7 @@ class Numbers(Forms):
                          "thousands here: where it stands before decimals, give --decimal . in place of "
                          "--thousands\n", "a\n0.500\n", "--thousands", "t.a=.")
 
-    def test_no_cell_with_both(self):
+    def test_no_cell_with_both(self) -> None:
         """A point between thousands in one cell, and a comma before decimals in another."""
         content = "Nr;Wert\n1;1.000\n2;1,5\n"
         err = self.said(content, "--delimiter", ";", "--tidy")
@@ -54,7 +57,7 @@ class Numbers(Forms):
             for other in cells:
                 self.said(self.column([one, other]), "--delimiter", ";")
 
-    def test_forms_in_file(self):
+    def test_forms_in_file(self) -> None:
         """Forms that no option reads are said and refused, with what to write in their place."""
         minus, bracket = "write -0.50 in place of 0.50-", "write -0.50 in place of (0.50)"
         for cells, odd, what, how in (
@@ -80,14 +83,14 @@ class Numbers(Forms):
                       ["A-", "B-"]):
             self.assertNotIn("looks like", "".join(self.hinted(cells)), cells)
 
-    def test_blanks(self):
+    def test_blanks(self) -> None:
         self.assertEqual(self.words_said([" 6", "7 ", "8"], "--kind t.a=INT"), [6, 7, 8])
         self.assertEqual(self.hinted([" 6", "7 ", "8"])[0].partition(";")[0],
                          "t.a is TEXT, and looks like numbers with blanks around them, such as ' 6'")
         self.assertEqual([row[0] for row in self.table("a\n6 \n 7.5\n", "--scale", "t.a=1")["rows"]], [60,
                                                                                                        75])
 
-    def test_zero(self):
+    def test_zero(self) -> None:
         """A unit without a number, as Excel shows an amount of 0, may be 0."""
         for blank in " \u00a0":
             cell = f"-{blank}{blank}\u20ac"
@@ -98,7 +101,7 @@ class Numbers(Forms):
         self.assertIn("--null $'t.a=-\\u00a0\\u00a0\u20ac' carries", hint)
         self.assertNotIn("where", self.hinted(["1,5 %", "-", "2 %"])[0])
 
-    def test_ways_out(self):
+    def test_ways_out(self) -> None:
         """A refusal says what to do."""
         for cell, said in (("#NV", "where it stands for NULL: --null '#NV', or --null 't.a=#NV' for this "
                                    "column alone"),
@@ -118,7 +121,7 @@ class Numbers(Forms):
         self.refused("row 0 of nokey, column b: NULL, but it is in the key; --key nokey=none makes", *ask)
         self.assertEqual(tool(world, *ask, "--key", "nokey=none")[0], 0)
 
-    def test_scripts_with_mark(self):
+    def test_scripts_with_mark(self) -> None:
         """The mark that Windows puts before a script is taken off, and named in a child's script."""
         data = self.put("t.csv", "a\n1\n")
         script = self.put("m.ldv", "\ufefflet x = 1\n")
@@ -137,27 +140,27 @@ class Numbers(Forms):
 
 
 class Times(Forms):
-    def asked(self, cells, condition, *words):
+    def asked(self, cells: Sequence[str], condition: str, *words: str) -> list[str]:
         """What is said of a condition on the column a of these cells, which is text."""
         path = self.put("t.csv", "id,a\n" + "".join(f"{row},{cell}\n" for row, cell in enumerate(cells)))
         status, _, err = tool(world, "--csv", path, *words, "--ask", f"SELECT id FROM t WHERE {condition}")
         self.assertEqual(status, 0, err)
         return re.findall(r"(?m)^world.py: warning: --ask 1: (.*)$", err)
 
-    def found(self, cells, condition):
+    def found(self, cells: Sequence[str], condition: str) -> list[Any]:
         """The rows that SQLite finds, which compares texts as the program does."""
         base = sqlite3.connect(":memory:")
         base.execute("CREATE TABLE t (id INT, a TEXT)")
         base.executemany("INSERT INTO t VALUES (?, ?)", enumerate(cells))
         return [row[0] for row in base.execute(f"SELECT id FROM t WHERE {condition} ORDER BY id")]
 
-    def written(self, cells, condition, said, advised, rows):
+    def written(self, cells: Sequence[str], condition: str, said: str, advised: Any, rows: Any) -> None:
         """A condition in another form is said, and as it is advised it finds these rows."""
         self.assertEqual(self.asked(cells, condition), [f"a has texts such as {said}"], condition)
         self.assertEqual(self.asked(cells, advised), [], advised)
         self.assertEqual(self.found(cells, advised), rows, advised)
 
-    def test_timestamps(self):
+    def test_timestamps(self) -> None:
         """Times with a T, a blank or a zone."""
         zulu = ["2024-03-05T02:00:00Z", "2024-03-05T14:00:00Z", "2024-03-06T00:00:00Z"]
         self.written(zulu, "a < '5.3.2024'", "2019-01-31: '5.3.2024' is written '2024-03-05'",
@@ -189,7 +192,7 @@ class Times(Forms):
         # As these are written, each row is after noon, and none of it: what is warned of is wrong.
         self.assertEqual(self.found(tee, "a >= '2024-03-05 12:00'"), [0, 1, 2])
 
-    def test_beginnings(self):
+    def test_beginnings(self) -> None:
         """What is equal to none, more than the column has, or in no calendar."""
         times, days = ["09:05", "12:09"], ["2024-12-31", "2024-02-01"]
         self.written(times, "a = '12:09:00'", "09:05: '12:09:00' is written '12:09'", "a = '12:09'", [1])
@@ -212,10 +215,11 @@ class Times(Forms):
                                  (times, "a < '12:09:30'"), (days, "a <> '2024-02-01'")):
             self.assertEqual(self.asked(cells, condition), [], condition)
 
-    def test_side_by_side(self):
+    def test_side_by_side(self) -> None:
         """Times of two forms, or of two zones, don't compare as times do."""
         self.assertEqual(self.found(["09:05", "09:05:00"], "a = '09:05'"), [0])
-        for cells, words in ((["9:05", "09:05:00"], ["--date", "t.a=time"]), (["09:05", "09:05:00"], []),
+        for cells, words in each_of(
+                (["9:05", "09:05:00"], ["--date", "t.a=time"]), (["09:05", "09:05:00"], []),
                              (["2024-03-05T02:00:00+01:00", "2024-03-05T02:00:00+02:00"], []),
                              (["2024-03-05T02:00:00", "2024-03-05 02:00:00"], [])):
             err = self.said(self.column(cells), "--delimiter", ";", *words)
@@ -235,7 +239,7 @@ class Times(Forms):
 
 
 class Texts(Forms):
-    def test_escapes(self):
+    def test_escapes(self) -> None:
         """A plain table that --tsv reads is said at the first backslash that no database writes."""
         for cell, odd, row in (("C:\\temp\\docs", "\\d", ["C:\tempdocs", 1]), ("\\\\srv\\share", "\\s",
                                                                                ["\\srvshare", 1]),
@@ -254,7 +258,7 @@ class Texts(Forms):
             self.assertNotIn("no database writes", self.said(f"p\tq\r\n{cell}\t1\r\n1\t{cell}\r\n",
                                                              "--tsv"), cell)
 
-    def test_scripts(self):
+    def test_scripts(self) -> None:
         """A text of a script with one backslash where two are meant."""
         data = self.put("t.csv", "id\tp\n1\tC:\\temp\\new\n")
         plain = ["--csv", data, "--delimiter", "tab", "--quotes", "none"]
@@ -275,9 +279,9 @@ class Texts(Forms):
         err = tool(world, "--csv", quoted, "--ask", "SELECT id FROM q WHERE p = 'a\tb'")[2]
         self.assertNotIn("warning", err)
 
-    def test_trim(self):
+    def test_trim(self) -> None:
         content = 'id, name\n1, Bob\n2, "Ann, B"\n 3 , Cy \n'
-        for words in ([], ["--tidy"]):
+        for words in each_of([], ["--tidy"]):
             plain = content.replace(', B"', '"')
             words = words or ["--rename", "t. name=name"]
             self.assertIn("t.csv line 1: ' name' begins with a blank; --trim reads cells without the blanks "
@@ -293,7 +297,7 @@ class Texts(Forms):
             self.assertNotIn("--trim", self.said(content))
         self.assertEqual(self.table("a,b\n , x\n", "--trim")["rows"], [[None, "x"]])
 
-    def test_titles(self):
+    def test_titles(self) -> None:
         """A title above the header."""
         path = os.path.join(self.folder, "t.csv")
         words = (f"; where the first line is a title, take it off first, as tail -n +2 {shlex.quote(path)} "
@@ -308,7 +312,7 @@ class Texts(Forms):
         self.assertNotIn("title", self.said(",a\n1,5\n", "--tidy"))
         self.csv_refused("t.csv line 2: 3 cells, but the header has 2\n", "id,n\n1,5,6\n")
 
-    def test_all_names(self):
+    def test_all_names(self) -> None:
         """All columns that need another name are named."""
         headers = [f"Col {place}" for place in range(1, 13)]
         content = ",".join(headers) + "\n" + ",".join("1" * 12) + "\n"
@@ -318,7 +322,7 @@ class Texts(Forms):
         table = self.table(content, *words)
         self.assertEqual([name for name, _ in table["columns"]], [f"col_{place}" for place in range(1, 13)])
 
-    def test_look(self):
+    def test_look(self) -> None:
         """What becomes of the tables, without a start script and without a document."""
         path = self.put("t.csv", "id,day\n1,1.2.2024\n")
         status, out, err = tool(world, "--csv", path, "--look")
@@ -329,7 +333,7 @@ class Texts(Forms):
         for words in (ASK, ["-o", os.path.join(self.folder, "w")], ["--script", path]):
             self.refused("--look makes no document", "--csv", path, "--look", *words, status=2)
 
-    def test_accept(self):
+    def test_accept(self) -> None:
         """With --strict what is accepted by its text passes."""
         path = os.path.join(self.folder, "t.db")
         make_database(path, "CREATE TABLE t (a INTEGER PRIMARY KEY, b TEXT UNIQUE, c TEXT UNIQUE);")
@@ -345,14 +349,14 @@ class Texts(Forms):
 class Scales(InFolder):
     """Columns that are carried times 100, times 10, and as they are."""
 
-    def asked(self, text):
+    def asked(self, text: str) -> tuple[list[str], Any]:
         path = self.put("t.csv", "id,price,temp,n\n1,1.50,2.5,3\n2,30.00,4.0,5\n")
         status, out, err = tool(world, "--csv", path, "--scale", "t.price=2", "--scale", "t.temp=1",
                                 "--ask", text)
         self.assertEqual(status, 0, err)
         return re.findall(r"(?m)^world.py: ((?:warning: )?--ask 1: .*)$", err), json.loads(out)
 
-    def rows(self, text):
+    def rows(self, text: str) -> list[Any]:
         """What SQLite answers over the world."""
         made = self.asked(text)[1]
         base = sqlite3.connect(":memory:")
@@ -360,7 +364,7 @@ class Scales(InFolder):
         base.executemany("INSERT INTO t VALUES (?, ?, ?, ?)", made["tables"]["t"]["rows"])
         return sorted(row[0] for row in base.execute(text))
 
-    def test_unions(self):
+    def test_unions(self) -> None:
         """Columns of one UNION that are carried times other numbers."""
         for text, said in (
                 ("SELECT price FROM t UNION SELECT temp FROM t",
@@ -383,7 +387,7 @@ class Scales(InFolder):
         self.assertEqual(self.rows("SELECT price FROM t UNION SELECT temp * 10 FROM t"), [150, 250, 400,
                                                                                           3000])
 
-    def test_products(self):
+    def test_products(self) -> None:
         """A number times what another column is carried times."""
         self.assertEqual(self.asked("SELECT id FROM t WHERE temp > 3 * 100")[0],
                          ["--ask 1: temp is carried times 10, so 3 * 100 means 30.0; 3 itself is written 3 * "
@@ -404,14 +408,14 @@ class Scales(InFolder):
         self.assertEqual(self.rows("SELECT price * temp AS y FROM t"), [3750, 120000])
         self.assertEqual(self.asked("SELECT price * n AS y FROM t")[0], [])
 
-    def outcome_of(self, text, tables, given, *words):
+    def outcome_of(self, text: str, tables: Any, given: bytes, *words: str) -> tuple[Any, bytes, str]:
         """How outcome.py shows a reply to a statement."""
         script = "".join(f'sql q "{each}"\n' for each in [text])
         path = self.put("w", json.dumps({"start": ["m"], "files": {"m": script}, "tables": {
             name: {"columns": columns} for name, columns in tables.items()}}))
         return tool(outcome, "--world", path, *words, given=b"outcome 1 0\nprocess 0 0 0 1\n\n" + given)
 
-    def test_heads(self):
+    def test_heads(self) -> None:
         """A head of --scale that several tables have, or that a COUNT has."""
         both = {"t": [["value", "INT"]], "u": [["value", "INT"]]}
         given = b"rows 1\nrow 1\nint 2\n"
@@ -428,7 +432,7 @@ class Scales(InFolder):
             self.assertEqual("is a COUNT" in err, " AS n" in text, err)
             self.assertNotIn("have a column", err)
 
-    def test_lonely_null(self):
+    def test_lonely_null(self) -> None:
         """A NULL that would be an empty line of CSV."""
         said = ("outcome.py: process 0 reply 1: NULL of its only column is an empty line, which many readers "
                 "of CSV leave out; --null WORD writes a word\n")
@@ -449,7 +453,7 @@ class Scales(InFolder):
 class OtherWorlds(InFolder):
     """An outcome of another world, as far as it can be told."""
 
-    def both(self, text, given):
+    def both(self, text: str, given: bytes) -> tuple[Any, Any]:
         """What outcome.py and check.py say of a reply to a statement, and how they end."""
         columns = [["a", "INT"], ["b", "TEXT"]]
         path = self.put("w", json.dumps({"start": ["m"], "files": {"m": f'sql q "{text}"\n'},
@@ -460,7 +464,7 @@ class OtherWorlds(InFolder):
         self.assertEqual(shown[2].replace("outcome.py: no outcome", "check.py: no world"), checked[2])
         return shown[0], shown[2]
 
-    def test_told(self):
+    def test_told(self) -> None:
         row = b"rows 1\nrow 1\nint 2\n"
         for text, given, said in (
                 ("SELECT a, b FROM t", row, "the statement has 2 columns, and the reply 1"),
@@ -483,7 +487,7 @@ class OtherWorlds(InFolder):
             self.assertIn(f": process 0 reply 1: {said}", err)
             self.assertTrue(err.endswith(": the outcome isn't of this world\n"), err)
 
-    def test_not_told(self):
+    def test_not_told(self) -> None:
         """Replies that may be those to a statement are shown; another limit can't be told."""
         for text, given in (("SELECT a FROM t WHERE a > 7", b"rows 1\nrow 1\nint 2\n"),
                             ("SELECT b FROM t", b"rows 1\nrow 1\nnull\n"), ("SELECT a, b FROM t",
@@ -495,7 +499,7 @@ class OtherWorlds(InFolder):
 
 
 class Documents(InFolder):
-    def test_promises(self):
+    def test_promises(self) -> None:
         """The documents promise no more than the tools do."""
         pages = {name: " ".join(read(os.path.join(ROOT, name)).decode().split())
                  for name in ("README.md", "docs/TUTORIAL.md", "docs/PACKAGES.md", "docs/DUMPS.md",

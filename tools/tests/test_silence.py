@@ -1,19 +1,22 @@
 """Nothing goes by in silence: what is said of data and statements that mean something else than they seem to,
 that --strict refuses it, and that what is said helps, followed word for word through a shell."""
+from __future__ import annotations
+
 import json
 import os
 import re
 import sqlite3
 import subprocess
 import sys
+from typing import Any, Union
 
 from ldvtools import check, world
 
-from .support import ASK, TOOLS, InFolder, make_database, tool
+from .support import ASK, TOOLS, InFolder, each_of, make_database, match_in, tool
 
 
 class Silence(InFolder):
-    def said(self, *words):
+    def said(self, *words: str) -> str:
         """What is said; --strict refuses it."""
         status, _, err = tool(world, *words)
         self.assertEqual(status, 0, err)
@@ -21,19 +24,19 @@ class Silence(InFolder):
         self.assertEqual((strict[0], strict[1]), (1, b""), err)
         return err
 
-    def of(self, content, *words):
+    def of(self, content: Union[str, bytes], *words: str) -> str:
         """What is said of the table t of a CSV file."""
         path = self.put("t.csv", content)
         return self.said("--csv", path, *(words if "--ask" in words else [*words, *ASK]))
 
-    def through_shell(self, words):
+    def through_shell(self, words: str) -> tuple[Any, str]:
         """The world that world.py makes of words as they are typed."""
         done = subprocess.run(["sh", "-c", f"{sys.executable} {TOOLS}/world.py {words}"], cwd=self.folder,
-                              stdout=subprocess.PIPE, stderr=subprocess.PIPE, check=False)
+                              capture_output=True, check=False)
         self.assertEqual(done.returncode, 0, done.stderr.decode())
         return json.loads(done.stdout), done.stderr.decode()
 
-    def followed(self, err, given):
+    def followed(self, err: str, given: Any) -> Any:
         """The table t where the options that were said are typed after those that were given."""
         words = " ".join(re.findall(r"--[a-z]+ (?:'(?:[^']|'\"'\"')*'|[^ ;]+)", err.split(" carries")[0]))
         made, _ = self.through_shell(f"--csv t.csv {given} {words} --ask 'SELECT * FROM t'")
@@ -41,7 +44,7 @@ class Silence(InFolder):
 
 
 class Columns(Silence):
-    def test_odd_cells(self):
+    def test_odd_cells(self) -> None:
         """One odd cell among decimals, with points and with commas."""
         for odd in ("<0{}5", ">100", "12{}4*", "~5", "5-10", "ca. 12{}4", "12{}4?"):
             for sign in ".,":
@@ -52,7 +55,7 @@ class Columns(Silence):
                 table = self.followed(err.replace(f"{cell!r};", ""), "--delimiter ';'")
                 self.assertEqual([row[1] for row in table["rows"]], [1240, None, 350, 725], cell)
 
-    def test_many_odd_cells(self):
+    def test_many_odd_cells(self) -> None:
         cells = "".join(f"{number};{number},5\n" for number in range(60)) + "".join(
             f"{number};<{number},5\n" for number in range(60, 80))
         err = self.of("id;a\n" + cells, "--delimiter", ";")
@@ -60,7 +63,7 @@ class Columns(Silence):
         self.assertIn("and 17 more; write them as numbers, or in a column of their own, in the file first",
                       err)
 
-    def test_others(self):
+    def test_others(self) -> None:
         for cells, said in (
                 (["5 mg", "0.2 g", "7 mg"], "t.a is TEXT, and has numbers of several units (g, mg): "),
                 (["٣", "٤", "٥"], "has digits of another script: "),
@@ -78,7 +81,7 @@ class Columns(Silence):
             status, _, err = tool(world, "--csv", path, "--delimiter", ";", "--strict", *ASK)
             self.assertEqual(status, 0, err)
 
-    def test_dates(self):
+    def test_dates(self) -> None:
         err = self.of("a,b\n2024/03/11,1\n2023/12/01,2\n")
         self.assertIn("t.a is TEXT, and looks like dates such as '2024/03/11': these don't compare as dates; "
                       "--date t.a=ymd carries it as 2024-03-11\n", err)
@@ -90,7 +93,7 @@ class Columns(Silence):
         err = self.of("a,b\n2024-01-05,1\n31.12.2024,2\n12/31/2024,3\n2023-12-24,3\n2023-12-25,3\n")
         self.assertIn("write them in one way, from the year down, in the file first", err)
 
-    def test_database(self):
+    def test_database(self) -> None:
         path = os.path.join(self.folder, "f.db")
         make_database(path, "CREATE TABLE t (id INTEGER PRIMARY KEY, a TEXT, d TEXT); INSERT INTO t VALUES "
                             "(1, '9,50', '2024/03/11'), (2, '<0,5', '2024/04/11'), (3, '7,5', '2024/05/11');")
@@ -107,9 +110,9 @@ class Columns(Silence):
 
 
 class Files(Silence):
-    def test_header(self):
+    def test_header(self) -> None:
         """A first line that looks like a row, also with --tidy; a table of years has a header."""
-        for words in ([], ["--tidy"]):
+        for words in each_of([], ["--tidy"]):
             path = self.put("t.csv", "1,2.5,x\n2,3.5,y\n3,4.5,z\n")
             if words:
                 err = self.said("--csv", path, *words, "--ask", "SELECT COUNT(*) FROM t")
@@ -125,7 +128,7 @@ class Files(Silence):
         self.csv_refused("t.csv line 2 (row 1 of t), column c1: 'x' is no", "1,2\nx,3\n", "--header", "none",
                          "--kind", "t.c1=INT")
 
-    def test_encodings(self):
+    def test_encodings(self) -> None:
         """A file of two encodings names the lines of each, and is read by both; a text that was decoded
         twice."""
         data = "id,name\n1,Müller\n".encode() + "2,Müller\n".encode("cp1252")
@@ -141,10 +144,10 @@ class Files(Silence):
                       "'Müller'; --encoding mixed reads it so where the file has it once\n", err)
         self.assertNotIn("decoded twice", tool(world, "--csv", self.put("t.csv", "a\nÄÖÜ é\n"), *ASK)[2])
 
-    def test_nul(self):
+    def test_nul(self) -> None:
         self.assertIn("t.csv line 2 (row 0 of t): 'x\\x00y' of t.a has a NUL in it", self.of("a,b\nx\0y,1\n"))
 
-    def test_wide(self):
+    def test_wide(self) -> None:
         path = self.put("t.csv", "id,a\n1,x\n2,y\n".encode("utf-16-le"))
         self.refused("t.csv looks like UTF-16 without a byte order mark; give --encoding utf-16-le\n",
                      "--csv",
@@ -153,7 +156,7 @@ class Files(Silence):
         self.assertEqual(made["tables"]["t"]["rows"], [[1, "x"], [2, "y"]])
         self.refused("is no CSV file: byte ", "--csv", self.put("t.csv", bytes(range(256))), *ASK)
 
-    def test_delimiters(self):
+    def test_delimiters(self) -> None:
         """Of several files the one is named that has another delimiter."""
         self.put("a.csv", "x,y\n1,2\n")
         self.put("done.csv", "p;q\n3;4\n")
@@ -165,18 +168,18 @@ class Files(Silence):
                                      "done'")
         self.assertEqual(made["tables"]["done"]["rows"], [[3, 4]])
 
-    def test_rename(self):
+    def test_rename(self) -> None:
         """A name with quotes in it is one word of a shell."""
         path = os.path.join(self.folder, "f.db")
         make_database(path, 'CREATE TABLE "my table ""q""" (a INT)')
         err = tool(world, "--sqlite", path, "--ask", "SELECT * FROM q")[2]
-        word = re.search(r"give (--rename .*)$", err.strip())[1]
+        word = match_in(r"give (--rename .*)$", err.strip())[1]
         made, _ = self.through_shell(f"--sqlite f.db {word.replace('NAME', 'q')} --ask 'SELECT * FROM q'")
         self.assertEqual(list(made["tables"]), ["q"])
 
 
 class Statements(Silence):
-    def test_joins(self):
+    def test_joins(self) -> None:
         """A word before JOIN that is no JOIN of ours."""
         one, other = self.put("s.csv", "id\n1\n2\n"), self.put("p.csv", "s\n1\n")
         words = ["--csv", one, "--csv", other]
@@ -190,7 +193,7 @@ class Statements(Silence):
                                                                   "s"):
             self.assertNotIn("before JOIN", tool(world, *words, "--ask", text)[2])
 
-    def test_comments(self):
+    def test_comments(self) -> None:
         """Two minuses in a script's statement are no comment, there and in check.py."""
         path = self.put("t.csv", "id\n1\n2\n")
         script = self.put("m.ldv", 'sql q "SELECT COUNT(*) FROM t WHERE id > 2 -- id"\n')
@@ -204,7 +207,7 @@ class Statements(Silence):
         script = self.put("m.ldv", 'sql q "SELECT id /* x */ FROM t"\n')
         self.assertIn("comments are -- ..", tool(world, "--csv", path, "--script", script)[2])
 
-    def test_constants(self):
+    def test_constants(self) -> None:
         """Other separators, a day beside times, look-alikes beside an equal constant."""
         content = "id,d,at,name\n1,2024/03/11,2024-06-01 10:00,siehe\n"
         path = self.put("t.csv", 'id,d,at,name\n1,2024/03/11,2024-06-01 10:00,"siehe\nProtokoll"\n'
@@ -232,7 +235,7 @@ class Statements(Silence):
         self.assertEqual([row[3] for row in made["tables"]["t"]["rows"]],
                          ["siehe Protokoll", "Müller", "Müller"])
 
-    def test_groups(self):
+    def test_groups(self) -> None:
         path = self.put("t.csv", "id,name\n1,Mu\u0308ller\n2,Müller\n3,a b\n4,a\u00a0b\n")
         for text, what in (("SELECT name, COUNT(*) FROM t GROUP BY name", "GROUP BY"),
                            ("SELECT DISTINCT name FROM t", "DISTINCT")):
@@ -243,7 +246,7 @@ class Statements(Silence):
             status, _, err = tool(world, "--csv", path, "--plain", "--strict", "--ask", text)
             self.assertEqual(status, 0, err)
 
-    def test_collation(self):
+    def test_collation(self) -> None:
         """COLLATE NOCASE is said at the statement that compares such a column."""
         path = os.path.join(self.folder, "f.db")
         make_database(path, "CREATE TABLE t (id INTEGER PRIMARY KEY, red_list TEXT COLLATE NOCASE, b TEXT); "
@@ -261,7 +264,7 @@ class Statements(Silence):
         for text in ("SELECT id FROM t WHERE b = 'x'", "SELECT id FROM t WHERE red_list = 'VU'"):
             self.assertNotIn("--ask 1", tool(world, "--sqlite", path, "--ask", text)[2])
 
-    def test_spelled(self):
+    def test_spelled(self) -> None:
         """All spellings of a text, as they are advised, give what the database gives, and nothing is said."""
         path = os.path.join(self.folder, "f.db")
         make_database(path, "CREATE TABLE t (id INTEGER PRIMARY KEY, a TEXT COLLATE NOCASE); INSERT INTO t "
@@ -276,7 +279,7 @@ class Statements(Silence):
                           "a <> 'LC' OR id = 1"):
             text = f"SELECT id FROM t WHERE {condition} ORDER BY id"
             err = self.said("--sqlite", path, "--ask", text)
-            mended = re.search(r"there; write (.*)\n", err)[1]
+            mended = match_in(r"there; write (.*)\n", err)[1]
             asked = re.sub(r"a (=|<>) '(?:[^']|'')*'|'lc' = a", lambda _: f"({mended})", text, count=1)
             self.assertEqual(plain.execute(asked).fetchall(), base.execute(text).fetchall(), asked)
             made, err = self.through_shell(f'--sqlite f.db --ask "{asked}"')

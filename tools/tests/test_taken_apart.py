@@ -1,4 +1,6 @@
 """A joined package taken apart, its page, and files that are something else than what a tool reads."""
+from __future__ import annotations
+
 import gzip
 import json
 import os
@@ -9,12 +11,12 @@ from ldvtools.package_bytes import package_bytes
 from ldvtools.packages import Joined, read_any, read_package
 
 from . import support
-from .support import EXAMPLES, InFolder, command, ldv, read, tool
+from .support import EXAMPLES, InFolder, command, each_of, ldv, read, tool
 from .test_check import cases
 
 
 class Apart(InFolder):
-    def test_bytes(self):
+    def test_bytes(self) -> None:
         """Each package of version 2 in the cases is spelled again to its bytes, and each run of a joined one
         is a package that `ldv replay` takes as the joined one's run."""
         count = joined = 0
@@ -31,7 +33,7 @@ class Apart(InFolder):
         self.assertTrue(count > 50 and joined > 3, (count, joined))
 
     @unittest.skipUnless(os.access(support.PROGRAM, os.X_OK), "the program isn't built")
-    def test_audit(self):
+    def test_audit(self) -> None:
         """Audit, inspect and table of each run of a joined package; its page is audited."""
         world = read(f"{EXAMPLES}/weather.json")
         made = json.loads(world)
@@ -55,13 +57,13 @@ class Apart(InFolder):
 
 
 class OtherFiles(InFolder):
-    def test_kinds(self):
+    def test_kinds(self) -> None:
         """A file that is something else is called what it is, without a word of Python."""
         world, text = f"{EXAMPLES}/hello.json", f"{EXAMPLES}/hello.outcome"
         packed = self.put("p", next(data for words, data, status, _, _ in cases()
                                     if words == ["replay"] and status == 0))
         zipped, table = self.put("z.gz", gzip.compress(b"x")), self.put("t.csv", "a,b\n1,2\n")
-        for module, words, given, said in (
+        for module, words, given, said in each_of(
                 (check, [], packed, "no world: not json: it is a package"),
                 (check, [], text, "it is an outcome"), (check, [], zipped, "compressed by gzip"),
                 (check, [], table, "it is a table such as CSV"),
@@ -79,7 +81,7 @@ class OtherFiles(InFolder):
         changed = self.put("crlf", read(text).replace(b"\n", b"\r\n"))
         self.assertIn("its lines end with CR and LF", tool(outcome, changed)[2])
 
-    def test_audits(self):
+    def test_audits(self) -> None:
         """A page takes a verdict that audit wrote, and nothing else."""
         packed = self.put("p", next(data for words, data, status, _, _ in cases()
                                     if words == ["replay"] and status == 0))
@@ -93,7 +95,7 @@ class OtherFiles(InFolder):
         self.assertIn("/bin/false replay ends with 1 and says nothing",
                       tool(page, packed, "--ldv", "/bin/false")[2])
 
-    def test_failing(self):
+    def test_failing(self) -> None:
         """No traceback where a folder isn't there or can't be written, and where the disk is full."""
         packed = self.put("p", next(data for words, data, status, _, _ in cases() if words == ["replay"]
                                     and status == 0 and read_any(data).__class__.__name__ == "Package"
@@ -113,14 +115,14 @@ class OtherFiles(InFolder):
                                  ("orders.py", [packed], 2), ("world.py", ["-q", *asked], 1),
                                  ("world.py", ["--propose", *asked], 1)):
             here = os.path.join(support.TOOLS, name)
-            status, _, err = command(["sh", "-c", '"$@" > /dev/full', "sh", here, *words])
-            self.assertEqual((status, err.decode()), (due, f"{name}: standard output: No space left on "
+            status, _, told = command(["sh", "-c", '"$@" > /dev/full', "sh", here, *words])
+            self.assertEqual((status, told.decode()), (due, f"{name}: standard output: No space left on "
                                                            "device\n"))
-        status, _, err = command([os.path.join(support.TOOLS, "world.py"), "--csv", "t=/dev/zero", "--ask",
+        status, _, told = command([os.path.join(support.TOOLS, "world.py"), "--csv", "t=/dev/zero", "--ask",
                                   "SELECT a FROM t"])
         self.assertEqual(status, 1)
         self.assertIn(b"world.py: /dev/zero has more than 268435456 bytes, four times what a world may "
-                      b"have\n", err)
-        status, _, err = command(["sh", "-c", 'ulimit -v 200000; exec "$@"', "sh", os.path.join(
+                      b"have\n", told)
+        status, _, told = command(["sh", "-c", 'ulimit -v 200000; exec "$@"', "sh", os.path.join(
             support.TOOLS, "world.py"), "--csv", "t=/dev/zero", "--ask", "SELECT a FROM t"])
-        self.assertEqual((status, err), (1, b"world.py: there isn't memory enough for this input\n"))
+        self.assertEqual((status, told), (1, b"world.py: there isn't memory enough for this input\n"))

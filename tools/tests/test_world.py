@@ -1,4 +1,6 @@
 """world.py: CSV files, databases, scripts and files."""
+from __future__ import annotations
+
 import json
 import os
 import re
@@ -7,11 +9,11 @@ from unittest import mock
 
 from ldvtools import world
 
-from .support import ASK, InFolder, make_database, read, tool
+from .support import ASK, InFolder, each_of, make_database, read, tool
 
 
 class CsvFiles(InFolder):
-    def test_document(self):
+    def test_document(self) -> None:
         path = self.put("t.csv", 'id,name,born\n1,"Ada, the first",1815\n2,"says ""hi""",\n\n3,,-7\n')
         status, out, err = tool(world, "--csv", path, "--key", "t=id", "--ask", "SELECT * FROM t",
                                 "--no-columns")
@@ -36,7 +38,7 @@ class CsvFiles(InFolder):
 """)
         self.assertEqual(err, "world.py: t: 3 rows; id INT NOT NULL, name TEXT, born INT; key id\n")
 
-    def test_kinds(self):
+    def test_kinds(self) -> None:
         """A column is INT where a number loses nothing of what was written."""
         cases = [("0 -1 9223372036854775807 -9223372036854775808", "INT")]
         cases += [(cells, "TEXT") for cells in ("1 01", "1 +1", "-0", "1 1.0", "1 1e3", "1_000", "٣",
@@ -48,7 +50,7 @@ class CsvFiles(InFolder):
             self.assertEqual(table["rows"], [[read_as(cell)] for cell in cells.split()])
         self.assertEqual(self.table("a,b\n,1\n,2\n")["columns"], [["a", "TEXT"], ["b", "INT"]])
 
-    def test_options(self):
+    def test_options(self) -> None:
         words = ["--lower", "--kind", "t.id=INT", "--null", "NA"]
         table = self.table("Id,Zip,Note\n007,0150,NA\n8,,\n", *words)
         self.assertEqual(table["rows"], [[7, "0150", None], [8, None, None]])
@@ -65,7 +67,7 @@ class CsvFiles(InFolder):
         self.assertEqual(self.table("\ufeffa\r\n1\r\n")["rows"], [[1]])
         self.assertEqual(self.table('a,b\n"x\ny",1\n')["rows"], [["x\ny", 1]])
 
-    def test_excel(self):
+    def test_excel(self) -> None:
         """What Excel writes: a mark, a decimal comma, lines of delimiters alone, headers twice,
         and workbooks."""
         table = self.table("\ufeffa;b\r\n1;2,5\r\n;\r\n3;-0,25\r\n", "--delimiter", ";", "--decimal", ",",
@@ -94,11 +96,11 @@ class CsvFiles(InFolder):
         self.csv_refused("is no CSV file, but a workbook", b"PK\x03\x04...")
         self.csv_refused("is no CSV file, but an SQLite database: give --sqlite", b"SQLite format 3\0...")
 
-    def test_other_delimiter(self):
+    def test_other_delimiter(self) -> None:
         """A file that would be one column because it has another delimiter is refused, with --tidy too."""
         for given, there, word in ((";", ",", "','"), (",", ";", "';'"), ("tab", ",", "','"),
                                    (";", "\t", "tab"), (",", "|", "'|'"), ("|", ";", "';'")):
-            for words in ([], ["--tidy"]):
+            for words in each_of([], ["--tidy"]):
                 message = f"one name, {'a' + there + 'b'!r}; give --delimiter {word}\n"
                 self.csv_refused(message, f"a{there}b\n1{there}2\n", "--delimiter", given, *words)
                 self.csv_refused(message, f"a{there}b\n", "--delimiter", given, *words)
@@ -107,7 +109,7 @@ class CsvFiles(InFolder):
         self.assertEqual((table["columns"], table["rows"]), ([["size_cm", "INT"]], [[1]]))
         self.assertEqual(self.table('"a, b"\n"1, 2"\n', "--tidy")["rows"], [["1, 2"]])
 
-    def test_plain_tabs(self):
+    def test_plain_tabs(self) -> None:
         """Tables of tabs without quotes and escapes, as cut and awk have them, and what is said where quotes
         or escapes join cells."""
         text = 'k\tx\n1\tx\n2\t"y\n3\tz\n4\tw"\n5\tv\n'
@@ -144,7 +146,7 @@ class CsvFiles(InFolder):
         tables = json.loads(tool(world, *words)[1])["tables"]
         self.assertEqual([tables[name]["rows"] for name in "uv"], [[["b"]], [['"b"']]])
 
-    def test_latin(self):
+    def test_latin(self) -> None:
         """By Latin-1 a file of Windows gets control characters in place of its signs, which is said."""
         data = "k;price\n1;5\n2;7 €\n".encode("cp1252")
         words = ["--delimiter", ";", *ASK]
@@ -156,14 +158,14 @@ class CsvFiles(InFolder):
             path = self.put("t.csv", f"k;price\n1;5\n2;{text}\n".encode(encoding))
             self.assertNotIn("control", tool(world, "--csv", path, "--encoding", encoding, *words)[2])
 
-    def test_dumps(self):
+    def test_dumps(self) -> None:
         """Tables as COPY of PostgreSQL and --batch of MySQL write them."""
         text = 'a\tb\tc\n1\tsays "hi"\t\\N\n2\t\tx\\ty\\nz\\\\n\n3\t"open\tNULL\n'
         table = self.table(text, "--tsv", "--null", "NULL")
         self.assertEqual(table["columns"], [["a", "INT"], ["b", "TEXT"], ["c", "TEXT"]])
         self.assertEqual(table["rows"], [[1, 'says "hi"', None], [2, "", "x\ty\nz\\n"], [3, '"open', None]])
 
-    def test_duckdb(self):
+    def test_duckdb(self) -> None:
         """A table as DuckDB's documentation says that COPY .. (HEADER, NULLSTR 'NULL') writes it."""
         text = ('id,ok,dose,day,note\n1,true,2.50,2024-01-15,"says ""hi"", twice"\n2,false,NULL,NULL,\n'
                 '3,NULL,10.00,2024-02-01,NULL\n4,true,-0.05,2024-02-29,"a\nb"\n')
@@ -175,7 +177,7 @@ class CsvFiles(InFolder):
                                          [2, "false", None, None, ""], [3, None, 1000, "2024-02-01", None],
                                          [4, "true", -5, "2024-02-29", "a\nb"]])
 
-    def test_tidy(self):
+    def test_tidy(self) -> None:
         """Headers that aren't names are named at once, and made names on demand."""
         text = "Pat.Nr;Größe (cm);Dose;Dose;order;;2nd\n1;2;3;4;5;6;7\n"
         self.csv_refused("t: 6 columns need another name, column 1 'pat.nr', 2 'größe (cm)', 4 'dose', 5 "
@@ -192,7 +194,7 @@ class CsvFiles(InFolder):
         self.assertEqual(list(json.loads(tool(world, "--csv", path, "--tidy", *ASK)[1])["tables"]),
                          ["my_data"])
 
-    def test_hints(self):
+    def test_hints(self) -> None:
         """What looks like decimals with a comma, or like dates that don't compare, is said."""
         err = tool(world, "--csv", self.put("t.csv", 'a;b;c\n1,75;01.02.2024;x\n2;3.2.2024;y\n'),
                    "--delimiter", ";", *ASK)[2]
@@ -209,7 +211,7 @@ class CsvFiles(InFolder):
                     "numbers, where decimals, --decimal t.a=, --scale t.a=3\n")
             self.assertEqual(rest in err, are_thousands, cells)
 
-    def test_rounding(self):
+    def test_rounding(self) -> None:
         table = self.table("a\n0.125\n0.375\n-0.125\n2.5\n1\n", "--scale", "t.a=2", "--round")
         self.assertEqual(table["rows"], [[12], [38], [-12], [250], [100]])
         table = self.table("a\n0.0000000000000000005\n-0.00000000000000000251\n9.2233720368547758074\n",
@@ -231,7 +233,7 @@ class CsvFiles(InFolder):
         self.assertIn("t.a is TEXT, since", err)
         self.assertIn("--scale t.a=2 carries it as whole numbers", err)
 
-    def test_shuffle(self):
+    def test_shuffle(self) -> None:
         """The same rows in an order that says nothing, and the same order for a seed."""
         text = "a\n" + "".join(f"{n}\n" for n in range(50))
         first = self.table(text, "--shuffle", "7")["rows"]
@@ -239,7 +241,7 @@ class CsvFiles(InFolder):
         self.assertNotEqual(first, self.table(text, "--shuffle", "8")["rows"])
         self.assertEqual(sorted(first), self.table(text)["rows"])
 
-    def test_output(self):
+    def test_output(self) -> None:
         """A failure leaves the old file, and a quiet call says nothing but that."""
         path, old = self.put("t.csv", "a\n1\n"), self.put("w.json", "old")
         self.refused("the key names b", "--csv", path, *ASK, "--key", "t=b", "-o", old)
@@ -251,7 +253,7 @@ class CsvFiles(InFolder):
         self.refused("No such file", "--csv", path, *ASK, "-o", os.path.join(self.folder, "none", "w.json"))
         self.assertEqual(tool(world, "--csv", path, *ASK, "-q", "-o", "/dev/null")[0], 0)
 
-    def test_progress(self):
+    def test_progress(self) -> None:
         """What takes long says so on a terminal, and there alone."""
         path, line = self.put("t.csv", "a\n1\n"), "world.py: t: 1 rows are settled\n"
         with mock.patch("ldvtools.progress.SECONDS", 0.0):
@@ -260,7 +262,7 @@ class CsvFiles(InFolder):
                 self.assertIn(line, tool(world, "--csv", path, *ASK)[2])
                 self.assertEqual(tool(world, "--csv", path, *ASK, "-q")[2], "")
 
-    def test_decimals(self):
+    def test_decimals(self) -> None:
         table = self.table("a\n3.4\n-0.05\n7\n.5\n+1.250\n\n-.5\n", "--scale", "t.a=2")
         self.assertEqual(table["columns"], [["a", "INT"]])
         self.assertEqual(table["rows"], [[340], [-5], [700], [50], [125], [-50]])
@@ -269,7 +271,7 @@ class CsvFiles(InFolder):
         self.csv_refused("line 2 (row 0 of t), column a: '1e3' is no decimal", "a\n1e3\n", "--scale", "t.a=2")
         self.csv_refused("is outside 64 bits", "a\n92233720368547758.08\n", "--scale", "t.a=2")
 
-    def test_refused_cells(self):
+    def test_refused_cells(self) -> None:
         refused = self.csv_refused
         refused("t.csv line 4: 1 cell, but the header has 2", "a,b\n1,2\n\n3\n")
         refused("t.csv line 4 (row 1 of t), column b: 'x' is no whole number", 'a,b\n"1\n",2\n3,x\n',
@@ -287,7 +289,7 @@ class CsvFiles(InFolder):
         refused("t.csv line 3", 'a\n1\n"x" y\n')
         refused("is empty", "")
 
-    def test_refused_names(self):
+    def test_refused_names(self) -> None:
         refused = self.csv_refused
         refused("t: column 2 'Age': names have no upper-case letters; give --lower", "id,Age\n1,2\n")
         refused("t: column 1 'order' is a reserved word", "order\n1\n")
@@ -308,20 +310,20 @@ class CsvFiles(InFolder):
 
 
 class ScriptsAndFiles(InFolder):
-    def script(self, text):
+    def script(self, text: str) -> str:
         status, out, err = tool(world, "--no-columns", "--sql", self.put("q.sql", text))
         self.assertEqual(status, 0, err)
-        return json.loads(out)["files"]["main"]
+        return str(json.loads(out)["files"]["main"])
 
-    def test_statements(self):
+    def test_statements(self) -> None:
         self.assertEqual(self.script("SELECT * FROM t;"), 'sql q "SELECT * FROM t"\n')
         self.assertEqual(self.script("-- one\n--two; 2\nselect *\r\n\tfrom t ; ;\n\n-- end\n"),
                          '# one\n# two; 2\nsql q "select * from t"\n# end\n')
         self.assertEqual(self.script("SELECT * FROM t WHERE a = 'x;\n\ty''-- \"z\\' AND b<>-1"),
                          'sql q "SELECT * FROM t WHERE a = \'x;\\n\\ty\'\'-- \\"z\\\\\' AND b<>-1"\n')
 
-    def test_refused_statements(self):
-        for text, message in (
+    def test_refused_statements(self) -> None:
+        for text, message in each_of(
                 ("SELECT * FROM t;\nSELECT * FROM t -- all\n", "line 2: -- within a statement"),
                 ("SELECT * FROM t WHERE a = ?", "line 1: ? takes a parameter"),
                 ("SELECT 'a FROM t", "line 1: the text that begins with ' doesn't end"),
@@ -336,7 +338,7 @@ class ScriptsAndFiles(InFolder):
         for text in ("SELECT '\udcff' FROM t", "-- \udcff\nSELECT a FROM t"):
             self.refused("--ask 2, ", "--ask", "SELECT a FROM t", "--ask", text)
 
-    def test_where(self):
+    def test_where(self) -> None:
         """What is wrong is said where it stands in the file of statements, and not in the script that is
         made, with the statement."""
         table = self.put("t.csv", "k;Größe (cm);Öffnet\n1;2;9\n")
@@ -358,7 +360,7 @@ class ScriptsAndFiles(InFolder):
         script = self.put("s.ldv", 'print 1\nsql q "SELECT h FROM t"\n')
         self.assertIn("warning: s.ldv line 2: the statement", tool(world, *words, "--script", script)[2])
 
-    def test_renamed(self):
+    def test_renamed(self) -> None:
         """A name of the file that can't stand in a statement is said with the one of the world."""
         table = self.put("t.csv", "k;Größe (cm);Öffnet\n1;2;9\n")
         words = ["--csv", table, "--delimiter", ";", "--tidy"]
@@ -370,19 +372,19 @@ class ScriptsAndFiles(InFolder):
         self.refused("in this world 'Öffnet' is called open", "--csv", table, "--delimiter", ";", "--lower",
                      "--rename", "t.#2=size", "--rename", "t.#3=open", "--ask", "SELECT Öffnet FROM t")
 
-    def test_many_statements(self):
+    def test_many_statements(self) -> None:
         """Lines are counted for a message only: many statements take no time that grows with their square."""
         with mock.patch("ldvtools.scripts_of_statements.line_at", side_effect=AssertionError):
             self.assertEqual(self.script("--a\nSELECT a FROM t;\n" * 3), '# a\nsql q "SELECT a FROM t"\n' * 3)
 
-    def test_help(self):
+    def test_help(self) -> None:
         """What holds for all CSV files is said, and what holds for one."""
         text = tool(world, "--help")[1].decode()
         self.assertIn("--delimiter, --encoding, --quotes, --decimal, --thousands and --null hold for all CSV "
                       "files, or for the one\nwhose table is named", text)
         self.assertIn("--tsv, --skip-blank, --trim, --round, --lower and --tidy hold for all files.", text)
 
-    def test_files(self):
+    def test_files(self) -> None:
         script, logo = self.put("go.ldv", "print 1\n"), self.put("logo", b"\x89PNG")
         words = ["--script", script, "--file", f"pic={logo}", "--arg", "a", "--seed", "7"]
         status, out, _ = tool(world, *words)
@@ -399,7 +401,7 @@ class ScriptsAndFiles(InFolder):
         files = [word for n in range(4) for word in ("--file", f"{n}={full}")]
         self.refused("the document has", "--script", script, *files)
 
-    def test_script_twice(self):
+    def test_script_twice(self) -> None:
         script, child = self.put("main.ldv", ""), self.put("child.ldv", "")
         self.refused("--script is given twice; a child's script goes into the world by --file NAME=PATH",
                      "--script", script, "--script", child, status=2)
@@ -407,9 +409,9 @@ class ScriptsAndFiles(InFolder):
         self.assertEqual((status, json.loads(out)["start"]), (0, ["main.ldv"]), err)
         self.assertEqual(list(json.loads(out)["files"]), ["main.ldv", "child"])
 
-    def test_misuse(self):
+    def test_misuse(self) -> None:
         script, path = self.put("s", ""), self.put("t.csv", "a\n1\n")
-        for words in ([], ["--csv", path], ["--script", script, "--seed", "-1"],
+        for words in each_of([], ["--csv", path], ["--script", script, "--seed", "-1"],
                       ["--script", script, "--table", "t"], ["--csv", path, *ASK, "--kind", "t.a=REAL"],
                       ["--csv", path, *ASK, "--kind", "t.b=INT"], ["--csv", path, *ASK, "--key", "u=a"],
                       ["--csv", path, *ASK, "--scale", "t.a=x"], ["--csv", path, *ASK, "--delimiter", "ab"],
@@ -430,14 +432,14 @@ INSERT INTO lines (n, shop, customer) VALUES (1, 'b', 2), (2, 'a', 9), (1, 'a', 
 
 
 class Databases(InFolder):
-    def database(self, statements):
+    def database(self, statements: str) -> list[str]:
         path = os.path.join(self.folder, "shop.db")
         if os.path.exists(path):
             os.remove(path)
         make_database(path, statements)
         return ["--sqlite", path, *ASK]
 
-    def test_tables(self):
+    def test_tables(self) -> None:
         status, out, err = tool(world, *self.database(SHOP), "--lower")
         self.assertEqual(status, 0, err)
         self.assertEqual(json.loads(out)["tables"], {
@@ -459,7 +461,7 @@ class Databases(InFolder):
             self.assertIn(f"world.py: note: {note}", err)
         self.assertEqual(err.count("note:"), 11, err)
 
-    def test_texts_of_digits(self):
+    def test_texts_of_digits(self) -> None:
         """Texts of a database that are all spelled as whole numbers are texts."""
         words = self.database("CREATE TABLE t (a TEXT, b); INSERT INTO t VALUES ('2', '3'), ('10', NULL);")
         status, out, err = tool(world, *words)
@@ -467,7 +469,7 @@ class Databases(InFolder):
         self.assertEqual(json.loads(out)["tables"], {"t": {
             "columns": [["a", "TEXT"], ["b", "TEXT"]], "rows": [["2", "3"], ["10", None]]}})
 
-    def test_options(self):
+    def test_options(self) -> None:
         words = self.database(SHOP)
         status, out, err = tool(world, *words, "--table", "lines", "--leave-out", "lines.twice",
                                 "--key", "lines=none", "--kind", "lines.customer=TEXT")
@@ -480,12 +482,12 @@ class Databases(InFolder):
         self.refused("there is no table t; there are Customers", *words, "--table", "t")
         self.refused("--leave-out u: nothing", *words, "--lower", "--leave-out", "u", status=2)
 
-    def test_foreign(self):
+    def test_foreign(self) -> None:
         """Foreign keys are carried where the parent's key fits, in its order, and each row has its parent."""
         parents = ("CREATE TABLE P (b TEXT, a INT, u INT UNIQUE, PRIMARY KEY (b, a));"
                    "INSERT INTO P VALUES ('x', 1, 7), ('y', 2, NULL);")
 
-        def child(declared, rows):
+        def child(declared: str, rows: str) -> list[str]:
             return self.database(f"{parents} CREATE TABLE c (n INT PRIMARY KEY, a INT, b TEXT, {declared});"
                                  + (f"INSERT INTO c VALUES {rows};" if rows else "")) + ["--lower"]
 
@@ -511,7 +513,7 @@ class Databases(InFolder):
         err = tool(world, *child("FOREIGN KEY (a, b) REFERENCES p (a, b) ON DELETE CASCADE", ""))[2]
         self.assertIn("to p: ON DELETE CASCADE isn't carried", err)
 
-    def test_given_foreign(self):
+    def test_given_foreign(self) -> None:
         words = ["--csv", self.put("p.csv", "id\n1\n2\n"), "--key", "p=id", *ASK,
                  "--csv", self.put("c.csv", "n,of\n1,2\n2,\n3,1\n")]
         status, out, err = tool(world, *words, "--foreign", "c.of=p", "--foreign", "p.id=p")
@@ -527,7 +529,7 @@ class Databases(InFolder):
         self.refused("c.of is INT, and p.id is TEXT", *words, "--kind", "p.id=TEXT", "--foreign", "c.of=p")
         self.refused("--scale c.of=1 gives both the same", *words, "--scale", "p.id=1", "--foreign", "c.of=p")
 
-    def test_values(self):
+    def test_values(self) -> None:
         words = self.database("CREATE TABLE t (a REAL);"
                               "INSERT INTO t VALUES (2.5), (3), (NULL), (-0.1), (1e2);")
         self.refused("row 0 of t, column a: the REAL value 2.5 has no equal here; --scale t.a=1 carries all",
@@ -549,7 +551,7 @@ class Databases(InFolder):
         self.refused("file is not a database", "--sqlite", path, *ASK)
         self.refused("No such file", "--sqlite", self.folder + "/none.db", *ASK)
 
-    def test_real_columns(self):
+    def test_real_columns(self) -> None:
         """All columns that need --scale are named at once, each with the decimals that it needs."""
         words = self.database("CREATE TABLE t (a REAL, b INT, c REAL, d REAL);"
                               "INSERT INTO t VALUES (1.5, 1, 0.125, 1e-30), (2, 2, 1.5, 1);"
@@ -561,7 +563,7 @@ class Databases(InFolder):
         status, out, err = tool(world, *words, *scales, "--round")
         self.assertEqual(json.loads(out)["tables"]["t"]["rows"], [[15, 1, 125, 0], [20, 2, 1500, 100]], err)
 
-    def test_defaults(self):
+    def test_defaults(self) -> None:
         """A default isn't carried: a column that may have no NULL then refuses the INSERT."""
         words = self.database("CREATE TABLE t (a INT DEFAULT 1, b INT NOT NULL DEFAULT 2, c INT DEFAULT 3);")
         err = tool(world, *words, "--key", "t=c")[2]
@@ -570,14 +572,14 @@ class Databases(InFolder):
             self.assertIn(f"world.py: note: t.{name} isn't carried: an INSERT that doesn't name the column "
                           f"{what} here\n", err)
 
-    def test_views(self):
+    def test_views(self) -> None:
         words = self.database(SHOP)
         self.refused("all_lines is a view; CREATE TABLE t AS SELECT * FROM all_lines in a copy of the "
                      "database makes it a table", *words, "--table", "all_lines")
 
-    def test_long_decimals(self):
+    def test_long_decimals(self) -> None:
         """Digits that arithmetic left are rounded away, and what is advised fits into 64 bits."""
-        def advice(values):
+        def advice(values: str) -> list[str]:
             return self.database("CREATE TABLE r (a REAL); INSERT INTO r VALUES " + values)
         for values, words in (("(0.1 + 0.2)", "--scale r.a=1 --round carries all of them as whole numbers, "
                                "rounded, --leave-out"),
@@ -588,13 +590,13 @@ class Databases(InFolder):
                                "--leave-out r.a\n"),
                               ("(12.5), (NULL)", "--scale r.a=1 carries all of them as whole numbers, --l")):
             self.refused(words, *advice(values))
-        words = self.database("CREATE TABLE m (r REAL, i REAL, k INT); INSERT INTO m VALUES (1e20, 0.5, 1), "
+        given = self.database("CREATE TABLE m (r REAL, i REAL, k INT); INSERT INTO m VALUES (1e20, 0.5, 1), "
                               "(0.25, 1.5, 2);")
         self.refused("row 0 of m, column r: the REAL value 1e+20 has no equal here; m.r: numbers outside 64 "
                      "bits, "
                      "which no --scale carries: --leave-out m.r; --scale m.i=1 carries the others as whole "
-                     "numbers\n", *words)
-        status, out, err = tool(world, *words, "--leave-out", "m.r", "--scale", "m.i=1")
+                     "numbers\n", *given)
+        status, out, err = tool(world, *given, "--leave-out", "m.r", "--scale", "m.i=1")
         self.assertEqual(json.loads(out)["tables"]["m"]["rows"], [[5, 1], [15, 2]], err)
         self.refused("the REAL value 1e+300 is outside 64 bits at --scale 0", *advice("(1e300), (0.5)"),
                      "--scale", "r.a=0", "--round")
@@ -603,7 +605,7 @@ class Databases(InFolder):
         self.csv_refused("'92233720368547758.08' is outside 64 bits at --scale 2 (-9223372036854775808 to "
                          "9223372036854775807 by 100)", "a\n92233720368547758.08\n", "--scale", "t.a=2")
 
-    def test_names_of_nothing(self):
+    def test_names_of_nothing(self) -> None:
         """An option that names nothing is said first, with the names that there are."""
         first, second = self.put("t.csv", "Id,A\n1,2\n"), self.put("u.csv", "b\nx\n")
         words = ["--csv", first, "--csv", second, *ASK]
@@ -622,7 +624,7 @@ class Databases(InFolder):
                      "r.b=1", status=2)
         self.refused("--scale r.a=1 carries", *words, "--key", "s=b")
 
-    def test_paths_and_names(self):
+    def test_paths_and_names(self) -> None:
         """A path of two slashes, and a table and columns in other quotes whose names are words of a note."""
         words = self.database("CREATE TABLE t (a INT, [check] INT, `autoincrement` INT);")
         words = words[:1] + ["/" + words[1]] + words[2:]
@@ -631,7 +633,7 @@ class Databases(InFolder):
         self.assertEqual(json.loads(out)["tables"]["t"]["columns"],
                          [["a", "INT"], ["check", "INT"], ["autoincrement", "INT"]])
 
-    def test_write_ahead_log(self):
+    def test_write_ahead_log(self) -> None:
         """Reading leaves the database as it was, with no file beside it,
         and takes away no log that was there."""
         words = self.database("PRAGMA journal_mode = WAL; CREATE TABLE t (a INT); INSERT INTO t VALUES (1);")

@@ -1,9 +1,12 @@
 """The wrong exits that are planted, and how the verdicts on them are judged."""
+from __future__ import annotations
+
 import contextlib
 import io
 import unittest
+from typing import Any
 
-import wrong_exits
+from checks import wrong_exits
 
 SOURCE = """fn write_response<K: Sink>(sink: &mut K, response: Response) -> Exit
     ensures { Responds }
@@ -16,13 +19,13 @@ SOURCE = """fn write_response<K: Sink>(sink: &mut K, response: Response) -> Exit
 """
 
 
-def all_refused():
+def all_refused() -> dict[str, str]:
     """The verdicts where each wrong body is refused, and the one without a change is proved."""
     return {**{wrong_exits.name_of(each): "not proved" for each in wrong_exits.WRONG},
             "write_response_unchanged": "proved"}
 
 
-def judged(verdicts):
+def judged(verdicts: Any) -> tuple[bool, str]:
     """Whether these verdicts are well, and what is printed of them."""
     with contextlib.redirect_stdout(io.StringIO()) as told:
         well = wrong_exits.judge(verdicts)
@@ -30,15 +33,15 @@ def judged(verdicts):
 
 
 class Planted(unittest.TestCase):
-    def test_each_exit(self):
+    def test_each_exit(self) -> None:
         self.assertEqual(set(wrong_exits.exits()), {*wrong_exits.WRONG, "NoMemory"})
 
-    def test_of_the_program(self):
+    def test_of_the_program(self) -> None:
         planted = wrong_exits.planted(wrong_exits.read("src", "top.rt"))
         for each in wrong_exits.WRONG:
             self.assertEqual(planted.count(f"fn {wrong_exits.name_of(each)}<"), 1)
 
-    def test_one_line_each(self):
+    def test_one_line_each(self) -> None:
         unchanged, *wrong = wrong_exits.planted(SOURCE)[len(SOURCE):].split("\nfn ")[1:]
         self.assertEqual(len(wrong), len(wrong_exits.WRONG))
         for body in wrong:
@@ -47,18 +50,18 @@ class Planted(unittest.TestCase):
             self.assertEqual(len(differ), 1)
             self.assertIn("Response::Written(bytes) => { let _ = &bytes; ", differ[0])
 
-    def test_another_form(self):
+    def test_another_form(self) -> None:
         with self.assertRaises(SystemExit):
             wrong_exits.planted(SOURCE.replace("bytes.as_slice()", "&bytes"))
 
 
 class Judged(unittest.TestCase):
-    def test_all_refused(self):
+    def test_all_refused(self) -> None:
         well, told = judged(all_refused())
         self.assertTrue(well)
         self.assertEqual(told.count(": refused\n"), len(wrong_exits.WRONG))
 
-    def test_open_goals(self):
+    def test_open_goals(self) -> None:
         """An open goal of its own clause is a refusal, one of something else isn't."""
         name = wrong_exits.name_of("Damaged")
         said = "no proof: expected answers in ./proofs/top/%s/Answers.antt; `search` did not prove `%s`"
@@ -66,22 +69,22 @@ class Judged(unittest.TestCase):
         for other in (said % (name, "overflow_1"), "no proof: it calls `top::ldv`, which is not proved"):
             self.assertFalse(judged({**all_refused(), name: other})[0], other)
 
-    def test_one_proved(self):
+    def test_one_proved(self) -> None:
         well, told = judged({**all_refused(), wrong_exits.name_of("Damaged"): "proved"})
         self.assertFalse(well)
         self.assertIn("Damaged always: PROVED\n", told)
 
-    def test_one_not_judged(self):
+    def test_one_not_judged(self) -> None:
         verdicts = all_refused()
         del verdicts[wrong_exits.name_of("Clash")]
         well, told = judged(verdicts)
         self.assertFalse(well)
         self.assertIn("Clash always: NOT JUDGED\n", told)
 
-    def test_nothing_proved(self):
+    def test_nothing_proved(self) -> None:
         self.assertFalse(judged({**all_refused(), "write_response_unchanged": "not proved"})[0])
 
-    def test_verdicts(self):
+    def test_verdicts(self) -> None:
         said = ("fn top::write_response_clash: not proved\nfn top::ldv: proved\n"
                 "fn top::write_response_unchanged: proved\n")
         self.assertEqual(wrong_exits.verdicts(said), {

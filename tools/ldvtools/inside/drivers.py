@@ -11,7 +11,8 @@ import sys
 TYPE_CHECKING = False
 if TYPE_CHECKING:
     import types
-    from importlib.abc import Loader as PlainLoader, MetaPathFinder as PlainFinder
+    from importlib.abc import Loader as PlainLoader
+    from importlib.abc import MetaPathFinder as PlainFinder
     from typing import Callable, Dict, Optional, Sequence
 
     Change = Callable[[types.ModuleType], None]

@@ -33,8 +33,9 @@ import os
 import struct
 import sys
 import time
-from _weakrefset import WeakSet
 from threading import RLock, get_ident
+
+from _weakrefset import WeakSet
 
 from .kept import Kept, refuse
 

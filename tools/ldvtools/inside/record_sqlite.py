@@ -9,8 +9,7 @@ import sqlite3
 
 from .kept import pack, sum_of
 from .noted import PLAIN, noted, noted_all
-from .record import (FORM, HAS_KEY, HAS_ROWS, MOST_WAITING, STATEMENT, Log, clock, dumps, fault_of,
-                     frame_at)
+from .record import FORM, HAS_KEY, HAS_ROWS, MOST_WAITING, STATEMENT, Log, clock, dumps, fault_of, frame_at
 
 # For a check of types alone: a program starts sooner without.
 TYPE_CHECKING = False
