@@ -182,7 +182,7 @@ def numbers(text: str) -> List[int]:
 def arguments(words: Optional[Sequence[str]]) -> argparse.Namespace:
     table = '\n'.join(f'    {name:13} {run.title} ({run.unit}: {", ".join(map(str, run.sizes))})'
                       for name, run in RUNS.items())
-    parser = argparse.ArgumentParser(prog='bench.py', description=f'{__doc__}\n{table}\n',
+    parser = argparse.ArgumentParser(description=f'{__doc__}\n{table}\n',
                                      formatter_class=argparse.RawDescriptionHelpFormatter)
     parser.add_argument('names', nargs='*', metavar='RUN')
     parser.add_argument('--sizes', type=numbers, default=[], metavar='N,..')

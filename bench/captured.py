@@ -21,8 +21,7 @@ from results import LDV, Line, line_of
 from setting import Job, Setting
 
 TOOLS = os.path.join(harness.ROOT, 'tools')
-sys.path.append(TOOLS)
-from ldvtools.captured_run import environment                                # noqa: E402
+INSIDE = os.path.join(TOOLS, 'ldvtools', 'inside')
 
 SMALL = """
 import sqlite3
@@ -58,9 +57,10 @@ def make_database(path: str, rows: int) -> None:
 def recorded(words: List[str], folder: str, sizes: List[int]) -> Took:
     """A run under the recorder, whose log goes into a new folder; the bytes of the log are noted."""
     with tempfile.TemporaryDirectory(dir=folder) as log:
-        given = environment('record', log)
-        changed = [f'{name}={value}' for name, value in given.items() if os.environ.get(name) != value]
-        took = harness.measure_well(['env', *changed, *words], os.devnull, os.devnull)
+        # capture.py starts a program with these variables, and goes on after its end.
+        path = os.pathsep.join([INSIDE, *filter(None, [os.environ.get('PYTHONPATH')])])
+        given = [f'PYTHONPATH={path}', 'LDV_INSIDE=record', f'LDV_FOLDER={log}']
+        took = harness.measure_well(['env', *given, *words], os.devnull, os.devnull)
         sizes.append(sum(os.path.getsize(os.path.join(log, name)) for name in os.listdir(log)))
     return took
 

@@ -9,14 +9,13 @@ CAUSES = {
     'engine/points': 'each question copies its statement and puts the parameters in; a quarter is memory',
     'engine/inserts': 'each question copies its statement and puts the parameters in',
     'engine/childless': 'each question copies its statement and puts the parameters in',
-    'engine/update': 'each row that changes gets a history of its own in an ordered map',
-    'engine/delete': 'each row that changes gets a history of its own in an ordered map',
-    'engine/adopt': 'each row that changes gets a history of its own in an ordered map',
-    'engine/parents': 'each row that changes gets a history, and each parent is looked up in the index of'
-                      ' children',
+    'engine/update': 'a changed row takes some 3,000 instructions; a third is memory, as its values are'
+                     ' lists',
+    'engine/shift': 'half is the look-up and the change of keys in ordered maps; each former version is a'
+                    ' list of values',
     'engine/union': 'half is the merge in one ordered map, the rest memory and the union of lineages',
     'engine/distinct': 'half is the merge in one ordered map, whose values are behind pointers',
-    'engine/order': 'half is the sort, through pointers to rows',
+    'engine/order': 'two fifths are the sort, which moves each answer; the reply has a list of values a row',
     'engine/join2': 'a third is memory, the rest the join and the search of an ordered map',
     'engine/join3': 'a third is memory, the rest the join and the search of an ordered map',
     'engine': 'rows are lists of values in small pieces of memory',

@@ -68,7 +68,7 @@ def measured(before: str, after: str, rest: Sequence[str]) -> Tuple[Results, Res
 
 
 def main(words: Optional[Sequence[str]] = None) -> int:
-    parser = argparse.ArgumentParser(prog='compare.py', description=__doc__,
+    parser = argparse.ArgumentParser(description=__doc__,
                                      formatter_class=argparse.RawDescriptionHelpFormatter)
     parser.add_argument('before', metavar='BEFORE')
     parser.add_argument('after', metavar='AFTER')

@@ -3,11 +3,15 @@
 A line of figures.txt has a document, the key of a value (results.py says what that is), and the words of the
 document around the figure, which stands as `{}` in them, with ` | ` between. A figure is right if it is the
 value, rounded to the decimals that it has. bench/README.md names the file of results between its two marks.
+
+`figures.py ROOT VERSION` prints what isn't as the results of a version have it, a line for each difference:
+check_docs.py calls it.
 """
 from __future__ import annotations
 
 import os
 import re
+import sys
 from typing import Iterator, List, NamedTuple, Optional, Sequence, Tuple
 
 import results
@@ -34,7 +38,7 @@ class Figure(NamedTuple):
     line: int
     """Its line in the list."""
 
-    def pattern(self) -> 're.Pattern[str]':
+    def pattern(self) -> re.Pattern[str]:
         """The words with the figure, whatever stands between lines."""
         parts = [r'\s+'.join(map(re.escape, part.split())) for part in self.words.split('{}')]
         before, after = (self.words.split('{}') + [''])[:2]
@@ -64,7 +68,7 @@ def shown_like(figure: str, value: float) -> str:
 
 # ---- the page
 
-def page_parts(root: str) -> 'Optional[re.Match[str]]':
+def page_parts(root: str) -> Optional[re.Match[str]]:
     return BETWEEN.search(read(root, PAGE))
 
 
@@ -97,7 +101,7 @@ def fill_documents(root: str, found: Results) -> None:
             file.write(text)
 
 
-def filled(match: 're.Match[str]', value: float) -> str:
+def filled(match: re.Match[str], value: float) -> str:
     start, end = match.start(1) - match.start(), match.end(1) - match.start()
     return match[0][:start] + shown_like(match[1], value) + match[0][end:]
 
@@ -135,3 +139,14 @@ def differences(root: str, version: str) -> Iterator[Difference]:
         yield path, 1, f'are no results of version {version}, measured on a quiet host'
     for figure in figures_in(root):
         yield from differences_of(root, figure, found)
+
+
+def main(words: Sequence[str]) -> int:
+    root, version = words
+    for document, line, text in differences(root, version):
+        print(f'{document}:{line}: {text}')
+    return 0
+
+
+if __name__ == '__main__':
+    sys.exit(main(sys.argv[1:]))

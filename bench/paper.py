@@ -17,9 +17,9 @@ than 64 MiB isn't written, which its row says.
 --scale is that of the data, by default the greatest of 0.01 to 0.07 whose world document has at most 64
 MiB. --rows names queries by their place, such as 1-5,18. --least takes the scale 0.0006 and a query of each
 form, once, and however busy the host is: that shows whether it works. --beside says what else was at work on
-other processors meanwhile. -o writes what was measured to FILE,
-and adds it to what FILE has of the same program; without -o a run of all eighteen is written to
-bench/results/VERSION-HOST-paper.json. paper_report.py makes the page of it."""
+other processors meanwhile. -o writes what was measured to FILE after each query, and adds it to what FILE has
+of the same program; without -o a run of all eighteen is written to bench/results/VERSION-HOST-paper.json.
+paper_report.py makes the page of it."""
 from __future__ import annotations
 
 import argparse
@@ -109,7 +109,7 @@ def backed_up(setting: Setting, sqlite: Optional[str]) -> List[Took]:
     if sqlite is None or missing:
         print(f'paper: {" and ".join(missing)} isn\'t installed, so there is no .backup by xz')
         return []
-    text = f'"$0" database ".backup backup" && xz -c backup'
+    text = '"$0" database ".backup backup" && xz -c backup'
     words = ['sh', '-c', f'cd "$1" && {text}', sqlite, setting.folder]
     return [harness.measure_well(words, os.devnull, setting.path('backup.xz'))]
 
@@ -237,7 +237,8 @@ def text_of(line: Line) -> str:
     return f'{line.name:24} {line.program:8} {numbers} {line.values["MiB"]:8.1f}  {", ".join(own)}'
 
 
-def lines(given: Given) -> Iterator[Line]:
+def queries(given: Given) -> Iterator[List[Line]]:
+    """The lines of each query."""
     heads = ' '.join(f'{head:>9}' for head in bench.SHARED[:3])
     print(f'{"line":24} {"program":8} {heads} {"MiB":>8}')
     with tempfile.TemporaryDirectory() as folder:
@@ -245,9 +246,11 @@ def lines(given: Given) -> Iterator[Line]:
         setting = Setting({LDV: given.program}, folder, [], given.runs, given.as_it_comes, [])
         copies = prepare(setting, given)
         for place in given.places:
+            found = []
             for line in lines_of(setting, given, copies, QUERIES[place - 1]):
                 print(text_of(line), flush=True)
-                yield line
+                found.append(line)
+            yield found
 
 
 def told_of(given: Given, output: Optional[str] = None) -> argparse.Namespace:
@@ -255,15 +258,17 @@ def told_of(given: Given, output: Optional[str] = None) -> argparse.Namespace:
     return argparse.Namespace(runs=given.runs, least=given.as_it_comes, beside=given.beside, output=output)
 
 
-def measured(given: Given) -> Results:
-    """All lines, with the pace of the host before and after them."""
+def measured(given: Given) -> Iterator[Results]:
+    """The lines so far, after each query, with the pace of the host before the first and after the last."""
     facts = bench.facts_of(told_of(given), {LDV: given.program})
     facts['sqlite'] = harness.said([given.sqlite, '--version']).partition(' ')[0] if given.sqlite else ''
     facts['pinned'] = not given.as_it_comes and harness.pinned() is not None
-    before = harness.pace()
-    found = list(lines(given))
-    facts['pace'] = {'before': round(before, 1), 'after': round(harness.pace(), 1)}
-    return Results(facts, found)
+    before = round(harness.pace(), 1)
+    found: List[Line] = []
+    for lines in queries(given):
+        found += lines
+        facts['pace'] = {'before': before, 'after': round(harness.pace(), 1)}
+        yield Results(facts, found)
 
 
 # ---- words
@@ -284,7 +289,7 @@ def path_of() -> str:
 
 
 def arguments(words: Optional[Sequence[str]]) -> argparse.Namespace:
-    parser = argparse.ArgumentParser(prog='paper.py', description=__doc__,
+    parser = argparse.ArgumentParser(description=__doc__,
                                      formatter_class=argparse.RawDescriptionHelpFormatter)
     parser.add_argument('--scale', type=float, metavar='S')
     parser.add_argument('--rows', type=places, metavar='N,..')
@@ -315,13 +320,17 @@ def main(words: Optional[Sequence[str]] = None) -> int:
     parsed = arguments(words)
     given = given_of(parsed)
     earlier = bench.earlier_in(told_of(given, parsed.output), {LDV: given.program})
-    found = measured(given)
-    print(f'pace: {found.facts["pace"]["before"]} ns a turn before, {found.facts["pace"]["after"]} after')
-    if parsed.output:
-        found = results.merged([earlier, found]) if earlier else found
-        os.makedirs(os.path.dirname(os.path.abspath(parsed.output)), exist_ok=True)
-        results.write(parsed.output, found)
+    for found in measured(given):
+        if parsed.output:
+            keep(parsed.output, results.merged([earlier, found]) if earlier else found)
+        print(f'pace: {found.facts["pace"]["before"]} ns a turn before, {found.facts["pace"]["after"]} after')
     return 0
+
+
+def keep(path: str, found: Results) -> None:
+    """Writes what was found so far, for a run that is stopped later."""
+    os.makedirs(os.path.dirname(os.path.abspath(path)), exist_ok=True)
+    results.write(path, found)
 
 
 if __name__ == '__main__':

@@ -24,7 +24,7 @@ class Figure(NamedTuple):
 def drawn(path: str, figure: Figure) -> bool:
     """Whether a figure was drawn: it isn't if matplotlib isn't there, which is said."""
     try:
-        import matplotlib                                                    # noqa: F401
+        import matplotlib  # noqa: F401
     except ImportError:
         return drawn_by_debian(path, figure)
     draw(path, figure)

@@ -265,7 +265,7 @@ def fill(path: str, found: Results) -> None:
 
 
 def main(words: Optional[Sequence[str]] = None) -> int:
-    parser = argparse.ArgumentParser(prog='paper_report.py', description=__doc__,
+    parser = argparse.ArgumentParser(description=__doc__,
                                      formatter_class=argparse.RawDescriptionHelpFormatter)
     parser.add_argument('file', metavar='FILE')
     parser.add_argument('--fill', action='store_true')

@@ -23,7 +23,7 @@ def drawn(path: str, sizes: List[int], cases: Cases) -> bool:
     if not sizes:
         return False
     try:
-        import matplotlib                                                    # noqa: F401
+        import matplotlib  # noqa: F401
     except ImportError:
         return drawn_by_debian(path, sizes, cases)
     draw(path, sizes, cases)
@@ -72,7 +72,7 @@ def draw(path: str, sizes: List[int], cases: Cases) -> None:
 
 def main() -> None:
     try:
-        import matplotlib                                                    # noqa: F401
+        import matplotlib  # noqa: F401
     except ImportError:
         sys.exit(NONE)
     sizes, given = json.load(sys.stdin)

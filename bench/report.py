@@ -31,7 +31,7 @@ WORDS = {
     'of_sqlite3': 'of sqlite3', 'of_python': 'of Python', 'of_run': 'of `run`', 'of_replay': 'of `replay`',
     'of_imported': 'of sqlite3 with import', 'of_bytes': 'times the bytes', 'of_input': 'times the bytes',
     'us/event': 'us an event', 'us/edge': 'us an edge', 'MB/s': 'MB a second', 'seconds': 'seconds',
-    'added ms': 'ms added', 'of_itself': 'of the program itself',
+    'added ms': 'ms added', 'of_itself': 'of the program itself', 'MiB': 'MiB',
 }
 UNITS = {'engine': 'rows', 'scripts': '% of the whole', 'package': 'rows', 'sums': 'rows', 'loop': 'events',
          'worlds': 'MiB', 'depends': 'events', 'prov': 'events', 'table': 'rows', 'join': 'rows',
@@ -197,7 +197,7 @@ def relative(path: str) -> str:
 
 
 def main(words: Optional[Sequence[str]] = None) -> int:
-    parser = argparse.ArgumentParser(prog='report.py', description=__doc__,
+    parser = argparse.ArgumentParser(description=__doc__,
                                      formatter_class=argparse.RawDescriptionHelpFormatter)
     parser.add_argument('files', nargs='+', metavar='FILE')
     parser.add_argument('--all', action='store_true')

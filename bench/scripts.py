@@ -10,6 +10,7 @@ takes, in which the orders are imported from the document.
 from __future__ import annotations
 
 import os
+import subprocess
 import sys
 from typing import Dict, Iterator, List, NamedTuple
 
@@ -18,10 +19,8 @@ import script_worlds
 from results import Line, line_of
 from setting import Setting
 
-sys.path.append(os.path.join(harness.ROOT, 'tools'))
-from ldvtools.outcomes import read_outcome                                   # noqa: E402
-
 PYTHON = os.path.join(harness.HERE, 'python')
+OUTCOME = os.path.join(harness.ROOT, 'tools', 'outcome.py')
 
 
 class Script(NamedTuple):
@@ -56,11 +55,14 @@ def words_of(setting: Setting, script: Script, size: int) -> List[str]:
     return [sys.executable, os.path.join(PYTHON, script.program), *given]
 
 
-def result_of(path: str) -> bytes:
-    """What the first process of an outcome printed, and then each file that it has."""
-    with open(path, 'rb') as file:
-        processes, paths = read_outcome(file.read())
-    return processes[0].printed.encode() + b''.join(content or b'' for _, content in paths)
+def part_of(path: str, *words: str) -> bytes:
+    """A part of an outcome, as outcome.py writes it."""
+    return subprocess.run([sys.executable, OUTCOME, *words, path], stdout=subprocess.PIPE, check=True).stdout
+
+
+def result_of(path: str, file: str) -> bytes:
+    """What the first process of an outcome printed, and then the file of this name, where it has one."""
+    return part_of(path, '--printed') + (part_of(path, '--file', file) if file else b'')
 
 
 def is_same(setting: Setting, script: Script, program: str) -> bool:
@@ -69,7 +71,7 @@ def is_same(setting: Setting, script: Script, program: str) -> bool:
     for name in ('expected', script.file) if script.file else ('expected',):
         with open(setting.path(name), 'rb') as file:
             expected += file.read()
-    result = result_of(setting.own(program, 'outcome'))
+    result = result_of(setting.own(program, 'outcome'), script.file)
     if script.is_sorted:
         return sorted(result.splitlines()) == sorted(expected.splitlines())
     return result == expected

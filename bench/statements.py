@@ -60,6 +60,10 @@ def row_of_child(i: int) -> Row:
     return (i, i, i % 10)
 
 
+def row_of_couple(i: int) -> Row:
+    return (i, i, i + 1)
+
+
 TABLES: Dict[str, Tuple[List[str], Callable[[int], Row]]] = {
     't': (['k', 'g', 'v', 'h'], row_of_t),
     'a': (['id', 'v'], row_of_a),
@@ -67,13 +71,14 @@ TABLES: Dict[str, Tuple[List[str], Callable[[int], Row]]] = {
     'c': (['id', 'x'], row_of_c),
     'p': (['id', 'g'], row_of_parent),
     'q': (['id', 'parent', 'g'], row_of_child),
+    'r': (['id', 'parent', 'other'], row_of_couple),
 }
 
 # How many rows a table has for each child: half of the parents have no child.
 RATES = {'p': 2}
 
-# A child's column, and the table to whose key it refers.
-FOREIGN = {'q': ('parent', 'p')}
+# The columns of a child, each with the table to whose key it refers.
+FOREIGN = {'q': [('parent', 'p')], 'r': [('parent', 'p'), ('other', 'p')]}
 
 
 # ---- cases: the tables, and statements with how often each is asked and its parameter
@@ -103,6 +108,8 @@ CASES: Dict[str, Tuple[str, List[Statement]]] = {
     'delete': ('t', once('DELETE FROM t WHERE g = 3')),
     # new children, of each parent in its turn
     'children': ('pq', [Statement('INSERT INTO q VALUES (?, ?, 1)', INSERTS, None)]),
+    # the same where each child refers to two parents
+    'couples': ('pr', [Statement('INSERT INTO r VALUES (?, ?, 1)', INSERTS, None)]),
     # parents that have no child, one by one; keys above the last one find nothing
     'childless': ('pq', [Statement('DELETE FROM p WHERE id = ?', CHILDLESS, None)]),
     # a tenth of the parents, of which none has a child, and then each one: that is refused
@@ -161,8 +168,7 @@ def write_table(out: TextIO, name: str, size: int) -> None:
     kinds = [[column, 'INT NOT NULL' if place == 0 else 'INT'] for place, column in enumerate(columns)]
     out.write(f'{json.dumps(name)}:{{"columns":{json.dumps(kinds)},"key":["{columns[0]}"],')
     if name in FOREIGN:
-        column, parent = FOREIGN[name]
-        out.write(f'"foreign":[[["{column}"],"{parent}"]],')
+        out.write(f'"foreign":{json.dumps([[[column], parent] for column, parent in FOREIGN[name]])},')
     out.write('"rows":[')
     for place, row in enumerate(rows_of(name, size)):
         out.write((',[' if place else '[') + ','.join(map(str, row)) + ']')

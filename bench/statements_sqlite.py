@@ -14,8 +14,17 @@ import sys
 import time
 from typing import List, Optional, Tuple
 
-from statements import (CASES, FOREIGN, TABLES, Statement, count_of, first_parameter, is_paired, rows_of,
-                        text_of)
+from statements import (
+    CASES,
+    FOREIGN,
+    TABLES,
+    Statement,
+    count_of,
+    first_parameter,
+    is_paired,
+    rows_of,
+    text_of,
+)
 
 
 def load(database: sqlite3.Connection, tables: str, size: int) -> None:
@@ -24,15 +33,14 @@ def load(database: sqlite3.Connection, tables: str, size: int) -> None:
         columns = TABLES[name][0]
         kinds = [f'{columns[0]} INTEGER NOT NULL PRIMARY KEY'] + [f'{column} INTEGER'
                                                                   for column in columns[1:]]
-        if name in FOREIGN:
-            column, parent = FOREIGN[name]
-            kinds.append(f'FOREIGN KEY ({column}) REFERENCES {parent}')
+        foreign = FOREIGN.get(name, [])
+        kinds += [f'FOREIGN KEY ({column}) REFERENCES {parent}' for column, parent in foreign]
         database.execute(f'CREATE TABLE {name} ({", ".join(kinds)})')
         marks = ', '.join('?' * len(columns))
         database.executemany(f'INSERT INTO {name} VALUES ({marks})', rows_of(name, size))
-        if name in FOREIGN:
+        for column, _ in foreign:
             # sqlite3 makes no index of a child by itself
-            database.execute(f'CREATE INDEX {name}_of ON {name} ({FOREIGN[name][0]})')
+            database.execute(f'CREATE INDEX {name}_{column} ON {name} ({column})')
     database.execute('COMMIT')
 
 
