@@ -12,7 +12,8 @@ proved again.
 Memory may run out in any call, so no contract refuses NoMemory. The cases show that it doesn't come.
 
 CHECK is a program that is called in the folder of the copied crate with `--only FUNCTION` for each function
-(default: `rt check`). The libraries below have to be built, as they are after `rt ci`.
+(default: `rt check`). The libraries below have to be built, as they are after `rt ci`; where one isn't, it
+says so and ends.
 
 It prints a line for each exit, and ends with status 1 where a wrong body is not refused.
 """
@@ -29,6 +30,8 @@ from typing import Mapping
 from . import ROOT
 
 CRATE = 'ldv_top'
+# The most seconds that the check may take; two minutes are usual.
+LIMIT = 1800
 FUNCTION = 'write_response'
 WRITTEN = 'Response::Written(bytes) => write_output(sink, bytes.as_slice()),'
 UNCHANGED = 'unchanged'
@@ -114,6 +117,49 @@ def copy_into(top: str) -> str:
     return copy
 
 
+# A program with the folder of rt and the top of a checkout as its words. `rt ci` leaves each library without
+# the sum of what it was built of, and `rt check` would build such a library once more, with all its proofs.
+# The program writes that sum, and prints the libraries below the crate that aren't built.
+MARKING = """
+import os, sys
+sys.path.insert(0, sys.argv[1])
+import rtlib
+for crate in rtlib.crates_below(sys.argv[2]):
+    mark = os.path.join(crate.folder, 'out', 'rlib', 'stamp')
+    if os.path.isdir(crate.rlib) and not os.path.exists(mark):
+        with open(mark, 'w', encoding='utf-8') as file:
+            file.write(crate.stamp())
+    if crate.name == sys.argv[3]:
+        print(*(below.name for below in crate.below() if not below.is_built()))
+"""
+
+
+def mark_built(top: str) -> None:
+    """Has `rt check` take the libraries of this checkout in the copy below `top`."""
+    rt = shutil.which('rt')
+    if rt is None:
+        sys.exit('wrong_exits: there is no rt')
+    words = [sys.executable, '-c', MARKING, os.path.dirname(os.path.realpath(rt)), top, CRATE]
+    lacking = subprocess.run(words, stdout=subprocess.PIPE, check=True, encoding='utf-8').stdout.strip()
+    if lacking:
+        sys.exit('wrong_exits: these libraries are not built, as they are after `rt ci`: ' + lacking)
+
+
+def checked(words: list[str]) -> str:
+    """What the check of the planted functions printed."""
+    with tempfile.TemporaryDirectory(prefix='wrong-exits-') as top:
+        folder = copy_into(top)
+        mark_built(top)
+        names = [FUNCTION + '_' + UNCHANGED, *map(name_of, WRONG)]
+        only = [word for name in names for word in ('--only', 'top::' + name)]
+        try:
+            ran = subprocess.run([*(words or ['rt', 'check']), *only], cwd=folder, stdout=subprocess.PIPE,
+                                 stderr=subprocess.STDOUT, encoding='utf-8', errors='replace', timeout=LIMIT)
+        except subprocess.TimeoutExpired:
+            sys.exit('wrong_exits: the check took more than %d seconds' % LIMIT)
+    return ran.stdout
+
+
 def verdicts(said: str) -> dict[str, str]:
     """The verdict on each function that a check names."""
     return dict(re.findall(r'^fn (?:\w+::)*(%s\w*): (.*)$' % FUNCTION, said, re.M))
@@ -139,18 +185,16 @@ def judge(verdict: Mapping[str, str]) -> bool:
 
 
 def main(words: list[str]) -> int:
+    if words[:1] in (['-h'], ['--help']):
+        print((__doc__ or '').strip())
+        return 0
     lacking = [exit for exit in exits() if exit not in WRONG and exit != 'NoMemory']
     if lacking:
         sys.exit('wrong_exits: no wrong body for %s' % ', '.join(lacking))
-    with tempfile.TemporaryDirectory(prefix='wrong-exits-') as top:
-        folder = copy_into(top)
-        names = [FUNCTION + '_' + UNCHANGED, *map(name_of, WRONG)]
-        only = [word for name in names for word in ('--only', 'top::' + name)]
-        ran = subprocess.run([*(words or ['rt', 'check']), *only], cwd=folder, stdout=subprocess.PIPE,
-                             stderr=subprocess.STDOUT, encoding='utf-8', errors='replace')
-    verdict = verdicts(ran.stdout)
-    if not verdict or UNCOVERED in ran.stdout:
-        print(ran.stdout[-3000:])
+    said = checked(words)
+    verdict = verdicts(said)
+    if not verdict or UNCOVERED in said:
+        print(said[-3000:])
         sys.exit('wrong_exits: the check of %s judged no contract' % CRATE)
     well = judge(verdict)
     print('wrong exits: %d, %s' % (len(WRONG), 'each refused' if well else 'NOT each refused'))

@@ -3,10 +3,15 @@ from __future__ import annotations
 
 import contextlib
 import io
+import os
+import tempfile
 import unittest
-from typing import Any
+from typing import Any, Optional
+from unittest import mock
 
 from checks import wrong_exits
+
+from .support import read
 
 SOURCE = """fn write_response<K: Sink>(sink: &mut K, response: Response) -> Exit
     ensures { Responds }
@@ -32,6 +37,78 @@ def judged(verdicts: Any) -> tuple[bool, str]:
     return well, told.getvalue()
 
 
+# In place of the kit's module: two libraries below the crate, each in a folder of its own.
+KIT = """
+import os
+
+class Crate:
+    def __init__(self, top, name, used=()):
+        self.folder, self.name, self.used = os.path.join(top, 'crates', name), name, used
+        self.rlib = os.path.join(self.folder, 'out', 'rlib', name + '.rlib')
+
+    def stamp(self):
+        return 'sum of ' + self.name
+
+    def below(self):
+        return self.used
+
+    def is_built(self):
+        try:
+            with open(os.path.join(self.folder, 'out', 'rlib', 'stamp')) as file:
+                return os.path.isdir(self.rlib) and file.read() == self.stamp()
+        except OSError:
+            return False
+
+def crates_below(top):
+    below = [Crate(top, 'low'), Crate(top, 'lower')]
+    return [*below, Crate(top, 'ldv_top', below)]
+"""
+
+
+class Built(unittest.TestCase):
+    """The check takes the libraries that `rt ci` left, and where one is missing nothing is checked."""
+
+    def setUp(self) -> None:
+        room = tempfile.TemporaryDirectory()
+        self.addCleanup(room.cleanup)
+        self.top = room.name
+        for name, text in (("rt", ""), ("rtlib.py", KIT)):
+            with open(os.path.join(self.top, name), "w", encoding="utf-8") as file:
+                file.write(text)
+        os.chmod(os.path.join(self.top, "rt"), 0o755)
+        path = mock.patch.dict(os.environ, {"PATH": self.top + os.pathsep + os.environ["PATH"]})
+        path.start()
+        self.addCleanup(path.stop)
+
+    def built(self, name: str, mark: Optional[str] = None) -> str:
+        """Makes the folder of a library, with a sum beside it where one is given; the path of the sum."""
+        out = os.path.join(self.top, "crates", name, "out", "rlib")
+        os.makedirs(os.path.join(out, name + ".rlib"))
+        if mark is not None:
+            with open(os.path.join(out, "stamp"), "w", encoding="utf-8") as file:
+                file.write(mark)
+        return os.path.join(out, "stamp")
+
+    def test_marked(self) -> None:
+        one, other = self.built("low"), self.built("lower", "sum of lower")
+        wrong_exits.mark_built(self.top)
+        self.assertEqual(read(one), b"sum of low")
+        self.assertEqual(read(other), b"sum of lower")
+
+    def test_of_another_text(self) -> None:
+        """A sum that `rt check` wrote stays, so that a library of another text counts as not built."""
+        self.built("low")
+        mark = self.built("lower", "sum of something else")
+        with self.assertRaisesRegex(SystemExit, "not built.*: lower$"):
+            wrong_exits.mark_built(self.top)
+        self.assertEqual(read(mark), b"sum of something else")
+
+    def test_missing(self) -> None:
+        self.built("lower")
+        with self.assertRaisesRegex(SystemExit, "not built.*: low$"):
+            wrong_exits.mark_built(self.top)
+
+
 class Planted(unittest.TestCase):
     def test_each_exit(self) -> None:
         self.assertEqual(set(wrong_exits.exits()), {*wrong_exits.WRONG, "NoMemory"})
@@ -53,6 +130,13 @@ class Planted(unittest.TestCase):
     def test_another_form(self) -> None:
         with self.assertRaises(SystemExit):
             wrong_exits.planted(SOURCE.replace("bytes.as_slice()", "&bytes"))
+
+
+class Said(unittest.TestCase):
+    def test_help(self) -> None:
+        with contextlib.redirect_stdout(io.StringIO()) as told:
+            self.assertEqual(wrong_exits.main(["--help"]), 0)
+        self.assertIn("python3 tools wrong_exits [CHECK ..]", told.getvalue())
 
 
 class Judged(unittest.TestCase):
