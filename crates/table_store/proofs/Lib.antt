@@ -21,7 +21,9 @@ pub mod NamedLaws
 pub mod NewKeyLaws
 pub mod NextLaws
 pub mod NowLaws
+pub mod OriginOrder
 pub mod ParentLaws
+pub mod ParentSetLaws
 pub mod PastLaws
 pub mod PutLaws
 pub mod RefusalLaws

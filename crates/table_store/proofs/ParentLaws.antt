@@ -45,12 +45,12 @@ numbers rows = map (λ (row : TableRow). row.number) rows
 
 -- ---- rows among others
 
-any_among : (p : TableRow → Bool) (rows : List TableRow) (r : TableRow) → AmongRows r rows → p r ≡ true → list_any p rows ≡ true
+pub any_among : (p : TableRow → Bool) (rows : List TableRow) (r : TableRow) → AmongRows r rows → p r ≡ true → list_any p rows ≡ true
 any_among p [] r here hit = absurd here
 any_among p (row ∷ rows) r (inl same) hit = or-left (p row) (list_any p rows) (ap p (sym same) ∙ hit)
 any_among p (row ∷ rows) r (inr more) hit = or-right (p row) (list_any p rows) (any_among p rows r more hit)
 
-found_among : (p : TableRow → Bool) (rows : List TableRow) (r : TableRow) → find p rows ≡ Some r → AmongRows r rows
+pub found_among : (p : TableRow → Bool) (rows : List TableRow) (r : TableRow) → find p rows ≡ Some r → AmongRows r rows
 found_among p [] r is = cc
 found_among p (row ∷ rows) r is = elim (cases_Bool (p row)) [
   | inl hit ↦ inl (sym (same-some row r (sym (ap (λ b. cond b (Some row) (find p rows)) hit) ∙ is)))
@@ -62,7 +62,7 @@ none_among p [] none = refl
 none_among p (row ∷ rows) none =
     ap (λ b. cond b (Some row) (find p rows)) (none row (inl refl)) ∙ none_among p rows (λ r more. none r (inr more))
 
-among_left : (xs ys : List TableRow) (r : TableRow) → AmongRows r xs → AmongRows r (xs ++ ys)
+pub among_left : (xs ys : List TableRow) (r : TableRow) → AmongRows r xs → AmongRows r (xs ++ ys)
 among_left [] ys r here = absurd here
 among_left (x ∷ xs) ys r (inl same) = inl same
 among_left (x ∷ xs) ys r (inr more) = inr (among_left xs ys r more)
@@ -71,7 +71,7 @@ among_right : (xs ys : List TableRow) (r : TableRow) → AmongRows r ys → Amon
 among_right [] ys r here = here
 among_right (x ∷ xs) ys r here = inr (among_right xs ys r here)
 
-among_either : (xs ys : List TableRow) (r : TableRow) → AmongRows r (xs ++ ys) → AmongRows r xs ⊎ AmongRows r ys
+pub among_either : (xs ys : List TableRow) (r : TableRow) → AmongRows r (xs ++ ys) → AmongRows r xs ⊎ AmongRows r ys
 among_either [] ys r here = inr here
 among_either (x ∷ xs) ys r (inl same) = inl (inl same)
 among_either (x ∷ xs) ys r (inr more) = elim (among_either xs ys r more) [
@@ -79,7 +79,7 @@ among_either (x ∷ xs) ys r (inr more) = elim (among_either xs ys r more) [
   | inr right ↦ inr right
 ]
 
-among_filter : (q : TableRow → Bool) (rows : List TableRow) (r : TableRow) → AmongRows r rows → q r ≡ true → AmongRows r (filter q rows)
+pub among_filter : (q : TableRow → Bool) (rows : List TableRow) (r : TableRow) → AmongRows r rows → q r ≡ true → AmongRows r (filter q rows)
 among_filter q [] r here hit = absurd here
 among_filter q (row ∷ rows) r (inl same) hit =
     subst (λ (l : List TableRow). AmongRows r l) (sym (ap (λ b. cond b (row ∷ filter q rows) (filter q rows)) (ap q (sym same) ∙ hit))) (inl same)
@@ -89,7 +89,7 @@ among_filter q (row ∷ rows) r (inr more) hit = by (q row) (among_filter q rows
     by true there = inr there
     by false there = there
 
-filter_among : (q : TableRow → Bool) (rows : List TableRow) (r : TableRow) → AmongRows r (filter q rows) → AmongRows r rows
+pub filter_among : (q : TableRow → Bool) (rows : List TableRow) (r : TableRow) → AmongRows r (filter q rows) → AmongRows r rows
 filter_among q [] r here = absurd here
 filter_among q (row ∷ rows) r here = by (λ more. filter_among q rows r more) (q row) here
   where
@@ -98,7 +98,7 @@ filter_among q (row ∷ rows) r here = by (λ more. filter_among q rows r more) 
     by again true (inr more) = inr (again more)
     by again false more = inr (again more)
 
-among_map : (f : TableRow → TableRow) (rows : List TableRow) (r : TableRow) → AmongRows r rows → AmongRows (f r) (map f rows)
+pub among_map : (f : TableRow → TableRow) (rows : List TableRow) (r : TableRow) → AmongRows r rows → AmongRows (f r) (map f rows)
 among_map f [] r here = absurd here
 among_map f (row ∷ rows) r (inl same) = inl (ap f same)
 among_map f (row ∷ rows) r (inr more) = inr (among_map f rows r more)
@@ -149,10 +149,10 @@ module _ (places : List ℕ) (key : List Value) where
 
   -- ---- the only row that has it
 
-  abbrev key_of_row : TableRow → List Value
+  abbrev pub key_of_row : TableRow → List Value
   key_of_row row = values_at places row.values
 
-  one_among : (rows : List TableRow) → repeats same_values (map key_of_row rows) ≡ false → (r : TableRow) → AmongRows r rows → p r ≡ true
+  pub one_among : (rows : List TableRow) → repeats same_values (map key_of_row rows) ≡ false → (r : TableRow) → AmongRows r rows → p r ≡ true
       → find p rows ≡ Some r
   one_among [] apart r here hit = absurd here
   one_among (row ∷ rows) apart r (inl same) hit =
@@ -318,7 +318,7 @@ apart_keys : (places : List ℕ) (rows : List TableRow) → 0 < length places �
 apart_keys places rows keyed unique =
     keys_apart places rows (length places == 0) refl (ne_eqb (length places) 0 (λ same. omega (arith, same, keyed))) unique
 
-apart_rows : (places : List ℕ) (key : List Value) (rows : List TableRow) → 0 < length places → are_keys_unique places (values_in rows) ≡ true
+pub apart_rows : (places : List ℕ) (key : List Value) (rows : List TableRow) → 0 < length places → are_keys_unique places (values_in rows) ≡ true
     → repeats same_values (map (key_of_row places key) rows) ≡ false
 apart_rows places key rows keyed unique = ap (repeats same_values) (sym (repeats_map places rows)) ∙ apart_keys places rows keyed unique
 

@@ -1,8 +1,12 @@
 -- The refusals by references between the tables of a store, and the parent rows of given rows.
-use Rattle.std.specs.Prelude.{◌≡◌, ℕ, ◌++◌, ◌==◌, ◌⊎◌, Bool, true, not, List, map, filter, Option}
+use Rattle.std.specs.Prelude.{◌≡◌, ℕ, ◌++◌, ◌==◌, ◌⊎◌, Bool, true, not, List, [], ◌∷◌, map, filter, Option}
 use Rattle.std.specs.Prelude.{Some, is_none}
+use Rattle.std.specs.Cmp.Lexicographic.{slice_cmp}
 use Rattle.std.specs.List.{list_any}
 use Rattle.std.specs.Option.{option_map, option_map_or, option_or, option_and_then}
+use Rattle.std.specs.Ordering.{nat_cmp, ordering_then}
+use Rattle.std.specs.declared.cmp.Ordering.{Ordering}
+use Rattle.std.specs.declared.cmp.Ordering.TheVariants.{Less, Equal, Greater}
 use Rattle.sql_model.specs.Changes.{key_clash, numbered_rows, had_row, with_rows}
 use Rattle.sql_model.specs.QueryAnswer.{Origin}
 use Rattle.sql_model.specs.References.{MissingParent, Orphan, first_in, missing_parents, orphans, parents_of}
@@ -97,3 +101,29 @@ parents_now store rows table = map (origin_now store) (parents_in_db rows (table
 -- no two rows have one key once rows are put
 abbrev pub are_apart : List TableRow → Table → Bool
 are_apart rows table = is_none (key_clash (with_put rows table))
+
+-- ---- the parent rows in order, each once
+
+-- by the bytes of the table's name, then by the row's number
+abbrev pub origin_order : Origin → Origin → Ordering
+origin_order a b = ordering_then (slice_cmp nat_cmp a.table b.table) (nat_cmp a.row b.row)
+
+-- a row before the first of others, which are in order, or the same as it, or among the rest
+abbrev pub placed_by : Ordering → Origin → Origin → List Origin → List Origin → List Origin
+placed_by Less origin first rest more = origin ∷ first ∷ rest
+placed_by Equal origin first rest more = first ∷ rest
+placed_by Greater origin first rest more = first ∷ more
+
+abbrev pub with_origin : Origin → List Origin → List Origin
+with_origin origin [] = origin ∷ []
+with_origin origin (first ∷ rest) =
+    placed_by (origin_order origin first) origin first rest (with_origin origin rest)
+
+abbrev pub in_order : List Origin → List Origin
+in_order [] = []
+in_order (origin ∷ origins) = with_origin origin (in_order origins)
+
+-- all rows that have a key, once rows are put, to which one of these refers, at their versions now
+abbrev pub parents_in_order : StoreHistory → List TableRow → Table → List Member
+parents_in_order store rows table =
+    map (origin_now store) (in_order (parents_in_db rows (tables_now store) table))

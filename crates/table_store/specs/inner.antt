@@ -8,6 +8,7 @@ pub mod IndexView
 pub mod NewKeys
 pub mod Nexts
 pub mod ParentRows
+pub mod ParentSet
 pub mod Past
 pub mod Plans
 pub mod RowChanges

@@ -11,7 +11,8 @@
 //! keys of the updated rows are compared with each other and with those of all other rows (`rekey`, `clash`).
 //! References are judged over the tables as they would be (`refusals`, by `parents` and `children`), once
 //! nothing else refuses the change. Keys enter the index before the rows change; those of updated rows get
-//! their numbers afterwards, which takes no memory.
+//! their numbers afterwards, which takes no memory. The rows to which given rows would refer are collected by
+//! `parent_set`, where keys may be shared, and row by row by `parent_rows`.
 //!
 //! Entry: `insert_all` in `src/store.rt`. Read first: `specs/Histories.antt`.
 #![tactic(auto)]
@@ -33,6 +34,7 @@ mod logged;
 mod new_keys;
 mod nexts;
 mod parent_rows;
+mod parent_set;
 mod parents;
 mod plans;
 mod push;

@@ -24,7 +24,7 @@ use std::collections::BTreeMap;
 
 /// The live rows, at their versions now, that given rows would refer to after they were put into their table:
 /// row by row, and for each row in the order of its foreign keys.
-pub(crate) fn parents_of(
+pub(crate) fn parents_by_row(
     store: &Store,
     own: &TableStore,
     rows: &[TableRow],

@@ -20,7 +20,7 @@ ghost use Rattle.table_store.specs.Stops.{is_among, with_inserted, with_replaced
 ghost use Rattle.sql_model.specs.Changes.{numbered_rows};
 ghost use Rattle.sql_model.specs.References.{has_key};
 ghost use Rattle.table_store.specs.Referring.{are_apart, insert_refusal, replace_refusal, delete_refusal};
-ghost use Rattle.table_store.specs.Referring.{parents_now};
+ghost use Rattle.table_store.specs.Referring.{parents_in_order, parents_now};
 ghost use Rattle.table_store.specs.Referring.{CanBePut, IsAtVersion, is_of, missing_stop, orphan_stop};
 ghost use Rattle.table_store.specs.StoreChange.{IsStoreChange};
 ghost use Rattle.table_store.specs.inner.Plans.{IsInsertPlan, IsReplacePlan};
@@ -29,7 +29,8 @@ ghost use Rattle.table_store.specs.TableView.{history_at_start};
 ghost use Rattle.table_store.specs.Types.{Null, Value};
 
 use crate::error::StoreStop;
-use crate::parent_rows::parents_of;
+use crate::parent_rows::parents_by_row;
+use crate::parent_set::parents_in_order;
 use crate::plans::{InsertPlan, ReplacePlan};
 use crate::refusals::{delete_refusal, insert_refusal, replace_refusal};
 use crate::table::TableStore;
@@ -214,12 +215,31 @@ impl Store {
         }
     }
 
+    /// The live rows, at their versions, that would have, once `rows` were put into a table, a key to which
+    /// one of `rows` refers: sorted by table and number, each once. The table is in the store. `rows` are
+    /// live rows of it with new values, or new rows numbered from the number of its next row on, in any
+    /// order; several rows may have one key. Of given rows of one number the first counts.
+    pub fn parents_of(&self, table: &str, rows: &TableRows) -> Result<Members, AllocError>
+        requires there { IsSome (table_at table.now (tables_now self.now)) }
+        ensures versions { IfOk result (λ members. AllByRecursion (IsAtVersion self.now) members) }
+        ensures parents { IfOk result (λ members. IfSome (table_at table.now (tables_now self.now))
+            (λ own. members ≡ parents_in_order self.now rows.now own)) }
+    {
+        match self.table(table) {
+            None => unreachable!(),
+            Some(own) => {
+                let members = parents_in_order(self, own, rows.items())?;
+                Ok(members)
+            }
+        }
+    }
+
     /// The live rows, at their versions, that `rows` would refer to after they were put into a table: row by
     /// row, and for each row in the order of its foreign keys. A row that several refer to occurs several
     /// times. The table is in the store. `rows` are live rows of it with new values, sorted by number, or new
     /// rows numbered from the number of its next row on. If two rows would have one key, the result may be
     /// any rows.
-    pub fn parents_of(&self, table: &str, rows: &TableRows) -> Result<Members, AllocError>
+    pub fn parents_by_row(&self, table: &str, rows: &TableRows) -> Result<Members, AllocError>
         requires there { IsSome (table_at table.now (tables_now self.now)) }
         requires put { IfSome (table_at table.now (tables_now self.now)) (CanBePut rows.now) }
         ensures versions { IfOk result (λ members. AllByRecursion (IsAtVersion self.now) members) }
@@ -229,7 +249,7 @@ impl Store {
         match self.table(table) {
             None => unreachable!(),
             Some(own) => {
-                let members = parents_of(self, own, rows.items())?;
+                let members = parents_by_row(self, own, rows.items())?;
                 Ok(members)
             }
         }

@@ -7,7 +7,7 @@ use Rattle.table_store.specs.Types.{Schema, TableRow, Value}
 use Rattle.table_store.proofs.NowLaws.{now_at}
 use Rattle.table_store.proofs.ParentLaws.{numbers, numbers_sorted, parents_are, put_sorted}
 use Rattle.table_store.proofs.RefusalLaws.{keyed_all}
-use Rattle.table_store.proofs.parent_rows.parents_of.Goals as goal
+use Rattle.table_store.proofs.parent_rows.parents_by_row.Goals as goal
 
 pub parents_by_rows-requires-clause-sorted : goal.parents_by_rows-requires-clause-sorted
 parents_by_rows-requires-clause-sorted c =
