@@ -249,7 +249,7 @@ pub(crate) fn needs_by_references(
     requires put { IfSome (table_at name.now (tables_now store.now)) (CanBePut rows.now) }
     ensures { IfOk result (HaveParents store.now name.now rows.now needs.now) }
 {
-    let parents = store.parents_of(name.as_str(), rows)?;
+    let parents = store.parents_by_row(name.as_str(), rows)?;
     let all = with_parent_rows(needs, parents)?;
     Ok(all)
 }

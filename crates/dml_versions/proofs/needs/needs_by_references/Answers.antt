@@ -6,12 +6,12 @@ use Rattle.table_store.specs.Referring.{CanBePut, are_apart, parents_now}
 use Rattle.dml_versions.proofs.ReferLaws.{with-parents}
 use Rattle.dml_versions.proofs.needs.needs_by_references.Goals as goal
 
-pub parents_of-requires-clause-there : goal.parents_of-requires-clause-there
-parents_of-requires-clause-there c =
+pub parents_by_row-requires-clause-there : goal.parents_by_row-requires-clause-there
+parents_by_row-requires-clause-there c =
     subst (λ (n : List ℕ). IsSome (table_at n (tables_now c.args.store.now))) (sym c.as_str.ensures) c.requires.there
 
-pub parents_of-requires-clause-put : goal.parents_of-requires-clause-put
-parents_of-requires-clause-put c =
+pub parents_by_row-requires-clause-put : goal.parents_by_row-requires-clause-put
+parents_by_row-requires-clause-put c =
     subst (λ (n : List ℕ). IfSome (table_at n (tables_now c.args.store.now)) (CanBePut c.args.rows.now)) (sym c.as_str.ensures) c.requires.put
 
 pub returns : goal.returns
