@@ -29,6 +29,8 @@ mod lists;
 #[cfg(test)]
 mod needs;
 #[cfg(test)]
+mod parents;
+#[cfg(test)]
 mod ready;
 #[cfg(test)]
 mod rows;

@@ -14,8 +14,8 @@ fn row_of_t(number: u32) -> (i64, Option<&'static str>, Option<i64>) {
     }
 }
 
-// Appends a number or NULL to a row.
-fn push_number(values: &mut Values, number: Option<i64>) -> Result<(), AllocError> {
+/// Appends a number or NULL to a row.
+pub(crate) fn push_number(values: &mut Values, number: Option<i64>) -> Result<(), AllocError> {
     match number {
         Some(number) => values.push(Value::Int(number)),
         None => values.push(Value::Null),

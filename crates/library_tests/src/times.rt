@@ -16,7 +16,8 @@ use std::process::Abort;
 use std::test::Fail;
 use table_store::{Store, TableStore};
 
-fn is_there(store: &Store, name: &str) -> bool
+/// Whether a store has a table.
+pub(crate) fn is_there(store: &Store, name: &str) -> bool
     ensures { IsTrue result → IsSome (table_at name.now (tables_now store.now)) }
 {
     match store.table(name) {
