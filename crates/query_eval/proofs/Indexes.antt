@@ -1,53 +1,26 @@
--- Rows by the value of a column.
-use Rattle.std.proofs.Common.{◌≡◌, ◌∙◌, sym, ap, refl, ℕ, true, false, cond, List, [], ◌∷◌, ◌++◌}
-use Rattle.std.specs.Ordering.{is_eq, int_cmp}
-use Rattle.std.specs.Cmp.{eq_by_cmp_equiv}
-use Rattle.ldv_value.specs.declared.value.Value.{Value}
-use Rattle.ldv_value.specs.declared.value.Value.TheVariants.{Null, Int, Text}
-use Rattle.ldv_value.specs.Order.{order, order_total}
+-- Rows by the values of columns.
+use Rattle.std.proofs.Common.{◌≡◌, ◌∙◌, sym, ap, cond, List, [], ◌∷◌, ◌++◌, Some, None}
+use Rattle.std.specs.Ordering.{is_eq}
 use Rattle.core_parts.proofs.Listings.{moved}
 use Rattle.core_parts.specs.declared.refs_by.RefsBy.{RefsBy}
-use Rattle.core_parts.specs.Equality.{equals}
-use Rattle.core_parts.proofs.Equalities.{truth_of_bool-true}
-use Rattle.query_eval.specs.inner.Joining.{rows_listed, row_added, with_value}
+use Rattle.query_eval.proofs.TieKeys.{key_tied, no_key}
+use Rattle.query_eval.specs.Types.{Value}
+use Rattle.query_eval.specs.inner.Joining.{key_of, TieValues, tie_order, rows_listed, row_added, values_here, with_values}
+use Rattle.query_eval.specs.declared.probe.Probe.{Probe}
 use Rattle.query_eval.specs.declared.source.SourceRow.{SourceRow}
-use Rattle.sql_model.specs.Meaning.{is_null}
-use Rattle.ldv_value.specs.Cells.{value_at}
-
--- `=` of what isn't NULL is a tie in the order
-equals_tied : (v w : Value) → is_null w ≡ false → equals v w ≡ is_eq (order w v)
-equals_tied Null Null is = cc
-equals_tied Null (Int n) is = refl
-equals_tied Null (Text t) is = refl
-equals_tied (Int m) Null is = cc
-equals_tied (Int m) (Int n) is = truth_of_bool-true (is_eq (int_cmp m n)) ∙ (eq_by_cmp_equiv order_total).symm (Int m) (Int n)
-equals_tied (Int m) (Text t) is = refl
-equals_tied (Text s) Null is = cc
-equals_tied (Text s) (Int n) is = refl
-equals_tied (Text s) (Text t) is = truth_of_bool-true (is_eq (order (Text s) (Text t))) ∙ (eq_by_cmp_equiv order_total).symm (Text s) (Text t)
-
-equals_null : (v w : Value) → is_null w ≡ true → equals v w ≡ false
-equals_null Null w is = refl
-equals_null (Int m) Null is = refl
-equals_null (Int m) (Int n) is = cc
-equals_null (Int m) (Text t) is = cc
-equals_null (Text s) Null is = refl
-equals_null (Text s) (Int n) is = cc
-equals_null (Text s) (Text t) is = cc
 
 -- a row that is listed goes from those that are left to those that are there
-pub index_on : (m n : RefsBy Value SourceRow) (place : ℕ) (key : Value) (row : SourceRow) (rest : List SourceRow) → key ≡ value_at row.values place → is_null key ≡ false
-    → ((v : Value) → rows_listed n v ≡ row_added key row v (rows_listed m v)) → (v : Value)
-    → rows_listed n v ++ with_value place v rest ≡ rows_listed m v ++ with_value place v (row ∷ rest)
-index_on m n place key row rest is known added v =
-    ap (λ l. l ++ with_value place v rest) (added v)
-    ∙ moved (is_eq (order key v)) (rows_listed m v) (with_value place v rest) row
-    ∙ ap (λ b. rows_listed m v ++ cond b (row ∷ with_value place v rest) (with_value place v rest)) (sym (equals_tied v key known) ∙ ap (equals v) is)
+pub index_on : (m n : RefsBy TieValues SourceRow) (ties : List Probe) (own : TieValues) (row : SourceRow) (rest : List SourceRow) → Some own ≡ key_of (values_here ties row.values)
+    → ((key : TieValues) → rows_listed n key ≡ row_added own row key (rows_listed m key)) → (key : TieValues)
+    → rows_listed n key ++ with_values ties (key.0 ∷ key.1) rest ≡ rows_listed m key ++ with_values ties (key.0 ∷ key.1) (row ∷ rest)
+index_on m n ties own row rest is added key =
+    let values : List Value = key.0 ∷ key.1 in
+    ap (λ l. l ++ with_values ties values rest) (added key)
+    ∙ moved (is_eq (tie_order own key)) (rows_listed m key) (with_values ties values rest) row
+    ∙ ap (λ b. rows_listed m key ++ cond b (row ∷ with_values ties values rest) (with_values ties values rest)) (sym (key_tied (values_here ties row.values) own (sym is) key))
 
-pub index_skips : (place : ℕ) (row : SourceRow) (rest : List SourceRow) → is_null (value_at row.values place) ≡ true → (v : Value)
-    → with_value place v rest ≡ with_value place v (row ∷ rest)
-index_skips place row rest is v = sym (ap (λ b. cond b (row ∷ with_value place v rest) (with_value place v rest)) (equals_null v (value_at row.values place) is))
-
-pub null_rows : (place : ℕ) (rows : List SourceRow) → [] ≡ with_value place Null rows
-null_rows place [] = refl
-null_rows place (row ∷ rows) = null_rows place rows
+pub index_skips : (ties : List Probe) (row : SourceRow) (rest : List SourceRow) → None ≡ key_of (values_here ties row.values) → (key : TieValues)
+    → with_values ties (key.0 ∷ key.1) rest ≡ with_values ties (key.0 ∷ key.1) (row ∷ rest)
+index_skips ties row rest is key =
+    let values : List Value = key.0 ∷ key.1 in
+    sym (ap (λ b. cond b (row ∷ with_values ties values rest) (with_values ties values rest)) (no_key (values_here ties row.values) (sym is) key))

@@ -1,16 +1,14 @@
 -- A join with one more source.
-use Rattle.std.proofs.Common.{◌≡◌, ◌∙◌, sym, ap, subst, refl, ℕ, zero, suc, ◌+◌, ◌<◌, Bool, true, false, cond, ◌&&◌, List, [], ◌∷◌, ◌++◌, map, length, drop, append-nil, length-append, arith, inl, inr}
+use Rattle.std.proofs.Common.{◌≡◌, ◌∙◌, sym, ap, subst, refl, ℕ, ◌+◌, ◌<◌, Bool, true, false, cond, ◌&&◌, List, [], ◌∷◌, ◌++◌, map, length, append-nil, length-append, arith, inl, inr}
 use Rattle.std.proofs.lemmas.Bool.{cases_Bool}
 use Rattle.std.specs.Prelude.{filter, nat_lt}
-use Rattle.std.specs.List.{list_all, remove, AllByRecursion}
+use Rattle.std.specs.List.{list_all, AllByRecursion}
 use Rattle.std.proofs.lemmas.Grind.{flat_map-append}
 use Rattle.ldv_value.proofs.Booleans.{and-assoc}
 use Rattle.ldv_value.proofs.Lists.{filter-append}
 use Rattle.query_eval.proofs.Agree.{first_rows_tell}
 use Rattle.query_eval.proofs.Product.{extensions, products-more, pushed, EachSplits, all_of, all_there}
-use Rattle.core_parts.specs.Conditions.{meets}
-use Rattle.core_parts.specs.Equality.{equals}
-use Rattle.query_eval.specs.inner.Joining.{combos, tests, is_ready, ready_conditions, later_conditions, extensions_left, extensions_of, extensions_of_all, EachHas, HasProbe, extensions_by_probe}
+use Rattle.query_eval.specs.inner.Joining.{combos, tests, is_ready, ready_conditions, later_conditions, extensions_left, extensions_of, extensions_of_all, are_tied, with_values, AreTies, EachHas, extensions_by_ties}
 use Rattle.core_parts.specs.Placing.{IsPlaced, AreAllPlaced}
 use Rattle.query_eval.specs.Sources.{joined_row_values, AreWide}
 use Rattle.query_eval.specs.Types.{ColumnName, Value}
@@ -167,45 +165,27 @@ found-exact test rest f kept same (x ∷ xs) = elim (cases_Bool (kept x)) [
       rw (miss, is) (found-exact test rest f kept same xs)
 ]
 
--- one condition of several, and the others
-apart : (scope : List InScope) (values : List Value) (conds : List BoundExpr) (i : ℕ) (x : BoundExpr) (rest : List BoundExpr) → drop i conds ≡ x ∷ rest
-    → meets scope conds values ≡ (is_true (truth x.expr (environment scope values)) && meets scope (remove conds i) values)
-apart scope values [] zero x rest is = cc
-apart scope values [] (suc i) x rest is = cc
-apart scope values (c ∷ conds) zero x rest is =
-    let same : c ≡ x = cc in
-    ap (λ (y : BoundExpr). is_true (truth y.expr (environment scope values)) && meets scope conds values) same
-apart scope values (c ∷ conds) (suc i) x rest is =
-    ap (λ b. is_true (truth c.expr (environment scope values)) && b) (apart scope values conds i x rest is)
-    ∙ swapped (is_true (truth c.expr (environment scope values))) (is_true (truth x.expr (environment scope values))) (meets scope (remove conds i) values)
+module _ (scope : List InScope) (conds : List BoundExpr) (all : AreAllPlaced scope conds) (n : ℕ) (ties : List Probe) (others : List BoundExpr)
+    (are : AreTies conds n ties others) where
+  pub others-placed : AreAllPlaced scope others
+  others-placed = (are scope all).0
 
-one-placed : (scope : List InScope) (conds : List BoundExpr) (i : ℕ) (x : BoundExpr) (rest : List BoundExpr) → drop i conds ≡ x ∷ rest → AreAllPlaced scope conds → IsPlaced scope x
-one-placed scope [] zero x rest is all = cc
-one-placed scope [] (suc i) x rest is all = cc
-one-placed scope (c ∷ conds) zero x rest is all = let same : c ≡ x = cc in subst (IsPlaced scope) same all.0
-one-placed scope (c ∷ conds) (suc i) x rest is all = one-placed scope conds i x rest is all.1
+  -- the rows that are looked up are those that meet the equalities
+  pub tied-level : (ps : List (List SourceRow)) (rows : List SourceRow) → EachHas n ps → extensions_by_ties scope others ties ps rows ≡ extensions_of_all scope conds ps rows
+  tied-level [] rows long = refl
+  tied-level (p ∷ ps) rows long = λ j.
+      found-exact (tests scope conds) (tests scope others) (λ row. p ++ row ∷ []) (λ row. are_tied ties p row) (λ row. (are scope all).1 p row long.0) rows j
+      ++ tied-level ps rows long.1 j
 
-pub others-placed : (scope : List InScope) (conds : List BoundExpr) (i : ℕ) → AreAllPlaced scope conds → AreAllPlaced scope (remove conds i)
-others-placed scope [] zero all = tt
-others-placed scope [] (suc i) all = tt
-others-placed scope (c ∷ conds) zero all = all.1
-others-placed scope (c ∷ conds) (suc i) all = (all.0, others-placed scope conds i all.1)
+-- without ties each row is looked up
+untied-one : (rows : List SourceRow) → rows ≡ with_values [] [] rows
+untied-one [] = refl
+untied-one (row ∷ rows) = ap (λ l. row ∷ l) (untied-one rows)
 
-pub probe-within : (conds : List BoundExpr) (n i : ℕ) (probe : Probe) → HasProbe conds n i probe → i < length conds
-probe-within conds n i probe has = within conds i has.placed (drop (i + 1) conds) has.at
+pub untied : (scope : List InScope) (conds : List BoundExpr) (ties : List Probe) (ps : List (List SourceRow)) (rows : List SourceRow) → ties ≡ []
+    → extensions_of_all scope conds ps rows ≡ extensions_by_ties scope conds ties ps rows
+untied scope conds ties ps rows none = by ps ∙ ap (λ (ts : List Probe). extensions_by_ties scope conds ts ps rows) (sym none)
   where
-    within : (cs : List BoundExpr) (i : ℕ) (x : BoundExpr) (rest : List BoundExpr) → drop i cs ≡ x ∷ rest → i < length cs
-    within [] zero x rest is = cc
-    within [] (suc i) x rest is = cc
-    within (c ∷ cs) zero x rest is = omega arith
-    within (c ∷ cs) (suc i) x rest is = omega (arith, within cs i x rest is)
-
--- the rows that are looked up are those that meet the equality
-pub tied-level : (scope : List InScope) (conds : List BoundExpr) → AreAllPlaced scope conds → (n i : ℕ) (probe : Probe) → HasProbe conds n i probe
-    → (ps : List (List SourceRow)) (rows : List SourceRow) → EachHas n ps → extensions_by_probe scope (remove conds i) probe ps rows ≡ extensions_of_all scope conds ps rows
-tied-level scope conds all n i probe has [] rows long = refl
-tied-level scope conds all n i probe has (p ∷ ps) rows long = λ j.
-    found-exact (tests scope conds) (tests scope (remove conds i)) (λ row. p ++ row ∷ []) (λ row. equals (value_at (joined_row_values p) probe.from) (value_at row.values probe.place))
-    (λ row. apart scope (joined_row_values (p ++ row ∷ [])) conds i has.placed (drop (i + 1) conds) has.at
-    ∙ ap (λ b. b && meets scope (remove conds i) (joined_row_values (p ++ row ∷ []))) (sym (has.is scope (one-placed scope conds i has.placed (drop (i + 1) conds) has.at all) p row long.0))) rows j
-    ++ tied-level scope conds all n i probe has ps rows long.1 j
+    by : (ps : List (List SourceRow)) → extensions_of_all scope conds ps rows ≡ extensions_by_ties scope conds [] ps rows
+    by [] = refl
+    by (p ∷ ps) = λ j. extensions_of scope conds p (untied-one rows j) ++ by ps j

@@ -13,4 +13,6 @@ pub mod Projections
 pub mod SinglePicks
 pub mod StoredSourceLaws
 pub mod TableScanLaws
+pub mod TieKeys
+pub mod Tying
 pub mod Widths

@@ -1,12 +1,16 @@
 -- Equalities by which rows are looked up.
-use Rattle.std.proofs.Common.{◌≡◌, ◌∙◌, sym, ap, refl, ℕ, zero, suc, ◌+◌, ◌<◌, inl, inr, List, [], ◌∷◌, ◌++◌, length, arith, Option}
+use Rattle.std.proofs.Common.{◌≡◌, ◌∙◌, sym, ap, subst, refl, ℕ, zero, suc, ◌+◌, ◌<◌, Bool, true, false, ◌&&◌, inl, inr, List, [], ◌∷◌, ◌++◌, length, arith, Option}
 use Rattle.std.specs.Prelude.{slice_get, unwrap_or}
+use Rattle.std.proofs.lemmas.List.Folds.{list_all-append}
+use Rattle.ldv_value.proofs.Booleans.{and-assoc, and-true}
 use Rattle.ldv_value.specs.declared.value.Cmp.TheVariants.{Eq}
 use Rattle.query_eval.proofs.Agree.{value_first}
 use Rattle.query_eval.proofs.Levels.{joined_row_values-one}
 use Rattle.core_parts.proofs.Equalities.{equals-turned}
+use Rattle.core_parts.proofs.Places.{placed-more}
+use Rattle.core_parts.specs.Placing.{AreAllPlaced}
 use Rattle.core_parts.specs.Equality.{equals}
-use Rattle.query_eval.specs.inner.Joining.{IsBetween, IsEquality, IsProbeOf}
+use Rattle.query_eval.specs.inner.Joining.{tests, all_equal, are_tied, values_before, values_here, AreTies, AreTiesWith, IsBetween, IsEquality, IsProbeOf}
 use Rattle.query_eval.specs.Sources.{joined_row_values}
 use Rattle.query_eval.specs.Types.{ColumnName, Compare, Expr, Null, Value}
 use Rattle.core_parts.specs.declared.placed.BoundExpr.{BoundExpr}
@@ -68,3 +72,71 @@ probe-is cond a b width more probe (left, right, is) places between scope placed
           ∙ (λ j. equals (sym seen.0 j) (sym seen.1 j))
           ∙ equals-turned (value_at values b) (value_at values a) ∙ equal
     ]
+
+-- ---- conditions taken apart
+
+regroup : (e o t r : Bool) → (e && (o && (t && r))) ≡ ((e && t) && (o && r))
+regroup true true t r = refl
+regroup true false true r = refl
+regroup true false false r = refl
+regroup false o t r = refl
+
+equal_more : (ties : List Probe) (tie : Probe) (a b : List Value)
+    → all_equal (values_before (ties ++ tie ∷ []) a) (values_here (ties ++ tie ∷ []) b)
+    ≡ (all_equal (values_before ties a) (values_here ties b) && equals (value_at a tie.from) (value_at b tie.place))
+equal_more [] tie a b = and-true (equals (value_at a tie.from) (value_at b tie.place))
+equal_more (t ∷ ties) tie a b =
+    let here : Bool = equals (value_at a t.from) (value_at b t.place) in
+    ap (λ e. here && e) (equal_more ties tie a b)
+    ∙ sym (and-assoc here (all_equal (values_before ties a) (values_here ties b)) (equals (value_at a tie.from) (value_at b tie.place)))
+
+pub tie_added : (conds : List BoundExpr) (n : ℕ) (ties new : List Probe) (others left : List BoundExpr) (cond : BoundExpr) (probe : Probe)
+    → IsProbeOf cond n probe → new ≡ ties ++ probe ∷ [] → AreTiesWith conds n ties others (cond ∷ left) → AreTiesWith conds n new others left
+tie_added conds n ties new others left cond probe is added were scope all =
+    let before = were scope all in (
+      (before.0.0, before.0.1.1),
+      λ p row long.
+          let rows : List SourceRow = p ++ row ∷ [] in
+          let met : Bool = is_true (truth cond.expr (environment scope (joined_row_values rows))) in
+          before.1 p row long
+          ∙ regroup (are_tied ties p row) (tests scope others rows) met (tests scope left rows)
+          ∙ ap (λ t. (are_tied ties p row && t) && (tests scope others rows && tests scope left rows)) (sym (is scope before.0.1.0 p row long))
+          ∙ ap (λ e. e && (tests scope others rows && tests scope left rows))
+          (sym (equal_more ties probe (joined_row_values p) row.values) ∙ ap (λ (ts : List Probe). are_tied ts p row) (sym added)),
+    )
+
+pub other_added : (conds : List BoundExpr) (n : ℕ) (ties : List Probe) (others new left : List BoundExpr) (cond : BoundExpr)
+    → new ≡ others ++ cond ∷ [] → AreTiesWith conds n ties others (cond ∷ left) → AreTiesWith conds n ties new left
+other_added conds n ties others new left cond added were scope all =
+    let before = were scope all in (
+      (subst (AreAllPlaced scope) (sym added) (placed-more scope others cond before.0.0 before.0.1.0), before.0.1.1),
+      λ p row long.
+          let rows : List SourceRow = p ++ row ∷ [] in
+          let met : BoundExpr → Bool = λ c. is_true (truth c.expr (environment scope (joined_row_values rows))) in
+          let both : tests scope new rows ≡ (tests scope others rows && met cond) =
+          ap (λ (cs : List BoundExpr). tests scope cs rows) added ∙ list_all-append met others (cond ∷ [])
+          ∙ ap (λ b. tests scope others rows && b) (and-true (met cond)) in
+          before.1 p row long
+          ∙ ap (λ b. are_tied ties p row && b) (sym (and-assoc (tests scope others rows) (met cond) (tests scope left rows))
+          ∙ ap (λ b. b && tests scope left rows) (sym both)),
+    )
+
+pub ties_start : (conds : List BoundExpr) (n : ℕ) (ties : List Probe) (others left : List BoundExpr) → ties ≡ [] → others ≡ [] → left ≡ conds
+    → AreTiesWith conds n ties others left
+ties_start conds n ties others left no_ties no_others all_left scope all = (
+  (subst (AreAllPlaced scope) (sym no_others) tt, subst (AreAllPlaced scope) (sym all_left) all),
+  λ p row long. λ j.
+      are_tied (sym no_ties j) p row && (tests scope (sym no_others j) (p ++ row ∷ []) && tests scope (sym all_left j) (p ++ row ∷ [])),
+)
+
+pub ties_end : (conds : List BoundExpr) (n : ℕ) (ties : List Probe) (others left : List BoundExpr) → left ≡ [] → AreTiesWith conds n ties others left
+    → AreTies conds n ties others
+ties_end conds n ties others left none were scope all =
+    let before = were scope all in (
+      before.0.0,
+      λ p row long.
+          let rows : List SourceRow = p ++ row ∷ [] in
+          before.1 p row long
+          ∙ ap (λ (cs : List BoundExpr). are_tied ties p row && (tests scope others rows && tests scope cs rows)) none
+          ∙ ap (λ b. are_tied ties p row && b) (and-true (tests scope others rows)),
+    )

@@ -1,23 +1,22 @@
 //! The joined rows of FROM for which ON and WHERE are True.
 //!
 //! The sources are joined from left to right. Each condition is tested as soon as the row has its columns. If
-//! an equality ties a column of the next source to an earlier one, an index by this column gives the rows.
+//! equalities tie columns of the next source to earlier ones, an index by all these columns gives the rows.
 //! Leaving out rows is right if each of them fails a condition.
 
 ghost use Rattle.std.specs.Prelude.{◌≡◌, ◌<◌, ◌≤◌, ◌+◌, ◌^◌, ◌++◌, ◌∷◌, [], ℕ, List as Items, filter, length};
 ghost use Rattle.std.specs.Prelude.{map, not, IfOk, OnOk};
-ghost use Rattle.std.specs.List.{remove};
 ghost use Rattle.core_parts.specs.Conditions.{meets};
 ghost use Rattle.query_eval.specs.inner.Joining.{combos, tests, is_ready, ready_conditions, later_conditions, extensions_left, extensions_of};
-ghost use Rattle.query_eval.specs.inner.Joining.{extensions_of_all, EachHas, IsIndex, extensions_by_probe};
+ghost use Rattle.query_eval.specs.inner.Joining.{extensions_of_all, EachHas, IsIndex, extensions_by_ties};
 ghost use Rattle.core_parts.specs.Placing.{IsPlaced, AreAllPlaced};
 ghost use Rattle.query_eval.specs.Sources.{joined_row_values, source_rows, AreWide, SourcesAreWide};
 ghost use Rattle.query_eval.specs.declared.source.SourceRow.{SourceRow as Given};
 ghost use Rattle.sql_model.specs.Meaning.{is_true, truth};
 ghost use Rattle.sql_model.specs.Scope.{InScope, environment};
 
-use crate::index::{Index, index_of, rows_for};
-use crate::probe::{Found, Probe, probe_at};
+use crate::index::{Index, index_of, key_before, rows_under};
+use crate::probe::{Probe, ties_of};
 use crate::source::{Source, SourceRow, width_with};
 use core_parts::{BoundExpr, Refs, is_certain};
 use ldv_value::{CopyItem, List, Values};
@@ -191,22 +190,25 @@ fn scan_level<'a>(
     Ok(made)
 }
 
-// Adds what a prefix gives with the rows that are looked up.
+// Adds what a prefix gives with the rows that are looked up. `rows` and `ties` are those by which the index was
+// made.
 fn extend_found<'a>(
     alloc: Global,
     made: &mut Combinations<'a>,
     prefix: &Combination<'a>,
     rows: &'a [SourceRow],
     index: &Index<'a>,
-    probe: Probe,
+    ties: &[Probe],
     conds: &[BoundExpr],
 ) -> Result<(), AllocError>
-    requires { IsIndex index.now.map probe.place rows.now }
+    requires some { 0 < length ties.now }
+    requires index { IsIndex index.now.map ties.now rows.now }
     ensures { OnOk result ((scope : Items InScope) → AreAllPlaced scope conds.now → (ps : Items (Items Given))
-        → made.new ++ extensions_by_probe scope conds.now probe ps rows.now
-        ≡ made.old ++ extensions_by_probe scope conds.now probe (prefix.now ∷ ps) rows.now) }
+        → made.new ++ extensions_by_ties scope conds.now ties.now ps rows.now
+        ≡ made.old ++ extensions_by_ties scope conds.now ties.now (prefix.now ∷ ps) rows.now) }
 {
-    match rows_for(index, rows, probe.place, prefix, probe.from) {
+    let key = key_before(alloc, prefix, ties)?;
+    match rows_under(index, key) {
         None => Ok(()),
         Some(found) => {
             extend_by(alloc, made, prefix, found.items(), conds)?;
@@ -221,46 +223,59 @@ fn found_level<'a>(
     prefixes: &Combinations<'a>,
     rows: &'a [SourceRow],
     index: &Index<'a>,
-    probe: Probe,
+    ties: &[Probe],
     conds: &[BoundExpr],
 ) -> Result<Combinations<'a>, AllocError>
-    requires { IsIndex index.now.map probe.place rows.now }
+    requires some { 0 < length ties.now }
+    requires index { IsIndex index.now.map ties.now rows.now }
     ensures { IfOk result (λ made. (scope : Items InScope) → AreAllPlaced scope conds.now
-        → made ≡ extensions_by_probe scope conds.now probe prefixes.now rows.now) }
+        → made ≡ extensions_by_ties scope conds.now ties.now prefixes.now rows.now) }
 {
     let mut made = List::new(alloc);
     for prefix in prefixes.items() {
-        extend_found(alloc, &mut made, prefix, rows, index, probe, conds)?;
+        extend_found(alloc, &mut made, prefix, rows, index, ties, conds)?;
     }
     Ok(made)
 }
 
-// The conditions without the one at an index.
-fn without(conds: List<BoundExpr>, index: usize) -> List<BoundExpr>
-    requires { index < length conds }
-    ensures { result ≡ remove conds index }
-{
-    let mut items = conds.into_vec();
-    let _cond = items.remove(index);
-    List::of_vec(items)
-}
-
-// The next level by an equality, which holds for each row that is looked up and isn't tested again.
+// The next level by equalities, which hold for each row that is looked up and aren't tested again.
 fn tied_level<'a>(
     alloc: Global,
     prefixes: &Combinations<'a>,
     rows: &'a [SourceRow],
-    conds: List<BoundExpr>,
-    found: Found,
+    ties: &[Probe],
+    conds: &[BoundExpr],
 ) -> Result<Combinations<'a>, AllocError>
-    requires { found.index < length conds }
-    ensures { IfOk result (λ made. (scope : Items InScope) → AreAllPlaced scope (remove conds found.index)
-        → made ≡ extensions_by_probe scope (remove conds found.index) found.probe prefixes.now rows.now) }
+    requires { 0 < length ties.now }
+    ensures { IfOk result (λ made. (scope : Items InScope) → AreAllPlaced scope conds.now
+        → made ≡ extensions_by_ties scope conds.now ties.now prefixes.now rows.now) }
 {
-    let others = without(conds, found.index);
-    let index = index_of(alloc, rows, found.probe.place)?;
-    let made = found_level(alloc, prefixes, rows, &index, found.probe, others.items())?;
+    let index = index_of(alloc, rows, ties)?;
+    let made = found_level(alloc, prefixes, rows, &index, ties, conds)?;
     Ok(made)
+}
+
+// The next level by ties, or by each row of the source where there is none.
+fn level_by<'a>(
+    alloc: Global,
+    prefixes: &Combinations<'a>,
+    rows: &'a [SourceRow],
+    ties: &[Probe],
+    conds: &[BoundExpr],
+) -> Result<Combinations<'a>, AllocError>
+    ensures { IfOk result (λ made. (scope : Items InScope) → AreAllPlaced scope conds.now
+        → made ≡ extensions_by_ties scope conds.now ties.now prefixes.now rows.now) }
+{
+    match ties {
+        [] => {
+            let made = scan_level(alloc, prefixes, rows, conds)?;
+            Ok(made)
+        }
+        [_tie, ..] => {
+            let made = tied_level(alloc, prefixes, rows, ties, conds)?;
+            Ok(made)
+        }
+    }
 }
 
 // The next level: each prefix with each row of the source for which the conditions are True.
@@ -275,16 +290,15 @@ fn next_level<'a>(
         → EachHas width prefixes.now
         → made ≡ extensions_of_all scope conds prefixes.now rows.now) }
 {
-    match probe_at(conds.items(), width) {
-        None => {
-            let made = scan_level(alloc, prefixes, rows, conds.items())?;
-            Ok(made)
-        }
-        Some(found) => {
-            let made = tied_level(alloc, prefixes, rows, conds, found)?;
-            Ok(made)
-        }
-    }
+    let tied = ties_of(alloc, conds, width)?;
+    let made = level_by(
+        alloc,
+        prefixes,
+        rows,
+        tied.ties.as_slice(),
+        tied.others.items(),
+    )?;
+    Ok(made)
 }
 
 // The conditions whose columns are among the first values, and the others.

@@ -1,11 +1,14 @@
-//! The equality that looks up rows of the next source.
+//! The equalities that look up rows of the next source.
 
-ghost use Rattle.std.specs.Prelude.{◌≡◌, ◌<◌, IfSome, true};
-ghost use Rattle.query_eval.specs.inner.Joining.{IsBetween, IsEquality, IsProbeOf, HasProbe};
+ghost use Rattle.std.specs.Prelude.{◌≡◌, ◌∷◌, ◌<◌, IfOk, IfSome, OnOk, List as Items, true};
+ghost use Rattle.query_eval.specs.inner.Joining.{AreTies, AreTiesWith, IsBetween, IsEquality, IsProbeOf};
 ghost use Rattle.query_eval.specs.inner.Joining.{is_equal_sign};
+ghost use Rattle.core_parts.specs.declared.placed.BoundExpr.{BoundExpr as Given};
 
 use core_parts::{BoundExpr, column_of_source, is_column, is_equal_test};
+use ldv_value::List;
 use sql_model::{Expr, Operator};
+use std::alloc::{AllocError, Global};
 
 /// Two columns that are equal: one of the earlier sources, by its place in their joined row, and one of the
 /// next source, by its place there. Places count from 0.
@@ -15,11 +18,12 @@ pub struct Probe {
     pub place: usize,
 }
 
-/// A probe, and the index of its condition, from 0.
-#[derive(Clone, Copy)]
-pub struct Found {
-    pub index: usize,
-    pub probe: Probe,
+/// Conditions taken apart: the probes by which rows of the next source are looked up, each by a column of its
+/// own, and the conditions that are tested on what is found.
+#[derive(Drop)]
+pub(crate) struct Tied {
+    pub ties: Vec<Probe>,
+    pub others: List<BoundExpr>,
 }
 
 // Whether an expression is an equality of two columns.
@@ -94,15 +98,65 @@ fn probe_of(cond: &BoundExpr, width: u128) -> Option<Probe>
     probe_between(*a, *b, width)
 }
 
-/// The first condition that can look up rows of the next source: an equality of one of its columns and a
-/// column of an earlier source. The earlier sources have `width` columns in all.
-pub(crate) fn probe_at(conds: &[BoundExpr], width: u128) -> Option<Found>
-    ensures { IfSome result (λ found. HasProbe conds.now width found.index found.probe) }
+fn has_place(ties: &[Probe], place: usize) -> bool {
+    ties.iter().any(|tie| tie.place == place)
+}
+
+// The probe that a condition is, if it is one by another column than those that are there: a key has no more
+// values than a row.
+fn next_probe(cond: &BoundExpr, width: u128, ties: &[Probe]) -> Option<Probe>
+    ensures { IfSome result (IsProbeOf cond.now width) }
 {
-    for (index, cond) in conds.iter().enumerate() {
-        if let Some(probe) = probe_of(cond, width) {
-            return Some(Found { index, probe });
+    match probe_of(cond, width) {
+        None => None,
+        Some(probe) => {
+            if has_place(ties, probe.place) {
+                None
+            } else {
+                Some(probe)
+            }
         }
     }
-    None
+}
+
+// Adds a condition to the ties or to the others.
+fn add_condition(
+    ties: &mut Vec<Probe>,
+    others: &mut List<BoundExpr>,
+    cond: BoundExpr,
+    width: u128,
+) -> Result<(), AllocError>
+    ensures { OnOk result ((conds left : Items Given)
+        → AreTiesWith conds width ties.old.items others.old (cond ∷ left)
+        → AreTiesWith conds width ties.new.items others.new left) }
+{
+    match next_probe(&cond, width, ties) {
+        Some(probe) => {
+            ties.push(probe)?;
+            Ok(())
+        }
+        None => {
+            others.push(cond)?;
+            Ok(())
+        }
+    }
+}
+
+/// Takes apart the conditions of the next source, of which the columns are all there. Each equality of a
+/// column of it and one of an earlier source is a tie, unless there is one by its column. The earlier sources
+/// have `width` values.
+#[tactic(auto, using(crate::proofs::Probes::ties_start))]
+pub(crate) fn ties_of(
+    alloc: Global,
+    conds: List<BoundExpr>,
+    width: u128,
+) -> Result<Tied, AllocError>
+    ensures { IfOk result (λ tied. AreTies conds width tied.ties.items tied.others) }
+{
+    let mut ties = Vec::new(alloc);
+    let mut others = List::new(alloc);
+    for cond in conds.into_vec() {
+        add_condition(&mut ties, &mut others, cond, width)?;
+    }
+    Ok(Tied { ties, others })
 }

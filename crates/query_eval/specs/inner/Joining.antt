@@ -1,16 +1,19 @@
 -- The steps of a FROM list from left to right, and their results.
-use Rattle.std.specs.Prelude.{◌≡◌, ℕ, ◌+◌, ◌<◌, ◌⊎◌, List, [], ◌∷◌, ◌++◌, map, filter, length, drop, Bool}
-use Rattle.std.specs.Prelude.{true, false, not, nat_lt}
+use Rattle.std.specs.Prelude.{◌≡◌, ℕ, ◌+◌, ◌<◌, ◌⊎◌, List, [], ◌∷◌, ◌++◌, map, filter, length, Bool}
+use Rattle.std.specs.Prelude.{true, false, not, ◌&&◌, nat_lt, Option, Some, None, option_and_then, option_map}
 use Rattle.std.specs.List.{flat_map, list_all, AllByRecursion}
+use Rattle.std.specs.Cmp.Lexicographic.{slice_cmp}
+use Rattle.std.specs.Ordering.{ordering_then}
+use Rattle.std.specs.declared.cmp.Ordering.{Ordering}
 use Rattle.ldv_value.specs.Order.{order}
 use Rattle.ldv_value.specs.declared.value.Cmp.TheVariants.{Eq}
 use Rattle.core_parts.specs.Conditions.{meets}
 use Rattle.core_parts.specs.Equality.{equals, is_equal_test}
 use Rattle.core_parts.specs.Listing.{listed, item_added}
-use Rattle.core_parts.specs.Placing.{IsPlaced}
+use Rattle.core_parts.specs.Placing.{IsPlaced, AreAllPlaced}
 use Rattle.query_eval.specs.Sources.{joined_row_values}
 use Rattle.query_eval.specs.Types.{ColumnName, Operator, Add, Subtract, Multiply, Compare, And, Or}
-use Rattle.query_eval.specs.Types.{Expr, Value}
+use Rattle.query_eval.specs.Types.{Expr, Value, Null, Int, Text}
 use Rattle.sql_model.specs.declared.expr.Expr.TheVariants.{Both, Column}
 use Rattle.core_parts.specs.declared.placed.BoundExpr.{BoundExpr}
 use Rattle.core_parts.specs.declared.refs_by.RefsBy.{RefsBy}
@@ -64,11 +67,30 @@ extensions_of_all scope conds ps rows = flat_map (λ p. extensions_of scope cond
 abbrev pub EachHas : ℕ → List (List SourceRow) → Type 0
 EachHas n ps = AllByRecursion (λ p. length (joined_row_values p) ≡ n) ps
 
--- ---- rows by the value of a column
+-- ---- rows by the values of columns
 
--- the rows of which a column equals a value; NULL equals nothing
-abbrev pub with_value : ℕ → Value → List SourceRow → List SourceRow
-with_value place v rows = filter (λ row. equals v (value_at row.values place)) rows
+-- the values that ties compare: of the rows before, and of the row itself
+abbrev pub values_before : List Probe → List Value → List Value
+values_before ties values = map (λ tie. value_at values tie.from) ties
+
+abbrev pub values_here : List Probe → List Value → List Value
+values_here ties values = map (λ tie. value_at values tie.place) ties
+
+-- value by value; NULL equals nothing
+abbrev pub all_equal : List Value → List Value → Bool
+all_equal [] [] = true
+all_equal [] (w ∷ ws) = false
+all_equal (v ∷ vs) [] = false
+all_equal (v ∷ vs) (w ∷ ws) = equals v w && all_equal vs ws
+
+-- each tie holds between some rows and a row after them
+abbrev pub are_tied : List Probe → List SourceRow → SourceRow → Bool
+are_tied ties p row =
+    all_equal (values_before ties (joined_row_values p)) (values_here ties row.values)
+
+-- the rows of which the columns equal values
+abbrev pub with_values : List Probe → List Value → List SourceRow → List SourceRow
+with_values ties vs rows = filter (λ row. all_equal vs (values_here ties row.values)) rows
 
 -- the condition is that a column of a row after n values equals a column before
 abbrev pub IsProbeOf : BoundExpr → ℕ → Probe → Type 0
@@ -77,19 +99,27 @@ IsProbeOf placed n probe = (scope : List InScope) → IsPlaced scope placed
     → equals (value_at (joined_row_values p) probe.from) (value_at row.values probe.place)
     ≡ is_true (truth placed.expr (environment scope (joined_row_values (p ++ row ∷ []))))
 
--- the condition at an index is one
-pub record HasProbe (conds : List BoundExpr) (n index : ℕ) (probe : Probe) : Type 0 where
-  pub placed : BoundExpr
-  pub at : drop index conds ≡ placed ∷ drop (index + 1) conds
-  pub is : IsProbeOf placed n probe
+-- conditions are ties, others, and those that are left, over a row after n values
+abbrev pub AreTiesWith : List BoundExpr → ℕ → List Probe → List BoundExpr → List BoundExpr → Type 0
+AreTiesWith conds n ties others left = (scope : List InScope) → AreAllPlaced scope conds
+    → (AreAllPlaced scope others × AreAllPlaced scope left)
+    × ((p : List SourceRow) (row : SourceRow) → length (joined_row_values p) ≡ n
+    → tests scope conds (p ++ row ∷ [])
+    ≡ (are_tied ties p row && (tests scope others (p ++ row ∷ []) && tests scope left (p ++ row ∷ []))))
+
+abbrev pub AreTies : List BoundExpr → ℕ → List Probe → List BoundExpr → Type 0
+AreTies conds n ties others = (scope : List InScope) → AreAllPlaced scope conds
+    → AreAllPlaced scope others
+    × ((p : List SourceRow) (row : SourceRow) → length (joined_row_values p) ≡ n
+    → tests scope conds (p ++ row ∷ []) ≡ (are_tied ties p row && tests scope others (p ++ row ∷ [])))
 
 -- each prefix with the rows that are looked up by it, for which the conditions are True
-abbrev pub extensions_by_probe : List InScope → List BoundExpr → Probe
+abbrev pub extensions_by_ties : List InScope → List BoundExpr → List Probe
     → List (List SourceRow) → List SourceRow
     → List (List SourceRow)
-extensions_by_probe scope conds probe ps rows =
+extensions_by_ties scope conds ties ps rows =
     flat_map (λ p. extensions_of scope conds p
-    (with_value probe.place (value_at (joined_row_values p) probe.from) rows)) ps
+    (with_values ties (values_before ties (joined_row_values p)) rows)) ps
 
 abbrev pub is_equal_sign : Operator → Bool
 is_equal_sign (Compare test) = is_equal_test test
@@ -110,14 +140,39 @@ IsBetween a b n probe =
     ((probe.from ≡ a) × (a < n) × (n + probe.place ≡ b))
     ⊎ ((probe.from ≡ b) × (b < n) × (n + probe.place ≡ a))
 
--- the rows that a map has under a value
-abbrev pub rows_listed : RefsBy Value SourceRow → Value → List SourceRow
-rows_listed map v = listed order map v
+-- ---- keys
 
--- a row more under a value
-abbrev pub row_added : Value → SourceRow → Value → List SourceRow → List SourceRow
-row_added key row v rows = item_added order key row v rows
+-- a value that isn't NULL
+abbrev pub known : Value → Option Value
+known Null = None
+known (Int n) = Some (Int n)
+known (Text t) = Some (Text t)
 
--- under each value just the rows of which the column equals it, in their order
-abbrev pub IsIndex : RefsBy Value SourceRow → ℕ → List SourceRow → Type 0
-IsIndex map place rows = (v : Value) → rows_listed map v ≡ with_value place v rows
+-- values of which none is NULL
+abbrev pub known_values : List Value → Option (List Value)
+known_values [] = Some []
+known_values (v ∷ vs) = option_and_then (λ w. option_map (λ ws. w ∷ ws) (known_values vs)) (known v)
+
+-- a first value, and others
+abbrev pub TieValues : Type 0
+TieValues = Value × List Value
+
+abbrev pub tie_order : TieValues → TieValues → Ordering
+tie_order a b = ordering_then (order a.0 b.0) (slice_cmp order a.1 b.1)
+
+-- the key of values of which none is NULL
+abbrev pub key_of : List Value → Option TieValues
+key_of [] = None
+key_of (v ∷ vs) = option_and_then (λ w. option_map (λ ws. (w, ws)) (known_values vs)) (known v)
+
+-- the rows that a map has under a key
+abbrev pub rows_listed : RefsBy TieValues SourceRow → TieValues → List SourceRow
+rows_listed map key = listed tie_order map key
+
+-- a row more under a key
+abbrev pub row_added : TieValues → SourceRow → TieValues → List SourceRow → List SourceRow
+row_added own row key rows = item_added tie_order own row key rows
+
+-- under each key just the rows of which the columns equal it, in their order
+abbrev pub IsIndex : RefsBy TieValues SourceRow → List Probe → List SourceRow → Type 0
+IsIndex map ties rows = (key : TieValues) → rows_listed map key ≡ with_values ties (key.0 ∷ key.1) rows

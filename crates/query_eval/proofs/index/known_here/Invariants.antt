@@ -1,0 +1,7 @@
+use Rattle.std.proofs.Common.{◌≡◌, drop}
+use Rattle.query_eval.specs.inner.Joining.{known_values, values_here}
+use Rattle.query_eval.proofs.TieKeys.{known_onto}
+use Rattle.query_eval.proofs.index.known_here.Given as goal
+
+abbrev pub invariant-loop-tie : goal.invariant-loop-tie
+invariant-loop-tie l = known_onto l.values (values_here (drop l.tie-index l.ties) l.row) ≡ known_values (values_here l.ties l.row)
