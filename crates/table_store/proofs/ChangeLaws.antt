@@ -9,7 +9,7 @@ use Rattle.table_store.specs.inner.Grid.{Rows, Slot, no_slot, fits_kinds}
 use Rattle.table_store.specs.Histories.{RowHistory, no_history, changed_by, with_change}
 use Rattle.table_store.specs.inner.RowHistories.{Past, Ends, changes_at, history_of, histories_of, AreKept}
 use Rattle.table_store.specs.inner.RowChanges.{RowChange, removal, rewrite, change_given, changes_given, RiseFrom, HasRow, AllStand, AreBefore, HasSlot, AllHaveSlots, row_given, rewrite_given, IsInSlot, AreInSlots, IsReady, AreReady, RewritesRow, HasOpenSlot, AllOpen, EndsRow}
-use Rattle.table_store.specs.declared.rewrites.RowRewrite.{RowRewrite}
+use Rattle.table_store.specs.declared.rows.rewrites.RowRewrite.{RowRewrite}
 use Rattle.table_store.proofs.RowLaws.{row_is, in_slots, number_is, with_end, length_open, length_ended, version_open, current_by}
 
 abbrev pub Rising : List Slot → Type 0

@@ -22,7 +22,7 @@ use Rattle.table_store.specs.Histories.{RowHistory, TableHistory, no_history, ro
 use Rattle.table_store.specs.RowOrder.{AreInOrder}
 use Rattle.table_store.specs.Stops.{are_sorted_numbers, is_among}
 use Rattle.table_store.specs.Types.{Foreign, RowKey, Table, TableRow, Value}
-use Rattle.table_store.specs.declared.child_rows.Search.TheVariants.{Ends, GoesOn}
+use Rattle.table_store.specs.declared.references.child_rows.Search.TheVariants.{Ends, GoesOn}
 use Rattle.table_store.proofs.FirstLaws.{first_filtered}
 use Rattle.table_store.proofs.InsertLaws.{AllRows, RisesFrom, rows_below, rows_rise}
 use Rattle.table_store.proofs.StandingRows.{slot-has}

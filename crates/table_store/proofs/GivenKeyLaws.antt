@@ -18,7 +18,7 @@ use Rattle.table_store.specs.inner.Claims.{IsIndexOf, both_stop}
 use Rattle.table_store.specs.inner.GivenKeys.{with_claims, unless_given, keeper, clash_of, earlier_clash, first_clash, is_below, IsLate, HasKeyAt, IsClash, AreJudged}
 use Rattle.table_store.specs.KeyIndex.{row_of_key, HeldKeys, AreHeld}
 use Rattle.table_store.specs.Stops.{replaced_by, are_sorted_rows}
-use Rattle.table_store.specs.declared.clash.Clash.{Clash}
+use Rattle.table_store.specs.declared.keys.clash.Clash.{Clash}
 use Rattle.table_store.specs.declared.error.StoreStop.TheVariants.{KeyTaken}
 use Rattle.table_store.proofs.IndexLaws.{same_itself, any_alike, split_at}
 use Rattle.table_store.proofs.InsertLaws.{AllRows, all_append, all_weaker, found_all, RisesFrom, apart_key, clash_front}

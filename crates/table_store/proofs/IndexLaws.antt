@@ -22,7 +22,7 @@ use Rattle.table_store.specs.Histories.{RowHistory, no_history, row_of, row_now,
 use Rattle.table_store.specs.inner.IndexView.{held_in}
 use Rattle.table_store.specs.KeyIndex.{HeldKeys, AreHeld, AreIndexed}
 use Rattle.table_store.specs.RowOrder.{AreInOrder}
-use Rattle.table_store.specs.declared.index.Index.{Index}
+use Rattle.table_store.specs.declared.keys.index.Index.{Index}
 
 -- ---- the same key
 

@@ -22,7 +22,7 @@ use Rattle.table_store.specs.RowOrder.{AreInOrder}
 use Rattle.table_store.specs.declared.error.StoreStop.{StoreStop}
 use Rattle.table_store.specs.declared.error.StoreStop.TheVariants.{NotNull, KeyTaken, Full, NoParent, HasChild, NoMemory}
 use Rattle.table_store.specs.Stops.{insert_stop, key_stop, stop_if, with_inserted, StopsAs}
-use Rattle.table_store.specs.declared.new_keys.NewKeys.{NewKeys}
+use Rattle.table_store.specs.declared.keys.new_keys.NewKeys.{NewKeys}
 use Rattle.table_store.proofs.ClaimLaws.{numbered_more, none_from, taken_some}
 use Rattle.table_store.proofs.IndexLaws.{same_itself}
 use Rattle.table_store.proofs.InsertLaws.{AllRows, found_all, all_weaker, numbered_from_next, rows_below}

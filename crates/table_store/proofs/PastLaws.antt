@@ -8,7 +8,7 @@ use Rattle.row_version.specs.History.{Change, as_of}
 use Rattle.row_version.proofs.Later.{as_of_later, as_of_earlier}
 use Rattle.table_store.specs.Types.{Value}
 use Rattle.table_store.specs.inner.Past.{no_version, is_of_slot, versions_of, write_of, past, IsLink, count_at, AreLinked}
-use Rattle.table_store.specs.declared.logged.Logged.{Logged}
+use Rattle.table_store.specs.declared.rows.logged.Logged.{Logged}
 
 -- ---- one version more
 

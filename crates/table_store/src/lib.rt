@@ -14,41 +14,22 @@
 //! their numbers afterwards, which takes no memory. The rows to which given rows would refer are collected by
 //! `parent_set`, where keys may be shared, and row by row by `parent_rows`.
 //!
+//! Folders: `rows` has the rows, their columns and their log, `keys` the index of a table and the keys that
+//! rows claim, `references` children, parents and what they refuse.
+//!
 //! Entry: `insert_all` in `src/store.rt`. Read first: `specs/Histories.antt`.
 #![tactic(auto)]
 
-mod child_index;
-mod child_rows;
-mod child_set;
-mod children;
 mod chosen;
-mod claim;
-mod clash;
 mod error;
-mod given;
-mod grid;
-mod index;
-mod insert;
-mod key_map;
-mod logged;
-mod new_keys;
+mod keys;
 mod nexts;
-mod parent_rows;
-mod parent_set;
-mod parents;
 mod plans;
-mod push;
-mod refusals;
-mod rekey;
-mod rewrites;
-mod row_ends;
+mod references;
 mod rows;
-mod scan;
 mod start;
 mod store;
 mod table;
-mod table_rows;
-mod version_log;
 
 pub use error::StoreStop;
 pub use store::Store;

@@ -1,7 +1,7 @@
 //! Changes that are planned: nothing has changed yet, and the table's own rules don't refuse them.
 
-use crate::index::Index;
-use crate::new_keys::NewKeys;
+use crate::keys::index::Index;
+use crate::keys::new_keys::NewKeys;
 use ldv_value::RowList;
 use sql_model::TableRows;
 

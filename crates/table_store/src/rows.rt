@@ -1,5 +1,14 @@
 //! Rows through time.
 
+mod grid;
+mod logged;
+mod push;
+mod rewrites;
+mod row_ends;
+mod scan;
+pub(crate) mod table_rows;
+mod version_log;
+
 ghost use Rattle.std.specs.Prelude.{◌≡◌, ◌==◌, ℕ, ◌+◌, ◌<◌, ◌≤◌, ◌^◌, Bool, true, List, [], ◌∷◌, ◌++◌};
 ghost use Rattle.std.specs.Prelude.{Option, Some, None, OnOk, OnErr, IfOk, IsOk, IsSome, length, map};
 ghost use Rattle.std.specs.Prelude.{slice_index_or, is_some, IfSome, ◌≢◌, false, slice_get, ◌/◌};
@@ -19,10 +28,10 @@ ghost use Rattle.table_store.specs.inner.RowChanges.{AllStand, AreBefore};
 ghost use Rattle.table_store.specs.inner.Past.{past};
 ghost use Rattle.table_store.specs.RowOrder.{AreInOrder};
 
-use crate::grid::Grid;
-use crate::rewrites::{rewrite_each, rewrites_of};
-use crate::row_ends::end_each;
-use crate::version_log::VersionLog;
+use crate::rows::grid::Grid;
+use crate::rows::rewrites::{rewrite_each, rewrites_of};
+use crate::rows::row_ends::end_each;
+use crate::rows::version_log::VersionLog;
 use ldv_value::{Cmp, Places, Values};
 use sql_model::TableRows;
 use std::alloc::{AllocError, Global};

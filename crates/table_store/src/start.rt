@@ -10,9 +10,9 @@ ghost use Rattle.table_store.specs.inner.Grid.{are_of_kinds, AreNumberedFrom, ne
 ghost use Rattle.table_store.specs.inner.IndexView.{held_in};
 ghost use Rattle.table_store.specs.inner.Nexts.{nexts_of};
 
-use crate::child_index::{ChildIndex, index_of_rows};
-use crate::index::{Index, index_of};
+use crate::keys::index::{Index, index_of};
 use crate::nexts::{NextSince, nexts_at_start};
+use crate::references::child_index::{ChildIndex, index_of_rows};
 use crate::rows::Rows;
 use sql_model::{Columns, Schema, TableRow, TableRows};
 use std::alloc::{AllocError, Global};

@@ -29,10 +29,10 @@ ghost use Rattle.table_store.specs.TableView.{history_at_start};
 ghost use Rattle.table_store.specs.Types.{Null, Value};
 
 use crate::error::StoreStop;
-use crate::parent_rows::parents_by_row;
-use crate::parent_set::parents_in_order;
 use crate::plans::{InsertPlan, ReplacePlan};
-use crate::refusals::{delete_refusal, insert_refusal, replace_refusal};
+use crate::references::parent_rows::parents_by_row;
+use crate::references::parent_set::parents_in_order;
+use crate::references::refusals::{delete_refusal, insert_refusal, replace_refusal};
 use crate::table::TableStore;
 use ldv_value::{Cmp, Numbers, RowList, Values};
 use sql_model::{Catalog, Members, Table, TableRow, TableRows, Tables};

@@ -34,19 +34,19 @@ ghost use Rattle.table_store.specs.Stops.{replace_stop, replaced_by, with_replac
 ghost use Rattle.table_store.specs.RowOrder.{AreInOrder};
 ghost use Rattle.table_store.specs.TableView.{history_at_start, AreTimed, IsStored};
 
-use crate::child_index::{ChildIndex, add_all, settle_all};
-use crate::claim::claim;
 use crate::error::StoreStop;
-use crate::given::numbers_of;
-use crate::index::{Index, number_of_values};
-use crate::insert::{any_lacks_value, any_row_lacks_value, is_full, numbered_rows};
-use crate::new_keys::NewKeys;
+use crate::keys::claim::claim;
+use crate::keys::given::numbers_of;
+use crate::keys::index::{Index, number_of_values};
+use crate::keys::insert::{any_lacks_value, any_row_lacks_value, is_full, numbered_rows};
+use crate::keys::new_keys::NewKeys;
+use crate::keys::rekey::claims_of;
 use crate::nexts::{NextSince, last_since, next_as_of};
 use crate::plans::{InsertPlan, ReplacePlan};
-use crate::rekey::claims_of;
+use crate::references::child_index::{ChildIndex, add_all, settle_all};
 use crate::rows::Rows;
+use crate::rows::table_rows::{rows_as_of, standing_rows};
 use crate::start::{Parts, parts_at_start};
-use crate::table_rows::{rows_as_of, standing_rows};
 use ldv_value::{Cmp, Numbers, RowList, Utf8, Values};
 use sql_model::{Foreigns, RowKey, Schema, Table, TableRow, TableRows};
 use std::alloc::{AllocError, Global};

@@ -17,7 +17,7 @@ use Rattle.sql_model.specs.Scope.{same_text}
 use Rattle.table_store.specs.KeyIndex.{int_key}
 use Rattle.table_store.specs.Stops.{is_among}
 use Rattle.table_store.specs.Types.{Foreign, RowKey, TableRow, Value}
-use Rattle.table_store.specs.declared.child_index.ChildIndex.{ChildIndex}
+use Rattle.table_store.specs.declared.references.child_index.ChildIndex.{ChildIndex}
 
 -- ---- pairs in order
 

@@ -3,8 +3,8 @@ use Rattle.std.specs.Prelude.{◌≡◌, ℕ, ◌+◌, ◌<◌, ◌≤◌, ◌==
 use Rattle.std.specs.List.{AllByRecursion}
 use Rattle.table_store.specs.inner.ChildPairs.{first_number}
 use Rattle.table_store.specs.Types.{TableRow}
-use Rattle.table_store.specs.declared.child_rows.Search.{Search}
-use Rattle.table_store.specs.declared.child_rows.Search.TheVariants.{Ends, GoesOn}
+use Rattle.table_store.specs.declared.references.child_rows.Search.{Search}
+use Rattle.table_store.specs.declared.references.child_rows.Search.TheVariants.{Ends, GoesOn}
 
 -- no row before a number passes a test
 abbrev pub AreFrom : (TableRow → Bool) → List TableRow → ℕ → Type 0

@@ -10,7 +10,7 @@ use Rattle.table_store.specs.Types.{Value, TableRow}
 use Rattle.table_store.specs.inner.Claims.{IsIndexOf}
 use Rattle.table_store.specs.KeyIndex.{HeldKeys, AreIndexed, row_of_key}
 use Rattle.table_store.specs.Stops.{replaced_by}
-use Rattle.table_store.specs.declared.clash.Clash.{Clash}
+use Rattle.table_store.specs.declared.keys.clash.Clash.{Clash}
 
 -- what is held once other numbers were put
 abbrev pub with_claims : HeldKeys → HeldKeys → HeldKeys

@@ -6,7 +6,7 @@ use Rattle.table_store.specs.Types.{Cmp, Value, Null, TableRow}
 use Rattle.column_store.specs.Cells.{Cells, is_of_kind}
 use Rattle.column_store.specs.Columns.{AreLong, kinds_of, values_at}
 use Rattle.table_store.specs.Scans.{null_passes, passes_test}
-use Rattle.table_store.specs.declared.grid.Grid.TheInside.{Inside}
+use Rattle.table_store.specs.declared.rows.grid.Grid.TheInside.{Inside}
 
 -- a row in its slot: its last values, since when it has them, and whether it stands
 pub record Slot : Type 0 where

@@ -4,7 +4,7 @@ use Rattle.std.specs.BTreeMap.{get}
 use Rattle.std.specs.Ordering.{int_cmp}
 use Rattle.ldv_value.specs.Order.{values_order}
 use Rattle.table_store.specs.KeyIndex.{HeldKeys, int_key}
-use Rattle.table_store.specs.declared.index.Index.{Index}
+use Rattle.table_store.specs.declared.keys.index.Index.{Index}
 
 -- keys of one number are held apart from others
 abbrev pub held_as : (ℤ → Option ℕ) → Option ℕ → Option ℤ → Option ℕ

@@ -12,7 +12,7 @@ use Rattle.table_store.specs.Types.{Value, RowKey, TableRow}
 use Rattle.table_store.specs.inner.Claims.{IsIndexOf}
 use Rattle.table_store.specs.inner.IndexView.{held_as}
 use Rattle.table_store.specs.KeyIndex.{HeldKeys, int_key, row_of_key}
-use Rattle.table_store.specs.declared.new_keys.NewKeys.{NewKeys}
+use Rattle.table_store.specs.declared.keys.new_keys.NewKeys.{NewKeys}
 use Rattle.table_store.specs.declared.error.StoreStop.{StoreStop}
 use Rattle.table_store.specs.declared.error.StoreStop.TheVariants.{KeyTaken, NoMemory}
 

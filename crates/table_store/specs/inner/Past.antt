@@ -3,8 +3,8 @@
 use Rattle.std.specs.Prelude.{◌≡◌, ◌==◌, ℕ, ◌+◌, ◌-◌, ◌<◌, ◌≤◌, Bool, List, [], ◌∷◌, filter, length, map}
 use Rattle.std.specs.Prelude.{take, slice_index_or, vec_len, vec_capacity, zero, suc}
 use Rattle.row_version.specs.History.{Change, write_at}
-use Rattle.table_store.specs.declared.logged.Logged.{Logged}
-use Rattle.table_store.specs.declared.version_log.VersionLog.TheInside.{Inside}
+use Rattle.table_store.specs.declared.rows.logged.Logged.{Logged}
+use Rattle.table_store.specs.declared.rows.version_log.VersionLog.TheInside.{Inside}
 
 -- the versions, for how many more there is room, in how many slots rows can get one, and when the row of each
 -- slot ended

@@ -6,7 +6,7 @@ use Rattle.table_store.specs.Types.{Value, TableRow}
 use Rattle.table_store.specs.inner.Grid.{Rows, Slot, no_slot, fits_kinds}
 use Rattle.table_store.specs.inner.RowHistories.{Past, Ends, AreKept, histories_of}
 use Rattle.table_store.specs.Histories.{RowHistory, changed_by, no_history}
-use Rattle.table_store.specs.declared.rewrites.RowRewrite.{RowRewrite}
+use Rattle.table_store.specs.declared.rows.rewrites.RowRewrite.{RowRewrite}
 
 -- the new values of the row with a number; none: it is deleted
 pub record RowChange : Type 0 where

@@ -8,7 +8,7 @@ use Rattle.table_store.specs.inner.Claims.{both_stop}
 use Rattle.table_store.specs.Histories.{RowHistory, TableHistory, rows_now, table_now}
 use Rattle.table_store.specs.Stops.{replaced_by, replace_stop, StopsAs}
 use Rattle.table_store.specs.declared.error.StoreStop.{StoreStop}
-use Rattle.table_store.specs.declared.index.Index.{Index}
+use Rattle.table_store.specs.declared.keys.index.Index.{Index}
 use Rattle.table_store.proofs.RekeyLaws.{replace_stop_is}
 use Rattle.table_store.proofs.table.claim_given.Goals as goal
 

@@ -14,7 +14,7 @@ use Rattle.table_store.specs.RowOrder.{AreInOrder}
 use Rattle.table_store.specs.Stops.{insert_stop, stop_if, StopsAs}
 use Rattle.table_store.specs.declared.error.StoreStop.{StoreStop}
 use Rattle.table_store.specs.declared.error.StoreStop.TheVariants.{Full}
-use Rattle.table_store.specs.declared.new_keys.NewKeys.{NewKeys}
+use Rattle.table_store.specs.declared.keys.new_keys.NewKeys.{NewKeys}
 use Rattle.table_store.proofs.ClaimLaws.{stop_first}
 use Rattle.table_store.proofs.IndexLaws.{index_alike}
 use Rattle.table_store.proofs.InsertLaws.{null_stop, insert_stop_is}

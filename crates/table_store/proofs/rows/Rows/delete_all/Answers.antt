@@ -4,7 +4,7 @@ use Rattle.table_store.specs.Histories.{changed_by}
 use Rattle.table_store.specs.inner.Past.{past, end_in}
 use Rattle.table_store.specs.inner.RowHistories.{Past, Ends, RowsHistory, past_of, ends_of, histories_of, AreKept}
 use Rattle.table_store.specs.inner.RowChanges.{removal, changes_given, AllOpen}
-use Rattle.table_store.specs.declared.logged.Logged.{Logged}
+use Rattle.table_store.specs.declared.rows.logged.Logged.{Logged}
 use Rattle.table_store.proofs.ChangeLaws.{all_open}
 use Rattle.table_store.proofs.rows.Rows.delete_all.Goals as goal
 

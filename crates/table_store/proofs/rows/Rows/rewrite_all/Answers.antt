@@ -5,7 +5,7 @@ use Rattle.table_store.specs.Histories.{RowHistory, changed_by}
 use Rattle.table_store.specs.inner.Past.{past, end_in}
 use Rattle.table_store.specs.inner.RowHistories.{Past, Ends, RowsHistory, past_of, ends_of, histories_of, AreKept}
 use Rattle.table_store.specs.inner.RowChanges.{RowChange, rewrite, rewrite_given, changes_given, RiseFrom, AllFitKinds, AllStand, AreReady}
-use Rattle.table_store.specs.declared.logged.Logged.{Logged}
+use Rattle.table_store.specs.declared.rows.logged.Logged.{Logged}
 use Rattle.table_store.proofs.ChangeLaws.{all_have_slots, all_ready, rise_fits, same_rewrites}
 use Rattle.table_store.proofs.rows.Rows.rewrite_all.Goals as goal
 

@@ -9,7 +9,7 @@ use Rattle.table_store.specs.inner.IndexView.{held_in}
 use Rattle.table_store.specs.KeyIndex.{AreIndexed}
 use Rattle.table_store.specs.inner.Nexts.{nexts_of}
 use Rattle.table_store.specs.Stops.{have_shape, values_of, had_rows, replaced_by, with_replaced, replace_stop, StopsAs}
-use Rattle.table_store.specs.declared.index.Index.{Index}
+use Rattle.table_store.specs.declared.keys.index.Index.{Index}
 use Rattle.table_store.specs.inner.Plans.{IsReplacePlan}
 use Rattle.table_store.proofs.TableChangeLaws.{GivenStand, given_stand, replaced_now}
 use Rattle.table_store.proofs.table.TableStore.commit_replace.Goals as goal

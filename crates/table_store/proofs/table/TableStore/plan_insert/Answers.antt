@@ -6,7 +6,7 @@ use Rattle.table_store.specs.inner.NewKeys.{new_in, AreBelow, AreClaimed}
 use Rattle.table_store.specs.inner.Nexts.{nexts_of}
 use Rattle.table_store.specs.inner.Plans.{IsInsertPlan}
 use Rattle.table_store.specs.Stops.{have_shape, insert_stop, StopsAs}
-use Rattle.table_store.specs.declared.new_keys.NewKeys.{NewKeys}
+use Rattle.table_store.specs.declared.keys.new_keys.NewKeys.{NewKeys}
 use Rattle.table_store.specs.declared.plans.InsertPlan.{InsertPlan}
 use Rattle.table_store.proofs.RekeyLaws.{stop_as}
 use Rattle.table_store.proofs.table.TableStore.plan_insert.Goals as goal

@@ -8,7 +8,7 @@ use Rattle.table_store.specs.inner.IndexView.{held_in}
 use Rattle.table_store.specs.inner.Nexts.{nexts_of}
 use Rattle.table_store.specs.inner.Plans.{IsReplacePlan}
 use Rattle.table_store.specs.Stops.{have_shape, values_of, had_rows, replaced_by, replace_stop, StopsAs}
-use Rattle.table_store.specs.declared.index.Index.{Index}
+use Rattle.table_store.specs.declared.keys.index.Index.{Index}
 use Rattle.table_store.specs.declared.plans.ReplacePlan.{ReplacePlan}
 use Rattle.table_store.proofs.RekeyLaws.{stop_as}
 use Rattle.table_store.proofs.table.TableStore.plan_replace.Goals as goal

@@ -1,4 +1,0 @@
-use Rattle.table_store.proofs.child_index.settle_row.Goals as goal
-
-pub returns-in-None : goal.returns-in-None
-returns-in-None c = λ all. all

@@ -1,6 +1,0 @@
-use Rattle.std.proofs.Common.{◌≡◌, take}
-use Rattle.sql_model.specs.Keys.{values_at}
-use Rattle.table_store.proofs.index.key_of.Given as goal
-
-abbrev pub invariant-loop-place : goal.invariant-loop-place
-invariant-loop-place l = l.key.items ≡ values_at (take l.place-index l.place-items) l.values

@@ -1,0 +1,11 @@
+//! References between tables: the index of children, the parents of given rows, and the refusals of
+//! changes by missing parents and by lost children.
+
+pub(crate) mod child_index;
+mod child_rows;
+mod child_set;
+mod children;
+pub(crate) mod parent_rows;
+pub(crate) mod parent_set;
+mod parents;
+pub(crate) mod refusals;
