@@ -5,7 +5,7 @@ use Rattle.std.specs.Prelude.{if◌then◌else◌}
 use Rattle.std.specs.Int.{w32}
 use Rattle.package_codec.specs.declared.compact_package.CompactPackage.{CompactPackage}
 use Rattle.package_codec.specs.Fields.{DecodeResult, ◌>>=◌, both_at, made_at, list_at, list_spelling}
-use Rattle.package_codec.specs.declared.event_run.EventRun.{EventRun}
+use Rattle.package_codec.specs.declared.trace.event_run.EventRun.{EventRun}
 use Rattle.package_codec.specs.Runs.{events_in, event_run_spelling}
 use Rattle.package_codec.specs.Runs.{event_run_at as trace_run_at}
 use Rattle.joined_data.specs.Types.{PackedFile, Table}

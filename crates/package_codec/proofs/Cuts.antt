@@ -1,7 +1,7 @@
 -- Events that are read one after another and joined to runs as they come.
 use Rattle.std.proofs.Common.{◌≡◌, ℕ, suc, ◌+◌, ◌-◌, ◌≤◌, ◌<◌, List, [], ◌∷◌, ◌++◌, Some, None, Err, refl, sym, ap, ◌∙◌, arith}
 use Rattle.run_model.specs.declared.event.Event.{Event}
-use Rattle.package_codec.specs.declared.cutting.Cut.{Cut}
+use Rattle.package_codec.specs.declared.trace.cutting.Cut.{Cut}
 use Rattle.package_codec.specs.declared.decode_error.DecodeError.{DecodeError}
 use Rattle.package_codec.specs.declared.decode_error.DecodeError.TheVariants.{NoMemory, Malformed}
 use Rattle.package_codec.specs.inner.Cutting.{cut_onto}

@@ -10,8 +10,8 @@ use Rattle.sql_model.specs.declared.need.Need.{Need}
 use Rattle.run_model.specs.declared.event.Act.{Act}
 use Rattle.run_model.specs.declared.event.Act.TheVariants as acts
 use Rattle.run_model.specs.declared.event.Event.{Event}
-use Rattle.package_codec.specs.declared.event_part.ReadPart.{ReadPart}
-use Rattle.package_codec.specs.declared.event_part.MadePart.{MadePart}
+use Rattle.package_codec.specs.declared.trace.event_part.ReadPart.{ReadPart}
+use Rattle.package_codec.specs.declared.trace.event_part.MadePart.{MadePart}
 use Rattle.package_codec.specs.Fields.{DecodeResult, both_at, number_at, text_at, text_spelling}
 use Rattle.package_codec.specs.Spelling.{rule_number}
 use Rattle.package_codec.specs.Typed.{IsU32}

@@ -8,7 +8,7 @@ use Rattle.ldv_value.proofs.Booleans.{and-parts, and-from}
 use Rattle.ldv_value.proofs.ItemLists.{all_append}
 use Rattle.ldv_value.proofs.Options.{same-some}
 use Rattle.sql_model.specs.SqlNames.{sql_name_test}
-use Rattle.package_codec.specs.declared.group.Group.{Group}
+use Rattle.package_codec.specs.declared.trace.group.Group.{Group}
 use Rattle.package_codec.specs.Fields.{DecodeResult, both_at, list_at, text_at, text_spelling, list_spelling}
 use Rattle.package_codec.specs.Room.{fits_u16_count}
 use Rattle.package_codec.specs.Counts.{IsCountable, CountedGroup}

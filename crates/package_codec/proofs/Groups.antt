@@ -9,7 +9,7 @@ use Rattle.std.proofs.lemmas.List.{map-append, append-nil, take_more, length-app
 use Rattle.ldv_value.proofs.Booleans.{and-parts, and-from}
 use Rattle.ldv_value.proofs.SameBytes.{bytes_eq-true, bytes_eq-sym}
 use Rattle.sql_model.specs.SqlNames.{sql_name_test}
-use Rattle.package_codec.specs.declared.group.Group.{Group}
+use Rattle.package_codec.specs.declared.trace.group.Group.{Group}
 use Rattle.package_codec.specs.Groups.{TypedGroup, group_of_one, with_part, after, add, add_all, groups, is_group, neighbours_differ, ungroup}
 
 bytes_eq-self : (a b : List ℕ) → a ≡ b → bytes_eq a b ≡ true

@@ -3,7 +3,7 @@ use Rattle.std.specs.Prelude.{ℕ, List, Some}
 use Rattle.std.specs.Int.{w32}
 use Rattle.run_model.specs.declared.event.Event.{Event}
 use Rattle.run_model.specs.declared.package.Package.{Package}
-use Rattle.package_codec.specs.declared.event_run.EventRun.{EventRun}
+use Rattle.package_codec.specs.declared.trace.event_run.EventRun.{EventRun}
 use Rattle.package_codec.specs.declared.compact_package.CompactPackage.{CompactPackage}
 use Rattle.package_codec.specs.Events.{event_at}
 use Rattle.package_codec.specs.Fields.{DecodeResult, made_at, list_at}

@@ -23,7 +23,7 @@ use Rattle.run_model.specs.declared.package.PackedRow.{PackedRow}
 use Rattle.run_model.specs.declared.package.PackedTable.{PackedTable}
 use Rattle.run_model.specs.declared.package.Entry.{Entry}
 use Rattle.run_model.specs.declared.package.Log.{Log}
-use Rattle.package_codec.specs.declared.group.Group.{Group}
+use Rattle.package_codec.specs.declared.trace.group.Group.{Group}
 use Rattle.package_codec.specs.Events.{need_groups, member_groups}
 use Rattle.package_codec.specs.Version.{Version, One, Two}
 

@@ -8,9 +8,9 @@ use Rattle.sql_model.specs.declared.need.Need.{Need}
 use Rattle.run_model.specs.declared.event.Act.{Act}
 use Rattle.run_model.specs.declared.event.Act.TheVariants as acts
 use Rattle.run_model.specs.declared.event.Event.{Event}
-use Rattle.package_codec.specs.declared.group.Group.{Group}
-use Rattle.package_codec.specs.declared.event_part.ReadPart.{ReadPart}
-use Rattle.package_codec.specs.declared.event_part.MadePart.{MadePart}
+use Rattle.package_codec.specs.declared.trace.group.Group.{Group}
+use Rattle.package_codec.specs.declared.trace.event_part.ReadPart.{ReadPart}
+use Rattle.package_codec.specs.declared.trace.event_part.MadePart.{MadePart}
 use Rattle.package_codec.specs.Fields.{DecodeResult, both_at, made_at, tagged_at, number_at, list_at, text_at}
 use Rattle.package_codec.specs.Fields.{text_spelling, list_spelling}
 use Rattle.package_codec.specs.Groups.{groups, group_spelling, grouped_at}

@@ -5,7 +5,7 @@ use Rattle.std.specs.List.{flat_map, AllByRecursion}
 use Rattle.std.specs.Str.{IsUtf8}
 use Rattle.std.specs.Int.{w16, w32}
 use Rattle.sql_model.specs.SqlNames.{sql_name_test}
-use Rattle.package_codec.specs.declared.group.Group.{Group}
+use Rattle.package_codec.specs.declared.trace.group.Group.{Group}
 use Rattle.package_codec.specs.Fields.{DecodeResult, both_at, made_at, list_at, text_at, text_spelling}
 use Rattle.package_codec.specs.Fields.{list_spelling}
 

@@ -3,8 +3,8 @@ use Rattle.std.specs.Prelude.{ℕ, List, ◌++◌, Some}
 use Rattle.std.specs.Int.{w8, w32, to_be_bytes}
 use Rattle.sql_model.specs.declared.need.Member.{Member}
 use Rattle.sql_model.specs.declared.need.Need.{Need}
-use Rattle.package_codec.specs.declared.event_part.ReadPart.{ReadPart}
-use Rattle.package_codec.specs.declared.event_part.MadePart.{MadePart}
+use Rattle.package_codec.specs.declared.trace.event_part.ReadPart.{ReadPart}
+use Rattle.package_codec.specs.declared.trace.event_part.MadePart.{MadePart}
 use Rattle.package_codec.specs.Fields.{DecodeResult, both_at, made_at, number_at}
 use Rattle.package_codec.specs.Spelling.{rule_number}
 use Rattle.package_codec.specs.Typed.{IsU32}

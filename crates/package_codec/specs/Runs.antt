@@ -11,8 +11,8 @@ use Rattle.run_model.specs.declared.event.Event.{Event}
 use Rattle.run_model.specs.Acts.{named_path}
 use Rattle.run_model.specs.Package.{or_empty}
 use Rattle.run_model.specs.ValidTrace.{is_asked}
-pub use Rattle.package_codec.specs.declared.event_run.EventRun.{EventRun}
-pub use Rattle.package_codec.specs.declared.event_run.Begun.{Begun}
+pub use Rattle.package_codec.specs.declared.trace.event_run.EventRun.{EventRun}
+pub use Rattle.package_codec.specs.declared.trace.event_run.Begun.{Begun}
 use Rattle.package_codec.specs.Fields.{DecodeResult, both_at, made_at, number_at, list_at, list_spelling}
 use Rattle.package_codec.specs.Typed.{IsU32, TypedEvent}
 use Rattle.package_codec.specs.Events.{event_spelling, event_room, event_at, flag_number}

@@ -1,6 +1,6 @@
 //! Packages whose traces are kept as runs of events.
 
-use crate::event_run::EventRuns;
+use crate::trace::event_run::EventRuns;
 use run_model::Package;
 use script_parse::Script;
 

@@ -9,7 +9,7 @@ ghost use Rattle.package_codec.specs.CompactPackages.{expanded_package};
 ghost use Rattle.package_codec.specs.Runs.{are_runs, events_in, is_run};
 
 use crate::compact_package::CompactPackage;
-use crate::event_run::EventRun;
+use crate::trace::event_run::EventRun;
 use crate::version::Version;
 use run_model::{Act, Entry, Log, PackedRow, PackedTable};
 use sql_model::{Need, Reply, Rule, SqlRefusal};

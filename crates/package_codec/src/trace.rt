@@ -1,5 +1,16 @@
 //! Traces.
 
+pub(crate) mod cutting;
+mod event;
+mod event_part;
+pub(crate) mod event_run;
+pub(crate) mod expanding;
+mod group;
+pub(crate) mod law;
+pub(crate) mod run_rules;
+mod same_act;
+pub(crate) mod writing;
+
 ghost use Rattle.std.specs.Prelude.{◌≡◌, ◌<◌, ◌≤◌, ◌^◌, ◌+◌, [], ◌∷◌, true, Some, None, IfSome};
 ghost use Rattle.std.specs.Prelude.{◌&&◌, ◌==◌, if◌then◌else◌};
 ghost use Rattle.std.specs.Option.{option_map};
@@ -13,9 +24,9 @@ ghost use Rattle.package_codec.specs.inner.Trace.{act_rule, event_rule, asked_af
 ghost use Rattle.package_codec.specs.inner.Trace.{follows, at_start, starts_on, starts};
 ghost use Rattle.package_codec.specs.inner.Trace.{trace_test, asked_count, progress_of};
 
-use crate::event_run::EventRun;
-use crate::run_rules::last_step;
-use crate::same_act::is_asked;
+use crate::trace::event_run::EventRun;
+use crate::trace::run_rules::last_step;
+use crate::trace::same_act::is_asked;
 use ldv_value::{Names, Utf8, is_path, is_strictly_sorted};
 use run_model::{Act, Event};
 use sql_model::{Members, Needs, is_sql_name};

@@ -5,7 +5,7 @@ use Rattle.std.specs.Int.{w32, w64}
 use Rattle.ldv_value.proofs.Options.{bind-some, same-some}
 use Rattle.run_model.specs.declared.event.Event.{Event}
 use Rattle.package_codec.specs.declared.compact_package.CompactPackage.{CompactPackage}
-use Rattle.package_codec.specs.declared.event_run.EventRun.{EventRun}
+use Rattle.package_codec.specs.declared.trace.event_run.EventRun.{EventRun}
 use Rattle.package_codec.specs.declared.version.Version.TheVariants.{Two}
 use Rattle.package_codec.specs.Events.{names_at}
 use Rattle.package_codec.specs.Fields.{DecodeResult, ◌>>=◌, both_at, list_at, made_at, number_at}

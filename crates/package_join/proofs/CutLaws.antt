@@ -12,7 +12,7 @@ use Rattle.package_codec.specs.Fields.{DecodeResult, ◌>>=◌, both_at, list_at
 use Rattle.package_codec.specs.CompactPackages.{expanded_package}
 use Rattle.package_layout.specs.CompactReading.{compact_rules}
 use Rattle.package_codec.specs.declared.version.Version.TheVariants.{Two}
-use Rattle.package_codec.specs.declared.event_run.EventRun.{EventRun}
+use Rattle.package_codec.specs.declared.trace.event_run.EventRun.{EventRun}
 use Rattle.package_codec.specs.Runs.{IsCut, are_runs, events_in, events_of_runs, runs_at}
 use Rattle.package_codec.specs.Runs.{event_run_at as trace_run_at}
 use Rattle.package_layout.specs.Valid.{valid_test}

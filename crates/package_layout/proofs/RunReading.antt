@@ -17,7 +17,7 @@ use Rattle.package_codec.specs.Fields.{DecodeResult, ◌>>=◌, Makes, list_at}
 use Rattle.package_codec.specs.Plain.{fits_version}
 use Rattle.package_codec.specs.CompactPackages.{expanded_package, cut_at, with_events}
 use Rattle.package_layout.specs.CompactReading.{compact_sections_at, compact_sections_of, compact_rules, compact_in}
-use Rattle.package_codec.specs.declared.event_run.EventRun.{EventRun}
+use Rattle.package_codec.specs.declared.trace.event_run.EventRun.{EventRun}
 use Rattle.package_codec.specs.Runs.{runs_of, events_in, is_run, are_longest, are_runs, event_run_at, total, max_events, events_of_runs, few_events}
 use Rattle.package_codec.specs.Typed.{TypedEvent}
 use Rattle.package_layout.specs.Valid.{rules, before_digest, middle, kept_if, package_in, has_digest, form_of, reading_as}

@@ -1,7 +1,7 @@
 -- A trace that is being cut into runs, event by event.
 use Rattle.std.specs.Prelude.{ℕ, List, ◌++◌, Option, Some, None}
 use Rattle.run_model.specs.declared.event.Event.{Event}
-use Rattle.package_codec.specs.declared.cutting.Cut.{Cut}
+use Rattle.package_codec.specs.declared.trace.cutting.Cut.{Cut}
 use Rattle.package_codec.specs.Runs.{EventRun, Begun, runs_from, runs_of}
 
 abbrev pub begun_count : Option Begun → ℕ

@@ -4,7 +4,7 @@ use Rattle.std.specs.Prelude.{ℕ, ◌+◌, Bool, true, ◌&&◌, nat_le, if◌t
 use Rattle.ldv_value.specs.Limits.{max_processes}
 use Rattle.run_model.specs.declared.event.Act.{Act}
 use Rattle.run_model.specs.Acts.{is_spawn}
-use Rattle.package_codec.specs.declared.event_run.EventRun.{EventRun}
+use Rattle.package_codec.specs.declared.trace.event_run.EventRun.{EventRun}
 use Rattle.package_codec.specs.Runs.{last_step}
 use Rattle.package_codec.specs.inner.Trace.{Progress, event_rule, is_asked, asked_after}
 

@@ -1,6 +1,0 @@
-use Rattle.std.proofs.lemmas.Result.{on_ok_weaker}
-use Rattle.package_codec.proofs.Events.{members_typed}
-use Rattle.package_codec.proofs.event.encode_members.Goals as goal
-
-pub returns-clause-typed : goal.returns-clause-typed
-returns-clause-typed c = on_ok_weaker c.encode_grouped.result (members_typed c.args.members.now) c.encode_grouped.ensures.typed
