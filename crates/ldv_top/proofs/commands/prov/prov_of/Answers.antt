@@ -1,0 +1,6 @@
+use Rattle.std.specs.Prelude.{string_bytes}
+use Rattle.ldv_top.proofs.WordLaws.{prov_many}
+use Rattle.ldv_top.proofs.commands.prov.prov_of.Goals as goal
+
+pub returns-in_default-clause-command : goal.returns-in_default-clause-command
+returns-in_default-clause-command c = prov_many string_bytes c.args.words.now c.in_default.len_at_least

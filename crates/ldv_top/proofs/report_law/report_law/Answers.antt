@@ -1,5 +1,0 @@
-use Rattle.ldv_top.proofs.ReportLaws.{depends_reported}
-use Rattle.ldv_top.proofs.report_law.report_law.Goals as goal
-
-pub returns : goal.returns
-returns c = depends_reported c.depends_law.ensures
