@@ -17,6 +17,7 @@ pub mod Launching
 pub mod Lookups
 pub mod Machines
 pub mod Moving
+pub mod NameKeys
 pub mod Numbers
 pub mod OpenFiles
 pub mod Outcomes

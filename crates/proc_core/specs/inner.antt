@@ -2,6 +2,7 @@ pub mod Acts
 pub mod Counts
 pub mod Flags
 pub mod Moves
+pub mod NameKey
 pub mod Paged
 pub mod SlotAsk
 pub mod SlotCopy

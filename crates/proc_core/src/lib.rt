@@ -17,6 +17,7 @@ mod error;
 mod execute;
 mod file_slots;
 mod files;
+mod keyed_outcome;
 mod law;
 mod local;
 mod machine;

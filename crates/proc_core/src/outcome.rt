@@ -7,13 +7,13 @@ ghost use Rattle.run_model.specs.Outcome.{outcome_of_path, outcomes_of_paths};
 ghost use Rattle.proc_core.specs.inner.SlotOutcome.{slot_outcome, slot_outcomes, slot_outcomes_by_name};
 ghost use Rattle.proc_core.specs.inner.SlotOutcome.{name_cmp, slot_outcome_of};
 
+use crate::keyed_outcome::KeyedOutcome;
 use crate::machine::Machine;
 use crate::process::SlotProcess;
 use file_tree::Tree;
 use ldv_value::{Bytes, Utf8};
 use run_model::{Outcome, PathOutcome, PathOutcomes, ProcName, ProcOutcome, ProcOutcomes};
 use std::alloc::{AllocError, Global};
-use std::cmp::Ordering;
 
 fn status_or_zero(status: Option<u8>) -> u8
     ensures { result ≡ unwrap_or status 0 }
@@ -24,21 +24,21 @@ fn status_or_zero(status: Option<u8>) -> u8
     }
 }
 
-fn outcome_of_process(process: &SlotProcess) -> Result<ProcOutcome, AllocError>
+fn outcome_of_process(process: &SlotProcess) -> Result<KeyedOutcome, AllocError>
     ensures { IfOk result (λ outcome. outcome ≡ slot_outcome process.now) }
 {
-    Ok(ProcOutcome {
+    Ok(KeyedOutcome::of(ProcOutcome {
         name: ProcName {
             parts: process.name.copy()?,
         },
         status: status_or_zero(process.status),
         printed: process.printed.copy()?,
         replies: process.replies.copy()?,
-    })
+    }))
 }
 
 // The outcomes of processes, from the last to the first.
-fn outcomes_of(alloc: Global, processes: &[SlotProcess]) -> Result<Vec<ProcOutcome>, AllocError>
+fn outcomes_of(alloc: Global, processes: &[SlotProcess]) -> Result<Vec<KeyedOutcome>, AllocError>
     ensures { IfOk result (λ outcomes. outcomes.items ≡ slot_outcomes processes.now) }
 {
     let mut outcomes = Vec::with_capacity(alloc, processes.len())?;
@@ -49,19 +49,25 @@ fn outcomes_of(alloc: Global, processes: &[SlotProcess]) -> Result<Vec<ProcOutco
     Ok(outcomes)
 }
 
-fn compare_names(a: &ProcOutcome, b: &ProcOutcome) -> Ordering
-    ensures { result ≡ name_cmp a.now b.now }
-{
-    a.name.parts.cmp(&b.name.parts)
-}
-
 // Outcomes in the order of names.
-fn sorted_by_name(outcomes: Vec<ProcOutcome>) -> Result<ProcOutcomes, AllocError>
+fn sorted_by_name(outcomes: Vec<KeyedOutcome>) -> Result<ProcOutcomes, AllocError>
     ensures { IfOk result (λ sorted. sorted ≡ sorted_by name_cmp outcomes.items) }
 {
     let mut sorted = outcomes;
-    sorted.sort_by(|a, b| compare_names(a, b))?;
-    Ok(ProcOutcomes::of_vec(sorted))
+    sorted.sort_by(|a, b| a.compare(b))?;
+    let named = without_keys(sorted)?;
+    Ok(named)
+}
+
+// Outcomes without their keys.
+fn without_keys(outcomes: Vec<KeyedOutcome>) -> Result<ProcOutcomes, AllocError>
+    ensures { IfOk result (λ all. all ≡ outcomes.items) }
+{
+    let mut all = ProcOutcomes::with_capacity(*outcomes.allocator(), outcomes.len())?;
+    for outcome in outcomes {
+        all.push(outcome.into_outcome())?;
+    }
+    Ok(all)
 }
 
 fn outcomes_by_name(alloc: Global, processes: &[SlotProcess]) -> Result<ProcOutcomes, AllocError>
@@ -73,7 +79,7 @@ fn outcomes_by_name(alloc: Global, processes: &[SlotProcess]) -> Result<ProcOutc
 }
 
 // The outcome of a process, with its printed bytes and its replies themselves.
-fn outcome_from_process(process: SlotProcess) -> ProcOutcome
+fn outcome_from_process(process: SlotProcess) -> KeyedOutcome
     ensures { result ≡ slot_outcome process }
 {
     let SlotProcess {
@@ -89,16 +95,19 @@ fn outcome_from_process(process: SlotProcess) -> ProcOutcome
         replies,
         status,
     } = process;
-    ProcOutcome {
+    KeyedOutcome::of(ProcOutcome {
         name: ProcName { parts: name },
         status: status_or_zero(status),
         printed,
         replies,
-    }
+    })
 }
 
 // The outcomes of processes, from the last to the first. Each process is dropped on the way.
-fn outcomes_from(alloc: Global, processes: Vec<SlotProcess>) -> Result<Vec<ProcOutcome>, AllocError>
+fn outcomes_from(
+    alloc: Global,
+    processes: Vec<SlotProcess>,
+) -> Result<Vec<KeyedOutcome>, AllocError>
     ensures { IfOk result (λ outcomes. outcomes.items ≡ slot_outcomes processes.items) }
 {
     let mut left = processes;

@@ -14,7 +14,7 @@ pub returns : goal.returns
 returns c =
     let less = λ (a b : ProcOutcome). is_lt (name_cmp a b) in
     let weak : IsStrictWeakOrder less = ranks_by nat_list_cmp_total (λ (o : ProcOutcome). o.name.parts) in
-    c.of_vec.ensures
+    c.in_ok-named.ensures
     ∙ sorted-is name_cmp name_total c.args.outcomes.items c.sort_by.new.self.items
     (c.in_ok-sort_by.ensures.sorted less weak (always_returns_same _ _ _ (λ a r q k. let o : r ≡ name_cmp a.0.now a.1.0.now = search rules in (ap is_lt o, search rules))))
     (c.in_ok-sort_by.ensures.stable less weak (always_returns_same _ _ _ (λ a r q k. let o : r ≡ name_cmp a.0.now a.1.0.now = search rules in (ap is_lt o, search rules))))
