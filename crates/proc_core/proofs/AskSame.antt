@@ -15,7 +15,7 @@ use Rattle.script_code.specs.declared.code.Scope.{Scope}
 use Rattle.script_code.specs.declared.code.SlotInstr.{SlotInstr}
 use Rattle.script_code.specs.Resolved.{slot_of, HasName, slot_instr, HasAll, IsScope}
 use Rattle.script_code.proofs.SlotLists.{set_slot}
-use Rattle.proc_core.specs.declared.ask.Statement.{Statement}
+use Rattle.proc_core.specs.declared.instructions.ask.Statement.{Statement}
 use Rattle.proc_core.specs.declared.machine.Machine.{Machine}
 use Rattle.proc_core.specs.declared.process.SlotCursor.{SlotCursor}
 use Rattle.proc_core.specs.declared.process.SlotProcess.{SlotProcess}

@@ -26,7 +26,7 @@ use Rattle.script_code.specs.declared.code.OwnInstr.TheVariants as own
 use Rattle.script_code.specs.declared.code.SlotInstr.{SlotInstr}
 use Rattle.script_code.specs.declared.code.SlotInstr.TheVariants.{Own, OnFiles, Spawn, Wait, Sql}
 use Rattle.script_code.specs.declared.code.SlotOperand.TheVariants.{Slot}
-use Rattle.proc_core.specs.declared.cut.CutParts.{CutParts}
+use Rattle.proc_core.specs.declared.instructions.cut.CutParts.{CutParts}
 use Rattle.proc_core.specs.declared.machine.Machine.{Machine}
 use Rattle.proc_core.specs.declared.process.SlotCursor.{SlotCursor}
 use Rattle.proc_core.specs.declared.process.SlotProcess.{SlotProcess}

@@ -11,7 +11,7 @@ use Rattle.script_code.specs.declared.code.Code.{Code}
 use Rattle.script_code.specs.Resolved.{IsCode}
 use Rattle.proc_core.specs.declared.machine.Machine.{Machine}
 use Rattle.proc_core.specs.declared.process.SlotProcess.{SlotProcess}
-use Rattle.proc_core.specs.declared.spawn_request.SpawnRequest.{SpawnRequest}
+use Rattle.proc_core.specs.declared.spawn.spawn_request.SpawnRequest.{SpawnRequest}
 use Rattle.proc_core.specs.inner.SlotReady.{Grows}
 use Rattle.proc_core.specs.inner.SlotSpawn.{slot_request_at, Runs, IsElse, HasChild}
 use Rattle.proc_core.specs.Stands.{IsCore}

@@ -13,8 +13,8 @@ use Rattle.run_model.specs.Core.{OpenFile}
 use Rattle.run_model.specs.Events.{event_at}
 use Rattle.run_model.specs.StepBase.{wrong_kind}
 use Rattle.run_model.specs.StepFiles.{path_in, if_allowed, allows_read}
-use Rattle.proc_core.specs.declared.copy.Copying.{Copying}
-use Rattle.proc_core.specs.declared.copy.Copying.TheVariants.{Misused, TooLong, Copied}
+use Rattle.proc_core.specs.declared.instructions.copy.Copying.{Copying}
+use Rattle.proc_core.specs.declared.instructions.copy.Copying.TheVariants.{Misused, TooLong, Copied}
 use Rattle.proc_core.specs.declared.process.SlotProcess.{SlotProcess}
 use Rattle.proc_core.specs.inner.Slots.{open_at, slot_ended, slot_went_on}
 use Rattle.proc_core.specs.inner.SlotCopy.{CopiesTo, CopiesAt, copy_acts, slot_copied}

@@ -3,8 +3,8 @@ use Rattle.std.proofs.Common.{◌≡◌, ℕ, List}
 use Rattle.std.specs.Prelude.{Some}
 use Rattle.ldv_value.specs.FileState.{content_at}
 use Rattle.proc_core.specs.declared.machine.Machine.{Machine}
-use Rattle.proc_core.specs.declared.program.Program.{Program}
-use Rattle.proc_core.specs.declared.program.Program.TheVariants.{Absent, Refused, Known, New}
+use Rattle.proc_core.specs.declared.spawn.program.Program.{Program}
+use Rattle.proc_core.specs.declared.spawn.program.Program.TheVariants.{Absent, Refused, Known, New}
 use Rattle.proc_core.specs.inner.SlotSpawn.{IsProgramOf, IsProgram}
 
 -- of the bytes of the file there

@@ -20,7 +20,7 @@ use Rattle.script_code.specs.declared.code.SlotInstr.TheVariants.{Own, OnFiles, 
 use Rattle.script_code.specs.Resolved.{slot_of, HasName, slot_instr, HasAll, IsCode}
 use Rattle.proc_core.specs.declared.machine.Machine.{Machine}
 use Rattle.proc_core.specs.declared.process.SlotProcess.{SlotProcess}
-use Rattle.proc_core.specs.declared.spawn_request.SpawnRequest.{SpawnRequest}
+use Rattle.proc_core.specs.declared.spawn.spawn_request.SpawnRequest.{SpawnRequest}
 use Rattle.proc_core.specs.inner.Slots.{Holds, slot_ended, slot_went_to}
 use Rattle.proc_core.specs.inner.SlotSpawn.{slot_request, slot_request_in, slot_request_at, Runs, script_in, slot_parent, slot_with_new, IsElse, IsNoChild, HasChild}
 use Rattle.proc_core.specs.inner.SlotStep.{next_slot_instr, IsLocal}

@@ -12,7 +12,7 @@ use Rattle.run_model.specs.Run.{chosen, move_of, move}
 use Rattle.run_model.specs.State.{State, StepResult}
 use Rattle.run_model.specs.Step.{Ask, next_ask, local_step, took, entry_count, ends_at, status_acts, kept, told, asking, step}
 use Rattle.run_model.specs.declared.database.Asker.{Asker}
-use Rattle.proc_core.specs.declared.ask.Statement.{Statement}
+use Rattle.proc_core.specs.declared.instructions.ask.Statement.{Statement}
 use Rattle.proc_core.specs.declared.machine.Machine.{Machine}
 use Rattle.proc_core.specs.declared.process.SlotProcess.{SlotProcess}
 use Rattle.proc_core.specs.declared.error.Stopped.{Stopped}

@@ -16,7 +16,7 @@ use Rattle.run_model.specs.Schedule.{choose, core_after_choice}
 use Rattle.run_model.specs.State.{State, StepResult}
 use Rattle.run_model.specs.Step.{step}
 use Rattle.run_model.proofs.Equations.{run-zero, events-zero}
-use Rattle.proc_core.specs.declared.ask.Statement.{Statement}
+use Rattle.proc_core.specs.declared.instructions.ask.Statement.{Statement}
 use Rattle.proc_core.specs.declared.machine.Machine.{Machine}
 use Rattle.proc_core.specs.declared.process.SlotProcess.{SlotProcess}
 use Rattle.proc_core.specs.declared.error.Stopped.{Stopped}

@@ -6,38 +6,28 @@
 //! that a step over slots is the step that `run_model` defines. A `ReadySet` says of each process whether it
 //! is runnable.
 //!
+//! Folders: `instructions` has what each instruction does to its process, `spawn` what makes a child.
+//!
 //! Entry: `to_end` in `src/run.rt`. Read first: `specs/Stands.antt`.
 #![tactic(auto)]
 
-mod ask;
-mod computed;
-mod copy;
-mod cut;
 mod error;
-mod execute;
 mod file_slots;
-mod files;
+mod instructions;
 mod keyed_outcome;
 mod law;
-mod local;
 mod machine;
-mod new_child;
-mod new_process;
 mod outcome;
 mod pages;
 mod process;
-mod program;
 mod ready;
-mod replies;
 mod run;
 mod schedule;
 mod spawn;
-mod spawn_request;
 mod start;
 mod step;
 mod tell;
 mod variable_slots;
-mod variables;
 
 pub use error::{RunStop, Stopped};
 pub use law::flags_law;

@@ -5,7 +5,7 @@ ghost use Rattle.std.specs.Option.{option_map};
 ghost use Rattle.proc_core.specs.Running.{has_ended};
 ghost use Rattle.proc_core.specs.inner.SlotReady.{marked, marked_parent, refreshed};
 
-use crate::local::status_in;
+use crate::instructions::local::status_in;
 use crate::machine::{Codes, Machine};
 use crate::process::SlotProcess;
 use crate::schedule::is_runnable;

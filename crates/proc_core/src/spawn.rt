@@ -1,5 +1,10 @@
 //! The step of a `spawn`: what is at its path, and what comes of that.
 
+mod new_child;
+pub(crate) mod new_process;
+mod program;
+pub(crate) mod spawn_request;
+
 ghost use Rattle.std.specs.Prelude.{◌≡◌, ◌+◌, ◌++◌, ◌∷◌, [], ◌<◌, Some, length, map, slice_get, slice_set};
 ghost use Rattle.std.specs.Prelude.{OnOk};
 ghost use Rattle.ldv_value.specs.Limits.{max_processes};
@@ -17,13 +22,13 @@ ghost use Rattle.proc_core.specs.inner.Slots.{slot_ended, slot_went_to};
 ghost use Rattle.proc_core.specs.Stands.{IsCore, AppendsEvents};
 ghost use Rattle.proc_core.specs.declared.process.SlotProcess.{SlotProcess};
 
-use crate::computed::BAD_PATH;
-use crate::local::end_at;
+use crate::instructions::computed::BAD_PATH;
+use crate::instructions::local::end_at;
 use crate::machine::Machine;
-use crate::new_child::make_child;
 use crate::process::SlotProcess;
-use crate::program::{Program, program_at};
-use crate::spawn_request::SpawnRequest;
+use crate::spawn::new_child::make_child;
+use crate::spawn::program::{Program, program_at};
+use crate::spawn::spawn_request::SpawnRequest;
 use crate::tell::{PathAct, Who, tell_path};
 use ldv_value::{Utf8, Values};
 use run_model::Tracer;

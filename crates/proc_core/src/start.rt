@@ -13,8 +13,8 @@ ghost use Rattle.proc_core.specs.inner.Slots.{Holds};
 ghost use Rattle.proc_core.specs.Stands.{HasStartScript, IsCore, IsStartScript};
 
 use crate::machine::{Codes, Machine};
-use crate::new_process::new_process;
 use crate::process::SlotProcess;
+use crate::spawn::new_process::new_process;
 use file_tree::Tree;
 use ldv_value::{Numbers, Parts, Utf8, Value, Values, Words};
 use ready_set::ReadySet;

@@ -4,8 +4,8 @@ use Rattle.ldv_value.specs.FileState.{FileState, has_room, rest_at, after_copy, 
 use Rattle.proc_core.specs.Types.{Act, Read, Wrote}
 use Rattle.run_model.specs.Core.{OpenFile}
 use Rattle.run_model.specs.StepBase.{wrong_kind, too_long_status}
-use Rattle.proc_core.specs.declared.copy.Copying.{Copying}
-use Rattle.proc_core.specs.declared.copy.Copying.TheVariants.{Misused, TooLong, Copied}
+use Rattle.proc_core.specs.declared.instructions.copy.Copying.{Copying}
+use Rattle.proc_core.specs.declared.instructions.copy.Copying.TheVariants.{Misused, TooLong, Copied}
 use Rattle.proc_core.specs.declared.process.SlotProcess.{SlotProcess}
 use Rattle.proc_core.specs.inner.Slots.{slot_ended, slot_went_on}
 use Rattle.proc_core.specs.inner.SlotFiles.{slot_at_place}

@@ -12,7 +12,7 @@ use Rattle.run_model.specs.StepVariables.{after_place}
 use Rattle.run_model.specs.StepVariables.{printed_line, exit_status}
 use Rattle.script_code.specs.declared.code.SlotOperand.{SlotOperand}
 use Rattle.script_code.specs.declared.code.SlotOperand.TheVariants.{Slot}
-use Rattle.proc_core.specs.declared.cut.CutParts.{CutParts}
+use Rattle.proc_core.specs.declared.instructions.cut.CutParts.{CutParts}
 use Rattle.proc_core.specs.declared.process.SlotProcess.{SlotProcess}
 use Rattle.proc_core.specs.inner.Slots.{slot_value, slot_values, slot_ended, slot_went_on, slot_went_to}
 use Rattle.proc_core.specs.inner.Slots.{slot_with_variable, slot_assign}

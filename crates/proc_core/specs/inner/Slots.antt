@@ -13,8 +13,8 @@ use Rattle.script_code.specs.declared.code.SlotOperand.{SlotOperand}
 use Rattle.script_code.specs.declared.code.SlotOperand.TheVariants.{Constant, Slot}
 use Rattle.script_code.specs.declared.code.Scope.{Scope}
 pub use Rattle.proc_core.specs.inner.Paged.{flatten_option}
-use Rattle.proc_core.specs.declared.computed.Computed.{Computed as Result}
-use Rattle.proc_core.specs.declared.computed.Computed.TheVariants as results
+use Rattle.proc_core.specs.declared.instructions.computed.Computed.{Computed as Result}
+use Rattle.proc_core.specs.declared.instructions.computed.Computed.TheVariants as results
 use Rattle.proc_core.specs.declared.process.SlotCursor.{SlotCursor}
 use Rattle.proc_core.specs.declared.process.SlotProcess.{SlotProcess}
 
