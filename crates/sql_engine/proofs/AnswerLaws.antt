@@ -1,6 +1,6 @@
 -- The rows of cores and of a query represent those of the definitions.
 use Rattle.std.proofs.Common.{◌≡◌, ◌∙◌, sym, ap, subst, refl, ℕ, List, [], ◌∷◌, ◌++◌, map, Bool, true, false, Option, Some, None, arith, zero, suc}
-use Rattle.std.specs.Prelude.{if◌then◌else◌, not, ◌+◌, ◌<◌, drop, length, slice_get, is_some, IsTrue}
+use Rattle.std.specs.Prelude.{if◌then◌else◌, not, ◌+◌, ◌<◌, ◌≤◌, drop, length, slice_get, is_some, IsTrue}
 use Rattle.std.specs.List.{flat_map}
 use Rattle.std.specs.FinMap.{empty}
 use Rattle.std.proofs.lemmas.List.{append-nil, append_assoc}
@@ -20,12 +20,13 @@ use Rattle.query_eval.specs.Projecting.{IsProjected}
 use Rattle.query_eval.specs.StoredSources.{table_names}
 use Rattle.query_eval.specs.declared.order_limit.Finished.{Finished}
 use Rattle.sql_engine.proofs.StoreLaws.{tell_versions}
-use Rattle.sql_engine.specs.inner.Answering.{IsKept, AreRows, IsEvaluated, IsAsked, IsCore, AreUnited, AreAll, hidden_lineage, IsHidden, IsAnswer, IsAnswered, values_of}
+use Rattle.sql_engine.proofs.UnionLaws.{united_once}
+use Rattle.sql_engine.specs.inner.Answering.{IsKept, AreRows, IsEvaluated, IsAsked, IsCore, merges_later, AreUnited, AreAll, hidden_lineage, IsHidden, IsAnswer, IsAnswered, values_of}
 use Rattle.sql_engine.specs.Types.{Answer, Checked, Core, Pick, Query, StoreHistory, Table, TheQuery}
 use Rattle.sql_engine.specs.declared.answer.QueryAnswer.{QueryAnswer}
 use Rattle.sql_engine.specs.declared.cores.CoreRows.{CoreRows}
 use Rattle.sql_model.specs.Needs.{sums_up}
-use Rattle.sql_model.specs.QueryAnswer.{Origin, AnswerRow, once, union_answers, rows_in_scope, rejected_in_scope, picked, core_rows, union_rows, rejected, answer, cut, lineage_of, limit_of, merge}
+use Rattle.sql_model.specs.QueryAnswer.{Origin, AnswerRow, once, rows_in_scope, rejected_in_scope, picked, core_rows, union_rows, rejected, answer, cut, lineage_of, limit_of, merge}
 use Rattle.sql_model.specs.Refusals.{groups, cores_of}
 use Rattle.sql_model.specs.Scope.{catalog_of, scope_of}
 use Rattle.table_store.specs.Histories.{tables_now}
@@ -105,21 +106,15 @@ module _ (store : StoreHistory) (keep : Bool) (now after : List AnswerRow) (hidd
   appended : AnswersStandFor names (versions_now store) keep (rows.answers ++ more.answers) (now ++ after)
   appended = answers-append names (versions_now store) keep rows.answers more.answers now after first.answers second.answers
 
-  once_united : (all : Bool) → once (not all) (now ++ after) ≡ union_answers all now after
-  once_united true = refl
-  once_united false = refl
-
-  pub united_is : (all : Bool) (made : List Answer)
+  pub united_is : (merges : Bool) (made : List Answer)
       → ((names : List (List ℕ)) (versions : List ℕ → ℕ → ℕ) (keep : Bool) (now : List AnswerRow)
       → AnswersStandFor names versions keep (rows.answers ++ more.answers) now
-      → AnswersStandFor names versions keep made (once (not all) now))
-      → AreRows store keep (union_answers all now after) (hidden ++ others) (record { answers = made; rejected = set })
-  united_is all made merged =
-      subst (λ (l : List AnswerRow). AreRows store keep l (hidden ++ others) (record { answers = made; rejected = set })) (once_united all)
-      (record {
-        answers = merged names (versions_now store) keep (now ++ after) appended;
-        rejected = both_rejected;
-      })
+      → AnswersStandFor names versions keep made (once merges now))
+      → AreRows store keep (once merges (now ++ after)) (hidden ++ others) (record { answers = made; rejected = set })
+  united_is merges made merged = record {
+    answers = merged names (versions_now store) keep (now ++ after) appended;
+    rejected = both_rejected;
+  }
 
 module _ (store : StoreHistory) (keep : Bool) where
   pub united_start : (core : Core) (others : List Core) (rows : CoreRows)
@@ -133,18 +128,19 @@ module _ (store : StoreHistory) (keep : Bool) where
     same_hidden = refl;
   }
 
-  pub united_step : (all left : List Core) (core : Core) (rows more made : CoreRows)
+  pub united_step : (all left : List Core) (core : Core) (rows more made : CoreRows) (merges : Bool) (place merged : ℕ)
       → AreUnited store keep all (core ∷ left) rows
       → AreRows store keep (core_rows (tables_now store) core) (rejected (tables_now store) core) more
       → ((store : StoreHistory) (keep : Bool) (now after : List AnswerRow) (hidden others : List Origin)
       → AreRows store keep now hidden rows → AreRows store keep after others more
-      → AreRows store keep (union_answers core.joined_all now after) (hidden ++ others) made)
+      → AreRows store keep (once merges (now ++ after)) (hidden ++ others) made)
+      → (merged ≤ place → merges ≡ not core.joined_all) → (place < merged → merges_later left ≡ true)
       → AreUnited store keep all left made
-  united_step all left core rows more made old are joined = record {
-    rows = union_answers core.joined_all old.rows (core_rows (tables_now store) core);
+  united_step all left core rows more made merges place merged old are joined choice later = record {
+    rows = once merges (old.rows ++ core_rows (tables_now store) core);
     hidden = old.hidden ++ rejected (tables_now store) core;
     are = joined store keep old.rows (core_rows (tables_now store) core) old.hidden (rejected (tables_now store) core) old.are are;
-    same_rows = old.same_rows;
+    same_rows = united_once (tables_now store) core left old.rows merges place merged choice later ∙ old.same_rows;
     same_hidden = append_assoc old.hidden (rejected (tables_now store) core) (flat_map (rejected (tables_now store)) left) ∙ old.same_hidden;
   }
 

@@ -7,3 +7,4 @@ pub mod Named
 pub mod NeedLaws
 pub mod PlaceLaws
 pub mod StoreLaws
+pub mod UnionLaws

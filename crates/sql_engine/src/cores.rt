@@ -1,12 +1,13 @@
 //! The rows of the cores of a query.
 
-ghost use Rattle.std.specs.Prelude.{◌≡◌, ◌∷◌, ◌++◌, List as Items, ℕ, Bool, not, IfOk};
+ghost use Rattle.std.specs.Prelude.{◌≡◌, ◌≤◌, ◌<◌, ◌∷◌, ◌++◌, List as Items, ℕ, Bool, true, not, drop, IfOk};
+ghost use Rattle.std.specs.Prelude.{if◌then◌else◌};
 ghost use Rattle.lineage.specs.Rows.{AnswersStandFor};
 ghost use Rattle.sql_model.specs.Needs.{Versions};
 ghost use Rattle.core_parts.specs.Checking.{HasCore, IsQuery};
-ghost use Rattle.sql_engine.specs.inner.Answering.{AreRows, IsEvaluated, IsCore, AreAll};
+ghost use Rattle.sql_engine.specs.inner.Answering.{AreRows, IsEvaluated, IsCore, AreAll, merges_later};
 ghost use Rattle.sql_engine.specs.Types.{StoreHistory};
-ghost use Rattle.sql_model.specs.QueryAnswer.{Origin, AnswerRow, once, union_answers};
+ghost use Rattle.sql_model.specs.QueryAnswer.{Origin, AnswerRow, once};
 ghost use Rattle.sql_model.specs.Refusals.{cores_of};
 
 use core_parts::{core_of, query_of};
@@ -87,30 +88,72 @@ fn append_answers(answers: Answers, more: Answers) -> Result<Answers, AllocError
     Ok(made)
 }
 
-// Rows of the same values as one, where UNION without ALL wants it.
-fn merged_unless(all: bool, answers: Answers) -> Result<Answers, AllocError>
+// Rows of the same values as one, where they are to be merged.
+fn merged_if(merges: bool, answers: Answers) -> Result<Answers, AllocError>
     ensures { IfOk result (λ made. (names : Items (Items ℕ)) (versions : Versions) (keep : Bool)
         (rows : Items AnswerRow) → AnswersStandFor names versions keep answers rows
-        → AnswersStandFor names versions keep made (once (not all) rows)) }
+        → AnswersStandFor names versions keep made (once merges rows)) }
 {
-    if all { Ok(answers) } else { merge(answers) }
+    if merges { merge(answers) } else { Ok(answers) }
 }
 
-// UNION ALL appends the rows; UNION without ALL then merges rows of the same values.
-fn unite_rows(all: bool, rows: CoreRows, more: CoreRows) -> Result<CoreRows, AllocError>
+// Appends rows to others, and merges rows of the same values then, where they are to be merged.
+fn unite_rows(merges: bool, rows: CoreRows, more: CoreRows) -> Result<CoreRows, AllocError>
     ensures { IfOk result (λ made. (store : StoreHistory) (keep : Bool) (now after : Items AnswerRow)
         (hidden others : Items Origin) → AreRows store keep now hidden rows
         → AreRows store keep after others more
-        → AreRows store keep (union_answers all now after) (hidden ++ others) made) }
+        → AreRows store keep (once merges (now ++ after)) (hidden ++ others) made) }
 {
     let CoreRows { answers, rejected } = rows;
     let mut set = rejected;
     set.union(&more.rejected)?;
     let both = append_answers(answers, more.answers)?;
     Ok(CoreRows {
-        answers: merged_unless(all, both)?,
+        answers: merged_if(merges, both)?,
         rejected: set,
     })
+}
+
+// How many cores there are up to the last before which UNION without ALL stands.
+fn count_merged(cores: &[Core]) -> usize
+    ensures { (place : ℕ) → place < result → merges_later (drop place cores.now) ≡ true }
+{
+    let mut count = 0;
+    let mut place = 0;
+    for core in cores {
+        place += 1;
+        count = count_with(core, place, count);
+    }
+    count
+}
+
+// The count, or the place after a core before which UNION without ALL stands.
+fn count_with(core: &Core, after: usize, count: usize) -> usize
+    ensures { result ≡ (if core.now.joined_all then count else after) }
+{
+    if core.joined_all { count } else { after }
+}
+
+// Whether rows are merged with those of a core. After the first `merged` cores UNION without ALL does it.
+// Among these nothing is lost if they wait for the last one, so they are merged where they are many.
+fn merges_here(core: &Core, place: usize, merged: usize, are_many: bool) -> bool
+    ensures { merged ≤ place → result ≡ not core.now.joined_all }
+{
+    if place < merged {
+        are_many
+    } else {
+        !core.joined_all
+    }
+}
+
+// Whether there are twice as many rows as after the last merging, or more.
+fn are_many(rows: &CoreRows, more: &CoreRows, settled: usize) -> bool {
+    rows.answers.len().saturating_add(more.answers.len()) / 2 >= settled
+}
+
+// How many rows there were after the last merging.
+fn settled_after(merges: bool, settled: usize, rows: &CoreRows) -> usize {
+    if merges { rows.answers.len() } else { settled }
 }
 
 // The rows of the first core and of others, united from the left.
@@ -124,11 +167,15 @@ fn rows_from(
     requires { cores_of checked.now.statement ≡ first.now ∷ others.now }
     ensures { IfOk result (AreAll checked.now store.now keep) }
 {
+    let merged = count_merged(others);
     let mut rows = core_rows(checked, 0, store, keep)?;
+    let mut settled = rows.answers.len();
     let mut place = 1;
     for core in others {
         let more = core_rows(checked, place, store, keep)?;
-        rows = unite_rows(core.joined_all, rows, more)?;
+        let merges = merges_here(core, place, merged, are_many(&rows, &more, settled));
+        rows = unite_rows(merges, rows, more)?;
+        settled = settled_after(merges, settled, &rows);
         place += 1;
     }
     Ok(rows)

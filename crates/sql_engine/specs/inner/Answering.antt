@@ -1,6 +1,7 @@
 -- The answer of a checked query over the tables that a store has now.
-use Rattle.std.specs.Prelude.{◌≡◌, ℕ, List, [], ◌∷◌, ◌++◌, map, Bool, true, false, cond, Some, if◌then◌else◌}
-use Rattle.std.specs.List.{flat_map}
+use Rattle.std.specs.Prelude.{◌≡◌, ℕ, List, [], ◌∷◌, ◌++◌, map, Bool, true, false, cond, not, Some}
+use Rattle.std.specs.Prelude.{if◌then◌else◌}
+use Rattle.std.specs.List.{flat_map, list_any}
 use Rattle.core_parts.specs.Checking.{core_at, IsChecked, WasChecked}
 use Rattle.dml_versions.specs.Versions.{versions_now}
 use Rattle.lineage.specs.Lineage.{Lineage, IsUnion}
@@ -54,6 +55,10 @@ IsCore checked place store keep made =
     → IsAsked checked store query
     → core_at checked place ≡ Some core
     → AreRows store keep (core_rows (tables_now store) core) (rejected (tables_now store) core) made
+
+-- UNION without ALL stands before one of the cores
+abbrev pub merges_later : List Core → Bool
+merges_later cores = list_any (λ core. not core.joined_all) cores
 
 -- rows of some cores, from which those of all cores come by uniting them with those of the cores that are
 -- left

@@ -2,7 +2,7 @@ use Rattle.std.proofs.Common.{◌≡◌, ◌∷◌, [], ◌+◌, ◌∙◌, ap, 
 use Rattle.std.specs.Prelude.{slice_get, is_some, IsTrue}
 use Rattle.std.proofs.lemmas.List.{drop_all}
 use Rattle.ldv_value.proofs.Places.{drop_item}
-use Rattle.sql_engine.specs.inner.Answering.{AreUnited, AreRows}
+use Rattle.sql_engine.specs.inner.Answering.{AreUnited, AreRows, merges_later}
 use Rattle.sql_engine.specs.Types.{Core}
 use Rattle.sql_engine.proofs.AnswerLaws.{all_rows, asked_cores, next_core, united_start, united_step, united_end}
 use Rattle.sql_model.specs.Refusals.{cores_of}
@@ -32,8 +32,10 @@ loop-core-preserved c =
     let at = next_core (cores_of c.args.checked.now.statement) others c.args.first.now item c.loop-core.place i (drop (i + 1) others) c.requires c.loop-core.invariant.0 split in (
       ap (λ n. n + 1) c.loop-core.invariant.0,
       λ query asked. united_step c.args.store.now c.args.keep (c.args.first.now ∷ others) (drop (i + 1) others) item c.loop-core.rows c.in_ok-more.more c.in_ok-rows-2.rows
+          c.merges_here-merges.result c.loop-core.place c.count_merged-merged.result
           (subst (λ (l : List Core). AreUnited c.args.store.now c.args.keep (c.args.first.now ∷ others) l c.loop-core.rows) split (c.loop-core.invariant.1 query asked))
-          (c.in_ok-more.ensures query item asked at) c.in_ok-rows-2.ensures,
+          (c.in_ok-more.ensures query item asked at) c.in_ok-rows-2.ensures c.merges_here-merges.ensures
+          (λ before. ap (λ n. merges_later (drop n others)) (sym c.loop-core.invariant.0) ∙ c.count_merged-merged.ensures c.loop-core.place before),
     )
 
 pub returns : goal.returns
