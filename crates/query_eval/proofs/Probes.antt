@@ -10,7 +10,7 @@ use Rattle.core_parts.proofs.Equalities.{equals-turned}
 use Rattle.core_parts.proofs.Places.{placed-more}
 use Rattle.core_parts.specs.Placing.{AreAllPlaced}
 use Rattle.core_parts.specs.Equality.{equals}
-use Rattle.query_eval.specs.inner.Joining.{tests, all_equal, are_tied, values_before, values_here, AreTies, AreTiesWith, IsBetween, IsEquality, IsProbeOf}
+use Rattle.query_eval.specs.inner.Joining.{tests, are_all_equal, are_tied, values_before, values_here, AreTies, AreTiesWith, IsBetween, IsEquality, IsProbeOf}
 use Rattle.query_eval.specs.Sources.{joined_row_values}
 use Rattle.query_eval.specs.Types.{ColumnName, Compare, Expr, Null, Value}
 use Rattle.core_parts.specs.declared.placed.BoundExpr.{BoundExpr}
@@ -82,13 +82,13 @@ regroup true false false r = refl
 regroup false o t r = refl
 
 equal_more : (ties : List Probe) (tie : Probe) (a b : List Value)
-    → all_equal (values_before (ties ++ tie ∷ []) a) (values_here (ties ++ tie ∷ []) b)
-    ≡ (all_equal (values_before ties a) (values_here ties b) && equals (value_at a tie.from) (value_at b tie.place))
+    → are_all_equal (values_before (ties ++ tie ∷ []) a) (values_here (ties ++ tie ∷ []) b)
+    ≡ (are_all_equal (values_before ties a) (values_here ties b) && equals (value_at a tie.from) (value_at b tie.place))
 equal_more [] tie a b = and-true (equals (value_at a tie.from) (value_at b tie.place))
 equal_more (t ∷ ties) tie a b =
     let here : Bool = equals (value_at a t.from) (value_at b t.place) in
     ap (λ e. here && e) (equal_more ties tie a b)
-    ∙ sym (and-assoc here (all_equal (values_before ties a) (values_here ties b)) (equals (value_at a tie.from) (value_at b tie.place)))
+    ∙ sym (and-assoc here (are_all_equal (values_before ties a) (values_here ties b)) (equals (value_at a tie.from) (value_at b tie.place)))
 
 pub tie_added : (conds : List BoundExpr) (n : ℕ) (ties new : List Probe) (others left : List BoundExpr) (cond : BoundExpr) (probe : Probe)
     → IsProbeOf cond n probe → new ≡ ties ++ probe ∷ [] → AreTiesWith conds n ties others (cond ∷ left) → AreTiesWith conds n new others left

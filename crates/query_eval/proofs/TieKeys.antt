@@ -14,7 +14,7 @@ use Rattle.core_parts.specs.Equality.{equals}
 use Rattle.core_parts.specs.declared.refs_by.RefsBy.{RefsBy}
 use Rattle.query_eval.proofs.Tying.{equals_tied, equals_null, null_equals}
 use Rattle.query_eval.specs.Types.{Value, Null, Int, Text}
-use Rattle.query_eval.specs.inner.Joining.{known, known_values, key_of, TieValues, tie_order, all_equal, values_before, values_here, with_values, rows_listed, IsIndex}
+use Rattle.query_eval.specs.inner.Joining.{non_null, known_values, key_of, TieValues, tie_order, are_all_equal, values_before, values_here, with_values, rows_listed, IsIndex}
 use Rattle.query_eval.specs.Sources.{joined_row_values}
 use Rattle.query_eval.specs.declared.probe.Probe.{Probe}
 use Rattle.query_eval.specs.declared.source.SourceRow.{SourceRow}
@@ -24,7 +24,7 @@ use Rattle.sql_model.specs.Meaning.{is_null}
 
 abbrev pub known_onto : List Value → List Value → Option (List Value)
 known_onto made [] = Some made
-known_onto made (v ∷ vs) = option_and_then (λ w. known_onto (made ++ w ∷ []) vs) (known v)
+known_onto made (v ∷ vs) = option_and_then (λ w. known_onto (made ++ w ∷ []) vs) (non_null v)
 
 -- what is made stands before the rest
 moved_one : (made : List Value) (w : Value) (o : Option (List Value)) → option_map (λ ws. (made ++ w ∷ []) ++ ws) o ≡ option_map (λ ws. made ++ ws) (option_map (λ ws. w ∷ ws) o)
@@ -38,7 +38,7 @@ onto_first vs made rest (Some w) = rest w ∙ moved_one made w (known_values vs)
 
 onto_made : (vs made : List Value) → known_onto made vs ≡ option_map (λ ws. made ++ ws) (known_values vs)
 onto_made [] made = ap Some (sym (append-nil made))
-onto_made (v ∷ vs) made = onto_first vs made (λ w. onto_made vs (made ++ w ∷ [])) (known v)
+onto_made (v ∷ vs) made = onto_first vs made (λ w. onto_made vs (made ++ w ∷ [])) (non_null v)
 
 pub known_onto_none : (vs : List Value) → known_onto [] vs ≡ known_values vs
 known_onto_none vs = onto_made vs [] ∙ same (known_values vs)
@@ -48,17 +48,17 @@ known_onto_none vs = onto_made vs [] ∙ same (known_values vs)
     same (Some ws) = refl
 
 -- there is no value past the end of a row
-pub known_missing : (v : Value) → Null ≡ v → None ≡ known v
-known_missing v is = ap known is
+pub known_missing : (v : Value) → Null ≡ v → None ≡ non_null v
+known_missing v is = ap non_null is
 
 -- ---- what is known
 
-known_is : (v w : Value) → known v ≡ Some w → (v ≡ w) × (is_null v ≡ false)
+known_is : (v w : Value) → non_null v ≡ Some w → (v ≡ w) × (is_null v ≡ false)
 known_is Null w is = cc
 known_is (Int n) w is = let same : Int n ≡ w = cc in (same, refl)
 known_is (Text t) w is = let same : Text t ≡ w = cc in (same, refl)
 
-known_none : (v : Value) → known v ≡ None → is_null v ≡ true
+known_none : (v : Value) → non_null v ≡ None → is_null v ≡ true
 known_none Null is = refl
 known_none (Int n) is = cc
 known_none (Text t) is = cc
@@ -90,13 +90,13 @@ module _ {A : Type 0} (make : Value → List Value → A) where
 known_exact : (vs ws : List Value) → known_values vs ≡ Some ws → ws ≡ vs
 known_exact [] ws is = cc
 known_exact (v ∷ vs) ws is =
-    let it = parts (λ w ws. w ∷ ws) (known v) (known_values vs) ws is in
+    let it = parts (λ w ws. w ∷ ws) (non_null v) (known_values vs) ws is in
     sym it.made ∙ (λ j. sym (known_is v it.first it.first_is).0 j ∷ known_exact vs it.others it.others_are j)
 
 pub key_exact : (vs : List Value) (key : TieValues) → key_of vs ≡ Some key → key.0 ∷ key.1 ≡ vs
 key_exact [] key is = cc
 key_exact (v ∷ vs) key is =
-    let it = parts (λ w ws. (w, ws)) (known v) (known_values vs) key is in
+    let it = parts (λ w ws. (w, ws)) (non_null v) (known_values vs) key is in
     ap (λ (l : TieValues). l.0 ∷ l.1) (sym it.made) ∙ (λ j. sym (known_is v it.first it.first_is).0 j ∷ known_exact vs it.others it.others_are j)
 
 -- ---- equal values are a tie in the order
@@ -106,59 +106,59 @@ then_eq Less b = refl
 then_eq Equal b = refl
 then_eq Greater b = refl
 
-first_tied : (v w k : Value) → known w ≡ Some k → equals v w ≡ is_eq (order k v)
+first_tied : (v w k : Value) → non_null w ≡ Some k → equals v w ≡ is_eq (order k v)
 first_tied v w k is = let known_so = known_is w k is in equals_tied v w known_so.1 ∙ ap (λ (x : Value). is_eq (order x v)) known_so.0
 
-all_tied : (ws ks : List Value) → known_values ws ≡ Some ks → (vs : List Value) → all_equal vs ws ≡ is_eq (slice_cmp order ks vs)
+all_tied : (ws ks : List Value) → known_values ws ≡ Some ks → (vs : List Value) → are_all_equal vs ws ≡ is_eq (slice_cmp order ks vs)
 all_tied [] ks is [] = let same : [] ≡ ks = cc in ap (λ (l : List Value). is_eq (slice_cmp order l [])) same
 all_tied [] ks is (v ∷ vs) = let same : [] ≡ ks = cc in ap (λ (l : List Value). is_eq (slice_cmp order l (v ∷ vs))) same
 all_tied (w ∷ ws) ks is [] =
-    let it = parts (λ w ws. w ∷ ws) (known w) (known_values ws) ks is in
+    let it = parts (λ w ws. w ∷ ws) (non_null w) (known_values ws) ks is in
     ap (λ (l : List Value). is_eq (slice_cmp order l [])) it.made
 all_tied (w ∷ ws) ks is (v ∷ vs) =
-    let it = parts (λ w ws. w ∷ ws) (known w) (known_values ws) ks is in
+    let it = parts (λ w ws. w ∷ ws) (non_null w) (known_values ws) ks is in
     (λ j. first_tied v w it.first it.first_is j && all_tied ws it.others it.others_are vs j)
     ∙ sym (then_eq (order it.first v) (slice_cmp order it.others vs))
     ∙ ap (λ (l : List Value). is_eq (slice_cmp order l (v ∷ vs))) it.made
 
 pub key_tied : (ws : List Value) (own : TieValues) → key_of ws ≡ Some own → (key : TieValues)
-    → all_equal (key.0 ∷ key.1) ws ≡ is_eq (tie_order own key)
+    → are_all_equal (key.0 ∷ key.1) ws ≡ is_eq (tie_order own key)
 key_tied [] own is key = cc
 key_tied (w ∷ ws) own is key =
-    let it = parts (λ w ws. (w, ws)) (known w) (known_values ws) own is in
+    let it = parts (λ w ws. (w, ws)) (non_null w) (known_values ws) own is in
     (λ j. first_tied key.0 w it.first it.first_is j && all_tied ws it.others it.others_are key.1 j)
     ∙ sym (then_eq (order it.first key.0) (slice_cmp order it.others key.1))
     ∙ ap (λ (l : TieValues). is_eq (tie_order l key)) it.made
 
 -- ---- NULL equals nothing
 
-none_equal : (ws : List Value) → known_values ws ≡ None → (vs : List Value) → all_equal vs ws ≡ false
+none_equal : (ws : List Value) → known_values ws ≡ None → (vs : List Value) → are_all_equal vs ws ≡ false
 none_equal [] is vs = cc
 none_equal (w ∷ ws) is [] = refl
-none_equal (w ∷ ws) is (v ∷ vs) = missing (λ w ws. w ∷ ws) (all_equal (v ∷ vs) (w ∷ ws) ≡ false) (known w) (known_values ws) is
-    (λ first. ap (λ b. b && all_equal vs ws) (equals_null v w (known_none w first)))
+none_equal (w ∷ ws) is (v ∷ vs) = missing (λ w ws. w ∷ ws) (are_all_equal (v ∷ vs) (w ∷ ws) ≡ false) (non_null w) (known_values ws) is
+    (λ first. ap (λ b. b && are_all_equal vs ws) (equals_null v w (known_none w first)))
     (λ others. ap (λ b. equals v w && b) (none_equal ws others vs) ∙ and-false (equals v w))
 
-pub no_key : (ws : List Value) → key_of ws ≡ None → (key : TieValues) → all_equal (key.0 ∷ key.1) ws ≡ false
+pub no_key : (ws : List Value) → key_of ws ≡ None → (key : TieValues) → are_all_equal (key.0 ∷ key.1) ws ≡ false
 no_key [] is key = refl
-no_key (w ∷ ws) is key = missing (λ w ws. (w, ws)) (all_equal (key.0 ∷ key.1) (w ∷ ws) ≡ false) (known w) (known_values ws) is
-    (λ first. ap (λ b. b && all_equal key.1 ws) (equals_null key.0 w (known_none w first)))
+no_key (w ∷ ws) is key = missing (λ w ws. (w, ws)) (are_all_equal (key.0 ∷ key.1) (w ∷ ws) ≡ false) (non_null w) (known_values ws) is
+    (λ first. ap (λ b. b && are_all_equal key.1 ws) (equals_null key.0 w (known_none w first)))
     (λ others. ap (λ b. equals key.0 w && b) (none_equal ws others key.1) ∙ and-false (equals key.0 w))
 
-nothing_equal : (vs : List Value) → known_values vs ≡ None → (ws : List Value) → all_equal vs ws ≡ false
+nothing_equal : (vs : List Value) → known_values vs ≡ None → (ws : List Value) → are_all_equal vs ws ≡ false
 nothing_equal [] is ws = cc
 nothing_equal (v ∷ vs) is [] = refl
-nothing_equal (v ∷ vs) is (w ∷ ws) = missing (λ w ws. w ∷ ws) (all_equal (v ∷ vs) (w ∷ ws) ≡ false) (known v) (known_values vs) is
-    (λ first. ap (λ b. b && all_equal vs ws) (null_equals v w (known_none v first)))
+nothing_equal (v ∷ vs) is (w ∷ ws) = missing (λ w ws. w ∷ ws) (are_all_equal (v ∷ vs) (w ∷ ws) ≡ false) (non_null v) (known_values vs) is
+    (λ first. ap (λ b. b && are_all_equal vs ws) (null_equals v w (known_none v first)))
     (λ others. ap (λ b. equals v w && b) (nothing_equal vs others ws) ∙ and-false (equals v w))
 
-no_key_equal : (v : Value) (vs : List Value) → key_of (v ∷ vs) ≡ None → (ws : List Value) → all_equal (v ∷ vs) ws ≡ false
+no_key_equal : (v : Value) (vs : List Value) → key_of (v ∷ vs) ≡ None → (ws : List Value) → are_all_equal (v ∷ vs) ws ≡ false
 no_key_equal v vs is [] = refl
-no_key_equal v vs is (w ∷ ws) = missing (λ w ws. (w, ws)) (all_equal (v ∷ vs) (w ∷ ws) ≡ false) (known v) (known_values vs) is
-    (λ first. ap (λ b. b && all_equal vs ws) (null_equals v w (known_none v first)))
+no_key_equal v vs is (w ∷ ws) = missing (λ w ws. (w, ws)) (are_all_equal (v ∷ vs) (w ∷ ws) ≡ false) (non_null v) (known_values vs) is
+    (λ first. ap (λ b. b && are_all_equal vs ws) (null_equals v w (known_none v first)))
     (λ others. ap (λ b. equals v w && b) (nothing_equal vs others ws) ∙ and-false (equals v w))
 
-none_with : (ties : List Probe) (vs : List Value) → ((ws : List Value) → all_equal vs ws ≡ false) → (rows : List SourceRow) → [] ≡ with_values ties vs rows
+none_with : (ties : List Probe) (vs : List Value) → ((ws : List Value) → are_all_equal vs ws ≡ false) → (rows : List SourceRow) → [] ≡ with_values ties vs rows
 none_with ties vs none [] = refl
 none_with ties vs none (row ∷ rows) = rw (none (values_here ties row.values)) (none_with ties vs none rows)
 

@@ -3,7 +3,7 @@
 ghost use Rattle.std.specs.Prelude.{◌≡◌, ◌++◌, ◌∷◌, [], List as Items, IfOk, OnOk, option_and_then, unwrap_or};
 ghost use Rattle.std.specs.Option.{option_map, option_map_or};
 ghost use Rattle.query_eval.specs.inner.Joining.{rows_listed, with_values, values_before, values_here};
-ghost use Rattle.query_eval.specs.inner.Joining.{known, known_values, key_of, TieValues, IsIndex};
+ghost use Rattle.query_eval.specs.inner.Joining.{non_null, known_values, key_of, TieValues, IsIndex};
 ghost use Rattle.query_eval.specs.Sources.{joined_row_values};
 ghost use Rattle.query_eval.specs.Types.{Null};
 ghost use Rattle.query_eval.specs.declared.source.SourceRow.{SourceRow as Given};
@@ -22,16 +22,16 @@ pub(crate) type TieKey<'a> = (Key<'a, Value>, Keys<'a>);
 
 type RowsByKey<'a> = RefsBy<'a, TieKey<'a>, SourceRow>;
 
-/// Rows by their values in some columns. Those of the same values are in their order. A row with NULL in one of
-/// these columns isn't there.
+/// Rows by their values in some columns. Those of the same values are in their order. A row with NULL in one
+/// of these columns isn't there.
 #[derive(Drop)]
 pub(crate) struct Index<'a> {
     map: RowsByKey<'a>,
 }
 
 // A value, unless it is NULL.
-fn known(value: &Value) -> Option<&Value>
-    ensures { option_map (λ v. v.now) result ≡ known value.now }
+fn non_null(value: &Value) -> Option<&Value>
+    ensures { option_map (λ v. v.now) result ≡ non_null value.now }
 {
     match value {
         Value::Null => None,
@@ -42,11 +42,11 @@ fn known(value: &Value) -> Option<&Value>
 
 // The value of a row at a place, unless it is NULL.
 fn known_at(row: &Values, place: usize) -> Option<&Value>
-    ensures { option_map (λ v. v.now) result ≡ known (value_at row.now place) }
+    ensures { option_map (λ v. v.now) result ≡ non_null (value_at row.now place) }
 {
     match row.get(place) {
         None => None,
-        Some(value) => known(value),
+        Some(value) => non_null(value),
     }
 }
 
@@ -158,11 +158,11 @@ fn value_of<'a>(prefix: &Refs<'a, SourceRow>, place: usize) -> Option<&'a Value>
 // The value at a place of a joined row, unless it is NULL.
 #[tactic(auto, using(crate::proofs::TieKeys::known_missing))]
 fn known_of<'a>(prefix: &Refs<'a, SourceRow>, place: usize) -> Option<&'a Value>
-    ensures { option_map (λ v. v.now) result ≡ known (value_at (joined_row_values prefix.now) place) }
+    ensures { option_map (λ v. v.now) result ≡ non_null (value_at (joined_row_values prefix.now) place) }
 {
     match value_of(prefix, place) {
         None => None,
-        Some(value) => known(value),
+        Some(value) => non_null(value),
     }
 }
 

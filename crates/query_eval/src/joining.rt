@@ -190,8 +190,8 @@ fn scan_level<'a>(
     Ok(made)
 }
 
-// Adds what a prefix gives with the rows that are looked up. `rows` and `ties` are those by which the index was
-// made.
+// Adds what a prefix gives with the rows that are looked up. `rows` and `ties` are those by which the index
+// was made.
 fn extend_found<'a>(
     alloc: Global,
     made: &mut Combinations<'a>,

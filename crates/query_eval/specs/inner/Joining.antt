@@ -77,20 +77,20 @@ abbrev pub values_here : List Probe → List Value → List Value
 values_here ties values = map (λ tie. value_at values tie.place) ties
 
 -- value by value; NULL equals nothing
-abbrev pub all_equal : List Value → List Value → Bool
-all_equal [] [] = true
-all_equal [] (w ∷ ws) = false
-all_equal (v ∷ vs) [] = false
-all_equal (v ∷ vs) (w ∷ ws) = equals v w && all_equal vs ws
+abbrev pub are_all_equal : List Value → List Value → Bool
+are_all_equal [] [] = true
+are_all_equal [] (w ∷ ws) = false
+are_all_equal (v ∷ vs) [] = false
+are_all_equal (v ∷ vs) (w ∷ ws) = equals v w && are_all_equal vs ws
 
 -- each tie holds between some rows and a row after them
 abbrev pub are_tied : List Probe → List SourceRow → SourceRow → Bool
 are_tied ties p row =
-    all_equal (values_before ties (joined_row_values p)) (values_here ties row.values)
+    are_all_equal (values_before ties (joined_row_values p)) (values_here ties row.values)
 
 -- the rows of which the columns equal values
 abbrev pub with_values : List Probe → List Value → List SourceRow → List SourceRow
-with_values ties vs rows = filter (λ row. all_equal vs (values_here ties row.values)) rows
+with_values ties vs rows = filter (λ row. are_all_equal vs (values_here ties row.values)) rows
 
 -- the condition is that a column of a row after n values equals a column before
 abbrev pub IsProbeOf : BoundExpr → ℕ → Probe → Type 0
@@ -143,15 +143,15 @@ IsBetween a b n probe =
 -- ---- keys
 
 -- a value that isn't NULL
-abbrev pub known : Value → Option Value
-known Null = None
-known (Int n) = Some (Int n)
-known (Text t) = Some (Text t)
+abbrev pub non_null : Value → Option Value
+non_null Null = None
+non_null (Int n) = Some (Int n)
+non_null (Text t) = Some (Text t)
 
 -- values of which none is NULL
 abbrev pub known_values : List Value → Option (List Value)
 known_values [] = Some []
-known_values (v ∷ vs) = option_and_then (λ w. option_map (λ ws. w ∷ ws) (known_values vs)) (known v)
+known_values (v ∷ vs) = option_and_then (λ w. option_map (λ ws. w ∷ ws) (known_values vs)) (non_null v)
 
 -- a first value, and others
 abbrev pub TieValues : Type 0
@@ -163,7 +163,7 @@ tie_order a b = ordering_then (order a.0 b.0) (slice_cmp order a.1 b.1)
 -- the key of values of which none is NULL
 abbrev pub key_of : List Value → Option TieValues
 key_of [] = None
-key_of (v ∷ vs) = option_and_then (λ w. option_map (λ ws. (w, ws)) (known_values vs)) (known v)
+key_of (v ∷ vs) = option_and_then (λ w. option_map (λ ws. (w, ws)) (known_values vs)) (non_null v)
 
 -- the rows that a map has under a key
 abbrev pub rows_listed : RefsBy TieValues SourceRow → TieValues → List SourceRow
