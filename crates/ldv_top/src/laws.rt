@@ -1,4 +1,5 @@
-//! The laws of the program. Their functions have no bodies: the contracts are the theorems.
+//! The laws of commands: the contract of each function is a theorem, and its body calls the laws below
+//! that it follows from.
 
 pub(crate) mod document_law;
 pub(crate) mod headline_law;

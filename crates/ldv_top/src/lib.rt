@@ -1,7 +1,7 @@
 //! The program without its streams: `ldv` reads a source, and writes the output of its command to a sink.
 //! `Ends` of `specs/Ends.antt` is its promise for each exit.
 //!
-//! Folders: `commands` has a file for each command, `laws` the theorems about several commands.
+//! Folders: `commands` has a file for each command, `laws` the theorems about them.
 //!
 //! Entry: `ldv` and `ldv_main` in `src/top.rt`. Read first: `specs/Due.antt`.
 #![tactic(auto)]
