@@ -117,19 +117,18 @@ def copy_into(top: str) -> str:
     return copy
 
 
-# A program with the folder of rt and the top of a checkout as its words. `rt ci` leaves each library without
-# the sum of what it was built of, and `rt check` would build such a library once more, with all its proofs.
-# The program writes that sum, and prints the libraries below the crate that aren't built.
+# A program with the top of a checkout and a crate as its words. `rt ci` leaves each library without the sum
+# of what it was built of, and `rt check` would build such a library once more, with all its proofs. The
+# program writes that sum, and prints the libraries below the crate that aren't built.
 MARKING = """
 import os, sys
-sys.path.insert(0, sys.argv[1])
 import rtlib
-for crate in rtlib.crates_below(sys.argv[2]):
+for crate in rtlib.crates_below(sys.argv[1]):
     mark = os.path.join(crate.folder, 'out', 'rlib', 'stamp')
     if os.path.isdir(crate.rlib) and not os.path.exists(mark):
         with open(mark, 'w', encoding='utf-8') as file:
             file.write(crate.stamp())
-    if crate.name == sys.argv[3]:
+    if crate.name == sys.argv[2]:
         print(*(below.name for below in crate.below() if not below.is_built()))
 """
 
@@ -139,8 +138,11 @@ def mark_built(top: str) -> None:
     rt = shutil.which('rt')
     if rt is None:
         sys.exit('wrong_exits: there is no rt')
-    words = [sys.executable, '-c', MARKING, os.path.dirname(os.path.realpath(rt)), top, CRATE]
-    lacking = subprocess.run(words, stdout=subprocess.PIPE, check=True, encoding='utf-8').stdout.strip()
+    # rt's own module lies beside it.
+    beside = {**os.environ, 'PYTHONPATH': os.path.dirname(os.path.realpath(rt))}
+    words = [sys.executable, '-c', MARKING, top, CRATE]
+    ran = subprocess.run(words, env=beside, stdout=subprocess.PIPE, check=True, encoding='utf-8')
+    lacking = ran.stdout.strip()
     if lacking:
         sys.exit('wrong_exits: these libraries are not built, as they are after `rt ci`: ' + lacking)
 
