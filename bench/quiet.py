@@ -1,7 +1,8 @@
 """Runs that count: those during which the host of a virtual machine gave it whole processors.
 
-Linux tells how long a processor had work while the host ran something else, the eighth number of the first
-line of /proc/stat (proc(5), `steal`). A host can also run slower without telling, so that a fixed loop is
+Linux tells of each processor how long it had work while the host ran something else, the eighth number of
+its line in /proc/stat (proc(5), `steal`). Those count on which this process may run, so that a run on one
+processor isn't judged by the others. A host can also run slower without telling, so that a fixed loop is
 timed after each run. A run is made again if more than 2 % of a processor was withheld, or if the loop took
 more than 1.25 times the least that it ever took here, at most ten times as often as runs are wanted; the
 rest is taken as it comes, and a line on standard error says so.
@@ -11,7 +12,7 @@ from __future__ import annotations
 import os
 import sys
 import time
-from typing import Callable, List, TypeVar
+from typing import Callable, List, Set, TypeVar
 
 SHARE = 0.02
 PACE = 1.25
@@ -24,11 +25,18 @@ T = TypeVar('T')
 least = [float('inf')]
 
 
+def processors() -> Set[int]:
+    """The processors on which this process may run, or none where the system doesn't tell."""
+    return os.sched_getaffinity(0) if hasattr(os, 'sched_getaffinity') else set()
+
+
 def withheld(path: str = '/proc/stat') -> float:
-    """Seconds of a processor that the host withheld since the machine began, or 0 where it isn't told."""
+    """Seconds that the host withheld of these since the machine began, or 0 where it isn't told."""
+    names = {f'cpu{number}' for number in processors()}
     try:
         with open(path, encoding='ascii') as file:
-            return int(file.readline().split()[8]) / os.sysconf('SC_CLK_TCK')
+            lines = [line.split() for line in file if line.startswith('cpu')]
+        return sum(int(line[8]) for line in lines if line[0] in names) / os.sysconf('SC_CLK_TCK')
     except (OSError, IndexError, ValueError):
         return 0.0
 

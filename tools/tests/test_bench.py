@@ -54,15 +54,22 @@ class QuietRuns(unittest.TestCase):
         self.assertEqual(self.counted(2, range(44), [8] * 22), ([21, 22], 22))
 
     def test_withheld(self) -> None:
-        """The eighth number of the first line, in ticks, or nothing."""
+        """The eighth numbers of the lines of those processors on which it may run, in ticks, or nothing."""
         with tempfile.TemporaryDirectory() as folder:
             path = os.path.join(folder, "stat")
             with open(path, "w", encoding="ascii") as file:
-                file.write("cpu  1 2 3 4 5 6 7 250 9 10\ncpu0 1 2 3 4 5 6 7 8 9 10\n")
+                file.write("cpu  1 2 3 4 5 6 7 275 9 10\ncpu0 1 2 3 4 5 6 7 250 9 10\n"
+                           "cpu1 1 2 3 4 5 6 7 8 9 10\ncpu10 1 2 3 4 5 6 7 17 9 10\nintr 1 2 3 4 5 6 7 8 9\n")
             with mock.patch.object(os, "sysconf", return_value=100):
-                self.assertEqual(quiet.withheld(path), 2.5)
+                for those, seconds in ({0}, 2.5), ({1}, 0.08), ({0, 10}, 2.67), ({0, 1, 10}, 2.75), ((), 0.0):
+                    with mock.patch.object(quiet, "processors", return_value=those):
+                        self.assertEqual(quiet.withheld(path), seconds)
             self.assertEqual(quiet.withheld(os.path.join(folder, "none")), 0.0)
             self.assertEqual(quiet.withheld(os.devnull), 0.0)
+
+    @unittest.skipUnless(hasattr(os, "sched_getaffinity"), "sched_getaffinity(2): where a process may run")
+    def test_processors(self) -> None:
+        self.assertEqual(quiet.processors(), os.sched_getaffinity(0))
 
     def test_pace(self) -> None:
         """The loop takes some time of a processor."""
