@@ -2,7 +2,7 @@
 reads them."""
 from __future__ import annotations
 
-from typing import Any, Callable, Iterable, Optional
+from typing import Any, Callable, Iterable, Iterator, Optional
 
 from cases.encoder import (
     Part,
@@ -23,7 +23,7 @@ from cases.encoder import (
     started,
     table,
 )
-from cases.packages_joined import joined
+from cases.packages_joined import encode_joined, joined, joined_parts
 from hard_parts import FILE, Packed, Pair, Texts, loop, main_only
 from ldvtools.packages import read_package
 from ldvtools.provenance import Edge, Node, Provenance, document_text
@@ -55,12 +55,21 @@ def joined_twice(pair: Callable[[int], Packed]) -> Callable[[int], Packed]:
     return joins
 
 
+def run_joined_twice(size: int) -> Packed:
+    """The joined packages of `one_run`, from their parts: one that is read has its events one by one."""
+    return tuple(encode_joined(joined_parts(each, each)) for each in parts_of_one_run(size))
+
+
 # ---- traces
 
-def one_run(size: int, mode: int = 1) -> Packed:
+def parts_of_one_run(size: int, mode: int = 1) -> Iterator[Part]:
     """A run of very many events, and one of two."""
-    return tuple(packed(mode=mode, steps=STEPS, runs=[run(started()), run(act('read'), count)])
-                 for count in (size, 2))
+    for count in size, 2:
+        yield package(2, mode=mode, steps=STEPS, runs=[run(started()), run(act('read'), count)])
+
+
+def one_run(size: int, mode: int = 1) -> Packed:
+    return tuple(encode(each) for each in parts_of_one_run(size, mode))
 
 
 def one_run_of_replies(size: int) -> Packed:
@@ -248,7 +257,7 @@ PAIRS = {
     'run_replayed': Pair(one_run, EVENTS - 1, 'as many events as there may be, replayed', ('replay',)),
     'run_migrated': Pair(one_run, EVENTS - 1, 'the same, migrated', ('migrate',)),
     'run_audited': Pair(one_run, EVENTS - 1, 'the same, audited', ('audit',)),
-    'run_of_joined': Pair(joined_twice(one_run), EVENTS - 1, 'the same, one of two',
+    'run_of_joined': Pair(run_joined_twice, EVENTS - 1, 'the same, one of two',
                           ('replay', '--run', '1')),
     'short_runs': Pair(short_runs, 500_000, 'runs of an event', ('replay',)),
     'short_depends': Pair(short_runs, 500_000, 'the same, and what they depend on', DEPENDS),
