@@ -17,11 +17,12 @@ use Rattle.sql_model.specs.Keys.{same_values, values_at}
 use Rattle.sql_model.specs.Meaning.{is_null}
 use Rattle.sql_model.specs.References.{reference, has_key}
 use Rattle.sql_model.proofs.SameValues.{same_exact}
-use Rattle.table_store.specs.inner.ChildPairs.{AreReferred, IsFirstFrom, IsNextOf, IsReferred, KeepBut, KeepPairs, Pairs, no_foreign, pair_as, refers}
+use Rattle.table_store.specs.inner.ChildPairs.{AreReferred, IsFirstFrom, IsNextOf, IsReferred, KeepBut, KeepPairs, Pairs, first_place, no_foreign, pair_as, refers}
 use Rattle.table_store.specs.Histories.{RowHistory, no_history, row_now, rows_now}
 use Rattle.table_store.specs.KeyIndex.{int_key}
 use Rattle.table_store.specs.RowOrder.{AreInOrder}
 use Rattle.table_store.specs.Types.{Foreign, TableRow, Value}
+use Rattle.table_store.proofs.FirstPlaceLaws.{first_of_first, first_refers, first_within}
 use Rattle.table_store.proofs.IndexViewLaws.{int_tied}
 use Rattle.table_store.proofs.StandingRows.{InSlot, all-in-slots, number-is}
 
@@ -89,6 +90,10 @@ module _ (slots : List RowHistory) (next : ℕ) (order : AreInOrder slots next) 
     (within : slot < length slots) (numbered : (get_or slots slot no_history).number ≡ number)
     (gone : find (has_key f.columns key) (option_to_list (row_now (get_or slots slot no_history))) ≡ None)
     (foreigns : List Foreign) (there : get_or foreigns place no_foreign ≡ f) (old new : Pairs) (keep : KeepBut place key number old new) where
+  -- by the first foreign key over the same columns
+  abbrev first : Pairs → Pairs
+  first pairs p = pairs (first_place foreigns p)
+
   one_slot : (i : ℕ) → i < length slots → (get_or slots i no_history).number ≡ number → i ≡ slot
   one_slot i inside same = elim (cases_lt i slot) [
     | inl low ↦ absurd (omega (arith, order.rising i slot low within, numbered, same))
@@ -103,28 +108,28 @@ module _ (slots : List RowHistory) (next : ℕ) (order : AreInOrder slots next) 
       none-some row
       (sym gone ∙ ap (λ (o : Option TableRow). find (has_key f.columns key) (option_to_list o)) now ∙ ap (λ b. cond b (Some row) None) has)
 
-  differs : (row : TableRow) → InSlot slots row → (p : ℕ) (k : List Value) → reference (get_or foreigns p no_foreign) row.values ≡ Some k
-      → (p ≡ place) → (k ≡ key) → (row.number ≡ number) → ⊥
-  differs row s p k is same_place same_key same_number =
+  differs : (row : TableRow) → InSlot slots row → (p : ℕ) (k : List Value) → p < length foreigns → reference (get_or foreigns p no_foreign) row.values ≡ Some k
+      → (first_place foreigns p ≡ place) → (k ≡ key) → (row.number ≡ number) → ⊥
+  differs row s p k inside is same_place same_key same_number =
       let at : s.slot ≡ slot = one_slot s.slot s.within (number-is (get_or slots s.slot no_history) row s.now ∙ same_number) in
       let now : row_now (get_or slots slot no_history) ≡ Some row = ap (λ (i : ℕ). row_now (get_or slots i no_history)) (sym at) ∙ s.now in
-      let own : reference f row.values ≡ Some k = ap (λ (g : Foreign). reference g row.values) (sym there ∙ ap (λ (i : ℕ). get_or foreigns i no_foreign) (sym same_place)) ∙ is in
+      let own : reference f row.values ≡ Some k = ap (λ (g : Foreign). reference g row.values) (sym there ∙ ap (λ (i : ℕ). get_or foreigns i no_foreign) (sym same_place)) ∙ first_refers foreigns p inside row.values ∙ is in
       let values : values_at f.columns row.values ≡ key = reference_is f row.values k own ∙ same_key in
       let has : has_key f.columns key row ≡ true = ap (λ (l : List Value). same_values l key) values ∙ (eq_by_cmp_equiv values_total).refl key in
       not_found row now has
 
-  stays : (row : TableRow) → InSlot slots row → IsReferred old foreigns row → IsReferred new foreigns row
+  stays : (row : TableRow) → InSlot slots row → IsReferred (first old) foreigns row → IsReferred (first new) foreigns row
   stays row s is p inside = by (reference (get_or foreigns p no_foreign) row.values) refl (is p inside)
     where
-      by : (o : Option (List Value)) → reference (get_or foreigns p no_foreign) row.values ≡ o → IfSome o (λ k. old p k row.number ≡ true) → IfSome o (λ k. new p k row.number ≡ true)
+      by : (o : Option (List Value)) → reference (get_or foreigns p no_foreign) row.values ≡ o → IfSome o (λ k. old (first_place foreigns p) k row.number ≡ true) → IfSome o (λ k. new (first_place foreigns p) k row.number ≡ true)
       by None own has = tt
-      by (Some k) own has = keep p k row.number (differs row s p k own) has
+      by (Some k) own has = keep (first_place foreigns p) k row.number (differs row s p k inside own) has
 
-  both_stay : (rows : List TableRow) → AllByRecursion (InSlot slots) rows → AreReferred old foreigns rows → AreReferred new foreigns rows
+  both_stay : (rows : List TableRow) → AllByRecursion (InSlot slots) rows → AreReferred (first old) foreigns rows → AreReferred (first new) foreigns rows
   both_stay [] ins all = tt
   both_stay (row ∷ rows) ins all = (stays row ins.0 all.0, both_stay rows ins.1 all.1)
 
-  pub settled : AreReferred old foreigns (rows_now slots) → AreReferred new foreigns (rows_now slots)
+  pub settled : AreReferred (first old) foreigns (rows_now slots) → AreReferred (first new) foreigns (rows_now slots)
   settled all = both_stay (rows_now slots) (all-in-slots slots) all
 
 -- ---- a row more
@@ -147,24 +152,33 @@ referred_more foreigns old new rows i row within is keep before one = rw add-one
 
 -- ---- one foreign key more
 
--- by the first foreign keys
+-- by the first foreign keys, where each is the first over its columns
 abbrev pub IsReferredBy : Pairs → List Foreign → TableRow → ℕ → Type 0
-IsReferredBy pairs foreigns row count = (place : ℕ) → place < count → place < length foreigns
+IsReferredBy pairs foreigns row count = (place : ℕ) → place < count → place < length foreigns → first_place foreigns place ≡ place
     → IfSome (reference (get_or foreigns place no_foreign) row.values) (λ key. pairs place key row.number ≡ true)
 
-pub referred_by_more : (foreigns : List Foreign) (old new : Pairs) (row : TableRow) (count : ℕ) (f : Foreign) → f ≡ get_or foreigns count no_foreign → KeepPairs old new
-    → IsReferredBy old foreigns row count → IfSome (reference f row.values) (λ key. new count key row.number ≡ true) → IsReferredBy new foreigns row (count + 1)
-referred_by_more foreigns old new row count f is keep before one place below within = elim (cases_lt place count) [
-  | inl earlier ↦ at (reference (get_or foreigns place no_foreign) row.values) (before place earlier within)
+pub referred_by_more : (foreigns : List Foreign) (old new : Pairs) (row : TableRow) (count : ℕ) → KeepPairs old new → IsReferredBy old foreigns row count
+    → (first_place foreigns count ≡ count → IfSome (reference (get_or foreigns count no_foreign) row.values) (λ key. new count key row.number ≡ true)) → IsReferredBy new foreigns row (count + 1)
+referred_by_more foreigns old new row count keep before one place below within first = elim (cases_lt place count) [
+  | inl earlier ↦ at (reference (get_or foreigns place no_foreign) row.values) (before place earlier within first)
   | inr from ↦
       let same : count ≡ place = omega (arith, below, from) in
-      subst (λ (k : ℕ). IfSome (reference (get_or foreigns k no_foreign) row.values) (λ key. new k key row.number ≡ true)) same
-      (subst (λ (x : Foreign). IfSome (reference x row.values) (λ key. new count key row.number ≡ true)) is one)
+      subst (λ (k : ℕ). first_place foreigns k ≡ k → IfSome (reference (get_or foreigns k no_foreign) row.values) (λ key. new k key row.number ≡ true)) same one first
 ]
   where
     at : (o : Option (List Value)) → IfSome o (λ key. old place key row.number ≡ true) → IfSome o (λ key. new place key row.number ≡ true)
     at None there = tt
     at (Some key) there = keep place key row.number there
+
+-- by them all, and so by each one over the same columns
+pub referred_by_all : (foreigns : List Foreign) (pairs : Pairs) (row : TableRow) (count : ℕ) → length foreigns ≤ count → IsReferredBy pairs foreigns row count
+    → IsReferred (λ place. pairs (first_place foreigns place)) foreigns row
+referred_by_all foreigns pairs row count whole by place within =
+    let first : ℕ = first_place foreigns place in
+    let inside : first < length foreigns = first_within foreigns place within in
+    let below : first < count = omega (arith, inside, whole) in
+    subst (λ (o : Option (List Value)). IfSome o (λ key. pairs first key row.number ≡ true)) (first_refers foreigns place within row.values)
+    (by first below inside (first_of_first foreigns place within))
 
 -- ---- the next row
 

@@ -6,6 +6,7 @@ pub mod ChildSetLaws
 pub mod ChosenLaws
 pub mod ClaimLaws
 pub mod FirstLaws
+pub mod FirstPlaceLaws
 pub mod FormedLaws
 pub mod GivenKeyLaws
 pub mod GridLaws

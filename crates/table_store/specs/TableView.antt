@@ -5,7 +5,7 @@ use Rattle.row_version.specs.History.{IsSorted, last_time}
 use Rattle.table_store.specs.Types.{Column, Schema, Table}
 use Rattle.table_store.specs.Histories.{RowHistory, NextSince, TableHistory, no_history, last_next_number}
 use Rattle.table_store.specs.Histories.{last_since, history_of_new_row, rows_now}
-use Rattle.table_store.specs.inner.ChildPairs.{Pairs, AreReferred, pair_in}
+use Rattle.table_store.specs.inner.ChildPairs.{Pairs, AreReferred, pair_by}
 use Rattle.table_store.specs.inner.IndexView.{held_in}
 use Rattle.table_store.specs.KeyIndex.{HeldKeys, AreIndexed}
 use Rattle.table_store.specs.inner.Nexts.{nexts_of, AreInTime}
@@ -46,7 +46,7 @@ abbrev pub held_by : Inside → HeldKeys
 held_by a = λ key. held_in a.index key
 
 abbrev pub IsTable : Inside → Type 0
-IsTable a = IsStored a.schema a.rows (held_by a) (pair_in a.children) (nexts_of a.nexts.items)
+IsTable a = IsStored a.schema a.rows (held_by a) (pair_by a.children a.schema.foreign) (nexts_of a.nexts.items)
 
 -- a table as it is at the start
 abbrev pub history_at_start : Table → TableHistory

@@ -5,6 +5,7 @@ pub(crate) mod child_index;
 mod child_rows;
 mod child_set;
 mod children;
+pub(crate) mod first_place;
 pub(crate) mod parent_rows;
 pub(crate) mod parent_set;
 mod parents;

@@ -5,7 +5,7 @@ ghost use Rattle.sql_model.specs.Tables.{are_keys_unique};
 ghost use Rattle.table_store.specs.Histories.{history_of_new_row};
 ghost use Rattle.table_store.specs.KeyIndex.{AreIndexed};
 ghost use Rattle.table_store.specs.TableView.{IsStored, kinds_in};
-ghost use Rattle.table_store.specs.inner.ChildPairs.{AreReferred, pair_in};
+ghost use Rattle.table_store.specs.inner.ChildPairs.{AreReferred, pair_by};
 ghost use Rattle.table_store.specs.inner.Grid.{are_of_kinds, AreNumberedFrom, next_after};
 ghost use Rattle.table_store.specs.inner.IndexView.{held_in};
 ghost use Rattle.table_store.specs.inner.Nexts.{nexts_of};
@@ -47,7 +47,7 @@ pub(crate) fn parts_at_start(
     requires kinds { are_of_kinds (kinds_in schema.now.columns) rows ≡ true }
     requires unique { are_keys_unique schema.now.key (map (λ row. row.values) rows) ≡ true }
     ensures stored { IfOk result (λ made. IsStored schema.now made.held (λ key. held_in made.index key)
-        (pair_in made.children) (nexts_of made.nexts.items)) }
+        (pair_by made.children schema.now.foreign) (nexts_of made.nexts.items)) }
     ensures slots { IfOk result (λ made. made.held.slots ≡ map (history_of_new_row 0) rows) }
     ensures nexts { IfOk result (λ made. nexts_of made.nexts.items ≡ record { time = 0; next = next } ∷ []) }
 {
@@ -75,7 +75,8 @@ fn beside_at_start(
     requires { are_keys_unique schema.now.key (map (λ row. row.values) rows.now) ≡ true }
     ensures indexed { IfOk result (λ made. AreIndexed schema.now.key (λ key. held_in made.index key)
         rows.now) }
-    ensures referred { IfOk result (λ made. AreReferred (pair_in made.children) schema.now.foreign rows.now) }
+    ensures referred { IfOk result (λ made. AreReferred (pair_by made.children schema.now.foreign)
+        schema.now.foreign rows.now) }
     ensures nexts { IfOk result (λ made. nexts_of made.nexts.items ≡ record { time = 0; next = next } ∷ []) }
 {
     let index = index_of(alloc, &schema.key, rows)?;

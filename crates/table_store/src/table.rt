@@ -12,7 +12,7 @@ ghost use Rattle.table_store.specs.Scans.{null_passes, passes_test};
 ghost use Rattle.ldv_value.specs.Limits.{max_next};
 ghost use Rattle.sql_model.specs.Changes.{numbered_rows};
 ghost use Rattle.table_store.specs.KeyIndex.{AreIndexed};
-ghost use Rattle.table_store.specs.inner.ChildPairs.{no_foreign, pair_in, refers, AreReferred, IsNextOf};
+ghost use Rattle.table_store.specs.inner.ChildPairs.{no_foreign, pair_by, refers, AreReferred, IsNextOf};
 ghost use Rattle.table_store.specs.inner.ChildPairs.{first_number, is_child_in, KeepPairs};
 ghost use Rattle.table_store.specs.inner.GivenKeys.{with_claims, TakeOver};
 ghost use Rattle.table_store.specs.inner.NewKeys.{new_in, AreBelow, AreClaimed};
@@ -44,6 +44,7 @@ use crate::keys::rekey::claims_of;
 use crate::nexts::{NextSince, last_since, next_as_of};
 use crate::plans::{InsertPlan, ReplacePlan};
 use crate::references::child_index::{ChildIndex, add_all, settle_all};
+use crate::references::first_place::first_place;
 use crate::rows::Rows;
 use crate::rows::table_rows::{rows_as_of, standing_rows};
 use crate::start::{Parts, parts_at_start};
@@ -170,7 +171,8 @@ impl TableStore {
             (refers (slice_index_or self.now.schema.foreign place no_foreign) key.now.values)
             (rows_now self.now.slots) from) }
     {
-        let found = self.children.first_from(place, key, from)?;
+        let first = first_place(self.schema.foreign.items(), place);
+        let found = self.children.first_from(first, key, from)?;
         Ok(found)
     }
 
@@ -494,8 +496,8 @@ fn add_new(
 ) -> Result<(), AllocError>
     requires few { rows.old.next + length values ≤ max_next }
     requires kinds { are_of_kinds rows.old.kinds (numbered_rows rows.old.next values) ≡ true }
-    ensures kept { KeepPairs (pair_in children.old) (pair_in children.new) }
-    ensures referred { OnOk result (AreReferred (pair_in children.new) foreigns.now
+    ensures kept { KeepPairs (pair_by children.old foreigns.now) (pair_by children.new foreigns.now) }
+    ensures referred { OnOk result (AreReferred (pair_by children.new foreigns.now) foreigns.now
         (numbered_rows rows.old.next values)) }
     ensures ok { OnOk result (rows.new ≡ record rows.old {
       slots = rows.old.slots ++ map (history_of_new_row time) (numbered_rows rows.old.next values);
@@ -555,7 +557,8 @@ fn put_given(
     claims: Index,
     time: u32,
 ) -> Result<(), AllocError>
-    requires stored { IsStored schema.now rows.old (λ key. held_in index.old key) (pair_in children.old)
+    requires stored { IsStored schema.now rows.old (λ key. held_in index.old key)
+        (pair_by children.old schema.now.foreign)
         (nexts_of nexts.old.items) }
     requires later { last_since (nexts_of nexts.old.items) < time }
     requires shape { list_all (has_shape schema.now.columns) (values_of given) ≡ true }
@@ -565,7 +568,8 @@ fn put_given(
     requires claimed { AreIndexed schema.now.key
         (with_claims (λ key. held_in claims key) (λ key. held_in index.old key))
         (map (replaced_by given) (rows_now rows.old.slots)) }
-    ensures stored { IsStored schema.now rows.new (λ key. held_in index.new key) (pair_in children.new)
+    ensures stored { IsStored schema.now rows.new (λ key. held_in index.new key)
+        (pair_by children.new schema.now.foreign)
         (nexts_of nexts.new.items) }
     ensures ok { OnOk result (rows.new.slots ≡ rows_with_values time given rows.old.slots) }
     ensures nexts { OnOk result (nexts_of nexts.new.items
@@ -606,9 +610,9 @@ fn make_way(
     given: &[TableRow],
     claims: &Index,
 ) -> Result<Vec<u32>, AllocError>
-    ensures pairs { KeepPairs (pair_in children.old) (pair_in children.new) }
+    ensures pairs { KeepPairs (pair_by children.old foreigns.now) (pair_by children.new foreigns.now) }
     ensures keys { (q : RowKey) (n : ℕ) → held_in index.old q ≡ Some n → held_in index.new q ≡ Some n }
-    ensures referred { OnOk result (AreReferred (pair_in children.new) foreigns.now given.now) }
+    ensures referred { OnOk result (AreReferred (pair_by children.new foreigns.now) foreigns.now given.now) }
     ensures open { OnOk result ((q : RowKey) → IsSome (held_in claims.now q)
         → IsSome (held_in index.new q)) }
 {

@@ -1,12 +1,13 @@
--- The rows of a table under the keys that they refer to: pairs of a key and a row's number, for each foreign
--- key.
+-- The rows of a table under the keys that they refer to: pairs of a key and a row's number, for each list of
+-- columns by which the rows refer. They are kept by the place of the first foreign key over these columns.
 --
 -- There may be more pairs: those of rows that are deleted or refer to another key now. So each look-up of a
 -- key checks the row too.
 use Rattle.std.specs.Prelude.{◌≡◌, ℕ, ℤ, ◌<◌, ◌≤◌, ◌&&◌, Bool, true, false, not, List, [], length}
-use Rattle.std.specs.Prelude.{Option, Some, None, IfSome, slice_index_or, if◌then◌else◌, min, find}
+use Rattle.std.specs.Prelude.{Option, Some, None, IfSome, slice_index_or, if◌then◌else◌, min, find, nat_eq}
 use Rattle.std.specs.BTreeSet.{BTreeSet, contains}
-use Rattle.std.specs.List.{AllByRecursion, list_any}
+use Rattle.std.specs.Cmp.Lexicographic.{pointwise}
+use Rattle.std.specs.List.{AllByRecursion, list_any, position_or_len}
 use Rattle.std.specs.Option.{option_map, option_map_or}
 use Rattle.std.specs.Ordering.{int_cmp, nat_cmp, ordering_then}
 use Rattle.std.specs.declared.cmp.Ordering.{Ordering}
@@ -53,6 +54,22 @@ pair_in index place key number =
     pair_as (has_pair (placed_order key_order) index.others.held (place, record { values = key }) number)
     (λ n. has_pair (placed_order int_cmp) index.ints.held (place, n) number) (int_key key)
 
+abbrev pub no_foreign : Foreign
+no_foreign = record { columns = []; parent = [] }
+
+-- a foreign key is over these columns
+abbrev pub has_columns : List ℕ → Foreign → Bool
+has_columns columns foreign = pointwise nat_eq foreign.columns columns
+
+-- the place of the first foreign key over the columns of the one at a place
+abbrev pub first_place : List Foreign → ℕ → ℕ
+first_place foreigns place =
+    position_or_len (has_columns (slice_index_or foreigns place no_foreign).columns) foreigns
+
+-- under a key of a foreign key are the numbers of the first one over the same columns
+abbrev pub pair_by : ChildIndex → List Foreign → Pairs
+pair_by index foreigns place key number = pair_in index (first_place foreigns place) key number
+
 -- pairs stay
 abbrev pub KeepPairs : Pairs → Pairs → Type 0
 KeepPairs old new = (place : ℕ) (key : List Value) (number : ℕ) → old place key number ≡ true
@@ -63,9 +80,6 @@ abbrev pub KeepBut : ℕ → List Value → ℕ → Pairs → Pairs → Type 0
 KeepBut place key number old new = (p : ℕ) (k : List Value) (n : ℕ)
     → ((p ≡ place) → (k ≡ key) → (n ≡ number) → ⊥)
     → old p k n ≡ true → new p k n ≡ true
-
-abbrev pub no_foreign : Foreign
-no_foreign = record { columns = []; parent = [] }
 
 -- a row is there under each key to which it refers
 abbrev pub IsReferred : Pairs → List Foreign → TableRow → Type 0

@@ -7,20 +7,21 @@ ghost use Rattle.sql_model.specs.KeyOrder.{key_order};
 ghost use Rattle.sql_model.specs.References.{reference};
 ghost use Rattle.table_store.specs.inner.ChildPairs.{no_foreign, pair_in, AreReferred, IsFirstFrom, IsReferred};
 ghost use Rattle.table_store.specs.inner.ChildPairs.{has_pair, placed_order, KeepBut, KeepPairs};
-ghost use Rattle.table_store.specs.inner.ChildPairs.{StayReferred};
+ghost use Rattle.table_store.specs.inner.ChildPairs.{first_place, pair_by, StayReferred};
 ghost use Rattle.table_store.specs.Histories.{no_history, rows_now};
 ghost use Rattle.table_store.specs.Types.{Foreign, Value};
 
 use crate::keys::index::{has_key_in, int_key, key_of};
 use crate::keys::key_map::CopyKey;
 use crate::references::child_set::ChildSet;
+use crate::references::first_place::first_place;
 use crate::rows::Rows;
 use ldv_value::Values;
 use sql_model::{Foreign, Foreigns, RowKey, TableRow, refers_to_none};
 use std::alloc::{AllocError, Global};
 
-/// The numbers of rows under the keys that they refer to, by the place of each foreign key. A key of one
-/// number is stored as that number.
+/// The numbers of rows under the keys that they refer to, by the place of the first foreign key over the same
+/// columns. A key of one number is stored as that number.
 #[derive(Drop)]
 pub(crate) struct ChildIndex {
     pub(crate) ints: ChildSet<(usize, i64)>,
@@ -110,7 +111,7 @@ pub(crate) fn index_of_rows(
     foreigns: &Foreigns,
     rows: &[TableRow],
 ) -> Result<ChildIndex, AllocError>
-    ensures { IfOk result (λ index. AreReferred (pair_in index) foreigns.now rows.now) }
+    ensures { IfOk result (λ index. AreReferred (pair_by index foreigns.now) foreigns.now rows.now) }
 {
     let mut index = ChildIndex::new(alloc);
     add_all(alloc, &mut index, foreigns, rows)?;
@@ -124,8 +125,8 @@ pub(crate) fn add_all(
     foreigns: &Foreigns,
     rows: &[TableRow],
 ) -> Result<(), AllocError>
-    ensures kept { KeepPairs (pair_in index.old) (pair_in index.new) }
-    ensures ok { OnOk result (AreReferred (pair_in index.new) foreigns.now rows.now) }
+    ensures kept { KeepPairs (pair_by index.old foreigns.now) (pair_by index.new foreigns.now) }
+    ensures ok { OnOk result (AreReferred (pair_by index.new foreigns.now) foreigns.now rows.now) }
 {
     for row in rows {
         match add_row(alloc, index, foreigns, row) {
@@ -142,12 +143,12 @@ fn add_row(
     foreigns: &Foreigns,
     row: &TableRow,
 ) -> Result<(), AllocError>
-    ensures kept { KeepPairs (pair_in index.old) (pair_in index.new) }
-    ensures ok { OnOk result (IsReferred (pair_in index.new) foreigns.now row.now) }
+    ensures kept { KeepPairs (pair_by index.old foreigns.now) (pair_by index.new foreigns.now) }
+    ensures ok { OnOk result (IsReferred (pair_by index.new foreigns.now) foreigns.now row.now) }
 {
     let items = foreigns.items();
     for place in 0..items.len() {
-        match add_by(alloc, index, place, &items[place], row) {
+        match add_at(alloc, index, items, place, row) {
             Ok(()) => {}
             Err(refused) => return Err(refused),
         }
@@ -155,7 +156,26 @@ fn add_row(
     Ok(())
 }
 
-// Adds a row under the key to which it refers by one foreign key, if it refers to one.
+// Adds a row by the foreign key at a place, if no foreign key before it is over the same columns.
+fn add_at(
+    alloc: Global,
+    index: &mut ChildIndex,
+    foreigns: &[Foreign],
+    place: usize,
+    row: &TableRow,
+) -> Result<(), AllocError>
+    requires { place < length foreigns.now }
+    ensures kept { KeepPairs (pair_in index.old) (pair_in index.new) }
+    ensures ok { OnOk result (first_place foreigns.now place ≡ place
+        → IfSome (reference (slice_index_or foreigns.now place no_foreign) row.now.values)
+        (λ key. pair_in index.new place key row.now.number ≡ true)) }
+{
+    if first_place(foreigns, place) != place {
+        return Ok(());
+    }
+    add_by(alloc, index, place, &foreigns[place], row)
+}
+
 fn add_by(
     alloc: Global,
     index: &mut ChildIndex,
@@ -184,7 +204,8 @@ pub(crate) fn settle_all(
     numbers: &[u32],
     time: u32,
 )
-    ensures { StayReferred foreigns.now (rows_now stored.now.slots) (pair_in index.old) (pair_in index.new) }
+    ensures { StayReferred foreigns.now (rows_now stored.now.slots)
+        (pair_by index.old foreigns.now) (pair_by index.new foreigns.now) }
 {
     if foreigns.is_empty() {
         return;
@@ -203,7 +224,8 @@ fn settle_row(
     number: u32,
     time: u32,
 )
-    ensures { StayReferred foreigns.now (rows_now stored.now.slots) (pair_in index.old) (pair_in index.new) }
+    ensures { StayReferred foreigns.now (rows_now stored.now.slots)
+        (pair_by index.old foreigns.now) (pair_by index.new foreigns.now) }
 {
     match stored.find(number) {
         None => {}
@@ -224,7 +246,8 @@ fn settle_slot(
 )
     requires within { slot < length stored.now.slots }
     requires numbered { (slice_index_or stored.now.slots slot no_history).number ≡ number }
-    ensures { StayReferred foreigns.now (rows_now stored.now.slots) (pair_in index.old) (pair_in index.new) }
+    ensures { StayReferred foreigns.now (rows_now stored.now.slots)
+        (pair_by index.old foreigns.now) (pair_by index.new foreigns.now) }
 {
     match stored.values_as_of(alloc, slot, time) {
         Err(_refused) => {}
@@ -245,21 +268,45 @@ fn settle_values(
 )
     requires within { slot < length stored.now.slots }
     requires numbered { (slice_index_or stored.now.slots slot no_history).number ≡ number }
-    ensures { StayReferred foreigns.now (rows_now stored.now.slots) (pair_in index.old) (pair_in index.new) }
+    ensures { StayReferred foreigns.now (rows_now stored.now.slots)
+        (pair_by index.old foreigns.now) (pair_by index.new foreigns.now) }
 {
     let items = foreigns.items();
     for place in 0..items.len() {
-        settle_by(
-            alloc,
-            index,
-            place,
-            &items[place],
-            stored,
-            slot,
-            number,
-            values,
-        );
+        settle_at(alloc, index, items, place, stored, slot, number, values);
     }
+}
+
+// Takes it out from under the key of the foreign key at a place, if none before it is over the same columns.
+fn settle_at(
+    alloc: Global,
+    index: &mut ChildIndex,
+    foreigns: &[Foreign],
+    place: usize,
+    stored: &Rows,
+    slot: usize,
+    number: u32,
+    values: &Values,
+)
+    requires at { place < length foreigns.now }
+    requires within { slot < length stored.now.slots }
+    requires numbered { (slice_index_or stored.now.slots slot no_history).number ≡ number }
+    ensures { StayReferred foreigns.now (rows_now stored.now.slots)
+        (pair_by index.old foreigns.now) (pair_by index.new foreigns.now) }
+{
+    if first_place(foreigns, place) != place {
+        return;
+    }
+    settle_by(
+        alloc,
+        index,
+        place,
+        &foreigns[place],
+        stored,
+        slot,
+        number,
+        values,
+    );
 }
 
 // Takes it out from under the key of one foreign key.
@@ -276,7 +323,8 @@ fn settle_by(
     requires within { slot < length stored.now.slots }
     requires numbered { (slice_index_or stored.now.slots slot no_history).number ≡ number }
     ensures { (foreigns : List Foreign) → slice_index_or foreigns place no_foreign ≡ foreign.now
-        → StayReferred foreigns (rows_now stored.now.slots) (pair_in index.old) (pair_in index.new) }
+        → StayReferred foreigns (rows_now stored.now.slots)
+        (pair_by index.old foreigns) (pair_by index.new foreigns) }
 {
     match key_of(alloc, &foreign.columns, values) {
         Err(_refused) => {}
@@ -297,7 +345,8 @@ fn settle_key(
     requires within { slot < length stored.now.slots }
     requires numbered { (slice_index_or stored.now.slots slot no_history).number ≡ number }
     ensures { (foreigns : List Foreign) → slice_index_or foreigns place no_foreign ≡ foreign.now
-        → StayReferred foreigns (rows_now stored.now.slots) (pair_in index.old) (pair_in index.new) }
+        → StayReferred foreigns (rows_now stored.now.slots)
+        (pair_by index.old foreigns) (pair_by index.new foreigns) }
 {
     stored.tell_order();
     if has_key_in(stored, &foreign.columns, &key.values, slot) {

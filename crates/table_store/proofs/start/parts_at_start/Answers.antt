@@ -1,6 +1,6 @@
 use Rattle.std.proofs.Common.{◌≡◌, ◌∷◌, [], refl, subst, sym, List, map, arith}
 use Rattle.table_store.specs.Types.{Schema, TableRow}
-use Rattle.table_store.specs.inner.ChildPairs.{Pairs, AreReferred, pair_in}
+use Rattle.table_store.specs.inner.ChildPairs.{Pairs, AreReferred, pair_by}
 use Rattle.table_store.specs.Histories.{NextSince, history_of_new_row, rows_now}
 use Rattle.table_store.specs.inner.IndexView.{held_in}
 use Rattle.table_store.specs.KeyIndex.{HeldKeys, AreIndexed}
@@ -15,7 +15,7 @@ returns-clause-stored c =
     let schema : Schema = c.args.schema.now in
     let given : List TableRow = c.args.rows in
     let held : HeldKeys = λ key. held_in c.in_ok-beside.beside.index key in
-    let pairs : Pairs = pair_in c.in_ok-beside.beside.children in
+    let pairs : Pairs = pair_by c.in_ok-beside.beside.children schema.foreign in
     let rows : RowsHistory = record { slots = map (history_of_new_row 0) given; kinds = kinds_in schema.columns; next = c.args.next } in
     let indexed = added_indexed schema.key held 0 given (subst (λ (l : List TableRow). AreIndexed schema.key held l) c.items.ensures c.in_ok-beside.ensures.indexed) in
     let referred : AreReferred pairs schema.foreign (rows_now (map (history_of_new_row 0) given)) =

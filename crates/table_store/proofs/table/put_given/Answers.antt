@@ -3,7 +3,7 @@ use Rattle.row_version.specs.History.{Change}
 use Rattle.table_store.specs.Types.{Schema, Table, TableRow}
 use Rattle.table_store.specs.inner.GivenKeys.{with_claims}
 use Rattle.table_store.specs.Histories.{NextSince, changed_by, nexts_with, rows_now}
-use Rattle.table_store.specs.inner.ChildPairs.{Pairs, AreReferred, StayReferred, pair_in}
+use Rattle.table_store.specs.inner.ChildPairs.{Pairs, AreReferred, StayReferred, pair_by}
 use Rattle.table_store.specs.inner.IndexView.{held_in}
 use Rattle.table_store.specs.KeyIndex.{HeldKeys, AreIndexed}
 use Rattle.table_store.specs.inner.Nexts.{nexts_of}
@@ -31,16 +31,16 @@ write_given-requires-clause-fits c =
 
 pub returns-in_err-numbers-clause-stored : goal.returns-in_err-numbers-clause-stored
 returns-in_err-numbers-clause-stored c =
-    stored_wider c.args.schema.now c.args.rows.now (λ key. held_in c.args.index.now key) (λ key. held_in c.make_way.new.index key) (pair_in c.args.children.now) (pair_in c.make_way.new.children) (nexts_of c.args.nexts.now.items)
+    stored_wider c.args.schema.now c.args.rows.now (λ key. held_in c.args.index.now key) (λ key. held_in c.make_way.new.index key) (pair_by c.args.children.now c.args.schema.now.foreign) (pair_by c.make_way.new.children c.args.schema.now.foreign) (nexts_of c.args.nexts.now.items)
     c.make_way.ensures.keys c.make_way.ensures.pairs c.requires.stored
 
 pub returns-in_err-write_given-clause-stored : goal.returns-in_err-write_given-clause-stored
 returns-in_err-write_given-clause-stored c =
     let opened : HeldKeys = λ key. held_in c.make_way.new.index key in
-    let wider : Pairs = pair_in c.make_way.new.children in
+    let wider : Pairs = pair_by c.make_way.new.children c.args.schema.now.foreign in
     subst (λ (r : RowsHistory). IsStored c.args.schema.now r opened wider (nexts_of c.write_given.new.nexts.items)) (sym c.in_err-write_given.ensures.err)
     (subst (λ (n : List NextSince). IsStored c.args.schema.now c.args.rows.now opened wider n) (ap nexts_of (sym c.in_err-write_given.ensures.nexts_err))
-    (stored_wider c.args.schema.now c.args.rows.now (λ key. held_in c.args.index.now key) opened (pair_in c.args.children.now) wider (nexts_of c.args.nexts.now.items)
+    (stored_wider c.args.schema.now c.args.rows.now (λ key. held_in c.args.index.now key) opened (pair_by c.args.children.now c.args.schema.now.foreign) wider (nexts_of c.args.nexts.now.items)
     c.make_way.ensures.keys c.make_way.ensures.pairs c.requires.stored))
 
 pub returns-clause-stored : goal.returns-clause-stored
@@ -60,11 +60,11 @@ returns-clause-stored c =
     let after : List TableRow = map (replaced_by rows) (rows_now was.slots) in
     let keys : AreIndexed schema.key held after = indexed_same schema.key (with_claims claims opened) held (λ q. sym (c.set_all.ensures q)) after (claims_kept schema.key claims old opened c.make_way.ensures.keys after c.requires.claimed) in
     let indexed = indexed_replaced schema.key held time rows was.slots stand keys in
-    let pairs : Pairs = pair_in c.args.children.now in
-    let wider : Pairs = pair_in c.make_way.new.children in
+    let pairs : Pairs = pair_by c.args.children.now c.args.schema.now.foreign in
+    let wider : Pairs = pair_by c.make_way.new.children c.args.schema.now.foreign in
     let referred = referred_replaced schema.foreign pairs wider time rows was.slots stand c.make_way.ensures.pairs c.requires.stored.referred
     (subst (λ (l : List TableRow). AreReferred wider schema.foreign l) c.items.ensures c.in_ok-numbers.ensures.referred) in
-    let left : Pairs = pair_in c.settle_all.new.index in
+    let left : Pairs = pair_by c.settle_all.new.index c.args.schema.now.foreign in
     let settled = subst (λ (r : RowsHistory). StayReferred schema.foreign (rows_now r.slots) wider left) c.in_ok-write_given.ensures.ok c.settle_all.ensures in
     let whole = stored_changed schema was old held pairs left nexts time given c.requires.stored c.requires.later indexed (settled referred) in
     subst (λ (r : RowsHistory). IsStored schema r held left (nexts_of c.write_given.new.nexts.items)) (sym c.in_ok-write_given.ensures.ok)

@@ -1,7 +1,7 @@
 use Rattle.std.proofs.Common.{◌≡◌, ◌∙◌, ◌<◌, ap, sym, subst, ℕ, List, map, Option}
 use Rattle.row_version.specs.History.{Change}
 use Rattle.table_store.specs.Histories.{RowHistory, NextSince, TableHistory, changed_by, last_since, last_next_number, nexts_with, rows_now, rows_without, table_without}
-use Rattle.table_store.specs.inner.ChildPairs.{Pairs, AreReferred, StayReferred, pair_in}
+use Rattle.table_store.specs.inner.ChildPairs.{Pairs, AreReferred, StayReferred, pair_by}
 use Rattle.table_store.specs.inner.IndexView.{held_in}
 use Rattle.table_store.specs.KeyIndex.{HeldKeys, AreIndexed}
 use Rattle.table_store.specs.inner.Nexts.{nexts_of}
@@ -35,9 +35,9 @@ invariant_of-self-2 c =
     let nexts = nexts_of a.nexts.items in
     let later : last_since nexts < time = subst (λ (t : TableHistory). last_since t.nexts < time) (sym c.self.view_is) c.requires.later in
     let indexed = indexed_removed a.schema.key held time numbers a.rows.slots c.self.invariant.indexed in
-    let pairs : Pairs = pair_in a.children in
+    let pairs : Pairs = pair_by a.children a.schema.foreign in
     let referred = referred_removed a.schema.foreign pairs time numbers a.rows.slots c.self.invariant.referred in
-    let left : Pairs = pair_in c.settle_all.new.index in
+    let left : Pairs = pair_by c.settle_all.new.index a.schema.foreign in
     let ok : c.drop_rows.new.rows ≡ record a.rows { slots = map (changed_by (changes_given time given)) a.rows.slots } =
     c.in_ok-drop_rows.ensures.ok ∙ ap (λ (l : List ℕ). record a.rows { slots = map (changed_by (changes_given time (map removal l))) a.rows.slots }) c.items.ensures in
     let settled = subst (λ (r : RowsHistory). StayReferred a.schema.foreign (rows_now r.slots) pairs left) ok c.settle_all.ensures in

@@ -6,7 +6,7 @@ use Rattle.sql_model.specs.Changes.{numbered_rows}
 use Rattle.table_store.specs.Types.{Value, RowKey, TableRow}
 use Rattle.table_store.specs.inner.Grid.{are_of_kinds, next_after}
 use Rattle.table_store.specs.Histories.{NextSince, TableHistory, history_of_new_row, table_with_rows, last_next_number, last_since, rows_now, table_now}
-use Rattle.table_store.specs.inner.ChildPairs.{Pairs, pair_in}
+use Rattle.table_store.specs.inner.ChildPairs.{Pairs, pair_by}
 use Rattle.table_store.specs.inner.IndexView.{held_in}
 use Rattle.table_store.specs.KeyIndex.{HeldKeys, AreIndexed}
 use Rattle.table_store.specs.inner.Nexts.{nexts_of}
@@ -57,8 +57,8 @@ invariant_of-self-2 c =
     let claimed : AreClaimed a.schema.key a.rows.next (rows_now a.rows.slots) rows places = subst (λ (n : ℕ). AreClaimed a.schema.key n (rows_now a.rows.slots) rows places) c.self.invariant.next plan.keys in
     let put : (q : RowKey) → new q ≡ option_or (numbers_from a.rows.next places q) (old q) = λ q. c.in_ok-enter.ensures.ok q ∙ ap (λ (n : ℕ). option_or (numbers_from n places q) (old q)) c.next-next.ensures in
     let indexed = entered_indexed a.schema.key a.rows.next (rows_now a.rows.slots) rows places old new claimed put c.self.invariant.indexed in
-    let pairs : Pairs = pair_in a.children in
-    let wider : Pairs = pair_in c.add_new.new.children in
+    let pairs : Pairs = pair_by a.children a.schema.foreign in
+    let wider : Pairs = pair_by c.add_new.new.children a.schema.foreign in
     let referred = referred_inserted a.schema.foreign pairs wider (rows_now a.rows.slots) more c.add_new.ensures.kept c.self.invariant.referred c.in_ok-add_new.ensures.referred in
     subst (λ (r : RowsHistory). IsStored a.schema r new wider (nexts_of c.add_new.new.nexts.items)) (sym c.in_ok-add_new.ensures.ok)
     (subst (λ (n : List NextSince). IsStored a.schema (record a.rows { slots = a.rows.slots ++ map (history_of_new_row time) more; next = next_after a.rows.next more }) new wider n) (sym c.in_ok-add_new.ensures.nexts)
@@ -79,12 +79,12 @@ invariant_of-self-in_err-add_new c =
     let places : HeldKeys = new_in c.args.plan.keys in
     let old : HeldKeys = λ q. held_in a.index q in
     let new : HeldKeys = λ q. held_in c.enter.new.self q in
-    let wider : Pairs = pair_in c.add_new.new.children in
+    let wider : Pairs = pair_by c.add_new.new.children a.schema.foreign in
     let nexts : nexts_of a.nexts.items ≡ nexts_of c.add_new.new.nexts.items = ap nexts_of (sym c.in_err-add_new.ensures.nexts_err) in
     let kept = kept_indexed a.schema.key (last_next_number (nexts_of a.nexts.items)) (rows_now a.rows.slots) c.args.plan.rows places old new plan.keys c.enter.ensures.others c.self.invariant.indexed in
     subst (λ (r : RowsHistory). IsStored a.schema r new wider (nexts_of c.add_new.new.nexts.items)) (sym c.in_err-add_new.ensures.err)
     (subst (λ (n : List NextSince). IsStored a.schema a.rows new wider n) nexts
-    (stored_claimed a.schema a.rows old new (pair_in a.children) wider (nexts_of a.nexts.items) kept c.add_new.ensures.kept c.self.invariant))
+    (stored_claimed a.schema a.rows old new (pair_by a.children a.schema.foreign) wider (nexts_of a.nexts.items) kept c.add_new.ensures.kept c.self.invariant))
 
 pub invariant_of-self : goal.invariant_of-self
 invariant_of-self c =
@@ -94,4 +94,4 @@ invariant_of-self c =
     let old : HeldKeys = λ q. held_in a.index q in
     let new : HeldKeys = λ q. held_in c.enter.new.self q in
     let kept = kept_indexed a.schema.key (last_next_number (nexts_of a.nexts.items)) (rows_now a.rows.slots) c.args.plan.rows places old new plan.keys c.enter.ensures.others c.self.invariant.indexed in
-    stored_claimed a.schema a.rows old new (pair_in a.children) (pair_in a.children) (nexts_of a.nexts.items) kept (λ place key number is. is) c.self.invariant
+    stored_claimed a.schema a.rows old new (pair_by a.children a.schema.foreign) (pair_by a.children a.schema.foreign) (nexts_of a.nexts.items) kept (λ place key number is. is) c.self.invariant
