@@ -52,7 +52,8 @@ impl Prepared {
         catalog: &Catalog,
     ) -> Result<Option<Prepared>, AllocError>
         requires { length params.now < 2 ^ 32 }
-        ensures { IfOk result (λ made. IfSome made (IsPrepared catalog.now)) }
+        ensures prepared { IfOk result (λ made. IfSome made (IsPrepared catalog.now)) }
+        ensures text { IfOk result (λ made. IfSome made (λ prepared. prepared.template.text ≡ text.now)) }
     {
         let read = Template::of(alloc, text, params.len() as u32)?;
         match read {
@@ -117,7 +118,8 @@ fn prepared_of(
 ) -> Result<Option<Prepared>, AllocError>
     requires opened { IsOpened template }
     requires count { length params.now ≡ template.count }
-    ensures { IfOk result (λ made. IfSome made (IsPrepared catalog.now)) }
+    ensures prepared { IfOk result (λ made. IfSome made (IsPrepared catalog.now)) }
+    ensures text { IfOk result (λ made. IfSome made (λ prepared. prepared.template.text ≡ template.text)) }
 {
     let found = places_of(alloc, &template, params, catalog)?;
     match found {
@@ -135,7 +137,8 @@ fn prepared_with(
     requires opened { IsOpened template }
     requires count { length params.now ≡ template.count }
     requires places { ArePlacesOf catalog.now template params.now places }
-    ensures { IfOk result (λ made. IfSome made (IsPrepared catalog.now)) }
+    ensures prepared { IfOk result (λ made. IfSome made (IsPrepared catalog.now)) }
+    ensures text { IfOk result (λ made. IfSome made (λ prepared. prepared.template.text ≡ template.text)) }
 {
     let with = params.copy()?;
     Ok(Some(Prepared {
