@@ -177,6 +177,7 @@ impl Cache {
     ) -> Result<(), AllocError>
         requires cache { IsCacheOf catalog.now self.old }
         requires few { length params.now < 2 ^ 32 }
+        requires short { length text.now ≤ 1024 }
         ensures { IsCacheOf catalog.now self.new }
     {
         let mark = mark_of(text, params);
@@ -205,6 +206,7 @@ impl Cache {
     ) -> Result<(), AllocError>
         requires cache { IsCacheOf catalog.now self.old }
         requires few { length params.now < 2 ^ 32 }
+        requires short { length text.now ≤ 1024 }
         ensures { IsCacheOf catalog.now self.new }
     {
         if self.accepted[place_of(mark)] != mark {
@@ -235,6 +237,7 @@ impl Cache {
     #[tactic(auto, using(crate::proofs::CacheLaws::entry_rules))]
     fn add(&mut self, entry: Entry, catalog: &Catalog) -> Result<(), AllocError>
         requires cache { IsCacheOf catalog.now self.old }
+        requires room { vec_len self.old.entries < 64 }
         requires entry { IsEntryOf catalog.now entry }
         ensures { IsCacheOf catalog.now self.new }
     {
