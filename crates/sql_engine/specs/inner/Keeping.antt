@@ -1,5 +1,5 @@
 -- Texts that are kept, each read and checked against the schemas of the tables.
-use Rattle.std.specs.Prelude.{ℕ, ◌≤◌, List, length}
+use Rattle.std.specs.Prelude.{◌≤◌, List, length}
 use Rattle.std.specs.List.{AllByRecursion}
 use Rattle.sql_engine.specs.Types.{Catalog}
 use Rattle.sql_engine.specs.declared.cache.Cache.{Cache}

@@ -1,4 +1,4 @@
-use Rattle.std.proofs.Common.{◌≡◌, subst, sym, arith, length, List, ℕ, Option}
+use Rattle.std.proofs.Common.{◌≡◌, subst, sym, length, List, ℕ, Option}
 use Rattle.std.specs.Prelude.{◌≤◌, IfSome}
 use Rattle.sql_template.specs.Checking.{IsPrepared}
 use Rattle.sql_template.specs.declared.prepared.Prepared.{Prepared}
