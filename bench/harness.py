@@ -7,7 +7,7 @@ less than what this process has, some 15 MiB, shows as that. `apart` keeps this 
 world or reads an outcome does so in a process of its own.
 
 Commands that are compared run in turn, so that what else the machine does falls on each of them; quiet.py
-says which turns count. `pinned` keeps all of them on one processor.
+says which runs count. `pinned` keeps all of them on one processor.
 """
 from __future__ import annotations
 
@@ -109,19 +109,22 @@ def ratio(a: float, b: float) -> float:
 # ---- runs in turn
 
 def in_turn(runs: Sequence[Callable[[], T]], count: int, as_it_comes: bool = False) -> List[List[T]]:
-    """What each run gave in so many turns that count. A turn has each run once; every second turn has them in
-    the other order. Each turn counts if they are taken as they come."""
-    turns = 0
-
-    def turn() -> List[T]:
-        nonlocal turns
+    """What each run gave so often, of the times that count. A turn has each run that is wanted again, once;
+    every second turn has them in the other order. All times count if they are taken as they come, and in
+    turns after ten times as many as are wanted."""
+    taken: List[List[T]] = [[] for _ in runs]
+    turns, most = 0, 0 if as_it_comes else quiet.TRIES * count
+    wanted = list(range(len(runs)))
+    while wanted:
         turns += 1
-        order = list(range(len(runs)))
-        found = {place: runs[place]() for place in (order if turns % 2 else reversed(order))}
-        return [found[place] for place in order]
-
-    taken = [turn() for _ in range(count)] if as_it_comes else quiet.counted(turn, count)
-    return [[each[place] for each in taken] for place in range(len(runs))]
+        for place in wanted if turns % 2 else reversed(wanted):
+            gave, counts = quiet.judged(runs[place]) if turns <= most else (runs[place](), True)
+            if counts:
+                taken[place].append(gave)
+        wanted = [place for place in wanted if len(taken[place]) < count]
+    if not as_it_comes and turns > most:
+        quiet.say_withheld()
+    return taken
 
 
 def pace(tries: int = 20) -> float:

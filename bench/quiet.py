@@ -12,7 +12,7 @@ from __future__ import annotations
 import os
 import sys
 import time
-from typing import Callable, List, Set, TypeVar
+from typing import Callable, Set, Tuple, TypeVar
 
 SHARE = 0.02
 PACE = 1.25
@@ -59,19 +59,15 @@ def is_quiet(share: float, loop: float) -> bool:
     return share <= SHARE and loop <= PACE * least[0]
 
 
-def counted(run: Callable[[], T], runs: int, told: Callable[[], float] = withheld,
-            looped: Callable[[], float] = pace) -> List[T]:
-    """What so many runs gave that count; `run` makes one of them."""
-    took: List[T] = []
-    left = TRIES * runs
-    while len(took) < runs:
-        before, start = told(), time.monotonic()
-        one = run()
-        seconds = max(time.monotonic() - start, 0.001)
-        if is_quiet((told() - before) / seconds, looped()) or left == 0:
-            took.append(one)
-        else:
-            left -= 1
-    if left == 0:
-        print('the host withheld processors: not each run is quiet', file=sys.stderr)
-    return took
+def judged(run: Callable[[], T], told: Callable[[], float] = withheld,
+           looped: Callable[[], float] = pace) -> Tuple[T, bool]:
+    """What a run gave, and whether it counts."""
+    before, start = told(), time.monotonic()
+    gave = run()
+    seconds = max(time.monotonic() - start, 0.001)
+    return gave, is_quiet((told() - before) / seconds, looped())
+
+
+def say_withheld() -> None:
+    """Says that not each run that is taken is quiet."""
+    print('the host withheld processors: not each run is quiet', file=sys.stderr)

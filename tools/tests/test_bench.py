@@ -35,23 +35,13 @@ BENCH = os.path.join(ROOT, "bench")
 class QuietRuns(unittest.TestCase):
     """quiet.py, with what the host is said to withhold and what a loop takes."""
 
-    def counted(self, runs: int, told: Iterable[float], looped: Iterable[float]) -> tuple[Any, int]:
-        """The numbers of the runs that count, and how many were made."""
-        made: list[int] = []
-
-        def run() -> Any:
-            made.append(len(made) + 1)
-            return made[-1]
-
-        withheld, taken = iter(told), iter(looped)
-        with mock.patch.object(sys, "stderr"), mock.patch.object(quiet, "least", [float("inf")]):
-            return quiet.counted(run, runs, lambda: next(withheld), lambda: next(taken)), len(made)
-
-    def test_counted(self) -> None:
-        """A run is made again where processors were withheld or the loop took longer than it can."""
-        self.assertEqual(self.counted(2, [5, 5, 5, 6, 6, 6], [8, 8, 8]), ([1, 3], 3))
-        self.assertEqual(self.counted(2, [0] * 6, [8, 11, 9]), ([1, 3], 3))
-        self.assertEqual(self.counted(2, range(44), [8] * 22), ([21, 22], 22))
+    def test_judged(self) -> None:
+        """A run doesn't count where processors were withheld or the loop took longer than it can."""
+        with mock.patch.object(quiet, "least", [float("inf")]):
+            for told, looped, counts in ((5, 5), 8, True), ((5, 6), 8, False), ((0, 0), 11, False), ((6, 6), 9, True):
+                seconds = iter(told)
+                found = quiet.judged(lambda: "a", lambda: next(seconds), lambda: looped)
+                self.assertEqual(found, ("a", counts))
 
     def test_withheld(self) -> None:
         """The eighth numbers of the lines of those processors on which it may run, in ticks, or nothing."""
@@ -126,11 +116,26 @@ class Harness(InFolder):
         self.assertEqual(taken, [["a1", "a4", "a5"], ["b2", "b3", "b6"]])
 
     def test_turns_that_count(self) -> None:
-        """A turn that isn't quiet is made again, whole."""
-        numbers = iter(range(10))
-        with mock.patch.object(quiet, "is_quiet", side_effect=[False, True, True]), \
+        """A run that isn't quiet is made again, without those that have been often enough."""
+        made = []
+
+        def run(name: str) -> Any:
+            made.append(name)
+            return name + str(len(made))
+
+        with mock.patch.object(quiet, "is_quiet", side_effect=[True, False, True, True, True]), \
                 mock.patch.object(quiet, "pace", return_value=1.0):
-            self.assertEqual(harness.in_turn([lambda: next(numbers)], 2), [[1, 2]])
+            taken = harness.in_turn([lambda: run("a"), lambda: run("b")], 2)
+        self.assertEqual("".join(made), "abbab")
+        self.assertEqual(taken, [["a1", "a4"], ["b3", "b5"]])
+
+    def test_turns_that_never_count(self) -> None:
+        """After ten times as many turns as are wanted all runs count, which is said."""
+        numbers, said = iter(range(100)), io.StringIO()
+        with mock.patch.object(quiet, "is_quiet", return_value=False), \
+                mock.patch.object(quiet, "pace", return_value=1.0), contextlib.redirect_stderr(said):
+            self.assertEqual(harness.in_turn([lambda: next(numbers)], 2), [[20, 21]])
+        self.assertIn("not each run is quiet", said.getvalue())
 
     def test_apart(self) -> None:
         """Work in another process gives its value, and its memory isn't this one's."""
