@@ -46,7 +46,8 @@ abbrev pub held_by : Inside → HeldKeys
 held_by a = λ key. held_in a.index key
 
 abbrev pub IsTable : Inside → Type 0
-IsTable a = IsStored a.schema a.rows (held_by a) (pair_by a.children a.schema.foreign) (nexts_of a.nexts.items)
+IsTable a =
+    IsStored a.schema a.rows (held_by a) (pair_by a.children a.schema.foreign) (nexts_of a.nexts.items)
 
 -- a table as it is at the start
 abbrev pub history_at_start : Table → TableHistory
