@@ -38,7 +38,8 @@ class QuietRuns(unittest.TestCase):
     def test_judged(self) -> None:
         """A run doesn't count where processors were withheld or the loop took longer than it can."""
         with mock.patch.object(quiet, "least", [float("inf")]):
-            for told, looped, counts in ((5, 5), 8, True), ((5, 6), 8, False), ((0, 0), 11, False), ((6, 6), 9, True):
+            for told, looped, counts in [((5, 5), 8, True), ((5, 6), 8, False), ((0, 0), 11, False),
+                                         ((6, 6), 9, True)]:
                 seconds = iter(told)
                 found = quiet.judged(lambda: "a", lambda: next(seconds), lambda: looped)
                 self.assertEqual(found, ("a", counts))
