@@ -1,5 +1,6 @@
 pub mod BlockLaws
 pub mod BlockOrder
+pub mod FlatLaws
 pub mod Laws
 pub mod Lent
 pub mod Listed

@@ -1,4 +1,5 @@
 pub mod Blocks
+pub mod Flat
 pub mod Lineage
 pub mod Rows
 pub mod StandsFor

@@ -3,13 +3,14 @@
 //!
 //! A `LineageSet` is a bitmap in blocks (`blocks`, and `table_blocks` for those of all tables), with the
 //! versions above 0 beside it (`versions`). The `LineageRows` of one row are a list while they are few
-//! (`held`).
+//! (`held`). `FlatRows` has joined rows by slots, one list for all of them.
 //!
 //! Entry: `union` in `src/set.rt`. Read first: `specs/Lineage.antt`.
 #![tactic(auto)]
 
 mod answer;
 mod blocks;
+mod flat_rows;
 mod held;
 mod lineage_rows;
 mod listing;
@@ -18,5 +19,6 @@ mod table_blocks;
 mod versions;
 
 pub use answer::{Answer, Answers, Pick, Picks};
+pub use flat_rows::{FlatRows, split_row};
 pub use lineage_rows::LineageRows;
 pub use set::LineageSet;
