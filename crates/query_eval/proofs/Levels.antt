@@ -8,7 +8,7 @@ use Rattle.ldv_value.proofs.Booleans.{and-assoc}
 use Rattle.ldv_value.proofs.Lists.{filter-append}
 use Rattle.query_eval.proofs.Agree.{first_rows_tell}
 use Rattle.query_eval.proofs.Product.{extensions, products-more, pushed, EachSplits, all_of, all_there}
-use Rattle.query_eval.specs.inner.Joining.{combos, tests, is_ready, ready_conditions, later_conditions, extensions_left, extensions_of, extensions_of_all, are_tied, with_values, AreTies, EachHas, extensions_by_ties}
+use Rattle.query_eval.specs.inner.Joining.{combos, tests, is_ready, ready_conditions, later_conditions, extensions_left, extensions_of, extensions_of_all, are_tied, AreTies, EachHas, extensions_by_ties}
 use Rattle.core_parts.specs.Placing.{IsPlaced, AreAllPlaced}
 use Rattle.query_eval.specs.Sources.{joined_row_values, AreWide}
 use Rattle.query_eval.specs.Types.{ColumnName, Value}
@@ -17,7 +17,6 @@ use Rattle.query_eval.specs.declared.probe.Probe.{Probe}
 use Rattle.query_eval.specs.declared.source.SourceRow.{SourceRow}
 use Rattle.sql_model.specs.Kinds.{names_in}
 use Rattle.sql_model.specs.Meaning.{is_true, truth}
-use Rattle.ldv_value.specs.Cells.{value_at}
 use Rattle.sql_model.specs.Scope.{InScope, environment, place_of, places_in}
 
 pub joined_row_values-append : (p others : List SourceRow) → joined_row_values (p ++ others) ≡ joined_row_values p ++ joined_row_values others
@@ -176,16 +175,3 @@ module _ (scope : List InScope) (conds : List BoundExpr) (all : AreAllPlaced sco
   tied-level (p ∷ ps) rows long = λ j.
       found-exact (tests scope conds) (tests scope others) (λ row. p ++ row ∷ []) (λ row. are_tied ties p row) (λ row. (are scope all).1 p row long.0) rows j
       ++ tied-level ps rows long.1 j
-
--- without ties each row is looked up
-untied-one : (rows : List SourceRow) → rows ≡ with_values [] [] rows
-untied-one [] = refl
-untied-one (row ∷ rows) = ap (λ l. row ∷ l) (untied-one rows)
-
-pub untied : (scope : List InScope) (conds : List BoundExpr) (ties : List Probe) (ps : List (List SourceRow)) (rows : List SourceRow) → ties ≡ []
-    → extensions_of_all scope conds ps rows ≡ extensions_by_ties scope conds ties ps rows
-untied scope conds ties ps rows none = by ps ∙ ap (λ (ts : List Probe). extensions_by_ties scope conds ts ps rows) (sym none)
-  where
-    by : (ps : List (List SourceRow)) → extensions_of_all scope conds ps rows ≡ extensions_by_ties scope conds [] ps rows
-    by [] = refl
-    by (p ∷ ps) = λ j. extensions_of scope conds p (untied-one rows j) ++ by ps j

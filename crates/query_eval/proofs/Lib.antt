@@ -11,6 +11,7 @@ pub mod Probes
 pub mod Product
 pub mod Projections
 pub mod SinglePicks
+pub mod SlotLevels
 pub mod StoredSourceLaws
 pub mod TableScanLaws
 pub mod TieKeys

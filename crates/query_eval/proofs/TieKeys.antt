@@ -1,5 +1,5 @@
 -- Keys of several values, none of which is NULL.
-use Rattle.std.proofs.Common.{◌≡◌, ◌∙◌, sym, ap, refl, ℕ, ◌<◌, arith, Bool, true, false, ◌&&◌, List, [], ◌∷◌, ◌++◌, length, Option, Some, None}
+use Rattle.std.proofs.Common.{◌≡◌, ◌∙◌, sym, ap, refl, ℕ, ◌<◌, arith, true, false, ◌&&◌, List, [], ◌∷◌, ◌++◌, length, Option, Some, None}
 use Rattle.std.specs.Prelude.{option_and_then, option_map}
 use Rattle.std.specs.Option.{option_map_or}
 use Rattle.std.specs.Cmp.Lexicographic.{slice_cmp}
@@ -14,8 +14,8 @@ use Rattle.core_parts.specs.Equality.{equals}
 use Rattle.core_parts.specs.declared.refs_by.RefsBy.{RefsBy}
 use Rattle.query_eval.proofs.Tying.{equals_tied, equals_null, null_equals}
 use Rattle.query_eval.specs.Types.{Value, Null, Int, Text}
-use Rattle.query_eval.specs.inner.Joining.{non_null, known_values, key_of, TieValues, tie_order, are_all_equal, values_before, values_here, with_values, rows_listed, IsIndex}
-use Rattle.query_eval.specs.Sources.{joined_row_values}
+use Rattle.query_eval.specs.inner.Joining.{non_null, known_values, key_of, TieValues, tie_order, are_all_equal, values_before, values_here}
+use Rattle.query_eval.specs.inner.Slots.{row_at, slots_found, slots_listed, slots_with, IsIndex}
 use Rattle.query_eval.specs.declared.probe.Probe.{Probe}
 use Rattle.query_eval.specs.declared.source.SourceRow.{SourceRow}
 use Rattle.sql_model.specs.Meaning.{is_null}
@@ -158,21 +158,20 @@ no_key_equal v vs is (w ∷ ws) = missing (λ w ws. (w, ws)) (are_all_equal (v �
     (λ first. ap (λ b. b && are_all_equal vs ws) (null_equals v w (known_none v first)))
     (λ others. ap (λ b. equals v w && b) (nothing_equal vs others ws) ∙ and-false (equals v w))
 
-none_with : (ties : List Probe) (vs : List Value) → ((ws : List Value) → are_all_equal vs ws ≡ false) → (rows : List SourceRow) → [] ≡ with_values ties vs rows
-none_with ties vs none [] = refl
-none_with ties vs none (row ∷ rows) = rw (none (values_here ties row.values)) (none_with ties vs none rows)
+none_with : (ties : List Probe) (vs : List Value) → ((ws : List Value) → are_all_equal vs ws ≡ false) → (rows : List SourceRow) (slots : List ℕ) → [] ≡ slots_with ties vs rows slots
+none_with ties vs none rows [] = refl
+none_with ties vs none rows (slot ∷ slots) = rw (none (values_here ties (row_at rows slot).values)) (none_with ties vs none rows slots)
 
--- ---- the rows of a joined row
+-- ---- the slots of a joined row
 
-pub found_rows : (map : RefsBy TieValues SourceRow) (ties : List Probe) (rows : List SourceRow) (values : List Value) (key : Option TieValues)
-    → IsIndex map ties rows → 0 < length ties → key ≡ key_of (values_before ties values)
-    → option_map_or (rows_listed map) key [] ≡ with_values ties (values_before ties values) rows
-found_rows map [] rows values key index some is = absurd (omega (arith, some))
-found_rows map (tie ∷ ties) rows values key index some is = by key is
+pub found_slots : (map : RefsBy TieValues ℕ) (ties : List Probe) (rows : List SourceRow) (slots : List ℕ) (values : List Value) → IsIndex map ties rows slots → 0 < length ties
+    → slots_found map ties values ≡ slots_with ties (values_before ties values) rows slots
+found_slots map [] rows slots values index some = absurd (omega (arith, some))
+found_slots map (tie ∷ ties) rows slots values index some = by (key_of vs) refl
   where
     vs : List Value
     vs = values_before (tie ∷ ties) values
 
-    by : (o : Option TieValues) → o ≡ key_of vs → option_map_or (rows_listed map) o [] ≡ with_values (tie ∷ ties) vs rows
-    by None none = none_with (tie ∷ ties) vs (no_key_equal (value_at values tie.from) (values_before ties values) (sym none)) rows
-    by (Some k) found = index k ∙ ap (λ (l : List Value). with_values (tie ∷ ties) l rows) (key_exact vs k (sym found))
+    by : (o : Option TieValues) → o ≡ key_of vs → option_map_or (slots_listed map) o [] ≡ slots_with (tie ∷ ties) vs rows slots
+    by None none = none_with (tie ∷ ties) vs (no_key_equal (value_at values tie.from) (values_before ties values) (sym none)) rows slots
+    by (Some k) found = index k ∙ ap (λ (l : List Value). slots_with (tie ∷ ties) l rows slots) (key_exact vs k (sym found))

@@ -1,3 +1,4 @@
 pub mod Abbreviating
 pub mod Conditions
 pub mod Joining
+pub mod Slots

@@ -1,303 +1,175 @@
 //! The joined rows of FROM for which ON and WHERE are True.
 //!
-//! The sources are joined from left to right. Each condition is tested as soon as the row has its columns. If
-//! equalities tie columns of the next source to earlier ones, an index by all these columns gives the rows.
-//! Leaving out rows is right if each of them fails a condition.
+//! The sources are joined from left to right, and a joined row is one slot of each source so far. Each
+//! condition is tested as soon as the row has its columns, before anything of it is copied. If equalities tie
+//! columns of the next source to earlier ones, an index by all these columns gives the slots. Leaving out
+//! rows is right if each of them fails a condition.
 
-ghost use Rattle.std.specs.Prelude.{◌≡◌, ◌<◌, ◌≤◌, ◌+◌, ◌^◌, ◌++◌, ◌∷◌, [], ℕ, List as Items, filter, length};
-ghost use Rattle.std.specs.Prelude.{map, not, IfOk, OnOk};
-ghost use Rattle.core_parts.specs.Conditions.{meets};
-ghost use Rattle.query_eval.specs.inner.Joining.{combos, tests, is_ready, ready_conditions, later_conditions, extensions_left, extensions_of};
-ghost use Rattle.query_eval.specs.inner.Joining.{extensions_of_all, EachHas, IsIndex, extensions_by_ties};
-ghost use Rattle.core_parts.specs.Placing.{IsPlaced, AreAllPlaced};
-ghost use Rattle.query_eval.specs.Sources.{joined_row_values, source_rows, AreWide, SourcesAreWide};
+ghost use Rattle.std.specs.Prelude.{◌≡◌, ◌<◌, ◌≤◌, ◌+◌, ◌^◌, ◌++◌, ◌∷◌, [], ℕ, List as Items, drop, filter};
+ghost use Rattle.std.specs.Prelude.{length, map, not, IfOk, OnOk};
+ghost use Rattle.query_eval.specs.inner.Joining.{combos, tests, is_ready, ready_conditions, later_conditions};
+ghost use Rattle.query_eval.specs.inner.Joining.{extensions_left, extensions_of_all, EachHas};
+ghost use Rattle.query_eval.specs.inner.Slots.{combinations_at, extended_by, extended_by_index};
+ghost use Rattle.query_eval.specs.inner.Slots.{extended_by_ties, slots_found, slots_meet, values_at};
+ghost use Rattle.core_parts.specs.Placing.{AreAllPlaced};
+ghost use Rattle.query_eval.specs.Sources.{source_rows, AreWide, SourcesAreWide};
+ghost use Rattle.query_eval.specs.declared.source.Source.{Source as GivenSource};
 ghost use Rattle.query_eval.specs.declared.source.SourceRow.{SourceRow as Given};
-ghost use Rattle.sql_model.specs.Meaning.{is_true, truth};
-ghost use Rattle.sql_model.specs.Scope.{InScope, environment};
+ghost use Rattle.sql_model.specs.Scope.{InScope};
 
-use crate::index::{Index, index_of, key_before, rows_under};
+use crate::extending::{extend_by, scan_level};
+use crate::index::{Index, index_of, key_before, slots_under};
 use crate::probe::{Probe, ties_of};
+use crate::slot_row::slots_of;
 use crate::source::{Source, SourceRow, width_with};
-use core_parts::{BoundExpr, Refs, is_certain};
-use ldv_value::{CopyItem, List, Values};
-use sql_model::truth_of;
+use crate::testing::{RowTest, SlotTest, are_met_in};
+use core_parts::BoundExpr;
+use ldv_value::List;
+use lineage::{FlatRows, split_row};
 use std::alloc::{AllocError, Global};
 
-/// One row of each source, or of the first ones.
-pub(crate) type Combination<'a> = Refs<'a, SourceRow>;
-/// Combinations, in their order.
-pub(crate) type Combinations<'a> = List<Refs<'a, SourceRow>>;
-
-// Whether a condition is True over a row.
-fn is_met(alloc: Global, cond: &BoundExpr, values: &Values) -> Result<bool, AllocError>
-    ensures { IfOk result (λ met. (scope : Items InScope) → IsPlaced scope cond.now
-        → met ≡ is_true (truth cond.now.expr (environment scope values.now))) }
-{
-    let truth = truth_of(alloc, &cond.expr, values, &cond.places)?;
-    Ok(is_certain(truth))
-}
-
-/// Whether each condition is True over a row.
-pub(crate) fn is_met_all(
+// Adds the rows of a prefix and each of the slots that are looked up by it that pass.
+fn extend_found<'a, T: SlotTest>(
     alloc: Global,
-    conds: &[BoundExpr],
-    values: &Values,
-) -> Result<bool, AllocError>
-    ensures { IfOk result (λ met. (scope : Items InScope) → AreAllPlaced scope conds.now
-        → met ≡ meets scope conds.now values.now) }
-{
-    for cond in conds {
-        let met = is_met(alloc, cond, values)?;
-        if !met {
-            return Ok(false);
-        }
-    }
-    Ok(true)
-}
-
-// Appends copies of values.
-fn add_values(alloc: Global, values: &mut Values, more: &Values) -> Result<(), AllocError>
-    ensures { OnOk result (values.new ≡ values.old ++ more.now) }
-{
-    for value in more.items() {
-        values.push(value.copy_item(alloc)?)?;
-    }
-    Ok(())
-}
-
-// The number of values of rows, for which room is made.
-fn count_values(rows: &[&SourceRow]) -> usize {
-    let mut count: usize = 0;
-    for row in rows {
-        count = count.saturating_add(row.values.len());
-    }
-    count
-}
-
-/// The values of the joined row of a combination, in FROM order.
-pub(crate) fn joined_values(alloc: Global, rows: &[&SourceRow]) -> Result<Values, AllocError>
-    ensures { IfOk result (λ values. values ≡ joined_row_values (map (λ r. r.now) rows.now)) }
-{
-    let mut values = List::with_capacity(alloc, count_values(rows))?;
-    for row in rows {
-        let row: &SourceRow = *row;
-        add_values(alloc, &mut values, &row.values)?;
-    }
-    Ok(values)
-}
-
-// Whether each condition is True over some rows, joined.
-fn is_combination_met(
-    alloc: Global,
-    conds: &[BoundExpr],
-    rows: &Combination,
-) -> Result<bool, AllocError>
-    ensures { IfOk result (λ met. (scope : Items InScope) → AreAllPlaced scope conds.now
-        → met ≡ tests scope conds.now rows.now) }
-{
-    let values = joined_values(alloc, rows.items())?;
-    is_met_all(alloc, conds, &values)
-}
-
-// Whether each condition is True over some rows and one row more, joined.
-fn is_extension_met(
-    alloc: Global,
-    conds: &[BoundExpr],
-    prefix: &Combination,
-    row: &SourceRow,
-) -> Result<bool, AllocError>
-    ensures { IfOk result (λ met. (scope : Items InScope) → AreAllPlaced scope conds.now
-        → met ≡ tests scope conds.now (prefix.now ++ row.now ∷ [])) }
-{
-    if conds.is_empty() {
-        return Ok(true);
-    }
-    if prefix.len() == 0 {
-        return is_met_all(alloc, conds, &row.values);
-    }
-    let mut values = joined_values(alloc, prefix.items())?;
-    add_values(alloc, &mut values, &row.values)?;
-    is_met_all(alloc, conds, &values)
-}
-
-// Adds what a prefix gives with one row.
-fn extend_one<'a>(
-    alloc: Global,
-    made: &mut Combinations<'a>,
-    prefix: &Combination<'a>,
-    row: &'a SourceRow,
-    conds: &[BoundExpr],
-) -> Result<(), AllocError>
-    ensures { OnOk result ((scope : Items InScope) → AreAllPlaced scope conds.now → (rest : Items Given)
-        → made.new ++ extensions_of scope conds.now prefix.now rest
-        ≡ made.old ++ extensions_of scope conds.now prefix.now (row.now ∷ rest)) }
-{
-    let met = is_extension_met(alloc, conds, prefix, row)?;
-    if met {
-        made.push(prefix.with_item(row)?)?;
-    }
-    Ok(())
-}
-
-// Adds what a prefix gives with each row of a source.
-fn extend_all<'a>(
-    alloc: Global,
-    made: &mut Combinations<'a>,
-    prefix: &Combination<'a>,
-    rows: &'a [SourceRow],
-    conds: &[BoundExpr],
-) -> Result<(), AllocError>
-    ensures { OnOk result ((scope : Items InScope) → AreAllPlaced scope conds.now
-        → made.new ≡ made.old ++ extensions_of scope conds.now prefix.now rows.now) }
-{
-    for row in rows {
-        extend_one(alloc, made, prefix, row, conds)?;
-    }
-    Ok(())
-}
-
-// Adds what a prefix gives with some rows.
-fn extend_by<'a>(
-    alloc: Global,
-    made: &mut Combinations<'a>,
-    prefix: &Combination<'a>,
-    rows: &[&'a SourceRow],
-    conds: &[BoundExpr],
-) -> Result<(), AllocError>
-    ensures { OnOk result ((scope : Items InScope) → AreAllPlaced scope conds.now
-        → made.new ≡ made.old ++ extensions_of scope conds.now prefix.now (map (λ r. r.now) rows.now)) }
-{
-    for row in rows {
-        extend_one(alloc, made, prefix, *row, conds)?;
-    }
-    Ok(())
-}
-
-// The next level by each row of the source.
-fn scan_level<'a>(
-    alloc: Global,
-    prefixes: &Combinations<'a>,
-    rows: &'a [SourceRow],
-    conds: &[BoundExpr],
-) -> Result<Combinations<'a>, AllocError>
-    ensures { IfOk result (λ made. (scope : Items InScope) → AreAllPlaced scope conds.now
-        → made ≡ extensions_of_all scope conds.now prefixes.now rows.now) }
-{
-    let mut made = List::new(alloc);
-    for prefix in prefixes.items() {
-        extend_all(alloc, &mut made, prefix, rows, conds)?;
-    }
-    Ok(made)
-}
-
-// Adds what a prefix gives with the rows that are looked up. `rows` and `ties` are those by which the index
-// was made.
-fn extend_found<'a>(
-    alloc: Global,
-    made: &mut Combinations<'a>,
-    prefix: &Combination<'a>,
-    rows: &'a [SourceRow],
+    made: &mut FlatRows,
+    prefix: &[u32],
+    sources: &'a [Source],
     index: &Index<'a>,
     ties: &[Probe],
-    conds: &[BoundExpr],
+    test: &T,
 ) -> Result<(), AllocError>
-    requires some { 0 < length ties.now }
-    requires index { IsIndex index.now.map ties.now rows.now }
-    ensures { OnOk result ((scope : Items InScope) → AreAllPlaced scope conds.now → (ps : Items (Items Given))
-        → made.new ++ extensions_by_ties scope conds.now ties.now ps rows.now
-        ≡ made.old ++ extensions_by_ties scope conds.now ties.now (prefix.now ∷ ps) rows.now) }
+    requires { length prefix.now + 1 ≡ made.old.width }
+    ensures width { made.new.width ≡ made.old.width }
+    ensures rows { OnOk result (made.new.rows ≡ made.old.rows ++ extended_by (T.test test.now) prefix.now
+        (slots_found index.now.map ties.now (values_at sources.now prefix.now))) }
 {
-    let key = key_before(alloc, prefix, ties)?;
-    match rows_under(index, key) {
+    let key = key_before(alloc, sources, prefix, ties)?;
+    match slots_under(index, key) {
         None => Ok(()),
         Some(found) => {
-            extend_by(alloc, made, prefix, found.items(), conds)?;
+            extend_by(made, prefix, found.items(), test)?;
             Ok(())
         }
     }
 }
 
 // The next level by an index.
-fn found_level<'a>(
+#[tactic(auto, using(lineage::proofs::FlatLaws::level_rules))]
+fn found_level<'a, T: SlotTest>(
     alloc: Global,
-    prefixes: &Combinations<'a>,
-    rows: &'a [SourceRow],
+    prefixes: &FlatRows,
+    sources: &'a [Source],
     index: &Index<'a>,
     ties: &[Probe],
-    conds: &[BoundExpr],
-) -> Result<Combinations<'a>, AllocError>
-    requires some { 0 < length ties.now }
-    requires index { IsIndex index.now.map ties.now rows.now }
-    ensures { IfOk result (λ made. (scope : Items InScope) → AreAllPlaced scope conds.now
-        → made ≡ extensions_by_ties scope conds.now ties.now prefixes.now rows.now) }
+    test: &T,
+) -> Result<FlatRows, AllocError>
+    ensures width { IfOk result (λ made. made.width ≡ prefixes.now.width + 1) }
+    ensures rows { IfOk result (λ made. made.rows
+        ≡ extended_by_index (T.test test.now) sources.now index.now.map ties.now prefixes.now.rows) }
 {
-    let mut made = List::new(alloc);
-    for prefix in prefixes.items() {
-        extend_found(alloc, &mut made, prefix, rows, index, ties, conds)?;
+    let width = prefixes.width();
+    let mut made = prefixes.wider()?;
+    let mut left = prefixes.slots();
+    let mut count = prefixes.len();
+    'rows: while count > 0 {
+        count -= 1;
+        let (row, rest) = split_row(left, width);
+        extend_found(alloc, &mut made, row, sources, index, ties, test)?;
+        left = rest;
     }
     Ok(made)
 }
 
-// The next level by equalities, which hold for each row that is looked up and aren't tested again.
-fn tied_level<'a>(
+// The next level by equalities, which hold for each slot that is looked up and aren't tested again.
+fn tied_level<'a, T: SlotTest>(
     alloc: Global,
-    prefixes: &Combinations<'a>,
+    prefixes: &FlatRows,
+    sources: &'a [Source],
     rows: &'a [SourceRow],
+    slots: &'a [u32],
     ties: &[Probe],
-    conds: &[BoundExpr],
-) -> Result<Combinations<'a>, AllocError>
+    test: &T,
+) -> Result<FlatRows, AllocError>
     requires { 0 < length ties.now }
-    ensures { IfOk result (λ made. (scope : Items InScope) → AreAllPlaced scope conds.now
-        → made ≡ extensions_by_ties scope conds.now ties.now prefixes.now rows.now) }
+    ensures width { IfOk result (λ made. made.width ≡ prefixes.now.width + 1) }
+    ensures rows { IfOk result (λ made. made.rows
+        ≡ extended_by_ties (T.test test.now) sources.now ties.now rows.now slots.now prefixes.now.rows) }
 {
-    let index = index_of(alloc, rows, ties)?;
-    let made = found_level(alloc, prefixes, rows, &index, ties, conds)?;
+    let index = index_of(alloc, rows, slots, ties)?;
+    let made = found_level(alloc, prefixes, sources, &index, ties, test)?;
     Ok(made)
 }
 
-// The next level by ties, or by each row of the source where there is none.
-fn level_by<'a>(
+// The next level by ties, or by each slot where there is none.
+fn level_by<'a, T: SlotTest>(
     alloc: Global,
-    prefixes: &Combinations<'a>,
+    prefixes: &FlatRows,
+    sources: &'a [Source],
     rows: &'a [SourceRow],
+    slots: &'a [u32],
     ties: &[Probe],
-    conds: &[BoundExpr],
-) -> Result<Combinations<'a>, AllocError>
-    ensures { IfOk result (λ made. (scope : Items InScope) → AreAllPlaced scope conds.now
-        → made ≡ extensions_by_ties scope conds.now ties.now prefixes.now rows.now) }
+    test: &T,
+) -> Result<FlatRows, AllocError>
+    ensures width { IfOk result (λ made. made.width ≡ prefixes.now.width + 1) }
+    ensures rows { IfOk result (λ made. made.rows
+        ≡ extended_by_ties (T.test test.now) sources.now ties.now rows.now slots.now prefixes.now.rows) }
 {
     match ties {
         [] => {
-            let made = scan_level(alloc, prefixes, rows, conds)?;
+            let made = scan_level(prefixes, slots, test)?;
             Ok(made)
         }
         [_tie, ..] => {
-            let made = tied_level(alloc, prefixes, rows, ties, conds)?;
+            let made = tied_level(alloc, prefixes, sources, rows, slots, ties, test)?;
             Ok(made)
         }
     }
 }
 
-// The next level: each prefix with each row of the source for which the conditions are True.
-fn next_level<'a>(
+// The next level of slots, with the conditions that aren't ties.
+fn level_of<'a>(
     alloc: Global,
-    prefixes: &Combinations<'a>,
+    prefixes: &FlatRows,
+    sources: &'a [Source],
     rows: &'a [SourceRow],
+    slots: &'a [u32],
+    ties: &[Probe],
+    conds: &[BoundExpr],
+) -> Result<FlatRows, AllocError>
+    ensures width { IfOk result (λ made. made.width ≡ prefixes.now.width + 1) }
+    ensures rows { IfOk result (λ made. made.rows
+        ≡ extended_by_ties (slots_meet conds.now sources.now) sources.now ties.now rows.now slots.now
+        prefixes.now.rows) }
+{
+    let test = RowTest { sources, conds };
+    let made = level_by(alloc, prefixes, sources, rows, slots, ties, &test)?;
+    Ok(made)
+}
+
+// The next level: each prefix with each row of the next source for which the conditions are True.
+fn next_level(
+    alloc: Global,
+    prefixes: &FlatRows,
+    sources: &[Source],
+    source: &Source,
     width: u128,
     conds: List<BoundExpr>,
-) -> Result<Combinations<'a>, AllocError>
-    ensures { IfOk result (λ made. (scope : Items InScope) → AreAllPlaced scope conds
-        → EachHas width prefixes.now
-        → made ≡ extensions_of_all scope conds prefixes.now rows.now) }
+) -> Result<FlatRows, AllocError>
+    ensures width { IfOk result (λ made. made.width ≡ prefixes.now.width + 1) }
+    ensures rows { IfOk result (λ made. (scope : Items InScope) → AreAllPlaced scope conds
+        → (others : Items GivenSource) → drop prefixes.now.width sources.now ≡ source.now ∷ others
+        → EachHas width (combinations_at sources.now prefixes.now.rows)
+        → combinations_at sources.now made.rows
+        ≡ extensions_of_all scope conds (combinations_at sources.now prefixes.now.rows) source.now.rows) }
 {
+    prefixes.tell_width();
+    let rows = source.rows.items();
+    let slots = slots_of(alloc, rows)?;
     let tied = ties_of(alloc, conds, width)?;
-    let made = level_by(
-        alloc,
-        prefixes,
-        rows,
-        tied.ties.as_slice(),
-        tied.others.items(),
-    )?;
+    let all = slots.as_slice();
+    let ties = tied.ties.as_slice();
+    let others = tied.others.items();
+    let made = level_of(alloc, prefixes, sources, rows, all, ties, others)?;
     Ok(made)
 }
 
@@ -336,26 +208,31 @@ fn part(alloc: Global, conds: List<BoundExpr>, width: u128) -> Result<Parted, Al
 
 // The prefixes so far, the number of values of each, and the conditions that are left to be tested.
 #[derive(Drop)]
-struct Walk<'a> {
-    prefixes: Combinations<'a>,
+struct Walk {
+    prefixes: FlatRows,
     width: u128,
     left: List<BoundExpr>,
 }
 
 // Extends the prefixes by one source, and tests the conditions whose columns are all there then.
-fn join_source<'a>(
+fn join_source(
     alloc: Global,
-    walk: Walk<'a>,
-    source: &'a Source,
-) -> Result<Walk<'a>, AllocError>
+    sources: &[Source],
+    walk: Walk,
+    source: &Source,
+) -> Result<Walk, AllocError>
     requires { walk.width + 2 ^ 64 ≤ 2 ^ 128 }
-    ensures width { IfOk result (λ new. new.width < walk.entry.width + 2 ^ 64) }
-    ensures rows { IfOk result (λ new. (scope : Items InScope) → AreAllPlaced scope walk.entry.left
-        → EachHas walk.entry.width walk.entry.prefixes
+    ensures width { IfOk result (λ new. new.width < walk.width + 2 ^ 64) }
+    ensures slots { IfOk result (λ new. new.prefixes.width ≡ walk.prefixes.width + 1) }
+    ensures rows { IfOk result (λ new. (scope : Items InScope) → AreAllPlaced scope walk.left
+        → (others : Items GivenSource) → drop walk.prefixes.width sources.now ≡ source.now ∷ others
+        → EachHas walk.width (combinations_at sources.now walk.prefixes.rows)
         → AreWide source.now.width source.now.rows
-        → AreAllPlaced scope new.left × EachHas new.width new.prefixes
-        × ((rest : Items (Items Given)) → extensions_left scope new.left new.prefixes rest
-        ≡ extensions_left scope walk.entry.left walk.entry.prefixes (source.now.rows ∷ rest))) }
+        → AreAllPlaced scope new.left × EachHas new.width (combinations_at sources.now new.prefixes.rows)
+        × ((rest : Items (Items Given))
+        → extensions_left scope new.left (combinations_at sources.now new.prefixes.rows) rest
+        ≡ extensions_left scope walk.left (combinations_at sources.now walk.prefixes.rows)
+        (source.now.rows ∷ rest))) }
 {
     let Walk {
         prefixes,
@@ -364,7 +241,7 @@ fn join_source<'a>(
     } = walk;
     let next = width_with(width, source.width);
     let Parted { ready, later } = part(alloc, left, next)?;
-    let prefixes = next_level(alloc, &prefixes, source.rows.items(), width, ready)?;
+    let prefixes = next_level(alloc, &prefixes, sources, source, width, ready)?;
     Ok(Walk {
         prefixes,
         width: next,
@@ -372,25 +249,24 @@ fn join_source<'a>(
     })
 }
 
-// The walk before the first source: one prefix, of no row.
-fn first_prefix<'a>(alloc: Global, conds: List<BoundExpr>) -> Result<Walk<'a>, AllocError>
-    ensures prefixes { IfOk result (λ walk. walk.prefixes ≡ [] ∷ []) }
-    ensures width { IfOk result (λ walk. walk.width ≡ 0) }
-    ensures left { IfOk result (λ walk. walk.left ≡ conds) }
+// The walk before the first source: one prefix, of no slot.
+fn first_prefix(alloc: Global, conds: List<BoundExpr>) -> Walk
+    ensures prefixes { result.prefixes ≡ record { width = 0; rows = [] ∷ [] } }
+    ensures width { result.width ≡ 0 }
+    ensures left { result.left ≡ conds }
 {
-    let mut prefixes = List::new(alloc);
-    prefixes.push(Refs::new(alloc))?;
-    Ok(Walk {
-        prefixes,
+    Walk {
+        prefixes: FlatRows::of_no_source(alloc),
         width: 0,
         left: conds,
-    })
+    }
 }
 
 // After the last source: the prefixes that meet the conditions that are left.
-fn last_combinations<'a>(alloc: Global, walk: Walk<'a>) -> Result<Combinations<'a>, AllocError>
-    ensures { IfOk result (λ rows. (scope : Items InScope) → AreAllPlaced scope walk.entry.left
-        → rows ≡ filter (tests scope walk.entry.left) walk.entry.prefixes) }
+fn last_rows(alloc: Global, sources: &[Source], walk: Walk) -> Result<FlatRows, AllocError>
+    ensures { IfOk result (λ rows. (scope : Items InScope) → AreAllPlaced scope walk.left
+        → combinations_at sources.now rows.rows
+        ≡ filter (tests scope walk.left) (combinations_at sources.now walk.prefixes.rows)) }
 {
     let Walk {
         prefixes,
@@ -400,59 +276,68 @@ fn last_combinations<'a>(alloc: Global, walk: Walk<'a>) -> Result<Combinations<'
     if left.is_empty() {
         return Ok(prefixes);
     }
-    keep_matching(alloc, prefixes, left.items())
+    let rows = keep_matching(alloc, sources, &prefixes, left.items())?;
+    Ok(rows)
 }
 
-// Adds a combination, if it meets the conditions.
-fn keep_one<'a>(
-    alloc: Global,
-    rows: &mut Combinations<'a>,
-    combination: Combination<'a>,
+// Adds a row, if it meets the conditions.
+fn keep_one(
+    made: &mut FlatRows,
+    sources: &[Source],
+    row: &[u32],
     conds: &[BoundExpr],
 ) -> Result<(), AllocError>
-    ensures { OnOk result ((scope : Items InScope)
-        → AreAllPlaced scope conds.now → (rest : Items (Items Given))
-        → rows.new ++ filter (tests scope conds.now) rest
-        ≡ rows.old ++ filter (tests scope conds.now) (combination.entry ∷ rest)) }
+    requires { length row.now ≡ made.old.width }
+    ensures width { made.new.width ≡ made.old.width }
+    ensures rows { OnOk result ((rest : Items (Items ℕ))
+        → made.new.rows ++ filter (slots_meet conds.now sources.now) rest
+        ≡ made.old.rows ++ filter (slots_meet conds.now sources.now) (row.now ∷ rest)) }
 {
-    let met = is_combination_met(alloc, conds, &combination)?;
-    if met {
-        rows.push(combination)?;
+    if are_met_in(sources, row, conds) {
+        made.push(row)?;
     }
     Ok(())
 }
 
-// The combinations that meet the conditions.
-fn keep_matching<'a>(
+// The rows that meet the conditions.
+#[tactic(auto, using(lineage::proofs::FlatLaws::level_rules))]
+fn keep_matching(
     alloc: Global,
-    combinations: Combinations<'a>,
+    sources: &[Source],
+    rows: &FlatRows,
     conds: &[BoundExpr],
-) -> Result<Combinations<'a>, AllocError>
-    ensures { IfOk result (λ rows. (scope : Items InScope) → AreAllPlaced scope conds.now
-        → rows ≡ filter (tests scope conds.now) combinations.entry) }
+) -> Result<FlatRows, AllocError>
+    ensures { IfOk result (λ made. made.rows ≡ filter (slots_meet conds.now sources.now) rows.now.rows) }
 {
-    let mut rows = List::new(alloc);
-    for combination in combinations.into_vec() {
-        keep_one(alloc, &mut rows, combination, conds)?;
+    let width = rows.width();
+    let mut made = FlatRows::new(alloc, width);
+    let mut left = rows.slots();
+    let mut count = rows.len();
+    'rows: while count > 0 {
+        count -= 1;
+        let (row, rest) = split_row(left, width);
+        keep_one(&mut made, sources, row, conds)?;
+        left = rest;
     }
-    Ok(rows)
+    Ok(made)
 }
 
-/// The combinations of rows, one of each source, for which each condition is True.
-pub(crate) fn join<'a>(
+/// The joined rows, one slot of each source, for which each condition is True.
+pub(crate) fn join(
     alloc: Global,
-    sources: &'a [Source],
+    sources: &[Source],
     conds: List<BoundExpr>,
-) -> Result<Combinations<'a>, AllocError>
+) -> Result<FlatRows, AllocError>
     ensures { IfOk result (λ rows. (scope : Items InScope) → AreAllPlaced scope conds
         → SourcesAreWide sources.now
-        → rows ≡ filter (tests scope conds) (combos (map source_rows sources.now))) }
+        → combinations_at sources.now rows.rows
+        ≡ filter (tests scope conds) (combos (map source_rows sources.now))) }
 {
     // There are fewer than 2^64 sources, which bounds the number of values.
     let _count = sources.len();
-    let mut walk = first_prefix(alloc, conds)?;
+    let mut walk = first_prefix(alloc, conds);
     for source in sources {
-        walk = join_source(alloc, walk, source)?;
+        walk = join_source(alloc, sources, walk, source)?;
     }
-    last_combinations(alloc, walk)
+    last_rows(alloc, sources, walk)
 }

@@ -1,21 +1,23 @@
 //! The picked combinations of a core, with their lineages.
 
-ghost use Rattle.std.specs.Prelude.{◌≡◌, ◌∷◌, [], List as Items, map, IfOk, IfErr};
+ghost use Rattle.std.specs.Prelude.{◌≡◌, ◌++◌, ◌∷◌, [], List as Items, map, IfOk, IfErr, OnOk};
 ghost use Rattle.std.specs.FinMap.{empty};
 ghost use Rattle.core_parts.specs.Checking.{HasCore};
 ghost use Rattle.core_parts.specs.Placing.{AreAllPlaced};
-ghost use Rattle.query_eval.specs.Picking.{rows_added, kept_rows, pick_of, source_picks, ArePicked};
+ghost use Rattle.lineage.specs.Lineage.{with_version};
+ghost use Rattle.query_eval.specs.Picking.{rows_added, kept_rows, source_picks, ArePicked};
 ghost use Rattle.query_eval.specs.Sources.{SourcesAreWide};
+ghost use Rattle.query_eval.specs.inner.Slots.{pick_at, row_at, rows_at, values_at};
 ghost use Rattle.sql_model.specs.Scope.{InScope};
 
 use crate::conditions::core_conditions;
-use crate::joining::{Combination, Combinations, join, joined_values};
+use crate::joining::join;
 use crate::single::picks_alone;
 use crate::source::{Source, SourceRow, Sources};
 use crate::sources::sources_of;
 use core_parts::{BoundExpr, core_of};
-use ldv_value::List;
-use lineage::{LineageRows, Pick, Picks};
+use ldv_value::{CopyItem, List, Values};
+use lineage::{FlatRows, LineageRows, Pick, Picks, split_row};
 use sql_model::Checked;
 use std::alloc::{AllocError, Global};
 use table_store::Store;
@@ -86,80 +88,152 @@ fn joined_picks(
         → SourcesAreWide sources.now → picks ≡ source_picks scope conds keep sources.now) }
 {
     let held = sources.items();
-    let combinations = join(alloc, held, conds)?;
-    let picks = picks_of(alloc, held, &combinations, keep)?;
+    let rows = join(alloc, held, conds)?;
+    let picks = picks_of(alloc, held, &rows, keep)?;
     Ok(picks)
 }
 
-// The picks of combinations.
+// The picks of joined rows, which are copied here and nowhere before.
+#[tactic(auto, using(lineage::proofs::FlatLaws::level_rules))]
 fn picks_of(
     alloc: Global,
     sources: &[Source],
-    combinations: &Combinations,
+    rows: &FlatRows,
     keep: bool,
 ) -> Result<Picks, AllocError>
-    ensures { IfOk result (λ picks. picks ≡ map (pick_of keep sources.now) combinations.now) }
+    ensures { IfOk result (λ picks. picks ≡ map (pick_at keep sources.now) rows.now.rows) }
 {
-    let mut picks = List::with_capacity(alloc, combinations.len())?;
-    for combination in combinations.items() {
-        picks.push(pick_of(alloc, sources, combination, keep)?)?;
+    let width = rows.width();
+    let columns = count_columns(sources);
+    let mut picks = List::with_capacity(alloc, rows.len())?;
+    let mut left = rows.slots();
+    let mut count = rows.len();
+    'rows: while count > 0 {
+        count -= 1;
+        let (row, rest) = split_row(left, width);
+        picks.push(pick_at(alloc, sources, row, columns, keep)?)?;
+        left = rest;
     }
     Ok(picks)
 }
 
-// The pick of a combination.
-fn pick_of(
+// The number of columns of sources, for which room is made.
+fn count_columns(sources: &[Source]) -> usize {
+    let mut count: usize = 0;
+    for source in sources {
+        count = count.saturating_add(source.width);
+    }
+    count
+}
+
+// The pick of the rows in some slots.
+fn pick_at(
     alloc: Global,
     sources: &[Source],
-    combination: &Combination,
+    slots: &[u32],
+    columns: usize,
     keep: bool,
 ) -> Result<Pick, AllocError>
-    ensures { IfOk result (λ pick. pick ≡ pick_of keep sources.now combination.now) }
+    ensures { IfOk result (λ pick. pick ≡ pick_at keep sources.now slots.now) }
 {
     Ok(Pick {
-        values: joined_values(alloc, combination.items())?,
-        lineage: lineage_of(alloc, sources, combination.items(), keep)?,
+        values: values_at(alloc, sources, slots, columns)?,
+        lineage: lineage_at(alloc, sources, slots, keep)?,
     })
 }
 
-// The lineage of a combination, where it is kept.
-fn lineage_of(
+// The values of the joined row, in FROM order.
+fn values_at(
     alloc: Global,
     sources: &[Source],
-    rows: &[&SourceRow],
+    slots: &[u32],
+    columns: usize,
+) -> Result<Values, AllocError>
+    ensures { IfOk result (λ values. values ≡ values_at sources.now slots.now) }
+{
+    let mut values = List::with_capacity(alloc, columns)?;
+    let mut left = sources;
+    let mut right = slots;
+    'rows: loop {
+        match right {
+            [] => return Ok(values),
+            [slot, slots @ ..] => match left {
+                [] => return Ok(values),
+                [source, sources @ ..] => {
+                    add_row(alloc, &mut values, source, *slot)?;
+                    left = sources;
+                    right = slots;
+                }
+            },
+        }
+    }
+}
+
+// Appends copies of the values of the row in a slot.
+fn add_row(alloc: Global, values: &mut Values, source: &Source, slot: u32) -> Result<(), AllocError>
+    ensures { OnOk result (values.new ≡ values.old ++ (row_at source.now.rows slot).values) }
+{
+    match source.rows.get(slot as usize) {
+        None => Ok(()),
+        Some(row) => add_values(alloc, values, row),
+    }
+}
+
+fn add_values(alloc: Global, values: &mut Values, row: &SourceRow) -> Result<(), AllocError>
+    ensures { OnOk result (values.new ≡ values.old ++ row.now.values) }
+{
+    for value in row.values.items() {
+        values.push(value.copy_item(alloc)?)?;
+    }
+    Ok(())
+}
+
+// The lineage of the rows in some slots, where it is kept.
+fn lineage_at(
+    alloc: Global,
+    sources: &[Source],
+    slots: &[u32],
     keep: bool,
 ) -> Result<LineageRows, AllocError>
-    ensures { IfOk result (λ lineage. lineage ≡ kept_rows keep sources.now (map (λ r. r.now) rows.now)) }
+    ensures { IfOk result (λ lineage. lineage ≡ kept_rows keep sources.now (rows_at sources.now slots.now)) }
 {
     if keep {
-        rows_added(alloc, sources, rows)
+        rows_added(alloc, sources, slots)
     } else {
         Ok(LineageRows::empty(alloc))
     }
 }
 
-// The set of the rows of a combination.
-fn rows_added(
-    alloc: Global,
-    sources: &[Source],
-    rows: &[&SourceRow],
-) -> Result<LineageRows, AllocError>
-    ensures { IfOk result (λ lineage. lineage ≡ rows_added empty sources.now (map (λ r. r.now) rows.now)) }
+// The set of the rows in some slots.
+fn rows_added(alloc: Global, sources: &[Source], slots: &[u32]) -> Result<LineageRows, AllocError>
+    ensures { IfOk result (λ lineage. lineage
+        ≡ rows_added empty sources.now (rows_at sources.now slots.now)) }
 {
     let mut lineage = LineageRows::empty(alloc);
     let mut left = sources;
-    let mut right = rows;
+    let mut right = slots;
     'rows: loop {
         match left {
             [] => return Ok(lineage),
             [source, sources @ ..] => match right {
                 [] => return Ok(lineage),
-                [row, rows @ ..] => {
-                    lineage.add(source.table, row.number, row.version)?;
+                [slot, slots @ ..] => {
+                    add_member(&mut lineage, source, *slot)?;
                     left = sources;
-                    right = rows;
+                    right = slots;
                 }
             },
         }
+    }
+}
+
+// Adds the row in a slot to a lineage.
+fn add_member(lineage: &mut LineageRows, source: &Source, slot: u32) -> Result<(), AllocError>
+    ensures { OnOk result (lineage.new ≡ with_version lineage.old
+        (source.now.table, (row_at source.now.rows slot).number) (row_at source.now.rows slot).version) }
+{
+    match source.rows.get(slot as usize) {
+        None => lineage.add(source.table, 0, 0),
+        Some(row) => lineage.add(source.table, row.number, row.version),
     }
 }

@@ -5,13 +5,15 @@ ghost use Rattle.std.specs.FinMap.{empty};
 ghost use Rattle.core_parts.specs.Placing.{AreAllPlaced};
 ghost use Rattle.lineage.specs.Lineage.{with_version};
 ghost use Rattle.query_eval.specs.Picking.{row_lineage, row_pick, row_picks};
+ghost use Rattle.query_eval.specs.inner.Slots.{are_met_by};
 ghost use Rattle.query_eval.specs.declared.source.SourceRow.{SourceRow as Given};
 ghost use Rattle.sql_model.specs.Scope.{InScope};
 
-use crate::joining::is_met_all;
 use crate::source::{SourceRow, SourceRows};
+use crate::testing::are_met;
 use core_parts::BoundExpr;
 use ldv_value::List;
+use lent_cells::Listed;
 use lineage::{LineageRows, Pick, Picks};
 use std::alloc::{AllocError, Global};
 
@@ -46,11 +48,20 @@ fn pick_row(
         → picks.new ++ row_picks scope conds.now keep table rest
         ≡ picks.old ++ row_picks scope conds.now keep table (row ∷ rest)) }
 {
-    let met = is_met_all(alloc, conds.items(), &row.values)?;
-    if met {
+    if meets_all(conds, &row) {
         picks.push(row_pick(alloc, table, row, keep)?)?;
     }
     Ok(())
+}
+
+// Whether each condition is True over a row.
+fn meets_all(conds: &List<BoundExpr>, row: &SourceRow) -> bool
+    ensures { result ≡ are_met_by conds.now row.now.values }
+{
+    let row = Listed {
+        values: &row.values,
+    };
+    are_met(conds.items(), &row)
 }
 
 // The pick of a row alone.

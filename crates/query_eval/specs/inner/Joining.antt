@@ -9,14 +9,12 @@ use Rattle.ldv_value.specs.Order.{order}
 use Rattle.ldv_value.specs.declared.value.Cmp.TheVariants.{Eq}
 use Rattle.core_parts.specs.Conditions.{meets}
 use Rattle.core_parts.specs.Equality.{equals, is_equal_test}
-use Rattle.core_parts.specs.Listing.{listed, item_added}
 use Rattle.core_parts.specs.Placing.{IsPlaced, AreAllPlaced}
 use Rattle.query_eval.specs.Sources.{joined_row_values}
 use Rattle.query_eval.specs.Types.{ColumnName, Operator, Add, Subtract, Multiply, Compare, And, Or}
 use Rattle.query_eval.specs.Types.{Expr, Value, Null, Int, Text}
 use Rattle.sql_model.specs.declared.expr.Expr.TheVariants.{Both, Column}
 use Rattle.core_parts.specs.declared.placed.BoundExpr.{BoundExpr}
-use Rattle.core_parts.specs.declared.refs_by.RefsBy.{RefsBy}
 use Rattle.query_eval.specs.declared.probe.Probe.{Probe}
 use Rattle.query_eval.specs.declared.source.SourceRow.{SourceRow}
 use Rattle.sql_model.specs.Meaning.{is_true, truth}
@@ -164,15 +162,3 @@ tie_order a b = ordering_then (order a.0 b.0) (slice_cmp order a.1 b.1)
 abbrev pub key_of : List Value → Option TieValues
 key_of [] = None
 key_of (v ∷ vs) = option_and_then (λ w. option_map (λ ws. (w, ws)) (known_values vs)) (non_null v)
-
--- the rows that a map has under a key
-abbrev pub rows_listed : RefsBy TieValues SourceRow → TieValues → List SourceRow
-rows_listed map key = listed tie_order map key
-
--- a row more under a key
-abbrev pub row_added : TieValues → SourceRow → TieValues → List SourceRow → List SourceRow
-row_added own row key rows = item_added tie_order own row key rows
-
--- under each key just the rows of which the columns equal it, in their order
-abbrev pub IsIndex : RefsBy TieValues SourceRow → List Probe → List SourceRow → Type 0
-IsIndex map ties rows = (key : TieValues) → rows_listed map key ≡ with_values ties (key.0 ∷ key.1) rows

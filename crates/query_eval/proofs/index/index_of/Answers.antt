@@ -1,6 +1,6 @@
 use Rattle.std.proofs.Common.{◌∷◌, ◌++◌, ap}
-use Rattle.query_eval.specs.inner.Joining.{with_values}
+use Rattle.query_eval.specs.inner.Slots.{slots_with}
 use Rattle.query_eval.proofs.index.index_of.Goals as goal
 
-pub loop-row-init : goal.loop-row-init
-loop-row-init c = λ key. ap (λ l. l ++ with_values c.args.ties.now (key.0 ∷ key.1) c.args.rows.now) (c.new-map.ensures key)
+pub loop-slot-init : goal.loop-slot-init
+loop-slot-init c = λ key. ap (λ l. l ++ slots_with c.args.ties.now (key.0 ∷ key.1) c.args.rows.now c.args.slots.now) (c.new-map.ensures key)

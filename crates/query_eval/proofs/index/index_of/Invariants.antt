@@ -1,6 +1,8 @@
-use Rattle.std.proofs.Common.{◌≡◌, ◌∷◌, ◌++◌, drop}
-use Rattle.query_eval.specs.inner.Joining.{TieValues, rows_listed, with_values}
+use Rattle.std.proofs.Common.{◌≡◌, drop, ◌∷◌, ◌++◌}
+use Rattle.query_eval.specs.inner.Joining.{TieValues}
+use Rattle.query_eval.specs.inner.Slots.{slots_listed, slots_with}
 use Rattle.query_eval.proofs.index.index_of.Given as goal
 
-abbrev pub invariant-loop-row : goal.invariant-loop-row
-invariant-loop-row l = (key : TieValues) → rows_listed l.map key ++ with_values l.ties (key.0 ∷ key.1) (drop l.row-index l.rows) ≡ with_values l.ties (key.0 ∷ key.1) l.rows
+abbrev pub invariant-loop-slot : goal.invariant-loop-slot
+invariant-loop-slot l = (key : TieValues)
+    → slots_listed l.map key ++ slots_with l.ties (key.0 ∷ key.1) l.rows (drop l.slot-index l.slots) ≡ slots_with l.ties (key.0 ∷ key.1) l.rows l.slots

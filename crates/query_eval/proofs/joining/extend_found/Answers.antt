@@ -1,28 +1,22 @@
-use Rattle.std.proofs.Common.{◌≡◌, ◌∙◌, ap, ◌++◌, List, map, append_assoc}
-use Rattle.query_eval.specs.inner.Joining.{extensions_of, extensions_by_ties, values_before, with_values}
-use Rattle.query_eval.specs.Sources.{joined_row_values}
-use Rattle.query_eval.specs.declared.source.SourceRow.{SourceRow}
-use Rattle.query_eval.proofs.TieKeys.{found_rows}
+use Rattle.std.proofs.Common.{◌≡◌, ◌∙◌, ap, sym, ◌++◌, [], Bool, List, ℕ, Option, append-nil}
+use Rattle.std.specs.Option.{option_map_or}
+use Rattle.core_parts.specs.declared.refs_by.RefsBy.{RefsBy}
+use Rattle.query_eval.specs.inner.Joining.{TieValues}
+use Rattle.query_eval.specs.inner.Slots.{extended_by, slots_found, slots_listed, values_at}
 use Rattle.query_eval.proofs.joining.extend_found.Goals as goal
 
-pub returns-in-None : goal.returns-in-None
-returns-in-None c = λ scope all ps.
-    let conds = c.args.conds.now in
-    let ties = c.args.ties.now in
-    let rest = extensions_by_ties scope conds ties ps c.args.rows.now in
-    ap (λ (rows : List SourceRow). c.args.made.now ++ (extensions_of scope conds c.args.prefix.now rows ++ rest))
-    (c.in-None.ensures
-    ∙ found_rows c.args.index.now.map ties c.args.rows.now (joined_row_values c.args.prefix.now) c.in_ok-key.key c.requires.index c.requires.some c.in_ok-key.ensures)
+pub returns-in-None-clause-rows : goal.returns-in-None-clause-rows
+returns-in-None-clause-rows g c =
+    let t : List ℕ → Bool = g.T.SlotTest.test c.args.test.now in
+    let map : RefsBy TieValues ℕ = c.args.index.now.map in
+    let none : [] ≡ slots_found map c.args.ties.now (values_at c.args.sources.now c.args.prefix.now) =
+    c.in-None.ensures ∙ ap (λ (o : Option TieValues). option_map_or (slots_listed map) o []) c.in_ok-key.ensures in
+    sym (append-nil c.args.made.now.rows) ∙ ap (λ (slots : List ℕ). c.args.made.now.rows ++ extended_by t c.args.prefix.now slots) none
 
-pub returns-in_ok-extend_by-in-Some : goal.returns-in_ok-extend_by-in-Some
-returns-in_ok-extend_by-in-Some c = λ scope all ps.
-    let conds = c.args.conds.now in
-    let ties = c.args.ties.now in
-    let prefix = c.args.prefix.now in
-    let rest = extensions_by_ties scope conds ties ps c.args.rows.now in
-    let found : map (λ r. r.now) c.items.result.now ≡ with_values ties (values_before ties (joined_row_values prefix)) c.args.rows.now =
-    c.items.ensures ∙ c.in-Some.ensures
-    ∙ found_rows c.args.index.now.map ties c.args.rows.now (joined_row_values prefix) c.in_ok-key.key c.requires.index c.requires.some c.in_ok-key.ensures in
-    ap (λ (made : List (List SourceRow)). made ++ rest) (c.in_ok-extend_by-in-Some.ensures scope all)
-    ∙ append_assoc c.args.made.now (extensions_of scope conds prefix (map (λ r. r.now) c.items.result.now)) rest
-    ∙ ap (λ (rows : List SourceRow). c.args.made.now ++ (extensions_of scope conds prefix rows ++ rest)) found
+pub returns-in_ok-extend_by-in-Some-clause-rows : goal.returns-in_ok-extend_by-in-Some-clause-rows
+returns-in_ok-extend_by-in-Some-clause-rows g c =
+    let t : List ℕ → Bool = g.T.SlotTest.test c.args.test.now in
+    let map : RefsBy TieValues ℕ = c.args.index.now.map in
+    c.in_ok-extend_by-in-Some.ensures.rows
+    ∙ ap (λ (slots : List ℕ). c.args.made.now.rows ++ extended_by t c.args.prefix.now slots)
+    (c.items.ensures ∙ c.in-Some.ensures ∙ ap (λ (o : Option TieValues). option_map_or (slots_listed map) o []) c.in_ok-key.ensures)

@@ -1,17 +1,32 @@
-use Rattle.std.proofs.Common.{◌≡◌, ◌∙◌, ◌+◌, ◌++◌, ◌∷◌, List, ap, sym, drop}
-use Rattle.ldv_value.proofs.Places.{drop_item}
-use Rattle.query_eval.specs.inner.Joining.{extensions_by_ties}
-use Rattle.query_eval.specs.declared.source.SourceRow.{SourceRow}
+use Rattle.std.proofs.Common.{◌≡◌, ◌∙◌, ◌<◌, ◌-◌, ◌++◌, ◌∷◌, ap, length, List, ℕ, Bool, append_assoc, rules}
+use Rattle.lineage.specs.Flat.{rows_in}
+use Rattle.lineage.proofs.FlatLaws.{rows_joined, rest_long}
+use Rattle.core_parts.specs.declared.refs_by.RefsBy.{RefsBy}
+use Rattle.query_eval.specs.declared.probe.Probe.{Probe}
+use Rattle.query_eval.specs.declared.source.Source.{Source}
+use Rattle.query_eval.specs.inner.Joining.{TieValues}
+use Rattle.query_eval.specs.inner.Slots.{extended_by, extended_by_index, slots_found, values_at}
 use Rattle.query_eval.proofs.joining.found_level.Goals as goal
 
-pub loop-prefix-preserved : goal.loop-prefix-preserved
-loop-prefix-preserved c = λ scope all.
-    let conds = c.args.conds.now in
-    let ties = c.args.ties.now in
-    let rows = c.args.rows.now in
-    let prefixes : List (List SourceRow) = c.items-prefix-items.result.now in
-    let i = c.loop-prefix.prefix-index in
-    let split : drop i prefixes ≡ c.prefix-item.result ∷ drop (i + 1) prefixes = drop_item prefixes i c.prefix-item.result c.loop-prefix-test.true c.prefix-item.is in
-    c.in_ok-extend_found.ensures scope all (drop (i + 1) prefixes)
-    ∙ ap (λ (l : List (List SourceRow)). c.loop-prefix.made ++ extensions_by_ties scope conds ties l rows) (sym split)
-    ∙ c.loop-prefix.invariant scope all
+pub rows-preserved : goal.rows-preserved
+rows-preserved g c =
+    let w : ℕ = c.width-width.result in
+    let n : ℕ = c.rows.count in
+    let left : List ℕ = c.rows.left.now in
+    let front : List ℕ = c.split_row.result.0.now in
+    let back : List ℕ = c.split_row.result.1.now in
+    let sources : List Source = c.args.sources.now in
+    let index : RefsBy TieValues ℕ = c.args.index.now.map in
+    let ties : List Probe = c.args.ties.now in
+    let t : List ℕ → Bool = g.T.SlotTest.test c.args.test.now in
+    let old : List (List ℕ) = c.rows.made.rows in
+    let more : 0 < n = search rules in
+    let joined : front ∷ rows_in (n - 1) w back ≡ rows_in n w left = rows_joined n w left front back more c.split_row.ensures.row c.split_row.ensures.rest in
+    record {
+      width = c.extend_found.ensures.width ∙ c.rows.invariant.width;
+      same = c.rows.invariant.same;
+      long = ap length c.split_row.ensures.rest ∙ rest_long n w left more c.rows.invariant.long;
+      rows = ap (λ (l : List (List ℕ)). l ++ extended_by_index t sources index ties (rows_in (n - 1) w back)) c.in_ok-extend_found.ensures.rows
+          ∙ append_assoc old (extended_by t front (slots_found index ties (values_at sources front))) (extended_by_index t sources index ties (rows_in (n - 1) w back))
+          ∙ ap (λ (rs : List (List ℕ)). old ++ extended_by_index t sources index ties rs) joined ∙ c.rows.invariant.rows;
+    }

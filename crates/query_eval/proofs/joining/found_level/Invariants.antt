@@ -1,9 +1,16 @@
-use Rattle.std.proofs.Common.{◌≡◌, ◌++◌, List, drop}
-use Rattle.query_eval.specs.inner.Joining.{extensions_by_ties}
-use Rattle.core_parts.specs.Placing.{AreAllPlaced}
-use Rattle.sql_model.specs.Scope.{InScope}
+use Rattle.std.proofs.Common.{◌≡◌, ◌++◌, ◌+◌, ◌*◌, length}
+use Rattle.lineage.specs.Flat.{rows_in}
+use Rattle.query_eval.specs.inner.Slots.{extended_by_index}
 use Rattle.query_eval.proofs.joining.found_level.Given as goal
 
-abbrev pub invariant-loop-prefix : goal.invariant-loop-prefix
-invariant-loop-prefix l = (scope : List InScope) → AreAllPlaced scope l.conds
-    → l.made ++ extensions_by_ties scope l.conds l.ties (drop l.prefix-index l.prefix-items) l.rows ≡ extensions_by_ties scope l.conds l.ties l.prefixes l.rows
+abbrev pub invariant-rows : goal.invariant-rows
+invariant-rows g l = record {
+  width : l.made.width ≡ l.width + 1;
+  same : l.width ≡ l.prefixes.width;
+  long : length l.left ≡ l.count * l.width;
+  rows : l.made.rows ++ extended_by_index (g.T.SlotTest.test l.test) l.sources l.index.map l.ties (rows_in l.count l.width l.left)
+      ≡ extended_by_index (g.T.SlotTest.test l.test) l.sources l.index.map l.ties l.prefixes.rows;
+}
+
+abbrev pub decreases-rows : goal.decreases-rows
+decreases-rows g l = l.count
