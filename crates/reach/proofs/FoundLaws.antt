@@ -1,7 +1,7 @@
 -- An open edge comes from a node if and only if a path leads from it to the searched node.
 use Rattle.std.proofs.Common.{◌≡◌, ◌∙◌, sym, ap, subst, refl, inl, inr, ◌⊎◌, ℕ, Bool, true, false}
 use Rattle.std.proofs.Common.{List, [], Some, None}
-use Rattle.std.specs.Prelude.{◌↔◌, Contains, slice_get, if◌then◌else◌}
+use Rattle.std.specs.Prelude.{◌↔◌, Contains, slice_get, if◌then◌else◌, IfOk, Result, Ok, Err}
 use Rattle.std.specs.List.{filter_map}
 use Rattle.std.specs.List.Sorted.{IsStrictlySortedBy}
 use Rattle.std.specs.Ordering.{nat_cmp, ordering_then}
@@ -16,6 +16,12 @@ use Rattle.reach.specs.Found.{Times, is_open, open_source, open_sources}
 use Rattle.reach.specs.Search.{AreLatest}
 use Rattle.reach.proofs.Members.{in_nil, in_all, from_all, in_filter_map, from_filter_map}
 use Rattle.reach.proofs.PathLaws.{open_leads, leads_open}
+
+-- ---- what two clauses say of one value
+
+pub ok_both : {X E : Type 0} (r : Result X E) (P Q R : X → Type 0) → ((x : X) → P x → Q x → R x) → IfOk r P → IfOk r Q → IfOk r R
+ok_both (Ok x) P Q R to p q = to x p q
+ok_both (Err e) P Q R to p q = tt
 
 -- ---- nodes that compare alike are one
 

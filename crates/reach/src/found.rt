@@ -97,6 +97,5 @@ pub(crate) fn open_keys<'a, 'b>(
 {
     let marks = open_marks(alloc, nodes.len(), edges, latest)?;
     let keys = marked_keys(alloc, nodes, &marks)?;
-    let sorted = sort_keys_once(keys)?;
-    Ok(sorted)
+    sort_keys_once(keys)
 }

@@ -34,6 +34,5 @@ pub fn depends<'a, 'b>(
         (record { nodes = map node_of nodes.now; edges = edges.now }) node time (map lent_node found.items)) }
 {
     let latest = latest_times(alloc, nodes.len(), edges, node, time)?;
-    let found = open_keys(alloc, nodes, edges, &latest)?;
-    Ok(found)
+    open_keys(alloc, nodes, edges, &latest)
 }
