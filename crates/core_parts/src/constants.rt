@@ -32,8 +32,7 @@ pub fn constant_value(alloc: Global, expr: &Expr) -> Result<Value, AllocError>
 {
     let row = List::new(alloc);
     let places = List::new(alloc);
-    let value = value_of(alloc, expr, &row, &places)?;
-    Ok(value)
+    value_of(alloc, expr, &row, &places)
 }
 
 /// The value that an expression without columns, such as a number, a text, `-5` or `2 * 3`, has over every

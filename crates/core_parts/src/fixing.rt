@@ -29,14 +29,13 @@ pub fn fixed_key(
     if schema.key.is_empty() {
         return Ok(None);
     }
-    let fixed = fixed_values(
+    fixed_values(
         alloc,
         conds,
         before,
         schema.columns.len(),
         schema.key.items(),
-    )?;
-    Ok(fixed)
+    )
 }
 
 // The values of columns, if each is fixed.

@@ -36,8 +36,7 @@ pub fn needs_in_order(alloc: Global, needs: Needs) -> Result<Needs, AllocError>
     ensures { IfOk result (λ made. made ≡ needs_in_order needs) }
 {
     let ordered = sort_needs(needs)?;
-    let made = once_each(alloc, ordered)?;
-    Ok(made)
+    once_each(alloc, ordered)
 }
 
 // Needs sorted by table and number; those of one row keep their order.
