@@ -22,14 +22,14 @@ returns-clause-nodes c =
     let within : c.args.node < length (map node_of c.args.nodes.now) =
     subst (λ (n : ℕ). c.args.node < n) (sym count) c.requires.node in
     let same = ap (open_sources graph) c.deref.ensures.value
-      ∙ same_sources graph c.args.node c.args.time c.in_ok-latest.latest.items (latest_of graph c.args.node c.args.time)
-      c.in_ok-latest.ensures.latest (latest_are graph c.args.node c.args.time between within) in
+    ∙ same_sources graph c.args.node c.args.time c.in_ok-latest.latest.items (latest_of graph c.args.node c.args.time)
+    c.in_ok-latest.ensures.latest (latest_are graph c.args.node c.args.time between within) in
     IfOk-weaker c.open_keys.result _ _ (λ found is. is ∙ same) c.open_keys.ensures.keys
 
 pub returns-clause-sources : goal.returns-clause-sources
 returns-clause-sources c =
     let graph : Parts = record { nodes = map node_of c.args.nodes.now; edges = c.args.edges.now } in
     ok_both c.open_keys.result _ _ _ (λ found is sorted.
-      are_sources graph c.args.node c.args.time c.in_ok-latest.latest.items c.in_ok-latest.ensures.latest
-      (map lent_node found.items) (is ∙ ap (open_sources graph) c.deref.ensures.value) sorted)
+    are_sources graph c.args.node c.args.time c.in_ok-latest.latest.items c.in_ok-latest.ensures.latest
+    (map lent_node found.items) (is ∙ ap (open_sources graph) c.deref.ensures.value) sorted)
     c.open_keys.ensures.keys c.open_keys.ensures.sorted
