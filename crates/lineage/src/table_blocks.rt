@@ -91,10 +91,7 @@ pub(crate) fn make_rows_room(
     'rows: while left > 0 {
         left -= 1;
         let (row, version) = rows[left];
-        match make_row_room(alloc, blocks, row, version) {
-            Ok(()) => {}
-            Err(stop) => return Err(stop),
-        }
+        make_row_room(alloc, blocks, row, version)?;
     }
     Ok(())
 }
@@ -216,10 +213,7 @@ pub(crate) fn make_blocks_room(
     ensures room { OnOk result (AreRoomy blocks.new others.now) }
 {
     for (place, _block) in others.iter() {
-        match make_room_at(alloc, blocks, others, *place) {
-            Ok(()) => {}
-            Err(stop) => return Err(stop),
-        }
+        make_room_at(alloc, blocks, others, *place)?;
     }
     Ok(())
 }

@@ -77,10 +77,7 @@ pub(crate) fn grow(versions: &mut Versions, end: usize) -> Result<(), AllocError
 {
     let count = end - versions.first as usize;
     while versions.numbers.len() < count {
-        match versions.numbers.push(0) {
-            Ok(()) => {}
-            Err(stop) => return Err(stop),
-        }
+        versions.numbers.push(0)?;
     }
     Ok(())
 }

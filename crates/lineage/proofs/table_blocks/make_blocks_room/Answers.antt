@@ -15,8 +15,8 @@ loop-place-preserved c =
     let split = rest_more deref_pair c.loop-place.place-iterator c.next.new.self c.next.result (c.in-Some.place, c.in-Some._block) c.in-Some.is c.next.ensures.steps in (
       roomier_still c.args.blocks.now c.loop-place.blocks c.make_room_at.new.blocks c.loop-place.invariant.0 c.make_room_at.ensures.roomier,
       room_step c.loop-place.blocks c.make_room_at.new.blocks c.args.others.now c.loop-place.place-iterator c.next.new.self c.in-Some.place.now c.in-Some._block.now split
-          c.make_room_at.ensures.roomier c.in-Ok.ensures.room c.loop-place.invariant.1,
+          c.make_room_at.ensures.roomier c.in_ok-make_room_at.ensures.room c.loop-place.invariant.1,
     )
 
-pub returns-in-Err-clause-roomier : goal.returns-in-Err-clause-roomier
-returns-in-Err-clause-roomier c = roomier_still c.args.blocks.now c.loop-place.blocks c.make_room_at.new.blocks c.loop-place.invariant.0 c.make_room_at.ensures.roomier
+pub returns-in_err-make_room_at-clause-roomier : goal.returns-in_err-make_room_at-clause-roomier
+returns-in_err-make_room_at-clause-roomier c = roomier_still c.args.blocks.now c.loop-place.blocks c.make_room_at.new.blocks c.loop-place.invariant.0 c.make_room_at.ensures.roomier

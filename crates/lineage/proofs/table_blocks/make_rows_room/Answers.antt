@@ -15,10 +15,10 @@ rows-preserved c =
       omega (arith, c.rows.invariant.0),
       roomier_still c.args.blocks.now old new c.rows.invariant.1 c.make_row_room.ensures.roomier,
       subst (AllRoom new) (sym split) (
-        c.in-Ok.ensures.room,
+        c.in_ok-make_row_room.ensures.room,
         all_stay old new c.make_row_room.ensures.roomier.stays (drop (left + 1) rows) (subst (λ (k : ℕ). AllRoom old (drop k rows)) (sym next) c.rows.invariant.2),
       ),
     )
 
-pub returns-in-Err-clause-roomier : goal.returns-in-Err-clause-roomier
-returns-in-Err-clause-roomier c = roomier_still c.args.blocks.now c.rows.blocks c.make_row_room.new.blocks c.rows.invariant.1 c.make_row_room.ensures.roomier
+pub returns-in_err-make_row_room-clause-roomier : goal.returns-in_err-make_row_room-clause-roomier
+returns-in_err-make_row_room-clause-roomier c = roomier_still c.args.blocks.now c.rows.blocks c.make_row_room.new.blocks c.rows.invariant.1 c.make_row_room.ensures.roomier
