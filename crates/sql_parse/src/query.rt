@@ -160,9 +160,6 @@ fn bound_of(alloc: Global, token: Lexeme) -> Result<Value, ParseStop>
         Lent::Word(_) => Err(ParseStop::Syntax),
         Lent::Number(number) => Ok(Value::Int(number)),
         Lent::Quoted(_) => Err(ParseStop::Syntax),
-        Lent::Given(value) => {
-            let value = value.copy_item(alloc)?;
-            Ok(value)
-        }
+        Lent::Given(value) => Ok(value.copy_item(alloc)?),
     }
 }

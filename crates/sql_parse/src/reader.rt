@@ -139,8 +139,7 @@ pub(crate) fn name_in(alloc: Global, word: &str) -> Result<Utf8, ParseStop>
     if !is_sql_name(word) {
         return Err(ParseStop::Syntax);
     }
-    let name = Utf8::of(alloc, word)?;
-    Ok(name)
+    Ok(Utf8::of(alloc, word)?)
 }
 
 fn name_of(alloc: Global, token: Lexeme) -> Result<Utf8, ParseStop>

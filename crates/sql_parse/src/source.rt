@@ -115,8 +115,7 @@ fn second_name(alloc: Global, reader: &mut Reader, table: &Utf8) -> Result<Utf8,
     if names(reader) {
         return reader.take_name(alloc);
     }
-    let name = table.copy()?;
-    Ok(name)
+    Ok(table.copy()?)
 }
 
 // Whether the next token is a name.
