@@ -72,8 +72,7 @@ impl Graph {
     pub fn keys(&self, alloc: Global) -> Result<Vec<NodeKey<'_>>, AllocError>
         ensures { IfOk result (λ keys. map node_of keys.items ≡ self.now.nodes) }
     {
-        let keys = keys_of(alloc, self.nodes.items())?;
-        Ok(keys)
+        keys_of(alloc, self.nodes.items())
     }
 
     /// The place of a node in the list of nodes, from 0, or `None` if it isn't there. The time is linear in

@@ -28,8 +28,7 @@ impl NodeTexts {
     pub fn of_events(alloc: Global, events: &Events) -> Result<NodeTexts, AllocError>
         ensures { IfOk result (λ texts. IsTrue (lends_texts texts events.now)) }
     {
-        let texts = texts_of(alloc, events.items())?;
-        Ok(texts)
+        texts_of(alloc, events.items())
     }
 
     fn add_events(&mut self, events: &[Event]) -> Result<(), AllocError>
