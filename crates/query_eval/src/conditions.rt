@@ -47,6 +47,5 @@ pub(crate) fn core_conditions(
 {
     let none = List::new(alloc);
     let places = column_indexes(checked, core, &none);
-    let conds = conditions_of(alloc, core_of(checked, core), places)?;
-    Ok(conds)
+    conditions_of(alloc, core_of(checked, core), places)
 }

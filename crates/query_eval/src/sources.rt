@@ -45,8 +45,7 @@ fn masks_in(
 ) -> Result<Vec<ColumnTest>, AllocError>
     ensures { IfOk result (λ masks. AreMasks conds.now before held.now.schema.columns masks.items) }
 {
-    let masks = masks_of(alloc, conds, before, &held.schema().columns)?;
-    Ok(masks)
+    masks_of(alloc, conds, before, &held.schema().columns)
 }
 
 // The rows of a source for which the masks pass that conditions give.
