@@ -5,7 +5,7 @@ use Rattle.ldv_value.proofs.Options.{is_none-true}
 use Rattle.conformance.specs.declared.case.Case.{Case}
 use Rattle.conformance.specs.declared.compare.Differences.{Differences}
 use Rattle.conformance.specs.Runs.{IsJudged, IsAsWanted}
-use Rattle.conformance.specs.Same.{is_same}
+use Rattle.conformance.specs.inner.Same.{is_same}
 
 same_when : (same : Bool) (old new : ℕ) → new ≡ (if same then old else min (old + 1) (2 ^ 64 - 1)) → new ≡ 0 → same ≡ true
 same_when true old new counts none = refl

@@ -4,9 +4,9 @@ ghost use Rattle.std.specs.Prelude.{◌≡◌, ◌≢◌, ◌<◌, ◌≤◌, �
 ghost use Rattle.std.specs.Prelude.{option_map, IsErr, IfOk, OnOk};
 ghost use Rattle.conformance.specs.Files.{AreAsWanted, AreFilesAsWanted, ComesOut, IsFileAsWanted};
 ghost use Rattle.conformance.specs.Runs.{IsAsWanted, IsJudged};
-ghost use Rattle.conformance.specs.Same.{is_same};
+ghost use Rattle.conformance.specs.inner.Same.{is_same};
 ghost use Rattle.conformance.specs.Wanted.{is_wanted, wanted_count};
-ghost use Rattle.conformance.specs.Counts.{CountsCases};
+ghost use Rattle.conformance.specs.inner.Counts.{CountsCases};
 
 use crate::call::call;
 use crate::case::Case;

@@ -1,7 +1,7 @@
 //! The end of a call of the program, compared with the expected end of a case.
 
 ghost use Rattle.std.specs.Prelude.{◌≡◌, ◌≢◌, ◌↔◌, take, slice_get, IfSome, IsTrue, None};
-ghost use Rattle.conformance.specs.Place.{IsFirstPlace};
+ghost use Rattle.conformance.specs.inner.Place.{IsFirstPlace};
 
 use crate::case::Case;
 use ldv_value::Bytes;

@@ -2,7 +2,7 @@
 use Rattle.std.proofs.Common.{◌≡◌, ◌∙◌, sym, ap, subst, refl, Bool, true, false, ◌&&◌, List, [], ◌∷◌, ◌++◌}
 use Rattle.std.specs.Prelude.{Some, None}
 use Rattle.core_parts.proofs.Agree.{Agree, alike}
-use Rattle.core_parts.specs.Constants.{are_none, is_nameless, IsConstant}
+use Rattle.core_parts.specs.inner.Constants.{are_none, is_nameless, IsConstant}
 use Rattle.core_parts.specs.Types.{ColumnName, Expr, Fold, Operator, Value}
 use Rattle.sql_model.proofs.Folds.{fold-Constant, fold-Column, fold-Negate, fold-Not, fold-Both, fold-IsNull, fold-Count, fold-Aggregate}
 use Rattle.sql_model.specs.Evaluation.{IsValue}

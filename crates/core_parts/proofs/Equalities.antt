@@ -1,7 +1,7 @@
 -- Comparisons of columns and constants.
 use Rattle.std.proofs.Common.{◌≡◌, ◌∙◌, sym, ap, refl, ℕ, Bool, true, false, not, List, [], ◌∷◌, ◌++◌}
 use Rattle.std.specs.Cmp.{eq_by_cmp_equiv}
-use Rattle.core_parts.specs.Constants.{IsConstant}
+use Rattle.core_parts.specs.inner.Constants.{IsConstant}
 use Rattle.core_parts.specs.Equality.{equals}
 use Rattle.core_parts.specs.Placing.{IsPlaced}
 use Rattle.core_parts.specs.Types.{ColumnName, Compare, Expr, Null, Int, Text, Value}

@@ -6,7 +6,7 @@ use Rattle.std.specs.declared.cmp.Ordering.{Ordering}
 use Rattle.std.specs.declared.cmp.Ordering.TheVariants.{Less, Equal, Greater}
 use Rattle.core_parts.proofs.Equalities.{column-first, constant-first, equals-turned, first-place}
 use Rattle.core_parts.specs.Conditions.{meets}
-use Rattle.core_parts.specs.Constants.{IsConstant}
+use Rattle.core_parts.specs.inner.Constants.{IsConstant}
 use Rattle.core_parts.specs.Equality.{IsColumn, equals}
 use Rattle.core_parts.specs.Fixing.{IsFixing, Fixes, AllFix, FixesColumn, FixesAll, FixesKey}
 use Rattle.core_parts.specs.Placing.{IsPlaced, AreAllPlaced}

@@ -9,7 +9,7 @@ use Rattle.std.specs.Ordering.{ordering_reverse}
 use Rattle.core_parts.proofs.Equalities.{column-first, column-null, constant-first, first-place}
 use Rattle.core_parts.proofs.FixingLaws.{at-index}
 use Rattle.core_parts.specs.Conditions.{meets}
-use Rattle.core_parts.specs.Constants.{IsConstant}
+use Rattle.core_parts.specs.inner.Constants.{IsConstant}
 use Rattle.core_parts.specs.Equality.{IsColumn}
 use Rattle.core_parts.specs.Masking.{AreMasks, IsFound, IsMask, IsTest, passes_at, commuted_cmp}
 use Rattle.core_parts.specs.Placing.{AreAllPlaced}

@@ -1,6 +1,5 @@
 pub mod Checking
 pub mod Conditions
-pub mod Constants
 pub mod Equality
 pub mod Fixing
 pub mod Listing
@@ -8,3 +7,4 @@ pub mod Masking
 pub mod Needing
 pub mod Placing
 pub mod Types
+pub mod inner

@@ -1,7 +1,7 @@
 //! Expressions that have one value over every row.
 
 ghost use Rattle.std.specs.Prelude.{◌≡◌, [], is_some, IfOk, IfSome};
-ghost use Rattle.core_parts.specs.Constants.{is_nameless, IsConstant};
+ghost use Rattle.core_parts.specs.inner.Constants.{is_nameless, IsConstant};
 ghost use Rattle.sql_model.specs.Evaluation.{IsValue};
 
 use ldv_value::{List, Value};

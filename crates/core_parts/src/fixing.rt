@@ -3,7 +3,7 @@
 ghost use Rattle.std.specs.Prelude.{◌≡◌, length, IfOk, IfSome};
 ghost use Rattle.ldv_value.specs.declared.value.Cmp.TheVariants.{Eq};
 ghost use Rattle.core_parts.specs.Fixing.{IsFixing, Fixes, AllFix, FixesColumn, FixesAll, FixesKey};
-ghost use Rattle.core_parts.specs.Constants.{IsConstant};
+ghost use Rattle.core_parts.specs.inner.Constants.{IsConstant};
 ghost use Rattle.core_parts.specs.Types.{Compare, Value as Given};
 ghost use Rattle.sql_model.specs.declared.expr.Expr.TheVariants.{Both};
 

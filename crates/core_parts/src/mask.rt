@@ -1,7 +1,7 @@
 //! Tests of single columns, which choose rows of a source before conditions are evaluated.
 
 ghost use Rattle.std.specs.Prelude.{◌≡◌, ◌++◌, option_to_list, IfOk, IfSome, OnOk, true};
-ghost use Rattle.core_parts.specs.Constants.{IsConstant};
+ghost use Rattle.core_parts.specs.inner.Constants.{IsConstant};
 ghost use Rattle.core_parts.specs.Equality.{IsColumn};
 ghost use Rattle.core_parts.specs.Masking.{AreMasks, AreExact, IsFound, IsTest, commuted_cmp};
 ghost use Rattle.core_parts.specs.Types.{Compare, Int};

@@ -32,8 +32,8 @@ use Rattle.dml_versions.proofs.VersionLaws.{updates-dropped, versions-changed}
 use Rattle.dml_versions.specs.Changing.{IsWhole, IsStoreAfter, IsChildThere, matched_change, refused_change}
 use Rattle.sql_model.specs.Tables.{AreWellFormed}
 use Rattle.sql_laws.proofs.KeyClashes.{no_clash_fewer}
-use Rattle.dml_versions.specs.Finding.{scope_in, test_in, found_row}
-use Rattle.dml_versions.specs.Needing.{need_found, number_found}
+use Rattle.dml_versions.specs.inner.Finding.{scope_in, test_in, found_row}
+use Rattle.dml_versions.specs.inner.Needing.{need_found, number_found}
 use Rattle.dml_versions.specs.Types.{Need, Statement, TheDelete, Delete, Table, TableRow, StoreHistory, TableHistory}
 use Rattle.dml_versions.specs.Versions.{versions_now, updates_of}
 use Rattle.dml_versions.specs.declared.change.Change.{Change}

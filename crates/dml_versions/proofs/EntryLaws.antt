@@ -12,7 +12,7 @@ use Rattle.table_store.proofs.ChangeLaws.{version_by as changes_by}
 use Rattle.dml_versions.proofs.CheckLaws.{accepted, checked-places, target-there, target_name, Changes}
 use Rattle.dml_versions.proofs.TableLaws.{scope-is}
 use Rattle.dml_versions.specs.Changing.{IsCheckedOver}
-use Rattle.dml_versions.specs.Finding.{pick_names, scope_in, found_row}
+use Rattle.dml_versions.specs.inner.Finding.{pick_names, scope_in, found_row}
 use Rattle.dml_versions.specs.Types.{Checked, Delete, Update, Statement, TheDelete, TheUpdate, Table, TableRow, StoreHistory, TableHistory}
 
 module _ (db : List Table) (checked : Checked) (is : IsCheckedOver db checked) (s : Statement) (same : checked.statement ≡ s) where

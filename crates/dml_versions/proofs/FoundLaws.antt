@@ -10,7 +10,7 @@ use Rattle.row_version.specs.History.{current_values}
 use Rattle.table_store.proofs.StandingRows.{not-there}
 use Rattle.table_store.proofs.TableLaws.{left_more}
 use Rattle.table_store.specs.Histories.{RowHistory, no_history, row_of, row_now, rows_now}
-use Rattle.dml_versions.specs.Finding.{found_row, found_at, found_from, version_of}
+use Rattle.dml_versions.specs.inner.Finding.{found_row, found_at, found_from, version_of}
 use Rattle.dml_versions.specs.Types.{TableRow, Value}
 use Rattle.dml_versions.specs.declared.found.Found.{Found}
 

@@ -38,7 +38,7 @@ use Rattle.dml_versions.specs.Changing.{IsWhole, IsStoreAfter, IsChildThere, ins
 use Rattle.sql_model.specs.Tables.{AreWellFormed}
 use Rattle.sql_model.proofs.UniqueKeys.{or_none}
 use Rattle.sql_model.proofs.NewNumbers.{row_precedes}
-use Rattle.dml_versions.specs.Needing.{inserted_member, parent_needs, HaveParents}
+use Rattle.dml_versions.specs.inner.Needing.{inserted_member, parent_needs, HaveParents}
 use Rattle.dml_versions.specs.Types.{Need, Statement, TheInsert, Insert, Changed, Column, Expr, Value, Table, TableRow, StoreHistory, TableHistory}
 use Rattle.dml_versions.specs.Versions.{versions_now}
 use Rattle.dml_versions.specs.declared.change.Change.{Change}

@@ -3,7 +3,7 @@ use Rattle.std.proofs.Common.{◌≡◌, ℕ, List, [], refl, ap, sym, ◌∙◌
 use Rattle.ldv_value.proofs.Booleans.{true≢false}
 use Rattle.sql_model.specs.Needs.{Versions}
 use Rattle.dml_versions.specs.Changing.{IsChange, IsWhole, refused_by, refused_change, reply_alone, change_with_lists}
-use Rattle.dml_versions.specs.Needing.{with_key_rows, with_child_row}
+use Rattle.dml_versions.specs.inner.Needing.{with_key_rows, with_child_row}
 use Rattle.dml_versions.specs.Types.{Need, RowHistory, Statement, StoreHistory, NotNull, KeyTaken, Full, NoParent, HasChild}
 use Rattle.dml_versions.specs.declared.change.Change.{Change}
 use Rattle.table_store.specs.declared.error.StoreStop.{StoreStop}

@@ -10,7 +10,7 @@ use Rattle.sql_model.specs.References.{has_key}
 use Rattle.table_store.proofs.StandingRows.{slot-there, slot-has, none-twice, only-one}
 use Rattle.table_store.specs.Histories.{RowHistory, rows_now, slot_of_row}
 use Rattle.table_store.specs.RowOrder.{AreInOrder}
-use Rattle.dml_versions.specs.Finding.{found_row, found_at, found_from}
+use Rattle.dml_versions.specs.inner.Finding.{found_row, found_at, found_from}
 use Rattle.dml_versions.specs.Types.{TableRow, Value}
 
 -- what is found is what is in the slot of the row that has the key

@@ -21,8 +21,8 @@ use Rattle.table_store.specs.Stops.{with_changed}
 use Rattle.ldv_value.proofs.ItemLists.{all_filter}
 use Rattle.dml_versions.proofs.NumberLaws.{AreSorted}
 use Rattle.dml_versions.proofs.StandingLaws.{IsStanding, version-is, all-stand}
-use Rattle.dml_versions.specs.Finding.{found_row, version_of}
-use Rattle.dml_versions.specs.Needing.{need_found, updated_member}
+use Rattle.dml_versions.specs.inner.Finding.{found_row, version_of}
+use Rattle.dml_versions.specs.inner.Needing.{need_found, updated_member}
 use Rattle.dml_versions.specs.Types.{L, Table, TableRow, StoreHistory, TableHistory}
 use Rattle.dml_versions.specs.Versions.{updates_in, versions_now}
 

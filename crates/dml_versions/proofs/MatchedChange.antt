@@ -14,8 +14,8 @@ use Rattle.dml_versions.proofs.NumberLaws.{AreSorted}
 use Rattle.dml_versions.proofs.StandingLaws.{IsStanding}
 use Rattle.dml_versions.proofs.TableLaws.{table-now, history-name}
 use Rattle.dml_versions.specs.Changing.{IsWhole, matched_change}
-use Rattle.dml_versions.specs.Finding.{found_row}
-use Rattle.dml_versions.specs.Needing.{updated_member}
+use Rattle.dml_versions.specs.inner.Finding.{found_row}
+use Rattle.dml_versions.specs.inner.Needing.{updated_member}
 use Rattle.dml_versions.specs.Types.{Need, Statement, Changed, Table, TableRow, StoreHistory, TableHistory}
 use Rattle.dml_versions.specs.Versions.{versions_now}
 use Rattle.dml_versions.specs.declared.found.Found.{Found}

@@ -15,7 +15,7 @@ use Rattle.ldv_value.specs.Sorted.{is_strictly_sorted}
 use Rattle.sql_model.specs.Needs.{NeededRow, needed_row, put_row, sorted_needs, Versions, matched_row, key_row, had_row, read_of}
 use Rattle.sql_model.proofs.NewNumbers.{row_precedes}
 use Rattle.table_store.specs.Stops.{stood_number}
-use Rattle.dml_versions.specs.Needing.{put_need, put_some}
+use Rattle.dml_versions.specs.inner.Needing.{put_need, put_some}
 use Rattle.dml_versions.proofs.NumberLaws.{AreSorted}
 use Rattle.dml_versions.specs.Types.{Need, Rule, L, K, Table, TableRow}
 use Rattle.ldv_value.proofs.Numbers.{apart-above}

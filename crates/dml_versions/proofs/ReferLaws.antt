@@ -31,8 +31,8 @@ use Rattle.table_store.specs.declared.error.StoreStop.TheVariants as stop
 use Rattle.table_store.proofs.FormedLaws.{values_numbered}
 use Rattle.dml_versions.proofs.StandingLaws.{updates-are, number-stands, version-is}
 use Rattle.dml_versions.proofs.TableLaws.{table-found, table-now}
-use Rattle.dml_versions.specs.Finding.{version_of}
-use Rattle.dml_versions.specs.Needing.{parent_needs, IsRowThere}
+use Rattle.dml_versions.specs.inner.Finding.{version_of}
+use Rattle.dml_versions.specs.inner.Needing.{parent_needs, IsRowThere}
 use Rattle.dml_versions.specs.Types.{Member, Need, P, NoParent, HasChild, StoreHistory, Table, TableHistory, TableRow, Value}
 use Rattle.dml_versions.specs.Versions.{updates_in, versions_now}
 use Rattle.sql_model.specs.declared.table.Foreign.{Foreign}

@@ -31,8 +31,9 @@ use Rattle.dml_versions.proofs.ReferLaws.{or-case, refs_stop, refs-none, refs-nu
 use Rattle.dml_versions.proofs.StandingLaws.{IsStanding, number-stands}
 use Rattle.dml_versions.proofs.TableLaws.{history-name}
 use Rattle.dml_versions.specs.Changing.{IsWhole, IsStoreAfter, IsChildThere, refused_change, refused_by}
-use Rattle.dml_versions.specs.Finding.{found_row, version_of}
-use Rattle.dml_versions.specs.Needing.{need_found, key_need, put_some, with_key_rows, with_child_row, IsRowThere}
+use Rattle.dml_versions.specs.inner.Finding.{found_row, version_of}
+use Rattle.dml_versions.specs.inner.Needing.{need_found, key_need, put_some, with_key_rows, with_child_row}
+use Rattle.dml_versions.specs.inner.Needing.{IsRowThere}
 use Rattle.dml_versions.specs.Types.{Need, K, P, C, Statement, Refused, SqlRefusal, NotNull, KeyTaken, Full, NoParent, HasChild, Table, TableRow, Value, StoreHistory, TableHistory}
 use Rattle.dml_versions.specs.Versions.{versions_now}
 use Rattle.dml_versions.specs.declared.change.Change.{Change}

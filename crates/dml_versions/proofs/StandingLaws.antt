@@ -10,7 +10,7 @@ use Rattle.table_store.specs.Histories.{RowHistory, no_history, row_of, row_now,
 use Rattle.table_store.specs.RowOrder.{AreInOrder}
 use Rattle.table_store.proofs.StandingRows.{InSlot, all-in-slots, number-is}
 use Rattle.table_store.proofs.TableLaws.{history_here}
-use Rattle.dml_versions.specs.Finding.{version_of}
+use Rattle.dml_versions.specs.inner.Finding.{version_of}
 use Rattle.dml_versions.specs.Types.{TableRow, Value}
 use Rattle.dml_versions.specs.Versions.{updates, updates_of}
 

@@ -9,7 +9,7 @@ use Rattle.sql_model.proofs.Equations.{table_schema, schema_found}
 use Rattle.sql_model.specs.Scope.{same_text, is_table, table_at, catalog_of, columns_of, schema_at, own_scope}
 use Rattle.table_store.specs.Histories.{TableHistory, StoreHistory, table_now, tables_now, is_history, history_at, in_table, changed_at}
 use Rattle.table_store.proofs.NowLaws.{some_from}
-use Rattle.dml_versions.specs.Finding.{scope_in}
+use Rattle.dml_versions.specs.inner.Finding.{scope_in}
 use Rattle.dml_versions.specs.Types.{Schema, Table}
 
 found_among : (name : List ℕ) (tables : List TableHistory) → find (is_table name) (map table_now tables) ≡ option_map table_now (find (is_history name) tables)

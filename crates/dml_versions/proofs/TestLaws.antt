@@ -19,7 +19,7 @@ use Rattle.table_store.proofs.GridLaws.{place_index}
 use Rattle.table_store.specs.CellTests.{passes_columns, slot_chosen}
 use Rattle.table_store.specs.Histories.{RowHistory, no_history, row_now, rows_now}
 use Rattle.dml_versions.proofs.FoundLaws.{found-step}
-use Rattle.dml_versions.specs.Finding.{AllPass, CoverFound, found_at, found_from, found_row}
+use Rattle.dml_versions.specs.inner.Finding.{AllPass, CoverFound, found_at, found_from, found_row}
 use Rattle.dml_versions.specs.inner.Testing.{AreTests, AreExactTests}
 use Rattle.sql_model.specs.Changes.{is_matched}
 use Rattle.dml_versions.specs.Types.{Column, Expr, TableRow, Value}

@@ -39,8 +39,8 @@ use Rattle.dml_versions.proofs.VersionLaws.{updates-rows_with_values, versions-c
 use Rattle.dml_versions.specs.Changing.{IsWhole, IsStoreAfter, IsChildThere, matched_change, refused_change}
 use Rattle.sql_model.specs.Tables.{AreWellFormed}
 use Rattle.sql_model.proofs.UniqueKeys.{or_none}
-use Rattle.dml_versions.specs.Finding.{scope_in, test_in, found_row, row_of}
-use Rattle.dml_versions.specs.Needing.{need_found, parent_needs, HaveParents}
+use Rattle.dml_versions.specs.inner.Finding.{scope_in, test_in, found_row, row_of}
+use Rattle.dml_versions.specs.inner.Needing.{need_found, parent_needs, HaveParents}
 use Rattle.dml_versions.specs.Types.{Need, Statement, TheUpdate, Update, Column, Table, TableRow, StoreHistory, TableHistory}
 use Rattle.dml_versions.specs.Versions.{versions_now, updates_of}
 use Rattle.dml_versions.specs.declared.change.Change.{Change}

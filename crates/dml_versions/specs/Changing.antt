@@ -9,9 +9,10 @@ use Rattle.sql_model.specs.Statements.{reply_of, after}
 use Rattle.table_store.specs.Histories.{tables_now, history_at, AreKeptBefore}
 use Rattle.table_store.specs.declared.error.StoreStop.{StoreStop}
 use Rattle.table_store.specs.declared.error.StoreStop.TheVariants as stop
-use Rattle.dml_versions.specs.Finding.{scope_in, test_in, row_of, found_from}
-use Rattle.dml_versions.specs.Holding.{IsHeld}
-use Rattle.dml_versions.specs.Needing.{updated_member, inserted_member, with_key_rows, with_child_row, IsRowThere}
+use Rattle.dml_versions.specs.inner.Finding.{scope_in, test_in, row_of, found_from}
+use Rattle.dml_versions.specs.inner.Holding.{IsHeld}
+use Rattle.dml_versions.specs.inner.Needing.{updated_member, inserted_member, with_key_rows, with_child_row}
+use Rattle.dml_versions.specs.inner.Needing.{IsRowThere}
 use Rattle.dml_versions.specs.Types.{Checked, Expr, Need, Reply, Changed, Refused, SqlRefusal}
 use Rattle.dml_versions.specs.Types.{NotNull, KeyTaken, Full, NoParent, HasChild}
 use Rattle.dml_versions.specs.Types.{Statement, TheQuery, TheInsert, TheUpdate, TheDelete, Insert, Update}

@@ -6,7 +6,7 @@ ghost use Rattle.std.specs.List.{AllByRecursion};
 ghost use Rattle.ldv_value.specs.Limits.{max_next};
 ghost use Rattle.dml_versions.specs.Changing.{matched_change, inserted_change, refused_change};
 ghost use Rattle.dml_versions.specs.Changing.{refused_by, reply_alone, change_with_lists, IsChildThere};
-ghost use Rattle.dml_versions.specs.Needing.{inserted_member};
+ghost use Rattle.dml_versions.specs.inner.Needing.{inserted_member};
 ghost use Rattle.dml_versions.specs.Versions.{versions_now};
 ghost use Rattle.table_store.specs.Histories.{history_at, tables_now};
 ghost use Rattle.sql_model.specs.Changes.{numbered_rows};

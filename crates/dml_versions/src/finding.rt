@@ -2,8 +2,9 @@
 
 ghost use Rattle.std.specs.Prelude.{◌≡◌, ◌++◌, ◌^◌, ◌<◌, length, true, IfOk, OnOk};
 ghost use Rattle.std.specs.Prelude.{slice_index_or};
-ghost use Rattle.dml_versions.specs.Finding.{AllPass, CoverFound, IsPickPlaced, Passes, scope_in, test_in};
-ghost use Rattle.dml_versions.specs.Finding.{found_at, found_from};
+ghost use Rattle.dml_versions.specs.inner.Finding.{AllPass, CoverFound, IsPickPlaced, Passes, scope_in};
+ghost use Rattle.dml_versions.specs.inner.Finding.{test_in};
+ghost use Rattle.dml_versions.specs.inner.Finding.{found_at, found_from};
 ghost use Rattle.sql_model.specs.Changes.{is_matched};
 ghost use Rattle.sql_model.specs.Scope.{InScope};
 ghost use Rattle.sql_model.specs.Tables.{are_keys_unique, row_values};

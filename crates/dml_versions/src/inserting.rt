@@ -5,7 +5,7 @@ ghost use Rattle.std.specs.Option.{option_map};
 ghost use Rattle.ldv_value.specs.Limits.{max_next};
 ghost use Rattle.dml_versions.specs.Changing.{IsInsert, IsCheckedOver, ChangesStore};
 ghost use Rattle.dml_versions.specs.Changing.{AreNewRows};
-ghost use Rattle.dml_versions.specs.Needing.{HaveParents};
+ghost use Rattle.dml_versions.specs.inner.Needing.{HaveParents};
 ghost use Rattle.dml_versions.specs.Types.{TheInsert};
 ghost use Rattle.sql_model.specs.Changes.{numbered_rows};
 ghost use Rattle.sql_model.specs.Scope.{table_at};

@@ -2,7 +2,7 @@
 
 ghost use Rattle.std.specs.Prelude.{◌≡◌, ◌++◌, ℕ, List as Items, drop, IfOk};
 ghost use Rattle.std.specs.List.{flat_map};
-ghost use Rattle.dml_versions.specs.Finding.{IsPickPlaced, pick_names};
+ghost use Rattle.dml_versions.specs.inner.Finding.{IsPickPlaced, pick_names};
 ghost use Rattle.dml_versions.specs.inner.Making.{AreSetsPlaced};
 ghost use Rattle.sql_model.specs.Kinds.{names_in};
 ghost use Rattle.sql_model.specs.Refusals.{update_names};

@@ -1,7 +1,7 @@
 //! Tables of a store that are known to exist.
 
 ghost use Rattle.std.specs.Prelude.{◌≡◌, IsSome, Some};
-ghost use Rattle.dml_versions.specs.Holding.{IsHeld};
+ghost use Rattle.dml_versions.specs.inner.Holding.{IsHeld};
 ghost use Rattle.table_store.specs.Histories.{history_at};
 
 use ldv_value::Utf8;

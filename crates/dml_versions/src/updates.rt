@@ -1,7 +1,7 @@
 //! The new values of updated rows.
 
 ghost use Rattle.std.specs.Prelude.{◌≡◌, List as Items, map, IfOk};
-ghost use Rattle.dml_versions.specs.Finding.{row_of};
+ghost use Rattle.dml_versions.specs.inner.Finding.{row_of};
 ghost use Rattle.dml_versions.specs.inner.Making.{place_set, AreSetsPlaced, value_by_set, values_by_set};
 ghost use Rattle.sql_model.specs.Changes.{updated_row};
 ghost use Rattle.sql_model.specs.Scope.{InScope};

@@ -2,7 +2,7 @@
 use Rattle.std.proofs.Common.{◌≡◌, ap, refl, List, [], ◌∷◌, ◌++◌}
 use Rattle.ldv_value.specs.declared.file.File.{File}
 use Rattle.ldv_value.specs.FileState.{put_file}
-use Rattle.file_tree.specs.Views.{files_from}
+use Rattle.file_tree.specs.Files.{files_from}
 
 -- the files of a list put over others, the first last
 abbrev pub files_onto : List File → List File → List File

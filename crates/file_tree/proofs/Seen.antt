@@ -28,7 +28,9 @@ use Rattle.ldv_value.proofs.Lists.{found-passes}
 use Rattle.ldv_value.proofs.SameBytes.{bytes_eq-true, bytes_eq-itself}
 use Rattle.ldv_value.proofs.FileLists.{content-put, touched-add, sorted-add, marks-sorted, eq_by_cmp-path, path-same, entries_of, content-find, entries-put, mark_of, marks_of, marks-add, files-from_entries, paths-from_marks, content-remove, files-sorted, paths-sorted, sorted-put, sorted-remove, same-files, marks-back, PathsSorted}
 use Rattle.ldv_value.proofs.FileLaws.{files-put, file-there}
-use Rattle.file_tree.specs.Views.{FileMap, PathSet, map_by_bytes, set_by_bytes, file_from, files_in, paths_in, files_from}
+use Rattle.file_tree.specs.inner.Views.{FileMap, PathSet, map_by_bytes, set_by_bytes, file_from, files_in}
+use Rattle.file_tree.specs.inner.Views.{paths_in}
+use Rattle.file_tree.specs.Files.{files_from}
 use Rattle.file_tree.proofs.Views.{get_text, put_text, remove_text, has_mark, add_mark, remove_mark, listed_keys}
 use Rattle.ldv_value.proofs.SortedMaps.{entries-empty}
 use Rattle.ldv_value.proofs.Orderings.{is_lt-true}

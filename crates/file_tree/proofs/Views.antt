@@ -18,7 +18,7 @@ use Rattle.std.specs.FinMap.Entries.{below_all}
 use Rattle.std.specs.FinMap.{FinMap, get, insert, remove, contains_key, find, entries, keys, is_sorted, get-insert, get-remove, get-from_entries, same_map, get_tied, slice_cmp-IsAntisymmetric, nat_cmp-IsAntisymmetric}
 use Rattle.std.proofs.lemmas.Map.Text.{is_eq-slice_cmp}
 use Rattle.ldv_value.proofs.Booleans.{t-both}
-use Rattle.file_tree.specs.Views.{texts, map_by_bytes, marks, set_by_bytes}
+use Rattle.file_tree.specs.inner.Views.{texts, map_by_bytes, marks, set_by_bytes}
 use Rattle.ldv_value.proofs.SortedMaps.{entries-sorted}
 
 -- the two tests by which a path is found

@@ -19,7 +19,7 @@ pub(crate) struct Contents {
 impl Model for Contents {
     ghost use Rattle.std.specs.Prelude.{List as Items};
     ghost use Rattle.ldv_value.specs.declared.file.File.{File};
-    ghost use Rattle.file_tree.specs.Views.{files_in, files_code, map_by_bytes};
+    ghost use Rattle.file_tree.specs.inner.Views.{files_in, files_code, map_by_bytes};
 
     ghost Value = { Items File };
 

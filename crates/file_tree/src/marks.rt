@@ -20,7 +20,7 @@ pub(crate) struct Marks {
 impl Model for Marks {
     ghost use Rattle.std.specs.Prelude.{List as Items, ℕ};
     ghost use Rattle.std.specs.Coded.{coded_list, coded_ℕ};
-    ghost use Rattle.file_tree.specs.Views.{paths_in, set_by_bytes};
+    ghost use Rattle.file_tree.specs.inner.Views.{paths_in, set_by_bytes};
 
     ghost Value = { Items (Items ℕ) };
 

@@ -12,7 +12,8 @@ ghost use Rattle.ldv_value.specs.FileState.{content_at, is_there, bytes_at, rest
 ghost use Rattle.ldv_value.specs.FileState.{touch};
 ghost use Rattle.ldv_value.specs.FileState.{NotFound, AlreadyExists, open_refusal, after_open, after_remove};
 ghost use Rattle.ldv_value.specs.FileState.{after_append, after_copy, copy_end, read_line};
-ghost use Rattle.file_tree.specs.Views.{files_from, stop_of};
+ghost use Rattle.file_tree.specs.inner.Views.{stop_of};
+ghost use Rattle.file_tree.specs.Files.{files_from};
 
 use crate::contents::Contents;
 use crate::error::{AppendStop, TreeStop};
@@ -32,7 +33,7 @@ pub struct Tree {
 
 impl Model for Tree {
     ghost use Rattle.ldv_value.specs.FileState.{FileState, IsFileState};
-    ghost use Rattle.file_tree.specs.Views.{state_code};
+    ghost use Rattle.file_tree.specs.inner.Views.{state_code};
 
     ghost Value = { FileState };
 

@@ -8,7 +8,7 @@ use Rattle.lineage.specs.declared.answer.Pick.{Pick}
 use Rattle.lineage.proofs.Unions.{union_assoc, none_union, union_none}
 use Rattle.group_eval.specs.Evaluating.{is_group_kept, group_answer, answers_of, rejected_of, IsGroupedBy, AddsGroup}
 use Rattle.lineage.specs.Lineage.{union_of}
-use Rattle.group_eval.specs.Uniting.{lineage_of_picks, lineage_of_groups}
+use Rattle.group_eval.specs.inner.Uniting.{lineage_of_picks, lineage_of_groups}
 use Rattle.group_eval.specs.declared.grouping.Grouped.{Grouped}
 use Rattle.group_eval.specs.declared.plan.Plan.{Plan}
 use Rattle.sql_model.specs.Scope.{InScope}

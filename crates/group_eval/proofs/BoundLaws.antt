@@ -6,7 +6,8 @@ use Rattle.std.proofs.lemmas.Simd.{map-map}
 use Rattle.lineage.specs.declared.answer.Pick.{Pick}
 use Rattle.core_parts.proofs.Lists.{take-mapped, drop-mapped}
 use Rattle.core_parts.proofs.Places.{places-append}
-use Rattle.group_eval.specs.Folding.{first_row, pick_environment, pick_environments, value_over, group_meaning}
+use Rattle.group_eval.specs.inner.Folding.{first_row, pick_environment, pick_environments, value_over}
+use Rattle.group_eval.specs.inner.Folding.{group_meaning}
 use Rattle.core_parts.specs.Placing.{own_places, other_places, IsPlaced}
 use Rattle.group_eval.specs.inner.BoundAggregates.{BindsTo, first_meaning, IsBound}
 use Rattle.group_eval.specs.Types.{ColumnName, Expr, Fold, Operator, Value}

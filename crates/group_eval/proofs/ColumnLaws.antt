@@ -9,7 +9,7 @@ use Rattle.core_parts.specs.declared.placed.BoundExpr.{BoundExpr}
 use Rattle.lineage.specs.declared.answer.Pick.{Pick}
 use Rattle.group_eval.proofs.BoundLaws.{column_first}
 use Rattle.group_eval.specs.inner.Columns.{value_in, IsValueAt}
-use Rattle.group_eval.specs.Folding.{pick_environment, pick_environments, value_over, group_meaning}
+use Rattle.group_eval.specs.inner.Folding.{pick_environment, pick_environments, value_over, group_meaning}
 use Rattle.group_eval.specs.inner.BoundAggregates.{first_meaning, IsBound}
 use Rattle.group_eval.specs.Types.{Expr, Fold, Value}
 use Rattle.sql_model.proofs.Folds.{fold-Column, fold-Count, fold-Aggregate}

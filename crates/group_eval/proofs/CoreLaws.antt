@@ -17,12 +17,12 @@ use Rattle.lineage.proofs.RowLaws.{kept_origins-union}
 use Rattle.lineage.proofs.Unions.{version_union}
 use Rattle.core_parts.specs.Checking.{core_at, places_at}
 use Rattle.group_eval.specs.Evaluating.{group_values, is_group_kept, ArePlaced, IsHavingPlaced, IsPlacedPlan, group_answer, answers_of, rejected_of, IsGroupedBy, IsGrouped}
-use Rattle.group_eval.specs.Folding.{first_row, pick_environments, group_meaning}
-use Rattle.group_eval.specs.Grouping.{key_of, is_under, picks_under, keyed_groups, pick_groups}
+use Rattle.group_eval.specs.inner.Folding.{first_row, pick_environments, group_meaning}
+use Rattle.group_eval.specs.inner.Grouping.{key_of, is_under, picks_under, keyed_groups, pick_groups}
 use Rattle.group_eval.specs.inner.Planning.{AreItems, IsHaving, IsPlan}
 use Rattle.group_eval.specs.Types.{Checked, ColumnName, Core, Expr, FromItem, Item, Value}
 use Rattle.lineage.specs.Lineage.{union_of}
-use Rattle.group_eval.specs.Uniting.{lineage_of_picks}
+use Rattle.group_eval.specs.inner.Uniting.{lineage_of_picks}
 use Rattle.group_eval.specs.declared.grouping.Grouped.{Grouped}
 use Rattle.core_parts.specs.declared.placed.BoundExpr.{BoundExpr}
 use Rattle.group_eval.specs.declared.plan.Plan.{Plan}

@@ -15,7 +15,8 @@ use Rattle.ldv_value.specs.Order.{values_order}
 use Rattle.sql_model.specs.Keys.{same_values}
 use Rattle.sql_model.specs.QueryAnswer.{distinct_values}
 use Rattle.sql_model.proofs.SameValues.{same_turned, is_same, same_exact}
-use Rattle.group_eval.specs.Grouping.{key_of, is_under, picks_under, keyed_groups, own_picks, group_of, number_of, with_pick, groups_with_pick, grouped_onto, IsIndex}
+use Rattle.group_eval.specs.inner.Grouping.{key_of, is_under, picks_under, keyed_groups, own_picks, group_of}
+use Rattle.group_eval.specs.inner.Grouping.{number_of, with_pick, groups_with_pick, grouped_onto, IsIndex}
 use Rattle.group_eval.specs.Types.{Value}
 use Rattle.group_eval.specs.declared.groups.KeyedGroup.{KeyedGroup}
 

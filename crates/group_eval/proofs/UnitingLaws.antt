@@ -5,7 +5,7 @@ use Rattle.ldv_value.proofs.Places.{drop_item}
 use Rattle.lineage.specs.Lineage.{Lineage, IsUnion, union_of}
 use Rattle.lineage.specs.declared.answer.Pick.{Pick}
 use Rattle.lineage.proofs.Unions.{none_union, union_step}
-use Rattle.group_eval.specs.Uniting.{lineage_of_picks}
+use Rattle.group_eval.specs.inner.Uniting.{lineage_of_picks}
 
 abbrev united_in : List (Bor Pick) → Lineage
 united_in group = lineage_of_picks (map (λ r. r.now) group)

@@ -1,6 +1,3 @@
 pub mod Evaluating
-pub mod Folding
-pub mod Grouping
-pub mod Uniting
 pub mod Types
 pub mod inner

@@ -3,7 +3,7 @@
 ghost use Rattle.std.specs.Prelude.{◌≡◌, ◌++◌, ◌∷◌, [], List as Items, map, length, pos, IfOk, OnOk};
 ghost use Rattle.std.specs.List.{fold};
 ghost use Rattle.group_eval.specs.Types.{Value as Seen};
-ghost use Rattle.group_eval.specs.Folding.{value_over};
+ghost use Rattle.group_eval.specs.inner.Folding.{value_over};
 ghost use Rattle.sql_model.specs.Kinds.{names_in};
 ghost use Rattle.sql_model.specs.Meaning.{aggregate_of, known_values, lesser_of, greater_of, number_in, number_value};
 ghost use Rattle.sql_model.specs.Meaning.{total, or_null};

@@ -7,7 +7,7 @@
 ghost use Rattle.std.specs.Prelude.{◌≡◌, List as Items, ℕ, map, drop, IfOk, OnOk, Some};
 ghost use Rattle.sql_model.specs.declared.expr.Expr.TheVariants.{Aggregate};
 ghost use Rattle.group_eval.specs.inner.Columns.{known_column, IsKnown};
-ghost use Rattle.group_eval.specs.Folding.{first_row, group_meaning, value_over};
+ghost use Rattle.group_eval.specs.inner.Folding.{first_row, group_meaning, value_over};
 ghost use Rattle.core_parts.specs.Placing.{IsPlaced};
 ghost use Rattle.group_eval.specs.inner.BoundAggregates.{BindsTo, IsBound};
 ghost use Rattle.sql_model.specs.Kinds.{names_in};

@@ -6,8 +6,8 @@ ghost use Rattle.core_parts.specs.Checking.{HasCore};
 ghost use Rattle.group_eval.specs.Evaluating.{item_values, group_values, group_answer, is_group_kept};
 ghost use Rattle.group_eval.specs.Evaluating.{ArePlaced, IsHavingPlaced};
 ghost use Rattle.group_eval.specs.Evaluating.{IsPlacedPlan, AddsGroup, IsGroupedBy, IsGrouped};
-ghost use Rattle.group_eval.specs.Folding.{first_row};
-ghost use Rattle.group_eval.specs.Grouping.{own_picks, pick_groups, keyed_groups};
+ghost use Rattle.group_eval.specs.inner.Folding.{first_row};
+ghost use Rattle.group_eval.specs.inner.Grouping.{own_picks, pick_groups, keyed_groups};
 ghost use Rattle.core_parts.specs.Placing.{AreAllPlaced};
 ghost use Rattle.sql_model.specs.Scope.{InScope};
 

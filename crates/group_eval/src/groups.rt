@@ -3,8 +3,8 @@
 ghost use Rattle.std.specs.Prelude.{◌≡◌, ◌++◌, ◌∷◌, [], List as Items, map};
 ghost use Rattle.std.specs.Prelude.{IfOk, OnOk, Some, None};
 ghost use Rattle.std.specs.BTreeMap as tree;
-ghost use Rattle.group_eval.specs.Grouping.{key_of, own_picks, group_of, number_of, with_pick};
-ghost use Rattle.group_eval.specs.Grouping.{groups_with_pick, keyed_groups, IsIndex};
+ghost use Rattle.group_eval.specs.inner.Grouping.{key_of, own_picks, group_of, number_of, with_pick};
+ghost use Rattle.group_eval.specs.inner.Grouping.{groups_with_pick, keyed_groups, IsIndex};
 ghost use Rattle.group_eval.specs.Types.{Value as Seen};
 ghost use Rattle.ldv_value.specs.Order.{values_order};
 

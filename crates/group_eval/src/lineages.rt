@@ -1,7 +1,7 @@
 //! The union of the lineages of picks.
 
 ghost use Rattle.std.specs.Prelude.{◌≡◌, map, IfOk, OnOk};
-ghost use Rattle.group_eval.specs.Uniting.{lineage_of_picks};
+ghost use Rattle.group_eval.specs.inner.Uniting.{lineage_of_picks};
 ghost use Rattle.lineage.specs.Lineage.{union_of};
 
 use lineage::{LineageRows, LineageSet, Pick};

@@ -10,7 +10,7 @@ use Rattle.ldv_value.specs.Limits.{max_processes}
 use Rattle.run_model.specs.Acts.{is_spawn}
 use Rattle.run_model.specs.ValidTrace.{made_after, IsTrace}
 use Rattle.run_model.proofs.ActLaws.{made_spawned}
-use Rattle.trace_graph.specs.Building.{made_fits}
+use Rattle.trace_graph.specs.inner.Building.{made_fits}
 use Rattle.trace_graph.proofs.TraceLaws.{trace_fits}
 use Rattle.inspect.specs.ProcessNames.{parent_of, child_of, with_child, named_after}
 use Rattle.inspect.specs.Types.{Event, NamedProcess}

@@ -16,7 +16,6 @@ pub mod ProvReported
 pub mod Reported
 pub mod TwoRuns
 pub mod WordNumbers
-pub mod WordStops
 pub mod Words
 pub mod WordsOfGenerate
 pub mod WordsOfJoins
@@ -26,3 +25,4 @@ pub mod WordsOfReports
 pub mod WordsOfRuns
 pub mod WordsOfTables
 pub mod Written
+pub mod inner

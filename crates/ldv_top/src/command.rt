@@ -3,7 +3,7 @@
 ghost use Rattle.std.specs.Prelude.{◌≡◌, ◌≤◌, ◌∷◌, map, string_bytes, IfOk, IfSome};
 ghost use Rattle.ldv_value.specs.Gives.{Gives};
 ghost use Rattle.ldv_value.specs.Limits.{max_steps};
-ghost use Rattle.ldv_top.specs.WordStops.{Stops};
+ghost use Rattle.ldv_top.specs.inner.WordStops.{Stops};
 ghost use Rattle.ldv_top.specs.Words.{IsBounded, command_of, inspect_of};
 ghost use Rattle.ldv_top.specs.WordsOfRuns.{budget_in, chosen_within, command_flagged, command_named};
 ghost use Rattle.ldv_top.specs.WordsOfRuns.{command_seeded, command_with, run_of, command_with_seed};

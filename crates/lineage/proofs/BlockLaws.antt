@@ -4,7 +4,7 @@ use Rattle.std.specs.Prelude.{nat_lt, Result, Ok, Err, OnOk}
 use Rattle.std.proofs.lemmas.Bool.{cases_lt, le-ltb, ne_eqb, cases_eq, cases_Bool}
 use Rattle.std.proofs.lemmas.List.{get_or_past}
 use Rattle.lanes.specs.Sets.{member}
-use Rattle.lineage.specs.Blocks.{version_of, HasPlace, HasRoomIn}
+use Rattle.lineage.specs.inner.Blocks.{version_of, HasPlace, HasRoomIn}
 use Rattle.lineage.specs.declared.versions.Versions.{Versions}
 use Rattle.lineage.proofs.VersionLaws.{version_before, version_from}
 

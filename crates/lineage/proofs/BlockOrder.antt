@@ -11,7 +11,7 @@ use Rattle.std.specs.BTreeMap as tree
 use Rattle.std.specs.BTreeMap.{BTreeMap}
 use Rattle.std.specs.FinMap.{is_sorted, entries, from_entries}
 use Rattle.std.specs.FinMap.Entries.{below_all}
-use Rattle.lineage.specs.Blocks.{with_row, rows_from, rows_of_block, rows_under, all_rows, row_at}
+use Rattle.lineage.specs.inner.Blocks.{with_row, rows_from, rows_of_block, rows_under, all_rows, row_at}
 use Rattle.lineage.specs.Lineage.{Row, row_cmp, Lineage, member, members_of}
 use Rattle.lineage.specs.declared.blocks.Block.{Block}
 use Rattle.lineage.proofs.Laws.{row_total}

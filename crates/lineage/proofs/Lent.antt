@@ -7,7 +7,8 @@ use Rattle.std.specs.FinMap.{from_entries}
 use Rattle.std.proofs.lemmas.Bool.{cases_lt}
 use Rattle.lanes.specs.Sets.{member}
 use Rattle.lanes.proofs.SetLaws.{no_member}
-use Rattle.lineage.specs.Blocks.{all_rows, row_at, row_in, version_of, has_in_block, HasNone, IsBlock}
+use Rattle.lineage.specs.inner.Blocks.{all_rows, row_at, row_in, version_of}
+use Rattle.lineage.specs.RowBlock.{has_in_block, HasNone, IsBlock}
 use Rattle.lineage.specs.Lineage.{Row, row_cmp, Lineage}
 use Rattle.lineage.specs.declared.blocks.Block.{Block}
 use Rattle.lineage.proofs.Seen.{seen_in}

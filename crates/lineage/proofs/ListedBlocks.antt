@@ -8,7 +8,8 @@ use Rattle.std.proofs.lemmas.Bool.{cases_lt}
 use Rattle.std.proofs.lemmas.List.{map-append}
 use Rattle.lanes.specs.Sets.{member as has_member, IsNext}
 use Rattle.lanes.proofs.SetLaws.{no_member}
-use Rattle.lineage.specs.Blocks.{row_in, row_at, version_of, rows_from, rows_of_block, rows_under, found_at}
+use Rattle.lineage.specs.inner.Blocks.{row_in, row_at, version_of, rows_from, rows_of_block, rows_under}
+use Rattle.lineage.specs.inner.Blocks.{found_at}
 use Rattle.lineage.specs.Lineage.{Row, row_cmp, member}
 use Rattle.lineage.specs.declared.blocks.Block.{Block}
 use Rattle.lineage.proofs.BlockOrder.{next_row, no_row}

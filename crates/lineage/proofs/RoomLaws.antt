@@ -10,7 +10,9 @@ use Rattle.std.proofs.lemmas.Bool.Decides.{Decides-eqb}
 use Rattle.std.specs.Ordering.{eq_by_cmp}
 use Rattle.std.proofs.lemmas.Bool.{cases_Bool}
 use Rattle.lanes.specs.Sets.{member}
-use Rattle.lineage.specs.Blocks.{version_of, HasPlace, HasRoomIn, RoomAt, HasRoom, AllRoom, IsRoomy, IsKept, AreKept, StaysAt, Stays, IsRoomier, AreRoomier, row_in, row_at, row_of_both, block_of, found_at}
+use Rattle.lineage.specs.inner.Blocks.{version_of, HasPlace, HasRoomIn, RoomAt, HasRoom, AllRoom, IsRoomy}
+use Rattle.lineage.specs.inner.Blocks.{IsKept, AreKept, StaysAt, Stays, IsRoomier, AreRoomier, row_in, row_at}
+use Rattle.lineage.specs.inner.Blocks.{row_of_both, block_of, found_at}
 use Rattle.lineage.specs.Lineage.{Row, row_cmp}
 use Rattle.lineage.specs.declared.blocks.Block.{Block}
 use Rattle.lineage.proofs.Laws.{same_row, or_none, or_assoc}

@@ -8,7 +8,8 @@ use Rattle.std.specs.Option.{option_or}
 use Rattle.std.specs.Ordering.{eq_by_cmp, is_eq}
 use Rattle.std.proofs.lemmas.Bool.{cases_Bool, cases_eq}
 use Rattle.std.proofs.lemmas.Cmp.{tied_itself}
-use Rattle.lineage.specs.Blocks.{with_row, rows_from, rows_of_block, rows_under, all_rows, row_at, found_at, block_of, AreRoomier}
+use Rattle.lineage.specs.inner.Blocks.{with_row, rows_from, rows_of_block, rows_under, all_rows, row_at}
+use Rattle.lineage.specs.inner.Blocks.{found_at, block_of, AreRoomier}
 use Rattle.lineage.specs.Lineage.{Row, row_cmp, Lineage, version_at, with_version, IsUnion}
 use Rattle.lineage.specs.declared.blocks.Block.{Block}
 use Rattle.lineage.proofs.Laws.{row_total, same_row, same_set, alone, version_at-with_version}

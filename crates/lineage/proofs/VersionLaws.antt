@@ -4,7 +4,7 @@ use Rattle.std.specs.Prelude.{nat_lt}
 use Rattle.std.proofs.lemmas.List.{get_or_append_left, get_or-replicate, length-replicate}
 use Rattle.std.proofs.Math.Seq.{get_or-append_right}
 use Rattle.std.proofs.lemmas.Bool.{cases_lt, le-ltb, ne_eqb, cases_eq}
-use Rattle.lineage.specs.Blocks.{version_of, HasPlace}
+use Rattle.lineage.specs.inner.Blocks.{version_of, HasPlace}
 use Rattle.lineage.specs.declared.versions.Versions.{Versions}
 use Rattle.ldv_value.proofs.Lists.{zero-last}
 

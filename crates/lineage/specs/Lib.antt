@@ -1,6 +1,6 @@
-pub mod Blocks
 pub mod Flat
 pub mod Lineage
+pub mod RowBlock
 pub mod Rows
 pub mod StandsFor
 pub mod inner

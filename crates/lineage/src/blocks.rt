@@ -3,7 +3,7 @@
 ghost use Rattle.std.specs.Prelude.{◌≡◌, ◌==◌, ◌||◌, ◌&&◌, ◌/◌, ◌<◌, ℕ, length, not, false, cond};
 ghost use Rattle.std.specs.Prelude.{OnOk, IfOk, MatchOption, true, ◌^◌};
 ghost use Rattle.lanes.specs.Sets.{member};
-ghost use Rattle.lineage.specs.Blocks.{block_of, version_of, HasRoomIn, HasPlace, IsRoomier};
+ghost use Rattle.lineage.specs.inner.Blocks.{block_of, version_of, HasRoomIn, HasPlace, IsRoomier};
 
 use crate::versions::{Versions, make_places, set_version};
 use lanes::{next_one, or_into};

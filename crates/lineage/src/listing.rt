@@ -7,8 +7,9 @@ ghost use Rattle.std.specs.List.Sorted.{IsStrictlySortedBy};
 ghost use Rattle.std.specs.Map.{keys_of};
 ghost use Rattle.lanes.specs.Sets.{member as has_member};
 ghost use Rattle.lineage.specs.Lineage.{member, row_cmp};
-ghost use Rattle.lineage.specs.Blocks.{version_of, row_in, found_at, rows_from, rows_of_block, all_rows};
-ghost use Rattle.lineage.specs.Blocks.{IsKept, AreKept};
+ghost use Rattle.lineage.specs.inner.Blocks.{version_of, row_in, found_at, rows_from, rows_of_block};
+ghost use Rattle.lineage.specs.inner.Blocks.{all_rows};
+ghost use Rattle.lineage.specs.inner.Blocks.{IsKept, AreKept};
 ghost use Rattle.lineage.specs.Lineage.{Row as Place};
 
 use crate::blocks::{Block, Blocks, Row};

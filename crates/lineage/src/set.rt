@@ -7,7 +7,7 @@ ghost use Rattle.std.specs.Cmp.Lexicographic.{slice_cmp};
 ghost use Rattle.std.specs.FinMap as finmap;
 ghost use Rattle.sql_model.specs.MemberOrder.{member_cmp};
 ghost use Rattle.lineage.specs.Lineage.{with_version, IsUnion, IsNamed, members_of};
-ghost use Rattle.lineage.specs.Blocks.{HasNone, IsBlock};
+ghost use Rattle.lineage.specs.RowBlock.{HasNone, IsBlock};
 
 use crate::blocks::{Blocks, Row, with_member};
 use crate::held::Held;
@@ -36,7 +36,7 @@ pub struct LineageSet {
 impl Model for LineageSet {
     ghost use Rattle.std.specs.FinMap as finmap;
     ghost use Rattle.lineage.specs.Lineage.{Lineage, lineage_code};
-    ghost use Rattle.lineage.specs.Blocks.{AreKept, all_rows};
+    ghost use Rattle.lineage.specs.inner.Blocks.{AreKept, all_rows};
 
     ghost Value = { Lineage };
 

@@ -7,8 +7,9 @@ ghost use Rattle.std.specs.FinMap.{find};
 ghost use Rattle.std.specs.Option.{option_or};
 ghost use Rattle.std.specs.Ordering.{eq_by_cmp};
 ghost use Rattle.lineage.specs.Lineage.{row_cmp, Row as Place};
-ghost use Rattle.lineage.specs.Blocks.{block_of, found_at, row_at, row_of_both, HasRoom, AllRoom, IsRoomy};
-ghost use Rattle.lineage.specs.Blocks.{AreRoomy, IsKept, AreKept, AreRoomier, Stays};
+ghost use Rattle.lineage.specs.inner.Blocks.{block_of, found_at, row_at, row_of_both, HasRoom, AllRoom};
+ghost use Rattle.lineage.specs.inner.Blocks.{IsRoomy};
+ghost use Rattle.lineage.specs.inner.Blocks.{AreRoomy, IsKept, AreKept, AreRoomier, Stays};
 
 use crate::blocks::{
     Block, Blocks, Row, block_of, has_bit, make_room, make_room_like, no_rows, put_in, unite_in,

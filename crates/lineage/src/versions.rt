@@ -1,7 +1,7 @@
 //! The versions of the rows of one block.
 
 ghost use Rattle.std.specs.Prelude.{◌≡◌, ◌==◌, ◌++◌, ◌+◌, ◌^◌, ◌<◌, ◌≤◌, ℕ, length, get_or, replicate, cond, IfOk, OnOk};
-ghost use Rattle.lineage.specs.Blocks.{version_of, HasPlace};
+ghost use Rattle.lineage.specs.inner.Blocks.{version_of, HasPlace};
 
 use ldv_value::List;
 use std::alloc::{AllocError, Global};

@@ -3,11 +3,10 @@ use Rattle.std.proofs.Common.{◌≡◌, ℕ, zero, suc, ◌+◌, ◌≤◌, Lis
 use Rattle.std.specs.Prelude.{Option, Some, None, slice_get, is_none, is_some, not, ◌&&◌, ◌||◌, ◌==◌}
 use Rattle.std.specs.List.{list_all}
 use Rattle.std.proofs.lemmas.Bool.{cases_Bool, and_parts, ne_eqb}
-use Rattle.proc_core.specs.inner.Flags.{runnable_flags}
+use Rattle.proc_core.specs.Flags.{runnable_flags}
 use Rattle.ready_set.specs.Ready.{ReadyView, numbers}
 use Rattle.proc_core.proofs.FlagLaws.{flags_runnable}
-use Rattle.run_model.specs.Core.{Process, Core, have_all_ended, is_over}
-use Rattle.run_model.specs.Core.{has_ended as process_ended}
+use Rattle.run_model.specs.Core.{Process, Core, have_all_ended, is_over, has_ended as process_ended}
 use Rattle.run_model.specs.Database.{Base}
 use Rattle.run_model.specs.Run.{chosen, move, run}
 use Rattle.run_model.specs.RunLaw.{MayRun}
@@ -17,8 +16,8 @@ use Rattle.run_model.specs.Step.{step}
 use Rattle.run_model.proofs.Equations.{run-zero, run-over, run-suc}
 use Rattle.run_model.proofs.NeverStuck.{Ordered, chosen_runs, move_ordered}
 use Rattle.proc_core.specs.declared.machine.Machine.{Machine}
-use Rattle.proc_core.specs.Running.{Stands, has_ended}
-use Rattle.proc_core.specs.inner.SlotReady.{Grows, refreshed, AreKin, IsReady}
+use Rattle.proc_core.specs.Running.{Stands, has_ended, AreKin, IsReady}
+use Rattle.proc_core.specs.inner.SlotReady.{Grows, refreshed}
 use Rattle.proc_core.specs.Stands.{IsCore, IsState}
 use Rattle.proc_core.proofs.Moving.{step_moved, may_run_going}
 use Rattle.proc_core.proofs.Readiness.{kin_ordered, ready_runs, next_ready}

@@ -19,7 +19,7 @@ use Rattle.proc_core.specs.declared.instructions.ask.Statement.{Statement}
 use Rattle.proc_core.specs.declared.machine.Machine.{Machine}
 use Rattle.proc_core.specs.declared.process.SlotCursor.{SlotCursor}
 use Rattle.proc_core.specs.declared.process.SlotProcess.{SlotProcess}
-use Rattle.proc_core.specs.inner.Slots.{bound_value, cursor_in, HasReply, HaveReplies, Holds}
+use Rattle.proc_core.specs.Stands.{bound_value, cursor_in, HasReply, HaveReplies, Holds}
 use Rattle.proc_core.specs.inner.SlotAsk.{text_statement, slot_ask, slot_ask_in, slot_ask_at, slot_replied, question_of}
 use Rattle.proc_core.specs.inner.SlotStep.{next_slot_instr}
 use Rattle.proc_core.specs.Stands.{IsProcess, AreProcesses, IsCore}

@@ -8,7 +8,7 @@ use Rattle.run_model.specs.Core.{NameBinding, Cursor, arguments_from, argument_v
 use Rattle.script_code.specs.declared.code.Scope.{Scope}
 use Rattle.proc_core.specs.declared.process.SlotCursor.{SlotCursor}
 use Rattle.proc_core.specs.declared.process.SlotProcess.{SlotProcess}
-use Rattle.proc_core.specs.inner.Slots.{value_held, bound_value, cursor_in, HaveReplies, Holds}
+use Rattle.proc_core.specs.Stands.{value_held, bound_value, cursor_in, HaveReplies, Holds}
 use Rattle.proc_core.proofs.Begins.{none_bound, none_set}
 
 -- no argument is bound yet

@@ -7,7 +7,7 @@ use Rattle.proc_core.specs.Types.{Value, Null}
 use Rattle.run_model.specs.Core.{NameBinding}
 use Rattle.script_code.specs.Resolved.{AreDistinct, slot_of, HasName}
 use Rattle.script_code.proofs.SlotLists.{set_slot, map_absent}
-use Rattle.proc_core.specs.inner.Slots.{value_held, bound_value}
+use Rattle.proc_core.specs.Stands.{value_held, bound_value}
 
 -- no name means anything
 abbrev pub nothing : {X : Type 0} → Option X

@@ -11,8 +11,7 @@ use Rattle.run_model.specs.RunLaw.{start_state_of}
 use Rattle.proc_core.specs.inner.Acts.{path_act}
 use Rattle.proc_core.specs.declared.machine.Machine.{Machine}
 use Rattle.proc_core.specs.declared.tell.PathAct.TheVariants as kinds
-use Rattle.proc_core.specs.Running.{Stands}
-use Rattle.proc_core.specs.inner.SlotReady.{IsReady}
+use Rattle.proc_core.specs.Running.{Stands, IsReady}
 use Rattle.proc_core.specs.Stands.{IsCore, IsStartScript, AppendsEvents}
 
 module _ {Db : Type 0} (m : Machine) (db : Db) (path : List ℕ) (words : List (List ℕ)) (seed : ℕ) (tree : FileState)

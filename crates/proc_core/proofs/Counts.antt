@@ -39,7 +39,9 @@ use Rattle.proc_core.specs.inner.SlotSpawn.{HasChild, IsNoChild, slot_parent}
 use Rattle.proc_core.specs.inner.SlotReady.{marked_by, marked, marked_parent, marked_above, refreshed}
 use Rattle.proc_core.specs.inner.SlotStep.{slot_wait_until, slot_wait_with, slot_child_status, slot_is_runnable, slot_status_in, slot_effect}
 use Rattle.proc_core.specs.inner.SlotVariables.{slot_cut_parts, split_value, slot_jump_where, slot_print_line}
-use Rattle.proc_core.specs.inner.Slots.{open_at, cursor_of, cursor_at, child_at, slot_value, slot_values, slot_assign, slot_with_variable}
+use Rattle.proc_core.specs.inner.Slots.{open_at, cursor_of, child_at, slot_value, slot_values, slot_assign}
+use Rattle.proc_core.specs.inner.Slots.{slot_with_variable}
+use Rattle.proc_core.specs.Stands.{cursor_at}
 use Rattle.proc_core.proofs.Machines.{get_some}
 
 -- ---- an instruction that changes its own process only

@@ -13,7 +13,9 @@ use Rattle.run_model.specs.StepVariables.{printed_line}
 use Rattle.script_code.specs.declared.code.Scope.{Scope}
 use Rattle.script_code.specs.Resolved.{slot_of, HasName, slot_operand, HasOperand, HasOperands, IsScope}
 use Rattle.proc_core.specs.declared.process.SlotProcess.{SlotProcess}
-use Rattle.proc_core.specs.inner.Slots.{Holds, slot_ended, slot_value, slot_values, slot_with_variable, slot_with_file}
+use Rattle.proc_core.specs.inner.Slots.{slot_ended, slot_value, slot_values, slot_with_variable}
+use Rattle.proc_core.specs.inner.Slots.{slot_with_file}
+use Rattle.proc_core.specs.Stands.{Holds}
 use Rattle.proc_core.specs.inner.SlotFiles.{SlotEffect, slot_open_unless, slot_open_path, slot_open_for, slot_at_place, slot_take_line, slot_read_next, slot_write_where, slot_write_text, slot_copy_where, slot_copy_between, slot_remove_found, slot_remove, slot_exists}
 use Rattle.proc_core.proofs.Holding.{value_same, values_same, holds_ended, holds_went_to, holds_went_on, holds_variable, holds_file, open_same}
 

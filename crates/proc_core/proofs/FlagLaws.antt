@@ -9,7 +9,7 @@ use Rattle.run_model.specs.Types.{Value, Instr}
 use Rattle.run_model.specs.Core.{lookup, Process, Core, new_process}
 use Rattle.run_model.specs.Schedule.{still_runs, waits_for, is_waiting, is_runnable, runnable_from, runnable_processes}
 use Rattle.ready_set.specs.Ready.{numbers_from, numbers}
-use Rattle.proc_core.specs.inner.Flags.{runnable_flags, awaited_by, awaited_child}
+use Rattle.proc_core.specs.Flags.{runnable_flags, awaited_by, awaited_child}
 use Rattle.proc_core.specs.FlagsLaw.{IsAt, OthersPass, GoesOn, EndsUnawaited, EndsUnder, Wakes, Spawns, NewRuns}
 
 -- ---- the list

@@ -10,7 +10,10 @@ use Rattle.script_code.specs.declared.code.Scope.{Scope}
 use Rattle.script_code.specs.Resolved.{slot_of, HasName, slot_operand, HasOperand, HasOperands, IsScope}
 use Rattle.script_code.proofs.SlotLists.{get_slot, set_slot}
 use Rattle.proc_core.specs.declared.process.SlotProcess.{SlotProcess}
-use Rattle.proc_core.specs.inner.Slots.{value_held, bound_value, flatten_option, open_at, child_at, slot_with_file, Holds, slot_value, slot_values, slot_ended, slot_went_on, slot_went_to, slot_with_variable, slot_assign}
+use Rattle.proc_core.specs.inner.Slots.{flatten_option, open_at, child_at, slot_with_file, slot_value}
+use Rattle.proc_core.specs.inner.Slots.{slot_values, slot_ended, slot_went_on, slot_went_to}
+use Rattle.proc_core.specs.inner.Slots.{slot_with_variable, slot_assign}
+use Rattle.proc_core.specs.Stands.{value_held, bound_value, Holds}
 use Rattle.proc_core.proofs.Lookups.{lookup_bound, lookup_other, lookup_unbound, lookup_unbound_other}
 
 -- ---- operands

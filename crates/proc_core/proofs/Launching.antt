@@ -7,7 +7,7 @@ use Rattle.script_code.specs.declared.code.Code.{Code}
 use Rattle.proc_core.specs.declared.machine.Machine.{Machine}
 use Rattle.proc_core.specs.declared.process.SlotProcess.{SlotProcess}
 use Rattle.proc_core.specs.inner.Counts.{CountsBelow}
-use Rattle.proc_core.specs.inner.Slots.{Holds}
+use Rattle.proc_core.specs.Stands.{Holds}
 use Rattle.proc_core.specs.inner.SlotSpawn.{HasChild}
 use Rattle.proc_core.proofs.AskSame.{get_last}
 use Rattle.proc_core.proofs.Launches.{with_code}

@@ -20,10 +20,10 @@ use Rattle.script_code.specs.declared.code.SlotInstr.TheVariants.{Wait}
 use Rattle.script_code.specs.Resolved.{slot_of, HasName, Resolves, ResolvesAll, slot_instr, HasAll, IsScope}
 use Rattle.proc_core.specs.declared.machine.Machine.{Machine}
 use Rattle.proc_core.specs.declared.process.SlotProcess.{SlotProcess}
-use Rattle.proc_core.specs.inner.Slots.{Holds, child_at, slot_ended, slot_with_variable}
+use Rattle.proc_core.specs.inner.Slots.{child_at, slot_ended, slot_with_variable}
+use Rattle.proc_core.specs.Stands.{Holds, IsProcess, AreProcesses, IsCore, AppendsEvents}
 use Rattle.proc_core.specs.inner.SlotFiles.{SlotEffect}
 use Rattle.proc_core.specs.inner.SlotStep.{slotted_at, next_slot_instr, slot_status_in, slot_wait_until, slot_wait_for, slot_effect, IsLocal}
-use Rattle.proc_core.specs.Stands.{IsProcess, AreProcesses, IsCore, AppendsEvents}
 use Rattle.proc_core.proofs.Holding.{holds_ended, holds_went_on, holds_variable, child_same}
 use Rattle.proc_core.proofs.ReplySame.{close_same, fetch_same, count_same, status_same as reply_status_same}
 use Rattle.proc_core.proofs.FileSame.{SameEffect, open_path_effect, read_line_effect, write_line_effect, copy_effect, remove_effect, exists_effect}

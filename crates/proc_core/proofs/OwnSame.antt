@@ -16,7 +16,8 @@ use Rattle.script_code.specs.declared.code.OwnInstr.{OwnInstr}
 use Rattle.script_code.specs.declared.code.OwnInstr.TheVariants as owned
 use Rattle.script_code.specs.Resolved.{slot_of, HasName, slot_operand, HasOperand, HasOperands, IsScope}
 use Rattle.proc_core.specs.declared.process.SlotProcess.{SlotProcess}
-use Rattle.proc_core.specs.inner.Slots.{Holds, slot_value, slot_assign, slot_ended, slot_with_variable}
+use Rattle.proc_core.specs.inner.Slots.{slot_value, slot_assign, slot_ended, slot_with_variable}
+use Rattle.proc_core.specs.Stands.{Holds}
 use Rattle.proc_core.specs.inner.SlotOwn.{slot_own}
 use Rattle.proc_core.specs.inner.SlotVariables.{split_value, slot_cut_parts, slot_jump_where, slot_print_line}
 use Rattle.proc_core.proofs.Holding.{value_same, values_same, holds_ended, holds_went_to, holds_went_on, holds_variable, holds_printed, holds_assign}

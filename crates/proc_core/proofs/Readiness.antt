@@ -7,7 +7,7 @@ use Rattle.std.proofs.lemmas.List.{length-set, length-map}
 use Rattle.std.proofs.lemmas.Option.{slice_get_past, slice_get_within}
 use Rattle.ready_set.specs.Ready.{ReadyView}
 use Rattle.script_code.specs.declared.code.Code.{Code}
-use Rattle.proc_core.specs.inner.Flags.{runnable_flags, awaited_child}
+use Rattle.proc_core.specs.Flags.{runnable_flags, awaited_child}
 use Rattle.proc_core.specs.FlagsLaw.{OthersPass}
 use Rattle.proc_core.proofs.FlagLaws.{get-set_same, get-set_other, get-append_left, get-append_end, awaited_named, runnable-goes_on, ends, ends_under, spawns, new_runs}
 use Rattle.proc_core.specs.Types.{Value, Instr}
@@ -18,7 +18,8 @@ use Rattle.run_model.specs.StepProcesses.{child_of, parent_of, status_in}
 use Rattle.run_model.proofs.NeverStuck.{IsAbove, ChildrenLater, Ordered, chosen_runs}
 use Rattle.proc_core.specs.declared.machine.Machine.{Machine}
 use Rattle.proc_core.specs.declared.process.SlotProcess.{SlotProcess}
-use Rattle.proc_core.specs.inner.SlotReady.{Grows, marked_by, marked, marked_above, refreshed, IsKin, AreKin, IsReady}
+use Rattle.proc_core.specs.inner.SlotReady.{Grows, marked_by, marked, marked_above, refreshed}
+use Rattle.proc_core.specs.Running.{IsKin, AreKin, IsReady}
 use Rattle.proc_core.specs.inner.SlotStep.{slot_status_in}
 use Rattle.proc_core.specs.Stands.{AreProcesses, IsCore}
 use Rattle.proc_core.proofs.Machines.{slot_process-at, not_found, status_same}

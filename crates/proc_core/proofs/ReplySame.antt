@@ -15,7 +15,9 @@ use Rattle.script_code.specs.Resolved.{slot_of, HasName, HasNames, IsScope}
 use Rattle.script_code.proofs.SlotLists.{get_slot, set_slot}
 use Rattle.proc_core.specs.declared.process.SlotCursor.{SlotCursor}
 use Rattle.proc_core.specs.declared.process.SlotProcess.{SlotProcess}
-use Rattle.proc_core.specs.inner.Slots.{bound_value, flatten_option, cursor_of, cursor_at, cursor_in, HasReply, HaveReplies, Holds, slot_ended, slot_with_variable, slot_with_file, slot_with_cursor, slot_assign}
+use Rattle.proc_core.specs.inner.Slots.{flatten_option, cursor_of, slot_ended, slot_with_variable}
+use Rattle.proc_core.specs.inner.Slots.{slot_with_file, slot_with_cursor, slot_assign}
+use Rattle.proc_core.specs.Stands.{bound_value, cursor_at, cursor_in, HasReply, HaveReplies, Holds}
 use Rattle.proc_core.specs.inner.SlotReplies.{slot_close_file, slot_close, slot_with_values, slot_one_more, slot_fetch_row, slot_next_row, slot_fetch_from, slot_fetch, slot_count, slot_status}
 use Rattle.proc_core.proofs.Holding.{holds_ended, holds_went_on, holds_went_to, holds_variable, holds_closed, holds_assign, open_same}
 use Rattle.proc_core.proofs.Lookups.{lookup_bound, lookup_other}

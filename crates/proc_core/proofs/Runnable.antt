@@ -6,7 +6,7 @@ use Rattle.script_code.specs.declared.code.Code.{Code}
 use Rattle.script_code.specs.declared.code.Scope.{Scope}
 use Rattle.script_code.specs.declared.code.SlotInstr.{SlotInstr}
 use Rattle.script_code.specs.Resolved.{slot_instr, HasAll}
-use Rattle.proc_core.specs.inner.Flags.{runnable_flags}
+use Rattle.proc_core.specs.Flags.{runnable_flags}
 use Rattle.ready_set.specs.Ready.{numbers}
 use Rattle.proc_core.proofs.FlagLaws.{flags_runnable}
 use Rattle.proc_core.specs.Types.{Instr}
@@ -14,9 +14,8 @@ use Rattle.run_model.specs.Core.{Process, Core, lookup}
 use Rattle.run_model.specs.Schedule.{still_runs, waits_for, waits_at, is_waiting, is_runnable, runnable_from, runnable_processes, choose, pick_of, moved_x}
 use Rattle.proc_core.specs.declared.machine.Machine.{Machine}
 use Rattle.proc_core.specs.declared.process.SlotProcess.{SlotProcess}
-use Rattle.proc_core.specs.inner.Slots.{Holds}
+use Rattle.proc_core.specs.Stands.{Holds, IsProcess, AreProcesses, IsCore}
 use Rattle.proc_core.specs.inner.SlotStep.{next_slot_instr, slot_still_runs, slot_waits_for, slot_waits_at, slot_is_runnable, slot_runnable_from}
-use Rattle.proc_core.specs.Stands.{IsProcess, AreProcesses, IsCore}
 use Rattle.proc_core.proofs.Holding.{child_same}
 use Rattle.proc_core.proofs.Machines.{AtSame, next_same}
 

@@ -10,9 +10,8 @@ use Rattle.script_code.specs.Resolved.{slot_of, HasName, IsScope}
 use Rattle.script_code.proofs.SlotLists.{set_slot}
 use Rattle.proc_core.specs.declared.machine.Machine.{Machine}
 use Rattle.proc_core.specs.declared.process.SlotProcess.{SlotProcess}
-use Rattle.proc_core.specs.inner.Slots.{bound_value, Holds}
+use Rattle.proc_core.specs.Stands.{bound_value, Holds, IsProcess, AreProcesses, IsCore}
 use Rattle.proc_core.specs.inner.SlotSpawn.{slot_parent, slot_with_new}
-use Rattle.proc_core.specs.Stands.{IsProcess, AreProcesses, IsCore}
 use Rattle.proc_core.proofs.AskSame.{get_before}
 use Rattle.proc_core.proofs.Lookups.{lookup_bound, lookup_other}
 use Rattle.proc_core.proofs.Machines.{replaced}

@@ -21,10 +21,10 @@ use Rattle.script_code.specs.Resolved.{slot_of, HasName, slot_instr, HasAll, IsC
 use Rattle.proc_core.specs.declared.machine.Machine.{Machine}
 use Rattle.proc_core.specs.declared.process.SlotProcess.{SlotProcess}
 use Rattle.proc_core.specs.declared.spawn.spawn_request.SpawnRequest.{SpawnRequest}
-use Rattle.proc_core.specs.inner.Slots.{Holds, slot_ended, slot_went_to}
+use Rattle.proc_core.specs.inner.Slots.{slot_ended, slot_went_to}
+use Rattle.proc_core.specs.Stands.{Holds, IsProcess, AreProcesses, IsCore, AppendsEvents}
 use Rattle.proc_core.specs.inner.SlotSpawn.{slot_request, slot_request_in, slot_request_at, Runs, script_in, slot_parent, slot_with_new, IsElse, IsNoChild, HasChild}
 use Rattle.proc_core.specs.inner.SlotStep.{next_slot_instr, IsLocal}
-use Rattle.proc_core.specs.Stands.{IsProcess, AreProcesses, IsCore, AppendsEvents}
 use Rattle.proc_core.proofs.Holding.{value_same, values_same, holds_ended, holds_went_to}
 use Rattle.proc_core.proofs.Machines.{AtSame, next_same, slot_process-at, replaced}
 use Rattle.proc_core.proofs.SpawnSame.{as_many, holds_parent, spawned_core}

@@ -13,10 +13,8 @@ use Rattle.run_model.specs.Core.{Process, new_process, start_core}
 use Rattle.run_model.specs.RunLaw.{start_state_of}
 use Rattle.proc_core.specs.declared.machine.Machine.{Machine}
 use Rattle.proc_core.specs.declared.process.SlotProcess.{SlotProcess}
-use Rattle.proc_core.specs.Running.{Stands}
-use Rattle.proc_core.specs.inner.SlotReady.{IsKin, IsReady}
-use Rattle.proc_core.specs.inner.Slots.{Holds}
-use Rattle.proc_core.specs.Stands.{AreProcesses, HasStartScript, IsCore, IsStartScript}
+use Rattle.proc_core.specs.Running.{Stands, IsKin, IsReady}
+use Rattle.proc_core.specs.Stands.{Holds, AreProcesses, HasStartScript, IsCore, IsStartScript}
 
 module _ (m : Machine) (path : List ℕ) (words : List (List ℕ)) (seed : ℕ) (files : List File) (script : List Instr) where
   abbrev first : Process

@@ -6,7 +6,7 @@ use Rattle.ldv_value.proofs.Lists.{append-nil}
 use Rattle.script_code.specs.declared.code.Code.{Code}
 use Rattle.script_code.specs.declared.code.SlotInstr.{SlotInstr}
 use Rattle.script_code.specs.declared.code.SlotInstr.TheVariants.{Own, OnFiles, Spawn, Wait, Sql}
-use Rattle.proc_core.specs.inner.Flags.{runnable_flags}
+use Rattle.proc_core.specs.Flags.{runnable_flags}
 use Rattle.proc_core.specs.Types.{Event}
 use Rattle.run_model.specs.Core.{Core}
 use Rattle.run_model.specs.Database.{Base}

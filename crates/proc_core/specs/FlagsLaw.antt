@@ -5,7 +5,7 @@ use Rattle.run_model.specs.Types.{Value, Instr}
 use Rattle.run_model.specs.Core.{Process, Core, new_process}
 use Rattle.run_model.specs.Schedule.{is_runnable, runnable_processes}
 use Rattle.ready_set.specs.Ready.{numbers}
-use Rattle.proc_core.specs.inner.Flags.{runnable_flags, awaited_child}
+use Rattle.proc_core.specs.Flags.{runnable_flags, awaited_child}
 
 -- the process of a number is this one
 abbrev pub IsAt : ℕ → Process → List Process → Type 0

@@ -3,4 +3,5 @@ pub mod Running
 pub mod Stands
 pub mod Stops
 pub mod Types
+pub mod Flags
 pub mod inner

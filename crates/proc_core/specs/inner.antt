@@ -1,6 +1,5 @@
 pub mod Acts
 pub mod Counts
-pub mod Flags
 pub mod Moves
 pub mod NameKey
 pub mod Paged

@@ -3,7 +3,7 @@
 ghost use Rattle.std.specs.Prelude.{◌≡◌, ◌<◌, None, length, slice_get};
 ghost use Rattle.std.specs.Option.{option_map};
 ghost use Rattle.run_model.specs.Core.{Core};
-ghost use Rattle.proc_core.specs.inner.Flags.{runnable_flags};
+ghost use Rattle.proc_core.specs.Flags.{runnable_flags};
 ghost use Rattle.ready_set.specs.Ready.{numbers};
 ghost use Rattle.run_model.specs.Schedule.{choose, core_after_choice, moved_x, at_random, pick_of};
 ghost use Rattle.proc_core.specs.inner.SlotStep.{slot_is_runnable, slot_waits_at, slot_waits_for};

@@ -8,9 +8,8 @@ ghost use Rattle.proc_core.specs.Types.{Instr, File, Text};
 ghost use Rattle.run_model.specs.Core.{new_process, start_core};
 ghost use Rattle.script_code.specs.Resolved.{IsCode};
 ghost use Rattle.proc_core.specs.inner.Counts.{CountsBelow};
-ghost use Rattle.proc_core.specs.inner.SlotReady.{IsReady};
-ghost use Rattle.proc_core.specs.inner.Slots.{Holds};
-ghost use Rattle.proc_core.specs.Stands.{HasStartScript, IsCore, IsStartScript};
+ghost use Rattle.proc_core.specs.Running.{IsReady};
+ghost use Rattle.proc_core.specs.Stands.{Holds, HasStartScript, IsCore, IsStartScript};
 
 use crate::machine::{Codes, Machine};
 use crate::process::SlotProcess;

@@ -11,7 +11,7 @@ use Rattle.run_model.specs.declared.event.Act.TheVariants as acts
 use Rattle.run_model.specs.declared.event.Event.{Event}
 use Rattle.run_model.specs.TypedPackage.{TypedNeed, TypedMember, TypedAct, TypedEvent}
 use Rattle.run_model.specs.ValidTrace.{made_after, IsTrace}
-use Rattle.trace_graph.specs.Building.{made_fits}
+use Rattle.trace_graph.specs.inner.Building.{made_fits}
 use Rattle.trace_graph.specs.Graph.{same_node, ends, graph_of}
 use Rattle.trace_graph.specs.Links.{Link, link, read_link, made_link, version_before, at_version, change_link}
 use Rattle.trace_graph.specs.Links.{act_links, event_links, links_after, links_of}

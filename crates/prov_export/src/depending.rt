@@ -5,7 +5,7 @@ ghost use Rattle.std.specs.Fmt.{decimal};
 ghost use Rattle.std.specs.List.{flat_map};
 ghost use Rattle.reach.specs.Lent.{lent_node};
 ghost use Rattle.reach.specs.NodeLines.{node_line};
-ghost use Rattle.trace_graph.specs.Building.{node_of};
+ghost use Rattle.trace_graph.specs.Lent.{node_of};
 ghost use Rattle.prov_export.specs.Dependence.{depends_at, depends_report};
 
 use ldv_value::{Bytes, MAX_STEPS, Utf8};

@@ -3,9 +3,9 @@ use Rattle.std.proofs.Common.{◌≡◌, ◌∙◌, refl, ℕ, ◌<◌, true, Li
 use Rattle.std.specs.Prelude.{filter}
 use Rattle.std.specs.Option.{option_map, option_to_list}
 use Rattle.query_eval.proofs.TableScanLaws.{slot_known}
-use Rattle.query_eval.specs.KeyLookup.{keyed_row, keyed_rows}
-use Rattle.query_eval.specs.TableScan.{with_version}
-use Rattle.query_eval.specs.Sources.{table_row}
+use Rattle.query_eval.specs.inner.KeyLookup.{keyed_row, keyed_rows}
+use Rattle.query_eval.specs.inner.TableScan.{with_version}
+use Rattle.query_eval.specs.inner.Sources.{table_row}
 use Rattle.query_eval.specs.Types.{TableRow, Value}
 use Rattle.sql_model.specs.Tables.{are_keys_unique, row_values}
 use Rattle.sql_model.specs.References.{has_key}

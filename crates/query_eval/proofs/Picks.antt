@@ -19,7 +19,8 @@ use Rattle.core_parts.proofs.Lists.{kept_twice}
 use Rattle.core_parts.specs.Conditions.{AreConditions}
 use Rattle.query_eval.specs.inner.Joining.{combos, tests}
 use Rattle.query_eval.specs.Picking.{rows_added, kept_rows, pick_of}
-use Rattle.query_eval.specs.Sources.{table_row, source_rows, joined_row_values, AreSources, are_kept, LeavesPicked}
+use Rattle.query_eval.specs.inner.Sources.{table_row, source_rows, joined_row_values, AreSources, are_kept}
+use Rattle.query_eval.specs.inner.Sources.{LeavesPicked}
 use Rattle.query_eval.specs.Types.{Core, FromItem, Table, TableRow, Value}
 use Rattle.core_parts.specs.declared.placed.BoundExpr.{BoundExpr}
 use Rattle.query_eval.specs.declared.source.Source.{Source}

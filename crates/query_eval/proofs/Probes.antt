@@ -11,7 +11,7 @@ use Rattle.core_parts.proofs.Places.{placed-more}
 use Rattle.core_parts.specs.Placing.{AreAllPlaced}
 use Rattle.core_parts.specs.Equality.{equals}
 use Rattle.query_eval.specs.inner.Joining.{tests, are_all_equal, are_tied, values_before, values_here, AreTies, AreTiesWith, IsBetween, IsEquality, IsProbeOf}
-use Rattle.query_eval.specs.Sources.{joined_row_values}
+use Rattle.query_eval.specs.inner.Sources.{joined_row_values}
 use Rattle.query_eval.specs.Types.{ColumnName, Compare, Expr, Null, Value}
 use Rattle.core_parts.specs.declared.placed.BoundExpr.{BoundExpr}
 use Rattle.query_eval.specs.declared.probe.Probe.{Probe}

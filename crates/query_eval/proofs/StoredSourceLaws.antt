@@ -35,9 +35,10 @@ use Rattle.core_parts.specs.Conditions.{AreConditions}
 use Rattle.query_eval.specs.inner.Conditions.{AreOfCore}
 use Rattle.core_parts.specs.Fixing.{FixesKey}
 use Rattle.core_parts.specs.Conditions.{meets}
-use Rattle.query_eval.specs.TableScan.{row_passes}
+use Rattle.query_eval.specs.inner.TableScan.{row_passes}
 use Rattle.query_eval.specs.Picking.{source_picks, ArePicked}
-use Rattle.query_eval.specs.Sources.{table_row, HaveWidths, TablesAreWide, are_kept, AreSources, AreWide, SourcesAreWide, LeavesPicked}
+use Rattle.query_eval.specs.inner.Sources.{table_row, HaveWidths, TablesAreWide, are_kept, AreSources}
+use Rattle.query_eval.specs.inner.Sources.{AreWide, SourcesAreWide, LeavesPicked}
 use Rattle.query_eval.specs.StoredSources.{table_names, TellVersions, HasVersion, AreChosenOf, IsTaken, chosen_rows, columns_in, width_at, is_name, IsPlace, IsStored, AreStored}
 use Rattle.query_eval.specs.declared.source.Source.{Source}
 use Rattle.query_eval.specs.declared.source.SourceRow.{SourceRow}

@@ -6,8 +6,9 @@ use Rattle.std.proofs.lemmas.List.{drop-drop, get_or-drop, get_or_past}
 use Rattle.std.specs.Option.{option_map, option_map_or, option_to_list}
 use Rattle.std.proofs.lemmas.Bool.{cases_Bool, cases_lt}
 use Rattle.lanes.specs.Sets.{member, IsNext}
-use Rattle.query_eval.specs.TableScan.{row_passes, slot_passes, rows_at_slots, with_version, source_row, rows_in}
-use Rattle.query_eval.specs.Sources.{table_row}
+use Rattle.query_eval.specs.inner.TableScan.{row_passes, slot_passes, rows_at_slots, with_version, source_row}
+use Rattle.query_eval.specs.inner.TableScan.{rows_in}
+use Rattle.query_eval.specs.inner.Sources.{table_row}
 use Rattle.query_eval.specs.StoredSources.{HasVersion}
 use Rattle.query_eval.specs.declared.source.SourceRow.{SourceRow}
 use Rattle.sql_model.specs.ColumnTests.{passes, passes_all}

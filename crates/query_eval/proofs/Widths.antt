@@ -2,7 +2,7 @@
 use Rattle.std.proofs.Common.{◌≡◌, ℕ, List, [], ◌∷◌, map, length}
 use Rattle.std.specs.List.{flat_map, AllByRecursion}
 use Rattle.ldv_value.proofs.ItemLists.{all_append}
-use Rattle.query_eval.specs.Sources.{HaveWidths, TablesAreWide}
+use Rattle.query_eval.specs.inner.Sources.{HaveWidths, TablesAreWide}
 use Rattle.query_eval.specs.Types.{FromItem, Table, TableRow}
 use Rattle.sql_model.specs.QueryAnswer.{Combination, combinations}
 use Rattle.sql_model.specs.Scope.{rows_of, table_at}

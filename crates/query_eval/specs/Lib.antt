@@ -1,10 +1,7 @@
 pub mod Finishing
-pub mod KeyLookup
 pub mod Merging
 pub mod Picking
 pub mod Projecting
-pub mod Sources
 pub mod StoredSources
-pub mod TableScan
 pub mod Types
 pub mod inner

@@ -8,7 +8,7 @@ use Rattle.core_parts.specs.Checking.{core_at, WasChecked}
 use Rattle.core_parts.specs.Conditions.{meets}
 use Rattle.core_parts.specs.declared.placed.BoundExpr.{BoundExpr}
 use Rattle.query_eval.specs.inner.Joining.{combos, tests}
-use Rattle.query_eval.specs.Sources.{joined_row_values, source_rows}
+use Rattle.query_eval.specs.inner.Sources.{joined_row_values, source_rows}
 use Rattle.query_eval.specs.StoredSources.{table_names, TellVersions}
 use Rattle.query_eval.specs.Types.{Checked, Core, Query}
 use Rattle.query_eval.specs.declared.source.Source.{Source}

@@ -7,8 +7,8 @@ use Rattle.sql_model.specs.declared.column_test.ColumnTest.{ColumnTest}
 use Rattle.core_parts.specs.declared.placed.BoundExpr.{BoundExpr}
 use Rattle.lineage.specs.Lineage.{name_at}
 use Rattle.core_parts.specs.Fixing.{FixesKey}
-use Rattle.query_eval.specs.KeyLookup.{keyed_rows}
-use Rattle.query_eval.specs.TableScan.{left_rows}
+use Rattle.query_eval.specs.inner.KeyLookup.{keyed_rows}
+use Rattle.query_eval.specs.inner.TableScan.{left_rows}
 use Rattle.query_eval.specs.Types.{Column, FromItem, Value}
 use Rattle.query_eval.specs.declared.source.Source.{Source}
 use Rattle.query_eval.specs.declared.source.SourceRow.{SourceRow}

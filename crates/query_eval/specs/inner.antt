@@ -1,4 +1,7 @@
 pub mod Abbreviating
 pub mod Conditions
 pub mod Joining
+pub mod KeyLookup
 pub mod Slots
+pub mod Sources
+pub mod TableScan

@@ -12,7 +12,7 @@ ghost use Rattle.query_eval.specs.inner.Joining.{extensions_left, extensions_of_
 ghost use Rattle.query_eval.specs.inner.Slots.{combinations_at, extended_by, extended_by_index};
 ghost use Rattle.query_eval.specs.inner.Slots.{extended_by_ties, slots_found, slots_meet, values_at};
 ghost use Rattle.core_parts.specs.Placing.{AreAllPlaced};
-ghost use Rattle.query_eval.specs.Sources.{source_rows, AreWide, SourcesAreWide};
+ghost use Rattle.query_eval.specs.inner.Sources.{source_rows, AreWide, SourcesAreWide};
 ghost use Rattle.query_eval.specs.declared.source.Source.{Source as GivenSource};
 ghost use Rattle.query_eval.specs.declared.source.SourceRow.{SourceRow as Given};
 ghost use Rattle.sql_model.specs.Scope.{InScope};

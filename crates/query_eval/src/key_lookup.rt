@@ -3,8 +3,8 @@
 ghost use Rattle.std.specs.Prelude.{◌≡◌, ◌<◌, length, IfOk, Some};
 ghost use Rattle.std.specs.List.{AllByRecursion};
 ghost use Rattle.std.specs.Option.{option_and_then};
-ghost use Rattle.query_eval.specs.KeyLookup.{keyed_row, keyed_rows};
-ghost use Rattle.query_eval.specs.TableScan.{slot_at};
+ghost use Rattle.query_eval.specs.inner.KeyLookup.{keyed_row, keyed_rows};
+ghost use Rattle.query_eval.specs.inner.TableScan.{slot_at};
 ghost use Rattle.query_eval.specs.StoredSources.{HasVersion};
 ghost use Rattle.table_store.specs.Histories.{row_now};
 

@@ -6,7 +6,7 @@ ghost use Rattle.core_parts.specs.Checking.{HasCore};
 ghost use Rattle.core_parts.specs.Placing.{AreAllPlaced};
 ghost use Rattle.lineage.specs.Lineage.{with_version};
 ghost use Rattle.query_eval.specs.Picking.{rows_added, kept_rows, source_picks, ArePicked};
-ghost use Rattle.query_eval.specs.Sources.{SourcesAreWide};
+ghost use Rattle.query_eval.specs.inner.Sources.{SourcesAreWide};
 ghost use Rattle.query_eval.specs.inner.Slots.{pick_at, row_at, rows_at, values_at};
 ghost use Rattle.sql_model.specs.Scope.{InScope};
 

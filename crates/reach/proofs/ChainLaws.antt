@@ -9,7 +9,7 @@ use Rattle.std.proofs.lemmas.List.Sums.{AllPass-from_list_all}
 use Rattle.std.proofs.lemmas.Option.{same_Some, slice_get_read, slice_get_within}
 use Rattle.trace_graph.specs.Graph.{is_between, are_between}
 use Rattle.reach.specs.Types.{Edge}
-use Rattle.reach.specs.Search.{edges_into}
+use Rattle.reach.specs.inner.Search.{edges_into}
 use Rattle.reach.specs.inner.Incoming.{value_at, IsChain, AreChains}
 
 pub value_read : (values : List ℕ) (place n : ℕ) → place < length values → n ≡ get_or values place n → n ≡ value_at values place

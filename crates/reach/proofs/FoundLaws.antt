@@ -13,7 +13,7 @@ use Rattle.reach.specs.Types.{Node, Path, Process, Row, Ask, Reply, Edge}
 use Rattle.reach.specs.Order.{version_cmp, node_cmp}
 use Rattle.reach.specs.Reach.{IsSource, AreSources}
 use Rattle.reach.specs.Found.{Times, is_open, open_source, open_sources}
-use Rattle.reach.specs.Search.{AreLatest}
+use Rattle.reach.specs.inner.Search.{AreLatest}
 use Rattle.reach.proofs.Members.{in_nil, in_all, from_all, in_filter_map, from_filter_map}
 use Rattle.reach.proofs.PathLaws.{open_leads, leads_open}
 

@@ -6,7 +6,7 @@ use Rattle.std.specs.declared.cmp.Ordering.{Ordering}
 use Rattle.std.specs.declared.cmp.Ordering.TheVariants.{Less}
 use Rattle.reach.specs.Lent.{lent_node}
 use Rattle.reach.specs.Order.{node_cmp}
-use Rattle.trace_graph.specs.Building.{node_of}
+use Rattle.trace_graph.specs.Lent.{node_of}
 use Rattle.trace_graph.specs.declared.key.NodeKey.{NodeKey}
 use Rattle.trace_graph.specs.declared.key.NodeKey.TheVariants as keys
 use Rattle.trace_graph.specs.contracts.key.NodeKeyOrd.TheImpl as key_order

@@ -10,7 +10,7 @@ use Rattle.reach.specs.Types.{Node, Edge}
 use Rattle.reach.specs.Found.{Times, is_open}
 use Rattle.reach.specs.Lent.{lent_node}
 use Rattle.reach.specs.inner.Marks.{Marks, with_mark, marks_of, is_marked, marked_at, marked_below}
-use Rattle.trace_graph.specs.Building.{node_of}
+use Rattle.trace_graph.specs.Lent.{node_of}
 use Rattle.trace_graph.specs.declared.key.NodeKey.{NodeKey}
 use Rattle.reach.proofs.Members.{in_nil, in_head, in_tail, in_cons}
 

@@ -8,8 +8,8 @@ use Rattle.std.proofs.lemmas.List.Elements.{All-contains}
 use Rattle.std.proofs.lemmas.Option.{none-some, same_Some}
 use Rattle.trace_graph.specs.Graph.{Parts, are_between}
 use Rattle.reach.specs.Types.{Node, Edge}
-use Rattle.reach.specs.Found.{Times, time_at}
-use Rattle.reach.specs.Search.{last_by, is_later, start_times, AreKnown, AreLatest}
+use Rattle.reach.specs.Found.{Times, time_at, last_by, is_later}
+use Rattle.reach.specs.inner.Search.{start_times, AreKnown, AreLatest}
 use Rattle.reach.specs.Depends.{brought_by, times_after_edge, times_after_pass, room, passes, first_times, latest_of}
 use Rattle.reach.proofs.Members.{in_nil, in_head, in_tail, in_cons}
 use Rattle.reach.proofs.TimeLaws.{no_time, raised_length}

@@ -4,8 +4,8 @@ use Rattle.std.specs.Prelude.{Contains, nat_le}
 use Rattle.std.proofs.lemmas.Bool.{leb-true, le-leb, and_parts, and_from}
 use Rattle.reach.specs.Types.{Edge}
 use Rattle.reach.specs.Reach.{Leg, Leaves, IsPath, Leads}
-use Rattle.reach.specs.Found.{Times, time_at, reaches, is_open}
-use Rattle.reach.specs.Search.{last_by, is_later, HasPath, AreLatest}
+use Rattle.reach.specs.Found.{Times, time_at, reaches, is_open, last_by, is_later}
+use Rattle.reach.specs.inner.Search.{HasPath, AreLatest}
 use Rattle.reach.proofs.Members.{in_nil}
 use Rattle.reach.proofs.TimeLaws.{reaches_less, reaches_some, brought}
 

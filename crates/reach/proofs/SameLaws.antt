@@ -6,7 +6,7 @@ use Rattle.trace_graph.specs.Graph.{Parts}
 use Rattle.ldv_value.proofs.Booleans.{same-tests}
 use Rattle.reach.specs.Types.{Node, Edge}
 use Rattle.reach.specs.Found.{Times, time_at, reaches, is_open, open_source, in_order, open_sources}
-use Rattle.reach.specs.Search.{HasPath, AreLatest}
+use Rattle.reach.specs.inner.Search.{HasPath, AreLatest}
 use Rattle.reach.proofs.TimeLaws.{reaches_some}
 use Rattle.reach.proofs.PathLaws.{earlier, in_time}
 

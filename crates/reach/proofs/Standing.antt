@@ -9,8 +9,11 @@ use Rattle.std.proofs.lemmas.List.{length-replicate, get_or-replicate, get_or_pa
 use Rattle.std.proofs.lemmas.List.Sorted.{Contains-permutation}
 use Rattle.reach.specs.Types.{Edge}
 use Rattle.reach.specs.Reach.{Leg, Leaves}
-use Rattle.reach.specs.Found.{Times, time_at, reaches}
-use Rattle.reach.specs.Search.{Queue, last_by, is_later, times_with_source, queue_after_edge, times_with_sources, queue_after_edges, is_time, is_current, times_after_visit, visited_queue, start_times, is_into, edges_into, IsDone, HasPath, ArePending, AreKnown, IsSearch}
+use Rattle.reach.specs.Found.{Times, time_at, reaches, last_by, is_later, times_with_source}
+use Rattle.reach.specs.inner.Search.{Queue, queue_after_edge, times_with_sources, queue_after_edges, is_time}
+use Rattle.reach.specs.inner.Search.{is_current, times_after_visit, visited_queue, start_times, is_into}
+use Rattle.reach.specs.inner.Search.{edges_into}
+use Rattle.reach.specs.inner.Search.{IsDone, HasPath, ArePending, AreKnown, IsSearch}
 use Rattle.reach.proofs.Members.{in_nil, in_head, in_tail, in_cons, in_same, in_filter, from_filter}
 use Rattle.reach.proofs.TimeLaws.{no_time, time_is, reaches_at, later_parts, later_falls, not_later, set_there, set_elsewhere, set_rises, raised_length}
 use Rattle.reach.proofs.PathLaws.{earlier}

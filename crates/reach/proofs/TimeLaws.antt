@@ -6,8 +6,7 @@ use Rattle.std.proofs.lemmas.Bool.{false≢true, true≢false, leb-true, leb-fal
 use Rattle.std.proofs.lemmas.List.{get_or-set_same, get_or-set_other, get_or_default, length-set}
 use Rattle.std.proofs.lemmas.Option.{unwrap_or-slice_get}
 use Rattle.reach.specs.Types.{Edge}
-use Rattle.reach.specs.Found.{Times, time_at, reaches}
-use Rattle.reach.specs.Search.{last_by, is_later, times_with_source}
+use Rattle.reach.specs.Found.{Times, time_at, reaches, last_by, is_later, times_with_source}
 
 pub reaches_less : (a b : ℕ) (o : Option ℕ) → a ≤ b → reaches b o ≡ true → reaches a o ≡ true
 reaches_less a b None le is = absurd (false≢true is)

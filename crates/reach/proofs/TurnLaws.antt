@@ -10,7 +10,8 @@ use Rattle.std.proofs.lemmas.List.{length-set, length-replicate, nil_from_length
 use Rattle.trace_graph.specs.Graph.{is_between, are_between}
 use Rattle.reach.specs.Types.{Edge}
 use Rattle.reach.specs.Found.{Times}
-use Rattle.reach.specs.Search.{Queue, is_current, times_after_visit, visited_queue, is_into, edges_into, ComeFrom, IsWithin, IsSearch, AreLatest, start_times, work_left}
+use Rattle.reach.specs.inner.Search.{Queue, is_current, times_after_visit, visited_queue, is_into, edges_into}
+use Rattle.reach.specs.inner.Search.{ComeFrom, IsWithin, IsSearch, AreLatest, start_times, work_left}
 use Rattle.reach.proofs.TimeLaws.{no_time}
 use Rattle.reach.proofs.PathLaws.{in_limit}
 use Rattle.reach.proofs.Standing.{current_at, permuted, start_stands, visited_stands}

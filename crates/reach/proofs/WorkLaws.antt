@@ -10,8 +10,10 @@ use Rattle.std.proofs.lemmas.List.Elements.{All-cons, All-head, All-tail}
 use Rattle.std.proofs.lemmas.List.Sorted.{IsPermutation-cons, IsPermutation-trans}
 use Rattle.std.proofs.lemmas.List.{drop_more}
 use Rattle.reach.specs.Types.{Edge}
-use Rattle.reach.specs.Found.{Times, time_at, reaches}
-use Rattle.reach.specs.Search.{Queue, last_by, is_later, times_with_source, queue_after_edge, times_with_sources, queue_after_edges, is_current, times_after_visit, visited_queue, ComeFrom, IsWithin, room_of, work_left}
+use Rattle.reach.specs.Found.{Times, time_at, reaches, last_by, is_later, times_with_source, room_of}
+use Rattle.reach.specs.inner.Search.{Queue, queue_after_edge, times_with_sources, queue_after_edges}
+use Rattle.reach.specs.inner.Search.{is_current}
+use Rattle.reach.specs.inner.Search.{times_after_visit, visited_queue, ComeFrom, IsWithin, work_left}
 use Rattle.reach.proofs.TimeLaws.{time_is, later_parts, raised_length}
 
 -- ---- places

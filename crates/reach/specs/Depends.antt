@@ -3,8 +3,7 @@ use Rattle.std.specs.Prelude.{ℕ, zero, suc, ◌+◌, ◌==◌, List, map, fold
 use Rattle.std.specs.Prelude.{if◌then◌else◌}
 use Rattle.trace_graph.specs.Graph.{Parts}
 use Rattle.reach.specs.Types.{Node, Edge}
-use Rattle.reach.specs.Found.{Times, time_at, open_sources}
-use Rattle.reach.specs.Search.{times_with_source, room_of}
+use Rattle.reach.specs.Found.{Times, time_at, open_sources, times_with_source, room_of}
 
 -- with what an edge brings to its source
 abbrev pub brought_by : Option ℕ → Times → Edge → Times

@@ -1,7 +1,7 @@
 -- The latest times at which nodes may be left: for each place the last time, if there is one, such that
 -- information that is there by then still gets to the node in time.
 use Rattle.std.specs.Prelude.{ℕ, List, [], ◌∷◌, Bool, false, ◌&&◌, nat_le, Option, None, Some, slice_get}
-use Rattle.std.specs.Prelude.{if◌then◌else◌, fold}
+use Rattle.std.specs.Prelude.{if◌then◌else◌, fold, ◌+◌, ◌-◌, min, not, slice_set}
 use Rattle.std.specs.Option.{unwrap_or}
 use Rattle.std.specs.Ordering.{match_ordering}
 use Rattle.std.specs.List.{filter_map}
@@ -47,3 +47,22 @@ with_source nodes (Some node) = with_node nodes node
 -- the nodes that open edges come from
 abbrev pub open_sources : Parts → Times → List Node
 open_sources graph latest = in_order (filter_map (open_source graph.nodes latest) graph.edges)
+
+-- the latest time at which an edge may be taken, where its target may be left up to a time
+abbrev pub last_by : Edge → ℕ → ℕ
+last_by edge time = min edge.last time
+
+-- it may be taken then, which is later than the latest time that its source has so far
+abbrev pub is_later : Times → Edge → ℕ → Bool
+is_later latest edge time =
+    nat_le edge.first (last_by edge time) && not (reaches (last_by edge time) (time_at latest edge.source))
+
+-- with that time for its source
+abbrev pub times_with_source : Times → Edge → ℕ → Times
+times_with_source latest edge time =
+    if is_later latest edge time then slice_set latest edge.source (Some (last_by edge time)) else latest
+
+-- by how much a time may still rise, up to a limit
+abbrev pub room_of : ℕ → Option ℕ → ℕ
+room_of limit None = limit + 1
+room_of limit (Some time) = limit - time

@@ -1,6 +1,6 @@
 -- The nodes that lent keys name.
 use Rattle.std.specs.Borrow.{Bor}
-use Rattle.trace_graph.specs.Building.{node_of}
+use Rattle.trace_graph.specs.Lent.{node_of}
 use Rattle.trace_graph.specs.declared.key.NodeKey.{NodeKey}
 use Rattle.reach.specs.Types.{Node}
 

@@ -4,7 +4,6 @@ pub mod Lent
 pub mod NodeLines
 pub mod Reach
 pub mod Found
-pub mod Search
 pub mod ReachLaws
 pub mod Depends
 pub mod inner

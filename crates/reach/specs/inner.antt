@@ -1,2 +1,3 @@
 pub mod Incoming
 pub mod Marks
+pub mod Search

@@ -4,7 +4,7 @@ ghost use Rattle.std.specs.Prelude.{◌≡◌, ◌<◌, ◌++◌, length, map, o
 ghost use Rattle.std.specs.Prelude.{IfOk, OnOk, IsTrue};
 ghost use Rattle.std.specs.List.Sorted.{IsStrictlySortedBy};
 ghost use Rattle.trace_graph.specs.Graph.{are_between};
-ghost use Rattle.trace_graph.specs.Building.{node_of};
+ghost use Rattle.trace_graph.specs.Lent.{node_of};
 ghost use Rattle.reach.specs.Order.{node_cmp};
 ghost use Rattle.reach.specs.Found.{open_sources};
 ghost use Rattle.reach.specs.Lent.{lent_node};

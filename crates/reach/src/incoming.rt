@@ -2,7 +2,7 @@
 
 ghost use Rattle.std.specs.Prelude.{◌≡◌, ◌<◌, length, replicate, slice_index_or, slice_set, IfOk, IsTrue};
 ghost use Rattle.trace_graph.specs.Graph.{are_between};
-ghost use Rattle.reach.specs.Search.{edges_into};
+ghost use Rattle.reach.specs.inner.Search.{edges_into};
 ghost use Rattle.reach.specs.inner.Incoming.{AreChains, value_at};
 
 use std::alloc::{AllocError, Global};

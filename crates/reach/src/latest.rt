@@ -3,7 +3,7 @@
 ghost use Rattle.std.specs.Prelude.{◌≡◌, ◌<◌, length, IfOk, IsTrue};
 ghost use Rattle.trace_graph.specs.Graph.{are_between};
 ghost use Rattle.reach.specs.Found.{time_at, reaches};
-ghost use Rattle.reach.specs.Search.{AreLatest};
+ghost use Rattle.reach.specs.inner.Search.{AreLatest};
 
 use crate::incoming::incoming_edges;
 use crate::search::Search;

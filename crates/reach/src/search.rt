@@ -4,8 +4,10 @@ ghost use Rattle.std.specs.Prelude.{◌≡◌, ◌<◌, length, IfOk, OnOk, ◌�
 ghost use Rattle.std.specs.List.Sorted.{IsPermutation};
 ghost use Rattle.std.specs.BinaryHeap.{heap_items};
 ghost use Rattle.reach.specs.inner.Incoming.{AreChains};
-ghost use Rattle.reach.specs.Search.{is_later, times_with_source, queue_after_edge, times_with_sources, queue_after_edges};
-ghost use Rattle.reach.specs.Search.{is_current, times_after_visit, visited_queue, start_times, edges_into, ComeFrom};
+ghost use Rattle.reach.specs.inner.Search.{queue_after_edge, times_with_sources, queue_after_edges};
+ghost use Rattle.reach.specs.Found.{is_later, times_with_source};
+ghost use Rattle.reach.specs.inner.Search.{is_current, times_after_visit, visited_queue, start_times};
+ghost use Rattle.reach.specs.inner.Search.{edges_into, ComeFrom};
 
 use crate::incoming::Incoming;
 use crate::latest::{reaches, time_at};

@@ -1,7 +1,7 @@
 //! The nodes that a node depends on.
 
 ghost use Rattle.std.specs.Prelude.{◌≡◌, ◌<◌, length, map, IfOk, IsTrue};
-ghost use Rattle.trace_graph.specs.Building.{node_of};
+ghost use Rattle.trace_graph.specs.Lent.{node_of};
 ghost use Rattle.trace_graph.specs.Graph.{are_between};
 ghost use Rattle.reach.specs.Reach.{AreSources};
 ghost use Rattle.reach.specs.Depends.{depends_of};

@@ -10,7 +10,7 @@ use Rattle.ldv_value.proofs.Booleans.{or-parts, or-true}
 use Rattle.trace_graph.specs.Types.{Node, Edge}
 use Rattle.trace_graph.specs.Links.{Link}
 use Rattle.trace_graph.specs.Graph.{same_node, same_ends, distinct_items, ends, nodes_of, place_in, times_of, edge_of}
-use Rattle.trace_graph.specs.Building.{with_node, with_time, joins, edge_with_time, edge_from, instant}
+use Rattle.trace_graph.specs.inner.Building.{with_node, with_time, joins, edge_with_time, edge_from, instant}
 use Rattle.trace_graph.proofs.Distinct.{with_item, with_item-cons, with_item-head, distinct_more, any_distinct, AllApart}
 use Rattle.trace_graph.proofs.NodeLaws.{node_laws, node_itself, ends_laws}
 use Rattle.trace_graph.proofs.PlaceLaws.{place_more, place_own, any_more, any_own, same_place}

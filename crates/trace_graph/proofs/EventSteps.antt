@@ -8,7 +8,7 @@ use Rattle.run_model.specs.ValidTrace.{made_after}
 use Rattle.trace_graph.specs.Types.{Event}
 use Rattle.trace_graph.specs.Graph.{Parts}
 use Rattle.trace_graph.specs.Links.{event_links}
-use Rattle.trace_graph.specs.Building.{with_links, with_events, made_fits}
+use Rattle.trace_graph.specs.inner.Building.{with_links, with_events, made_fits}
 use Rattle.trace_graph.specs.NodeTexts.{act_texts, are_held, acts_held}
 
 pub parts_step : (before linked settled : Parts) (made next : ℕ) (es : List Event) (i : ℕ) (e : Event) → i < length es → e ≡ get_or es i e

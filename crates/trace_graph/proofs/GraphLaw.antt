@@ -10,7 +10,7 @@ use Rattle.run_model.specs.ValidTrace.{made_after}
 use Rattle.trace_graph.specs.Types.{Node, Event}
 use Rattle.trace_graph.specs.Links.{Link, event_links, links_after, links_of}
 use Rattle.trace_graph.specs.Graph.{Parts, same_node, same_ends, distinct_items, nodes_of, edge_of, graph_by, graph_of, is_between, are_between}
-use Rattle.trace_graph.specs.Building.{with_link, with_links, with_events, no_parts}
+use Rattle.trace_graph.specs.inner.Building.{with_link, with_links, with_events, no_parts}
 use Rattle.trace_graph.proofs.Distinct.{distinct_apart}
 use Rattle.trace_graph.proofs.PlaceLaws.{place_within}
 use Rattle.trace_graph.proofs.EdgeLaws.{AreThere, source_there, target_there, nodes_more, edges_more}

@@ -5,7 +5,8 @@ use Rattle.std.specs.List.{list_any, position_or_len}
 use Rattle.std.proofs.lemmas.List.{map-append}
 use Rattle.indexmap.specs.IndexSet.{insert_key}
 use Rattle.trace_graph.specs.Graph.{same_node}
-use Rattle.trace_graph.specs.Building.{node_of, with_node}
+use Rattle.trace_graph.specs.inner.Building.{with_node}
+use Rattle.trace_graph.specs.Lent.{node_of}
 use Rattle.trace_graph.specs.declared.key.NodeKey.{NodeKey}
 use Rattle.trace_graph.specs.declared.key.NodeKey.TheVariants as keys
 use Rattle.trace_graph.specs.contracts.key.NodeKeyPartialEq.TheImpl as key_eq

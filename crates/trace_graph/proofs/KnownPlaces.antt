@@ -4,7 +4,8 @@ use Rattle.std.specs.Prelude.{if◌then◌else◌}
 use Rattle.trace_graph.specs.Types.{Node, Process, Ask, Reply}
 use Rattle.trace_graph.specs.Links.{Link, statement_links}
 use Rattle.trace_graph.specs.Graph.{Parts, same_node, place_in}
-use Rattle.trace_graph.specs.Building.{with_node, with_time, with_link, with_links, with_place, with_noted, IsAt}
+use Rattle.trace_graph.specs.inner.Building.{with_node, with_time, with_link, with_links, with_place}
+use Rattle.trace_graph.specs.inner.Building.{with_noted, IsAt}
 use Rattle.trace_graph.proofs.NodeLaws.{node_laws}
 use Rattle.trace_graph.proofs.PlaceLaws.{place_more, place_own, any_more, any_own}
 

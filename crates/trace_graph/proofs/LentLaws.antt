@@ -6,8 +6,7 @@ use Rattle.std.proofs.lemmas.List.{length-map}
 use Rattle.trace_graph.specs.Types.{Node, Event, Edge}
 use Rattle.trace_graph.specs.Links.{links_of}
 use Rattle.trace_graph.specs.Graph.{Parts, graph_of, are_between}
-use Rattle.trace_graph.specs.Building.{node_of}
-use Rattle.trace_graph.specs.Lent.{lent_parts}
+use Rattle.trace_graph.specs.Lent.{node_of, lent_parts}
 use Rattle.trace_graph.specs.declared.key.NodeKey.{NodeKey}
 use Rattle.trace_graph.specs.declared.lent.LentGraph.{LentGraph}
 use Rattle.trace_graph.proofs.GraphLaw.{between}

@@ -2,7 +2,7 @@
 use Rattle.std.proofs.Common.{◌≡◌, List, [], ◌∷◌, ◌++◌, Option, Some, None, refl}
 use Rattle.std.specs.Prelude.{option_to_list}
 use Rattle.std.specs.List.{cons_option}
-use Rattle.trace_graph.specs.Building.{with_link, with_links}
+use Rattle.trace_graph.specs.inner.Building.{with_link, with_links}
 use Rattle.trace_graph.specs.Graph.{Parts}
 use Rattle.trace_graph.specs.Links.{Link}
 

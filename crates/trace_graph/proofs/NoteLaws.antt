@@ -1,8 +1,8 @@
 -- Links that are noted.
 use Rattle.std.proofs.Common.{◌≡◌, refl, sym, ap, ◌∙◌, List, [], ◌∷◌, ◌++◌, append_assoc, append-nil}
 use Rattle.trace_graph.specs.Types.{Edge}
-use Rattle.trace_graph.specs.Building.{with_time, with_notes}
-use Rattle.trace_graph.specs.Pieces.{in_pieces}
+use Rattle.trace_graph.specs.inner.Building.{with_time, with_notes}
+use Rattle.trace_graph.specs.inner.Pieces.{in_pieces}
 use Rattle.trace_graph.specs.declared.note.Note.{Note}
 
 -- one note more at the end

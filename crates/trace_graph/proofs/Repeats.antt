@@ -9,7 +9,7 @@ use Rattle.std.proofs.lemmas.Map.Text.{is_eq-slice_cmp}
 use Rattle.sql_model.specs.Keys.{repeats}
 use Rattle.sql_model.proofs.Seen.{repeats_map}
 use Rattle.trace_graph.specs.Types.{Node, Edge}
-use Rattle.trace_graph.specs.Building.{node_of}
+use Rattle.trace_graph.specs.Lent.{node_of}
 use Rattle.trace_graph.specs.Graph.{same_node}
 use Rattle.trace_graph.specs.WellFormed.{places_of, same_places}
 use Rattle.trace_graph.specs.declared.key.NodeKey.{NodeKey}

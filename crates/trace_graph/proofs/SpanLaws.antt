@@ -4,7 +4,8 @@ use Rattle.std.specs.Prelude.{◌&&◌, if◌then◌else◌, Some}
 use Rattle.std.specs.Map.{lookup}
 use Rattle.indexmap.specs.IndexMap.{insert_entry}
 use Rattle.std.proofs.lemmas.Bool.{eq-eqb}
-use Rattle.trace_graph.specs.Building.{edge_at, edge_from, same_pair, span_with, edge_with_time, with_time}
+use Rattle.trace_graph.specs.inner.Building.{edge_at, edge_from, same_pair, span_with, edge_with_time}
+use Rattle.trace_graph.specs.inner.Building.{with_time}
 use Rattle.trace_graph.specs.declared.span.Span.{Span}
 
 pub timed : (es : List ((ℕ × ℕ) × Span)) (k : ℕ × ℕ) (time : ℕ) (span : Span)

@@ -9,7 +9,7 @@ use Rattle.run_model.specs.declared.event.Act.TheVariants as acts
 use Rattle.run_model.specs.ValidTrace.{Progress, progress_after, act_rule, event_rule, made_after, follows, at_start}
 use Rattle.run_model.specs.ValidTrace.{starts, starts_on, trace_test, are_named, IsTrace}
 use Rattle.trace_graph.specs.Types.{Act, Event}
-use Rattle.trace_graph.specs.Building.{made_fits}
+use Rattle.trace_graph.specs.inner.Building.{made_fits}
 
 one_more : (m : ℕ) → nat_lt m max_processes ≡ true → nat_le (m + 1) max_processes ≡ true
 one_more m below = let less : m < max_processes = ltb-true m max_processes below in le-leb (m + 1) max_processes (omega (arith, less))

@@ -3,8 +3,7 @@ pub mod Links
 pub mod Graph
 pub mod GraphLaws
 pub mod VersionLaws
-pub mod Pieces
-pub mod Building
 pub mod Lent
 pub mod NodeTexts
 pub mod WellFormed
+pub mod inner

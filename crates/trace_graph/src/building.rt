@@ -3,8 +3,9 @@
 ghost use Rattle.std.specs.Prelude.{◌≡◌, ◌≤◌, map, IsTrue, IfOk, OnOk};
 ghost use Rattle.ldv_value.specs.Limits.{max_processes};
 ghost use Rattle.run_model.specs.ValidTrace.{made_after};
-ghost use Rattle.trace_graph.specs.Building.{parts_of, no_parts, node_of, with_link, with_place, with_noted};
-ghost use Rattle.trace_graph.specs.Building.{edge_at, with_notes, with_links, with_events, made_fits};
+ghost use Rattle.trace_graph.specs.inner.Building.{parts_of, no_parts, with_link, with_place, with_noted};
+ghost use Rattle.trace_graph.specs.Lent.{node_of};
+ghost use Rattle.trace_graph.specs.inner.Building.{edge_at, with_notes, with_links, with_events, made_fits};
 ghost use Rattle.trace_graph.specs.Graph.{place_in};
 ghost use Rattle.trace_graph.specs.Links.{link, event_links};
 ghost use Rattle.trace_graph.specs.NodeTexts.{act_texts, are_held, acts_held};
@@ -76,7 +77,7 @@ impl<'a> Building<'a> {
     }
 
     /// Links one node to another at a time.
-    #[tactic(auto, unfolding(crate::specs::Building::with_link))]
+    #[tactic(auto, unfolding(crate::specs::inner::Building::with_link))]
     pub(crate) fn link(
         &mut self,
         source: NodeKey<'a>,

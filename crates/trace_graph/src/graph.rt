@@ -2,7 +2,8 @@
 
 ghost use Rattle.std.specs.Prelude.{◌≡◌, ◌<◌, length, map, position, IsTrue, IfOk, IfSome};
 ghost use Rattle.run_model.specs.ValidTrace.{IsTrace};
-ghost use Rattle.trace_graph.specs.Building.{node_of, parts_of, no_parts, with_events, made_fits};
+ghost use Rattle.trace_graph.specs.inner.Building.{parts_of, no_parts, with_events, made_fits};
+ghost use Rattle.trace_graph.specs.Lent.{node_of};
 ghost use Rattle.trace_graph.specs.Graph.{same_node, graph_of, are_between};
 ghost use Rattle.trace_graph.specs.NodeTexts.{acts_held};
 ghost use Rattle.trace_graph.specs.WellFormed.{IsWellFormed};

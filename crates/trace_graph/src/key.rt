@@ -1,9 +1,9 @@
 //! Nodes as the keys of a set or a map, without a copy of their texts.
 
 ghost use Rattle.std.specs.Prelude.{◌≡◌, ◌<◌, ◌++◌, [], length, map, position, IfOk, IfSome, OnOk};
-ghost use Rattle.trace_graph.specs.Building.{node_of, with_node};
+ghost use Rattle.trace_graph.specs.inner.Building.{with_node};
+ghost use Rattle.trace_graph.specs.Lent.{node_of, names_path};
 ghost use Rattle.trace_graph.specs.Graph.{same_node, place_in};
-ghost use Rattle.trace_graph.specs.Lent.{names_path};
 ghost use Rattle.trace_graph.specs.Links.{at_version};
 ghost use Rattle.trace_graph.specs.Types.{Row};
 

@@ -2,7 +2,7 @@
 
 ghost use Rattle.std.specs.Prelude.{◌≡◌, ◌<◌, length, IfOk, IfSome, IsTrue};
 ghost use Rattle.run_model.specs.ValidTrace.{IsTrace};
-ghost use Rattle.trace_graph.specs.Building.{parts_of, no_parts, with_events, made_fits};
+ghost use Rattle.trace_graph.specs.inner.Building.{parts_of, no_parts, with_events, made_fits};
 ghost use Rattle.trace_graph.specs.Graph.{graph_of, place_of, are_between};
 ghost use Rattle.trace_graph.specs.Lent.{lent_parts};
 ghost use Rattle.trace_graph.specs.NodeTexts.{acts_held, lends_texts};

@@ -2,7 +2,7 @@
 
 ghost use Rattle.std.specs.Prelude.{◌≡◌, ◌++◌, ◌∷◌, [], map, option_to_list, IfOk, IsTrue, OnOk};
 ghost use Rattle.std.specs.List.{filter_map};
-ghost use Rattle.trace_graph.specs.Building.{parts_of, with_link, with_links, IsAt};
+ghost use Rattle.trace_graph.specs.inner.Building.{parts_of, with_link, with_links, IsAt};
 ghost use Rattle.trace_graph.specs.Links.{from_path, to_path, between_processes, statement_links, read_link};
 ghost use Rattle.trace_graph.specs.Links.{made_link, version_before, at_version, change_link, asked_links};
 ghost use Rattle.trace_graph.specs.Links.{link, event_links};

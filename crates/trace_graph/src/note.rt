@@ -1,8 +1,8 @@
 //! Links that are noted, and become edges later.
 
 ghost use Rattle.std.specs.Prelude.{◌≡◌, ◌++◌, ◌∷◌, [], map, OnOk};
-ghost use Rattle.trace_graph.specs.Building.{edge_at, with_notes};
-ghost use Rattle.trace_graph.specs.Pieces.{in_pieces};
+ghost use Rattle.trace_graph.specs.inner.Building.{edge_at, with_notes};
+ghost use Rattle.trace_graph.specs.inner.Pieces.{in_pieces};
 
 use crate::span::{Spans, add_time};
 use ldv_value::List;
@@ -32,7 +32,7 @@ pub(crate) struct Notes {
 
 impl Model for Notes {
     ghost use Rattle.std.specs.Prelude.{List as Items};
-    ghost use Rattle.trace_graph.specs.Pieces.{in_pieces};
+    ghost use Rattle.trace_graph.specs.inner.Pieces.{in_pieces};
     ghost use Rattle.trace_graph.specs.declared.note.Note.{Note};
 
     ghost Value = { Items Note };

@@ -2,7 +2,7 @@
 
 ghost use Rattle.std.specs.Prelude.{◌≡◌, ◌++◌, [], map, IfOk, OnOk, Some};
 ghost use Rattle.indexmap.specs.IndexMap.{insert_entry};
-ghost use Rattle.trace_graph.specs.Building.{edge_at, same_pair, span_with, with_time};
+ghost use Rattle.trace_graph.specs.inner.Building.{edge_at, same_pair, span_with, with_time};
 
 use crate::edge::{Edge, Edges};
 use indexmap::IndexMap;

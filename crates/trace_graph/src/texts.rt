@@ -1,7 +1,7 @@
 //! The texts of the nodes of a trace.
 
 ghost use Rattle.std.specs.Prelude.{◌≡◌, ◌++◌, [], IfOk, IsTrue, OnOk};
-ghost use Rattle.trace_graph.specs.Building.{node_of};
+ghost use Rattle.trace_graph.specs.Lent.{node_of};
 ghost use Rattle.trace_graph.specs.Links.{at_version};
 ghost use Rattle.trace_graph.specs.NodeTexts.{act_texts, event_texts, read_texts, made_texts, with_text};
 ghost use Rattle.trace_graph.specs.NodeTexts.{with_texts, is_held, lends_texts};

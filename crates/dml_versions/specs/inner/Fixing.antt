@@ -3,7 +3,7 @@ use Rattle.std.specs.Prelude.{◌≡◌, ◌<◌, ℕ, List, length, true, Optio
 use Rattle.sql_model.specs.Changes.{is_matched}
 use Rattle.sql_model.specs.Scope.{InScope}
 use Rattle.sql_model.specs.References.{has_key}
-use Rattle.dml_versions.specs.Finding.{IsPickPlaced}
+use Rattle.dml_versions.specs.inner.Finding.{IsPickPlaced}
 use Rattle.dml_versions.specs.Types.{Expr, TableRow, Value}
 
 -- there is a key, and each row that WHERE matches has it

@@ -1,6 +1,6 @@
 -- Tests of single columns from WHERE.
 use Rattle.std.specs.Prelude.{◌≡◌, ℕ, List, true, Option}
-use Rattle.dml_versions.specs.Finding.{IsPickPlaced}
+use Rattle.dml_versions.specs.inner.Finding.{IsPickPlaced}
 use Rattle.dml_versions.specs.Types.{Column, Expr, TableRow}
 use Rattle.sql_model.specs.Changes.{is_matched}
 use Rattle.sql_model.specs.Scope.{InScope}

@@ -1,7 +1,7 @@
 -- Expressions over a group, with their aggregates replaced by constants.
 use Rattle.std.specs.Prelude.{◌≡◌, ℕ, List, [], ◌∷◌, ◌++◌}
 use Rattle.lineage.specs.declared.answer.Pick.{Pick}
-use Rattle.group_eval.specs.Folding.{first_row, group_meaning}
+use Rattle.group_eval.specs.inner.Folding.{first_row, group_meaning}
 use Rattle.core_parts.specs.Placing.{IsPlaced}
 use Rattle.group_eval.specs.Types.{Expr}
 use Rattle.core_parts.specs.declared.placed.BoundExpr.{BoundExpr}

@@ -1,7 +1,7 @@
 -- The values that one column has over a group.
 use Rattle.std.specs.Prelude.{◌≡◌, ℕ, List, map, Some}
 use Rattle.lineage.specs.declared.answer.Pick.{Pick}
-use Rattle.group_eval.specs.Folding.{value_over}
+use Rattle.group_eval.specs.inner.Folding.{value_over}
 use Rattle.group_eval.specs.Types.{Expr, Value}
 use Rattle.group_eval.specs.declared.columns.KnownColumn.{KnownColumn}
 use Rattle.sql_model.specs.Kinds.{names_in}

@@ -9,7 +9,7 @@ ghost use Rattle.run_model.specs.ValidTrace.{IsTrace};
 ghost use Rattle.ldv_top.specs.Due.{response_due};
 ghost use Rattle.ldv_top.specs.DueOfReports.{due_inspect, item_due, report_due};
 ghost use Rattle.ldv_top.specs.WordNumbers.{number_within};
-ghost use Rattle.ldv_top.specs.WordStops.{Stops};
+ghost use Rattle.ldv_top.specs.inner.WordStops.{Stops};
 ghost use Rattle.ldv_top.specs.WordsOfReports.{depends_named, report_named, report_of, why_named};
 ghost use Rattle.ldv_top.specs.declared.command.Report.TheVariants.{Depends, Files, Rows, Why};
 

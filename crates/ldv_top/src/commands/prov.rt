@@ -8,7 +8,7 @@ ghost use Rattle.prov_export.specs.Dependence.{depends_report};
 ghost use Rattle.ldv_top.specs.Due.{response_due};
 ghost use Rattle.ldv_top.specs.DueOfProv.{due_prov, due_prov_depends, prov_due};
 ghost use Rattle.ldv_top.specs.DueOfReports.{item_due};
-ghost use Rattle.ldv_top.specs.WordStops.{Stops};
+ghost use Rattle.ldv_top.specs.inner.WordStops.{Stops};
 ghost use Rattle.ldv_top.specs.Words.{IsBounded};
 ghost use Rattle.ldv_top.specs.WordsOfProv.{prov_of, prov_depends_named};
 ghost use Rattle.ldv_top.specs.declared.command.Command.TheVariants.{ProvDepends};

@@ -9,7 +9,7 @@ ghost use Rattle.run_model.specs.Package.{own_world};
 ghost use Rattle.replay_db.specs.Runs.{CanRun};
 ghost use Rattle.ldv_top.specs.Due.{response_due};
 ghost use Rattle.ldv_top.specs.DueOfTables.{due_table, tabled_package};
-ghost use Rattle.ldv_top.specs.WordStops.{Stops};
+ghost use Rattle.ldv_top.specs.inner.WordStops.{Stops};
 ghost use Rattle.ldv_top.specs.Words.{IsBounded};
 ghost use Rattle.ldv_top.specs.WordsOfTables.{table_named, table_of};
 ghost use Rattle.ldv_top.specs.declared.command.Command.TheVariants.{Table as TableWords};

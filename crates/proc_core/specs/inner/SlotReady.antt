@@ -1,10 +1,7 @@
 -- The set of processes that may run, over slots.
-use Rattle.std.specs.Prelude.{◌≡◌, ℕ, suc, ◌<◌, List, [], ◌∷◌, ◌++◌, length, slice_get, slice_set, Bool, true}
+use Rattle.std.specs.Prelude.{◌≡◌, ℕ, suc, List, [], ◌∷◌, ◌++◌, length, slice_get, slice_set, Bool, true}
 use Rattle.std.specs.Prelude.{Option, Some, None}
-use Rattle.std.specs.List.{AllByRecursion}
 use Rattle.script_code.specs.declared.code.Code.{Code}
-use Rattle.proc_core.specs.inner.Flags.{runnable_flags}
-use Rattle.run_model.specs.Core.{NameBinding, Process, Core}
 use Rattle.proc_core.specs.declared.machine.Machine.{Machine}
 use Rattle.proc_core.specs.declared.process.SlotProcess.{SlotProcess}
 use Rattle.proc_core.specs.inner.SlotStep.{slot_is_runnable, slot_status_in}
@@ -42,19 +39,3 @@ module _ (codes : List Code) (rs : List SlotProcess) where
   abbrev pub refreshed : List ℕ → ℕ → List Bool → List Bool
   refreshed parents number flags =
       marked_above (slot_status_in rs number) (slice_get parents number) (marked number flags)
-
--- ---- what it is for a state
-
--- a child was made by a process, and after it
-abbrev pub IsKin : List ℕ → ℕ → NameBinding ℕ → Type 0
-IsKin parents number b = (slice_get parents b.bound ≡ Some number) × (number < b.bound)
-
-abbrev pub AreKin : List ℕ → List Process → Type 0
-AreKin parents ps =
-    (number : ℕ) (p : Process) → slice_get ps number ≡ Some p
-    → AllByRecursion (IsKin parents number) p.children
-
-pub record IsReady (m : Machine) (c : Core) : Type 0 where
-  pub flags : m.ready.flags ≡ runnable_flags c.processes
-  pub count : length m.parents ≡ length c.processes
-  pub kin : AreKin m.parents c.processes

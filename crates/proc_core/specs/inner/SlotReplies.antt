@@ -8,7 +8,8 @@ use Rattle.run_model.specs.StepBase.{wrong_kind}
 use Rattle.run_model.specs.StepReplies.{next_row, row_count, status_value}
 use Rattle.proc_core.specs.declared.process.SlotCursor.{SlotCursor}
 use Rattle.proc_core.specs.declared.process.SlotProcess.{SlotProcess}
-use Rattle.proc_core.specs.inner.Slots.{open_at, cursor_of, cursor_at, slot_ended, slot_went_on, slot_went_to}
+use Rattle.proc_core.specs.inner.Slots.{open_at, cursor_of, slot_ended, slot_went_on, slot_went_to}
+use Rattle.proc_core.specs.Stands.{cursor_at}
 use Rattle.proc_core.specs.inner.Slots.{slot_with_variable, slot_with_file, slot_with_cursor, slot_assign}
 
 -- ---- `close`

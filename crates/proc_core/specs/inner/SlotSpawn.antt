@@ -17,7 +17,8 @@ use Rattle.proc_core.specs.declared.process.SlotProcess.{SlotProcess}
 use Rattle.proc_core.specs.declared.spawn.program.Program.{Program}
 use Rattle.proc_core.specs.declared.spawn.program.Program.TheVariants.{Absent, Refused, Known, New}
 use Rattle.proc_core.specs.declared.spawn.spawn_request.SpawnRequest.{SpawnRequest}
-use Rattle.proc_core.specs.inner.Slots.{Holds, slot_value, slot_values, slot_went_on, slot_with_child}
+use Rattle.proc_core.specs.inner.Slots.{slot_value, slot_values, slot_went_on, slot_with_child}
+use Rattle.proc_core.specs.Stands.{Holds}
 use Rattle.proc_core.specs.inner.SlotStep.{next_slot_instr}
 
 -- ---- what a `spawn` says

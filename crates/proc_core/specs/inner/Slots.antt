@@ -1,65 +1,17 @@
--- Processes with slots in place of names: when one represents a process of a run, and the changes that its
--- instructions are made of.
-use Rattle.std.specs.Prelude.{◌≡◌, ℕ, ◌+◌, List, [], ◌∷◌, map, slice_get, slice_set, Option, Some, None}
-use Rattle.std.specs.Prelude.{option_map}
-use Rattle.std.specs.Prelude.{option_and_then}
+-- Processes with slots in place of names: what operands and names mean, and the changes that instructions
+-- are made of.
+use Rattle.std.specs.Prelude.{ℕ, ◌+◌, List, map, slice_get, slice_set, Option, Some}
 use Rattle.sql_model.specs.Meaning.{or_null}
-use Rattle.sql_model.specs.declared.reply.Reply.{Reply}
-use Rattle.proc_core.specs.Types.{Value, Instr}
-use Rattle.run_model.specs.Core.{NameBinding, lookup, OpenFile, Cursor, Process}
-use Rattle.run_model.specs.Outcome.{entry_reply}
+use Rattle.proc_core.specs.Types.{Value}
+use Rattle.run_model.specs.Core.{OpenFile}
 use Rattle.run_model.specs.StepBase.{Computation, Yields, Misused}
 use Rattle.script_code.specs.declared.code.SlotOperand.{SlotOperand}
 use Rattle.script_code.specs.declared.code.SlotOperand.TheVariants.{Constant, Slot}
-use Rattle.script_code.specs.declared.code.Scope.{Scope}
 pub use Rattle.proc_core.specs.inner.Paged.{flatten_option}
 use Rattle.proc_core.specs.declared.instructions.computed.Computed.{Computed as Result}
 use Rattle.proc_core.specs.declared.instructions.computed.Computed.TheVariants as results
 use Rattle.proc_core.specs.declared.process.SlotCursor.{SlotCursor}
 use Rattle.proc_core.specs.declared.process.SlotProcess.{SlotProcess}
-
--- ---- what a slot holds for a name
-
-abbrev pub value_held : List (NameBinding Value) → List ℕ → Value
-value_held bindings name = or_null (lookup name bindings)
-
-abbrev pub bound_value : {X : Type 0} → List (NameBinding X) → List ℕ → Option X
-bound_value bindings name = lookup name bindings
-
--- what a cursor means, among the replies of its process
-abbrev pub cursor_at : List Reply → SlotCursor → Option Cursor
-cursor_at replies cursor =
-    option_map (λ reply. record { reply = reply; fetched = cursor.fetched }) (slice_get replies cursor.reply)
-
-abbrev pub cursor_in : List Reply → Option SlotCursor → Option Cursor
-cursor_in replies slotted = option_and_then (cursor_at replies) slotted
-
--- each cursor means a reply
-abbrev pub HasReply : List Reply → Option SlotCursor → Type 0
-HasReply replies None = Unit {0}
-HasReply replies (Some cursor) = (reply : Reply) × (slice_get replies cursor.reply ≡ Some reply)
-
-abbrev pub HaveReplies : List Reply → List (Option SlotCursor) → Type 0
-HaveReplies replies [] = Unit {0}
-HaveReplies replies (c ∷ cs) = HasReply replies c × HaveReplies replies cs
-
--- ---- processes
-
--- r holds what a process is, for the names of a scope; it runs a script, whose resolved form has an index
-pub record Holds (s : Scope) (index : ℕ) (script : List Instr) (r : SlotProcess) (p : Process) : Type 0 where
-  pub code : r.code ≡ index
-  pub runs : p.script ≡ script
-  pub name : r.name ≡ p.name
-  pub place : r.place ≡ p.place
-  pub variables : r.variables ≡ map (value_held p.variables) s.variables
-  pub files : r.files ≡ map (bound_value p.files) s.files
-  pub cursors : map (cursor_in r.replies) r.cursors ≡ map (bound_value p.cursors) s.cursors
-  pub replied : HaveReplies r.replies r.cursors
-  pub children : r.children ≡ map (bound_value p.children) s.children
-  pub spawned : r.spawned ≡ p.spawned
-  pub printed : r.printed ≡ p.printed
-  pub replies : r.replies ≡ map entry_reply p.entries
-  pub status : r.status ≡ p.status
 
 -- ---- operands
 

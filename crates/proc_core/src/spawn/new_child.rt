@@ -10,7 +10,8 @@ ghost use Rattle.script_code.specs.declared.code.Code.{Code};
 ghost use Rattle.proc_core.specs.inner.Counts.{MaySpawn};
 ghost use Rattle.proc_core.specs.inner.SlotSpawn.{HasChild, slot_parent, slot_with_new};
 ghost use Rattle.proc_core.specs.inner.SlotStep.{HasRoom};
-ghost use Rattle.proc_core.specs.inner.Slots.{Holds, slot_with_child};
+ghost use Rattle.proc_core.specs.inner.Slots.{slot_with_child};
+ghost use Rattle.proc_core.specs.Stands.{Holds};
 ghost use Rattle.proc_core.specs.declared.process.SlotProcess.{SlotProcess};
 
 use crate::machine::{Codes, Machine};

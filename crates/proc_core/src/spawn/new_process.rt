@@ -5,7 +5,7 @@ ghost use Rattle.std.specs.Prelude.{replicate};
 ghost use Rattle.proc_core.specs.Types.{Instr, Value};
 ghost use Rattle.run_model.specs.Core.{NameBinding, argument_name, arguments_from, argument_variables};
 ghost use Rattle.run_model.specs.Core.{new_process};
-ghost use Rattle.proc_core.specs.inner.Slots.{value_held, Holds};
+ghost use Rattle.proc_core.specs.Stands.{value_held, Holds};
 
 use crate::file_slots::FileSlots;
 use crate::process::SlotProcess;

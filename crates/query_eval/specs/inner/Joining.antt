@@ -10,7 +10,7 @@ use Rattle.ldv_value.specs.declared.value.Cmp.TheVariants.{Eq}
 use Rattle.core_parts.specs.Conditions.{meets}
 use Rattle.core_parts.specs.Equality.{equals, is_equal_test}
 use Rattle.core_parts.specs.Placing.{IsPlaced, AreAllPlaced}
-use Rattle.query_eval.specs.Sources.{joined_row_values}
+use Rattle.query_eval.specs.inner.Sources.{joined_row_values}
 use Rattle.query_eval.specs.Types.{ColumnName, Operator, Add, Subtract, Multiply, Compare, And, Or}
 use Rattle.query_eval.specs.Types.{Expr, Value, Null, Int, Text}
 use Rattle.sql_model.specs.declared.expr.Expr.TheVariants.{Both, Column}

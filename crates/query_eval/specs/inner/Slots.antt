@@ -8,7 +8,7 @@ use Rattle.core_parts.specs.declared.placed.BoundExpr.{BoundExpr}
 use Rattle.core_parts.specs.declared.refs_by.RefsBy.{RefsBy}
 use Rattle.lineage.specs.declared.answer.Pick.{Pick}
 use Rattle.query_eval.specs.Picking.{pick_of}
-use Rattle.query_eval.specs.Sources.{joined_row_values}
+use Rattle.query_eval.specs.inner.Sources.{joined_row_values}
 use Rattle.query_eval.specs.Types.{Value}
 use Rattle.query_eval.specs.declared.probe.Probe.{Probe}
 use Rattle.query_eval.specs.declared.source.Source.{Source}

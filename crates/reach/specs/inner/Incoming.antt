@@ -1,7 +1,7 @@
 -- The edges to each place, chained through the list of edges.
 use Rattle.std.specs.Prelude.{◌≡◌, ℕ, ◌+◌, ◌<◌, ◌≤◌, List, [], ◌∷◌, Some, drop, length, slice_get, slice_index_or}
 use Rattle.reach.specs.Types.{Edge}
-use Rattle.reach.specs.Search.{edges_into}
+use Rattle.reach.specs.inner.Search.{edges_into}
 
 abbrev pub value_at : List ℕ → ℕ → ℕ
 value_at values place = slice_index_or values place 0

@@ -1,6 +1,6 @@
 use Rattle.std.proofs.Common.{rules, ◌≡◌, ◌∙◌, sym, true}
 use Rattle.core_parts.proofs.ConstantLaws.{constant_is}
-use Rattle.core_parts.specs.Constants.{is_nameless}
+use Rattle.core_parts.specs.inner.Constants.{is_nameless}
 use Rattle.core_parts.proofs.constants.constant_of.Goals as goal
 
 pub returns-clause-value : goal.returns-clause-value

@@ -1,7 +1,7 @@
 use Rattle.std.specs.Prelude.{IfSome}
 use Rattle.std.proofs.lemmas.Result.{IfOk-weaker}
 use Rattle.core_parts.proofs.Lists.{IfSome-weaker}
-use Rattle.core_parts.specs.Constants.{IsConstant}
+use Rattle.core_parts.specs.inner.Constants.{IsConstant}
 use Rattle.core_parts.specs.Fixing.{IsFixing}
 use Rattle.core_parts.specs.Types.{Compare}
 use Rattle.ldv_value.specs.declared.value.Cmp.TheVariants.{Eq}

@@ -13,8 +13,8 @@ use Rattle.dml_versions.proofs.KeptLaws.{change_with_lists-change, change_with_l
 use Rattle.dml_versions.proofs.RefusedTables.{told-here}
 use Rattle.dml_versions.proofs.TableLaws.{table-now, history-some}
 use Rattle.dml_versions.specs.Changing.{IsChange, IsStoreAfter, matched_change, refused_change}
-use Rattle.dml_versions.specs.Finding.{test_in, found_row}
-use Rattle.dml_versions.specs.Needing.{need_found, number_found}
+use Rattle.dml_versions.specs.inner.Finding.{test_in, found_row}
+use Rattle.dml_versions.specs.inner.Needing.{need_found, number_found}
 use Rattle.dml_versions.specs.Types.{Need, Statement, TheDelete, Table, StoreHistory}
 use Rattle.dml_versions.specs.Versions.{versions_now}
 use Rattle.dml_versions.specs.declared.found.Found.{Found}

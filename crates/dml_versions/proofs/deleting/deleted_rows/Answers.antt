@@ -4,7 +4,7 @@ use Rattle.table_store.specs.Histories.{tables_now, table_now}
 use Rattle.dml_versions.proofs.CheckLaws.{found-valid}
 use Rattle.dml_versions.proofs.EntryLaws.{there-of, delete-placed}
 use Rattle.dml_versions.proofs.TableLaws.{history-some, table-now}
-use Rattle.dml_versions.specs.Finding.{scope_in}
+use Rattle.dml_versions.specs.inner.Finding.{scope_in}
 use Rattle.dml_versions.specs.Types.{TheDelete}
 use Rattle.dml_versions.proofs.deleting.deleted_rows.Goals as goal
 

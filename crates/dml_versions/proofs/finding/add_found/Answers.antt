@@ -2,7 +2,7 @@ use Rattle.std.proofs.Common.{◌≡◌, sym, ◌∙◌, subst, true, Option, So
 use Rattle.std.specs.Prelude.{IfSome}
 use Rattle.std.proofs.lemmas.Result.{on_ok_weaker}
 use Rattle.dml_versions.proofs.FoundLaws.{found-missed, found-met, row-here}
-use Rattle.dml_versions.specs.Finding.{scope_in, test_in}
+use Rattle.dml_versions.specs.inner.Finding.{scope_in, test_in}
 use Rattle.dml_versions.specs.Types.{TableRow}
 use Rattle.dml_versions.proofs.finding.add_found.Goals as goal
 

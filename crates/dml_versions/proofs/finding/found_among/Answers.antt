@@ -1,5 +1,5 @@
 use Rattle.dml_versions.proofs.TestLaws.{found_end, found_next}
-use Rattle.dml_versions.specs.Finding.{test_in, found_from}
+use Rattle.dml_versions.specs.inner.Finding.{test_in, found_from}
 use Rattle.dml_versions.proofs.finding.found_among.Goals as goal
 
 pub returns-in-None : goal.returns-in-None

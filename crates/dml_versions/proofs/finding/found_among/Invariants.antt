@@ -1,5 +1,5 @@
 use Rattle.std.proofs.Common.{◌≡◌, ◌++◌, ◌-◌, ◌*◌, length}
-use Rattle.dml_versions.specs.Finding.{test_in, found_from}
+use Rattle.dml_versions.specs.inner.Finding.{test_in, found_from}
 use Rattle.dml_versions.proofs.finding.found_among.Given as goal
 
 abbrev pub invariant-slots : goal.invariant-slots

@@ -3,7 +3,7 @@ use Rattle.ldv_value.proofs.Booleans.{true≢false}
 use Rattle.table_store.specs.Histories.{last_next_number}
 use Rattle.dml_versions.proofs.KeyLaws.{found-none, slot-some, slot-found}
 use Rattle.table_store.proofs.StandingRows.{not-there}
-use Rattle.dml_versions.specs.Finding.{scope_in, test_in, found_at}
+use Rattle.dml_versions.specs.inner.Finding.{scope_in, test_in, found_at}
 use Rattle.dml_versions.specs.declared.found.Found.{Found}
 use Rattle.dml_versions.proofs.finding.found_by_key.Goals as goal
 

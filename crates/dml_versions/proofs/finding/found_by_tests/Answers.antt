@@ -1,6 +1,6 @@
 use Rattle.std.proofs.Common.{subst, sym, List, ℕ}
 use Rattle.dml_versions.proofs.TestLaws.{slots-pass, covered}
-use Rattle.dml_versions.specs.Finding.{AllPass, CoverFound, scope_in, test_in}
+use Rattle.dml_versions.specs.inner.Finding.{AllPass, CoverFound, scope_in, test_in}
 use Rattle.dml_versions.proofs.finding.found_by_tests.Goals as goal
 
 pub choose_slots-requires : goal.choose_slots-requires

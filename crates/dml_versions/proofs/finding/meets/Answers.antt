@@ -3,7 +3,7 @@ use Rattle.ldv_value.proofs.Booleans.{and-true}
 use Rattle.sql_model.specs.Changes.{is_matched}
 use Rattle.sql_model.specs.Meaning.{is_true, truth}
 use Rattle.sql_model.specs.Scope.{environment}
-use Rattle.dml_versions.specs.Finding.{IsPickPlaced}
+use Rattle.dml_versions.specs.inner.Finding.{IsPickPlaced}
 use Rattle.dml_versions.specs.Types.{Expr}
 use Rattle.dml_versions.proofs.finding.meets.Goals as goal
 

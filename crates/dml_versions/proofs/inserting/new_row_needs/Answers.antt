@@ -7,7 +7,7 @@ use Rattle.table_store.specs.Histories.{tables_now, table_now}
 use Rattle.table_store.specs.Referring.{CanBePut}
 use Rattle.dml_versions.proofs.ReferLaws.{next-there, next-put, no-parents}
 use Rattle.dml_versions.proofs.TableLaws.{history-some, table-now}
-use Rattle.dml_versions.specs.Needing.{HaveParents}
+use Rattle.dml_versions.specs.inner.Needing.{HaveParents}
 use Rattle.dml_versions.specs.Types.{Need, Schema, TableRow}
 use Rattle.dml_versions.proofs.inserting.new_row_needs.Goals as goal
 

@@ -1,5 +1,5 @@
 use Rattle.std.proofs.Common.{◌≡◌, ◌++◌, drop, map}
-use Rattle.dml_versions.specs.Needing.{need_found}
+use Rattle.dml_versions.specs.inner.Needing.{need_found}
 use Rattle.dml_versions.proofs.needs.all_needs_of.Given as goal
 
 abbrev pub invariant-loop-row : goal.invariant-loop-row

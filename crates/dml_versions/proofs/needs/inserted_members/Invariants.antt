@@ -1,6 +1,6 @@
 use Rattle.std.proofs.Common.{◌≡◌, ◌++◌, ◌+◌, drop, map}
 use Rattle.sql_model.specs.Changes.{numbered_rows}
-use Rattle.dml_versions.specs.Needing.{inserted_member}
+use Rattle.dml_versions.specs.inner.Needing.{inserted_member}
 use Rattle.dml_versions.proofs.needs.inserted_members.Given as goal
 
 abbrev pub invariant-loop-values : goal.invariant-loop-values

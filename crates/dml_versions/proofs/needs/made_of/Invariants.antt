@@ -1,6 +1,6 @@
 use Rattle.std.proofs.Common.{◌≡◌, ◌++◌, ◌+◌, ◌<◌, ◌^◌, map, length}
 use Rattle.std.specs.List.{AllByRecursion}
-use Rattle.dml_versions.specs.Needing.{updated_member}
+use Rattle.dml_versions.specs.inner.Needing.{updated_member}
 use Rattle.dml_versions.proofs.needs.made_of.Given as goal
 
 abbrev pub invariant-loop-left : goal.invariant-loop-left

@@ -1,5 +1,5 @@
 use Rattle.std.proofs.Common.{◌≡◌, ◌++◌, drop, map}
-use Rattle.dml_versions.specs.Needing.{number_found}
+use Rattle.dml_versions.specs.inner.Needing.{number_found}
 use Rattle.dml_versions.proofs.needs.numbers_of.Given as goal
 
 abbrev pub invariant-loop-row : goal.invariant-loop-row

@@ -5,7 +5,7 @@ use Rattle.sql_model.specs.Scope.{table_at}
 use Rattle.table_store.specs.Histories.{tables_now, table_now}
 use Rattle.dml_versions.proofs.ReferLaws.{no-parents}
 use Rattle.dml_versions.proofs.TableLaws.{history-some, table-now}
-use Rattle.dml_versions.specs.Needing.{HaveParents}
+use Rattle.dml_versions.specs.inner.Needing.{HaveParents}
 use Rattle.dml_versions.specs.Types.{Need, Schema}
 use Rattle.dml_versions.proofs.needs.parent_needs.Goals as goal
 

@@ -3,7 +3,7 @@ use Rattle.core_parts.proofs.Lists.{take-mapped}
 use Rattle.core_parts.specs.Placing.{own_places}
 use Rattle.sql_model.specs.Kinds.{names_in}
 use Rattle.sql_model.specs.Scope.{place_of, places_in}
-use Rattle.dml_versions.specs.Finding.{IsPickPlaced, pick_names}
+use Rattle.dml_versions.specs.inner.Finding.{IsPickPlaced, pick_names}
 use Rattle.dml_versions.specs.Types.{Expr}
 use Rattle.dml_versions.proofs.places.pick_places.Goals as goal
 

@@ -3,7 +3,7 @@ use Rattle.std.specs.List.{flat_map}
 use Rattle.std.proofs.lemmas.List.{map-append}
 use Rattle.sql_model.specs.Kinds.{names_in}
 use Rattle.sql_model.specs.Scope.{place_of, places_in}
-use Rattle.dml_versions.specs.Finding.{pick_names}
+use Rattle.dml_versions.specs.inner.Finding.{pick_names}
 use Rattle.dml_versions.specs.inner.Making.{AreSetsPlaced}
 use Rattle.dml_versions.specs.Types.{Set}
 use Rattle.dml_versions.proofs.places.update_places.Goals as goal

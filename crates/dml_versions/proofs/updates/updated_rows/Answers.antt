@@ -3,7 +3,7 @@ use Rattle.ldv_value.proofs.Places.{drop_item}
 use Rattle.core_parts.proofs.Lists.{moved-one}
 use Rattle.sql_model.specs.Changes.{updated_row}
 use Rattle.dml_versions.proofs.MadeLaws.{row-updated}
-use Rattle.dml_versions.specs.Finding.{row_of}
+use Rattle.dml_versions.specs.inner.Finding.{row_of}
 use Rattle.dml_versions.specs.inner.Making.{place_set, values_by_set}
 use Rattle.dml_versions.specs.Types.{Set, TableRow, Value}
 use Rattle.dml_versions.specs.declared.found.Found.{Found}

@@ -1,7 +1,7 @@
 use Rattle.std.proofs.Common.{◌≡◌, ◌++◌, List, map, drop}
 use Rattle.sql_model.specs.Changes.{updated_row}
 use Rattle.sql_model.specs.Scope.{InScope}
-use Rattle.dml_versions.specs.Finding.{row_of}
+use Rattle.dml_versions.specs.inner.Finding.{row_of}
 use Rattle.dml_versions.specs.inner.Making.{AreSetsPlaced}
 use Rattle.dml_versions.proofs.updates.updated_rows.Given as goal
 

@@ -5,7 +5,7 @@ use Rattle.table_store.specs.Histories.{tables_now, table_now}
 use Rattle.dml_versions.proofs.CheckLaws.{found-valid}
 use Rattle.dml_versions.proofs.EntryLaws.{there-of, update-placed}
 use Rattle.dml_versions.proofs.TableLaws.{history-some, table-now}
-use Rattle.dml_versions.specs.Finding.{scope_in, row_of}
+use Rattle.dml_versions.specs.inner.Finding.{scope_in, row_of}
 use Rattle.dml_versions.specs.Types.{TheUpdate, Column, Schema}
 use Rattle.dml_versions.proofs.updating.prepare.Goals as goal
 

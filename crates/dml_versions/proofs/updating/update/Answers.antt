@@ -13,8 +13,8 @@ use Rattle.dml_versions.proofs.RefusedTables.{told-here}
 use Rattle.dml_versions.proofs.TableLaws.{table-now, history-some}
 use Rattle.dml_versions.proofs.UpdateLaws.{update-shape, update-sorted, update-stand, update-put, update-own, update-needs, update-fine, update-change, update-after, update-child, update-refused, update-same, update-kept}
 use Rattle.dml_versions.specs.Changing.{IsChange, IsStoreAfter, matched_change, refused_change}
-use Rattle.dml_versions.specs.Finding.{test_in, found_row}
-use Rattle.dml_versions.specs.Needing.{need_found}
+use Rattle.dml_versions.specs.inner.Finding.{test_in, found_row}
+use Rattle.dml_versions.specs.inner.Needing.{need_found}
 use Rattle.dml_versions.specs.Versions.{versions_now}
 use Rattle.dml_versions.specs.Types.{Need, Statement, TheUpdate, Table, StoreHistory}
 use Rattle.dml_versions.specs.declared.found.Found.{Found}

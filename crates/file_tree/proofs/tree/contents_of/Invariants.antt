@@ -1,5 +1,5 @@
 use Rattle.std.proofs.Common.{◌≡◌, vec_len}
-use Rattle.file_tree.specs.Views.{files_from}
+use Rattle.file_tree.specs.Files.{files_from}
 use Rattle.file_tree.proofs.Onto.{files_onto}
 use Rattle.file_tree.proofs.tree.contents_of.Given as goal
 

@@ -1,5 +1,5 @@
 use Rattle.std.proofs.Common.{◌≡◌, ◌++◌, List, drop, map}
-use Rattle.group_eval.specs.Folding.{value_over}
+use Rattle.group_eval.specs.inner.Folding.{value_over}
 use Rattle.sql_model.specs.Kinds.{names_in}
 use Rattle.sql_model.specs.Meaning.{known_values}
 use Rattle.sql_model.specs.Scope.{InScope, places_in}

@@ -4,7 +4,7 @@ use Rattle.std.proofs.lemmas.List.{length-map}
 use Rattle.std.proofs.lemmas.Result.{IfOk-weaker}
 use Rattle.lineage.specs.declared.answer.Pick.{Pick}
 use Rattle.group_eval.proofs.ColumnLaws.{count_read, fold_read}
-use Rattle.group_eval.specs.Folding.{group_meaning, value_over}
+use Rattle.group_eval.specs.inner.Folding.{group_meaning, value_over}
 use Rattle.group_eval.specs.Types.{Expr}
 use Rattle.sql_model.proofs.Folds.{fold-Aggregate}
 use Rattle.sql_model.specs.Kinds.{names_in, names_step}

@@ -3,7 +3,7 @@ use Rattle.std.proofs.lemmas.Result.{IfOk-weaker}
 use Rattle.lineage.specs.declared.answer.Pick.{Pick}
 use Rattle.group_eval.proofs.ColumnLaws.{values_at_place}
 use Rattle.group_eval.specs.inner.Columns.{known_column}
-use Rattle.group_eval.specs.Folding.{value_over}
+use Rattle.group_eval.specs.inner.Folding.{value_over}
 use Rattle.group_eval.specs.Types.{Value}
 use Rattle.sql_model.specs.Kinds.{names_in}
 use Rattle.sql_model.specs.Meaning.{aggregate_of, known_values}

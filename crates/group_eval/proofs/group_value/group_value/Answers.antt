@@ -5,7 +5,7 @@ use Rattle.core_parts.specs.Placing.{IsPlaced}
 use Rattle.lineage.specs.declared.answer.Pick.{Pick}
 use Rattle.group_eval.proofs.ColumnLaws.{column_read}
 use Rattle.group_eval.proofs.BoundLaws.{bound_read}
-use Rattle.group_eval.specs.Folding.{group_meaning}
+use Rattle.group_eval.specs.inner.Folding.{group_meaning}
 use Rattle.group_eval.specs.Types.{Expr}
 use Rattle.sql_model.specs.Kinds.{names_in}
 use Rattle.sql_model.specs.Meaning.{Meaning}

@@ -6,7 +6,7 @@ use Rattle.lineage.specs.declared.answer.Answer.{Answer}
 use Rattle.lineage.specs.declared.answer.Pick.{Pick}
 use Rattle.lineage.proofs.Unions.{none_union, union_none}
 use Rattle.group_eval.specs.Evaluating.{answers_of, rejected_of}
-use Rattle.group_eval.specs.Grouping.{own_picks}
+use Rattle.group_eval.specs.inner.Grouping.{own_picks}
 use Rattle.group_eval.specs.declared.groups.KeyedGroup.{KeyedGroup}
 use Rattle.lineage.specs.Lineage.{union_of}
 use Rattle.group_eval.proofs.grouping.evaluate_groups.Goals as goal

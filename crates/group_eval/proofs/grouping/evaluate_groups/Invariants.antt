@@ -1,6 +1,6 @@
 use Rattle.std.proofs.Common.{◌≡◌, List, ◌++◌, drop, map}
 use Rattle.group_eval.specs.Evaluating.{IsPlacedPlan, answers_of, rejected_of}
-use Rattle.group_eval.specs.Grouping.{own_picks}
+use Rattle.group_eval.specs.inner.Grouping.{own_picks}
 use Rattle.lineage.specs.Lineage.{union_of}
 use Rattle.sql_model.specs.Scope.{InScope}
 use Rattle.group_eval.proofs.grouping.evaluate_groups.Given as goal

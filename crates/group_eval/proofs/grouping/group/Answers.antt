@@ -3,7 +3,7 @@ use Rattle.std.proofs.lemmas.Result.{IfOk-weaker}
 use Rattle.lineage.specs.declared.answer.Pick.{Pick}
 use Rattle.group_eval.proofs.CoreLaws.{grouped_is}
 use Rattle.group_eval.specs.Evaluating.{IsPlacedPlan, IsGroupedBy, IsGrouped}
-use Rattle.group_eval.specs.Grouping.{pick_groups}
+use Rattle.group_eval.specs.inner.Grouping.{pick_groups}
 use Rattle.sql_model.specs.Scope.{InScope}
 use Rattle.group_eval.proofs.grouping.group.Goals as goal
 

@@ -2,7 +2,7 @@ use Rattle.std.proofs.Common.{◌≡◌, ◌∙◌, ap, subst, map, List}
 use Rattle.std.proofs.lemmas.Result.{IfOk-weaker}
 use Rattle.lineage.specs.declared.answer.Pick.{Pick}
 use Rattle.group_eval.specs.Evaluating.{IsPlacedPlan, IsGroupedBy}
-use Rattle.group_eval.specs.Grouping.{keyed_groups, own_picks}
+use Rattle.group_eval.specs.inner.Grouping.{keyed_groups, own_picks}
 use Rattle.sql_model.specs.Scope.{InScope}
 use Rattle.group_eval.proofs.grouping.grouped_by_keys.Goals as goal
 

@@ -2,7 +2,7 @@ use Rattle.std.proofs.Common.{◌≡◌, ◌∙◌, sym, subst, List, [], ◌∷
 use Rattle.std.specs.Prelude.{if◌then◌else◌, Result, IfOk}
 use Rattle.lineage.specs.declared.answer.Pick.{Pick}
 use Rattle.group_eval.specs.Evaluating.{IsPlacedPlan, IsGroupedBy}
-use Rattle.group_eval.specs.Grouping.{keyed_groups, pick_groups}
+use Rattle.group_eval.specs.inner.Grouping.{keyed_groups, pick_groups}
 use Rattle.group_eval.specs.declared.grouping.Grouped.{Grouped}
 use Rattle.group_eval.specs.declared.plan.Plan.{Plan}
 use Rattle.sql_model.specs.Scope.{InScope}

@@ -4,7 +4,7 @@ use Rattle.ldv_value.proofs.Places.{drop_item}
 use Rattle.lineage.specs.declared.answer.Pick.{Pick}
 use Rattle.core_parts.proofs.Lists.{moved-one}
 use Rattle.group_eval.specs.Evaluating.{item_values}
-use Rattle.group_eval.specs.Folding.{group_meaning}
+use Rattle.group_eval.specs.inner.Folding.{group_meaning}
 use Rattle.core_parts.specs.Placing.{AreAllPlaced}
 use Rattle.group_eval.specs.Types.{Value}
 use Rattle.core_parts.specs.declared.placed.BoundExpr.{BoundExpr}

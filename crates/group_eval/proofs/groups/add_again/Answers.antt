@@ -1,7 +1,7 @@
 use Rattle.std.proofs.Common.{◌≡◌, get_or}
 use Rattle.std.proofs.lemmas.List.{get_or_read}
 use Rattle.std.proofs.lemmas.Result.{on_ok_weaker}
-use Rattle.group_eval.specs.Grouping.{key_of}
+use Rattle.group_eval.specs.inner.Grouping.{key_of}
 use Rattle.group_eval.proofs.GroupLaws.{number_within, set_again, numbers_set}
 use Rattle.group_eval.proofs.groups.add_again.Goals as goal
 

@@ -1,6 +1,6 @@
 use Rattle.std.proofs.Common.{◌∙◌, sym}
 use Rattle.std.proofs.lemmas.Result.{on_ok_weaker}
-use Rattle.group_eval.specs.Grouping.{key_of}
+use Rattle.group_eval.specs.inner.Grouping.{key_of}
 use Rattle.group_eval.proofs.groups.add_pick.Goals as goal
 
 pub returns-in-Some-clause-index : goal.returns-in-Some-clause-index

@@ -5,7 +5,7 @@ use Rattle.std.proofs.lemmas.List.{drop_all}
 use Rattle.ldv_value.proofs.Places.{drop_item}
 use Rattle.lineage.specs.declared.answer.Pick.{Pick}
 use Rattle.ldv_value.specs.Order.{values_order}
-use Rattle.group_eval.specs.Grouping.{own_picks, number_of, grouped_onto}
+use Rattle.group_eval.specs.inner.Grouping.{own_picks, number_of, grouped_onto}
 use Rattle.group_eval.specs.Types.{Value}
 use Rattle.group_eval.specs.declared.groups.KeyedGroup.{KeyedGroup}
 use Rattle.group_eval.proofs.GroupLaws.{keyed_are}

@@ -1,5 +1,5 @@
 use Rattle.std.proofs.Common.{◌≡◌, [], drop}
-use Rattle.group_eval.specs.Grouping.{grouped_onto, IsIndex}
+use Rattle.group_eval.specs.inner.Grouping.{grouped_onto, IsIndex}
 use Rattle.group_eval.proofs.groups.groups_of.Given as goal
 
 abbrev pub invariant-loop-pick : goal.invariant-loop-pick

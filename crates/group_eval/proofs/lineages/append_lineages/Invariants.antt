@@ -1,6 +1,6 @@
 use Rattle.std.proofs.Common.{◌≡◌, drop, map}
 use Rattle.lineage.specs.Lineage.{union_of}
-use Rattle.group_eval.specs.Uniting.{lineage_of_picks}
+use Rattle.group_eval.specs.inner.Uniting.{lineage_of_picks}
 use Rattle.group_eval.proofs.lineages.append_lineages.Given as goal
 
 abbrev pub invariant-loop-pick : goal.invariant-loop-pick

@@ -1,8 +1,7 @@
 use Rattle.std.proofs.Common.{◌≡◌, ◌<◌, sym, ap, subst, length, map, List, IsTrue}
 use Rattle.std.specs.Prelude.{IfOk}
-use Rattle.trace_graph.specs.Building.{node_of}
+use Rattle.trace_graph.specs.Lent.{node_of, lent_parts}
 use Rattle.trace_graph.specs.Graph.{Parts, are_between}
-use Rattle.trace_graph.specs.Lent.{lent_parts}
 use Rattle.trace_graph.specs.declared.edge.Edge.{Edge}
 use Rattle.trace_graph.specs.declared.key.NodeKey.{NodeKey}
 use Rattle.reach.specs.Depends.{depends_of}

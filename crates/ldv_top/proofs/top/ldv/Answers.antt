@@ -1,5 +1,5 @@
 use Rattle.std.proofs.Common.{sym, ◌∙◌, map, string_bytes, subst}
-use Rattle.ldv_top.specs.WordStops.{Stops}
+use Rattle.ldv_top.specs.inner.WordStops.{Stops}
 use Rattle.ldv_top.specs.Words.{command_of}
 use Rattle.ldv_top.specs.declared.word_stop.WordStop.{WordStop}
 use Rattle.ldv_top.proofs.TopLaws.{usage_ends, memory_ends, unread_ends, command_ends}

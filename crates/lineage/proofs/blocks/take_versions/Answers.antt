@@ -1,5 +1,5 @@
 use Rattle.std.proofs.Common.{◌≡◌, ◌∙◌, sym, ap, subst, ◌<◌, ◌+◌, ℕ, List, get_or}
-use Rattle.lineage.specs.Blocks.{version_of}
+use Rattle.lineage.specs.inner.Blocks.{version_of}
 use Rattle.lineage.proofs.BlockLaws.{stands_at, taken_more}
 use Rattle.lineage.proofs.blocks.take_versions.Goals as goal
 

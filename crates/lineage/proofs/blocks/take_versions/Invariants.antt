@@ -1,5 +1,5 @@
 use Rattle.std.proofs.Common.{◌≡◌, ℕ}
-use Rattle.lineage.specs.Blocks.{version_of, HasPlace}
+use Rattle.lineage.specs.inner.Blocks.{version_of, HasPlace}
 use Rattle.lineage.proofs.BlockLaws.{taken}
 use Rattle.lineage.proofs.blocks.take_versions.Given as goal
 

@@ -1,6 +1,6 @@
 use Rattle.std.proofs.Common.{◌∙◌, ◌++◌, sym, ap, refl, List, map, append-nil, Option, ℕ}
 use Rattle.std.proofs.lemmas.Result.{on_ok_weaker}
-use Rattle.lineage.specs.Blocks.{rows_of_block}
+use Rattle.lineage.specs.inner.Blocks.{rows_of_block}
 use Rattle.lineage.specs.Lineage.{Row, member}
 use Rattle.lineage.specs.declared.blocks.Block.{Block}
 use Rattle.lineage.proofs.ListedBlocks.{none_of_block, block_listed, named_in}

@@ -3,7 +3,7 @@ use Rattle.std.specs.BTreeMap as tree
 use Rattle.std.specs.Map.{keys_of}
 use Rattle.std.specs.Map.Iter.{deref_pair}
 use Rattle.std.proofs.lemmas.Map.Iter.{rest_more}
-use Rattle.lineage.specs.Blocks.{rows_under}
+use Rattle.lineage.specs.inner.Blocks.{rows_under}
 use Rattle.lineage.specs.Lineage.{Row, row_cmp, member}
 use Rattle.lineage.specs.declared.blocks.Block.{Block}
 use Rattle.lineage.proofs.ListedBlocks.{place_listed}

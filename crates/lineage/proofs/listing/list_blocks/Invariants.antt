@@ -2,7 +2,7 @@ use Rattle.std.proofs.Common.{◌≡◌, ◌++◌, map}
 use Rattle.std.specs.BTreeMap as tree
 use Rattle.std.specs.Map.{keys_of}
 use Rattle.lineage.specs.Lineage.{member, row_cmp}
-use Rattle.lineage.specs.Blocks.{rows_under, all_rows}
+use Rattle.lineage.specs.inner.Blocks.{rows_under, all_rows}
 use Rattle.lineage.proofs.listing.list_blocks.Given as goal
 
 abbrev pub invariant-loop-place : goal.invariant-loop-place

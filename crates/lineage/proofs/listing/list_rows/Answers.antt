@@ -1,6 +1,6 @@
 use Rattle.std.proofs.Common.{◌≡◌, ◌∙◌, ◌++◌, ◌∷◌, ◌+◌, ◌-◌, ◌*◌, [], sym, ap, subst, arith, List, ℕ, Option, Some, None}
 use Rattle.lanes.specs.Sets.{IsNext}
-use Rattle.lineage.specs.Blocks.{version_of}
+use Rattle.lineage.specs.inner.Blocks.{version_of}
 use Rattle.lineage.specs.Lineage.{member}
 use Rattle.lineage.proofs.ListedBlocks.{within_words, one_listed, all_listed}
 use Rattle.sql_model.specs.declared.need.Member.{Member}

@@ -1,6 +1,6 @@
 use Rattle.std.proofs.Common.{◌≡◌, ◌≤◌, ◌-◌, ◌*◌, ◌++◌, map}
 use Rattle.lineage.specs.Lineage.{member}
-use Rattle.lineage.specs.Blocks.{row_in, rows_from}
+use Rattle.lineage.specs.inner.Blocks.{row_in, rows_from}
 use Rattle.lineage.proofs.listing.list_rows.Given as goal
 
 abbrev pub invariant-members : goal.invariant-members

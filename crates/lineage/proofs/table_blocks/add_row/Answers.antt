@@ -1,6 +1,6 @@
 use Rattle.std.proofs.Common.{◌∙◌, sym, ap, is_some, true}
 use Rattle.std.specs.Ordering.{eq_by_cmp}
-use Rattle.lineage.specs.Blocks.{found_at}
+use Rattle.lineage.specs.inner.Blocks.{found_at}
 use Rattle.lineage.specs.Lineage.{Row, row_cmp}
 use Rattle.lineage.proofs.Laws.{same_row}
 use Rattle.ldv_value.proofs.Options.{is_some-false}

@@ -2,7 +2,7 @@ use Rattle.std.proofs.Common.{◌≡◌, ◌∙◌, ◌+◌, [], ℕ, List, sym,
 use Rattle.std.proofs.lemmas.List.{drop_all}
 use Rattle.std.specs.FinMap.{find}
 use Rattle.std.specs.Option.{option_or}
-use Rattle.lineage.specs.Blocks.{AllRoom, found_at}
+use Rattle.lineage.specs.inner.Blocks.{AllRoom, found_at}
 use Rattle.lineage.specs.Lineage.{Row, row_cmp}
 use Rattle.lineage.proofs.Laws.{or_none}
 use Rattle.lineage.proofs.RoomLaws.{row_at_place, row_first, all_stay}

@@ -1,7 +1,7 @@
 use Rattle.std.proofs.Common.{◌≡◌, drop}
 use Rattle.std.specs.Option.{option_or}
 use Rattle.std.specs.FinMap.{find}
-use Rattle.lineage.specs.Blocks.{AreKept, AllRoom, found_at}
+use Rattle.lineage.specs.inner.Blocks.{AreKept, AllRoom, found_at}
 use Rattle.lineage.specs.Lineage.{Row, row_cmp}
 use Rattle.lineage.proofs.table_blocks.add_rows.Given as goal
 

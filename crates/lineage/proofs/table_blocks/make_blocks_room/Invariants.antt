@@ -2,7 +2,7 @@ use Rattle.std.proofs.Common.{◌≡◌, None}
 use Rattle.std.specs.BTreeMap as tree
 use Rattle.std.specs.BTreeMap.{is_at}
 use Rattle.std.specs.Map.{lookup}
-use Rattle.lineage.specs.Blocks.{AreRoomier, IsRoomy}
+use Rattle.lineage.specs.inner.Blocks.{AreRoomier, IsRoomy}
 use Rattle.lineage.specs.Lineage.{Row, row_cmp}
 use Rattle.lineage.proofs.table_blocks.make_blocks_room.Given as goal
 

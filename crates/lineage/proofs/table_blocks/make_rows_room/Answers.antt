@@ -1,5 +1,5 @@
 use Rattle.std.proofs.Common.{◌≡◌, ◌+◌, ◌-◌, ℕ, List, sym, subst, drop, arith}
-use Rattle.lineage.specs.Blocks.{AllRoom}
+use Rattle.lineage.specs.inner.Blocks.{AllRoom}
 use Rattle.lineage.specs.Lineage.{Row}
 use Rattle.lineage.proofs.RoomLaws.{roomier_still, row_at_place, all_stay}
 use Rattle.lineage.proofs.table_blocks.make_rows_room.Goals as goal

@@ -1,5 +1,5 @@
 use Rattle.std.proofs.Common.{◌≤◌, length, drop}
-use Rattle.lineage.specs.Blocks.{AreRoomier, AllRoom}
+use Rattle.lineage.specs.inner.Blocks.{AreRoomier, AllRoom}
 use Rattle.lineage.proofs.table_blocks.make_rows_room.Given as goal
 
 abbrev pub invariant-rows : goal.invariant-rows

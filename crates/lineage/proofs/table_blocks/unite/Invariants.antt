@@ -1,4 +1,4 @@
-use Rattle.lineage.specs.Blocks.{AreKept, Stays}
+use Rattle.lineage.specs.inner.Blocks.{AreKept, Stays}
 use Rattle.lineage.proofs.RoomLaws.{UnitesOnto}
 use Rattle.lineage.proofs.table_blocks.unite.Given as goal
 

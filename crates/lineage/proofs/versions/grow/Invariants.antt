@@ -1,5 +1,5 @@
 use Rattle.std.proofs.Common.{◌≡◌, ◌-◌, ◌≤◌, ℕ, length}
-use Rattle.lineage.specs.Blocks.{version_of}
+use Rattle.lineage.specs.inner.Blocks.{version_of}
 use Rattle.lineage.proofs.versions.grow.Given as goal
 
 abbrev pub invariant-loop-versions : goal.invariant-loop-versions

@@ -1,7 +1,7 @@
 use Rattle.std.proofs.Common.{rules, ◌≡◌, ℕ, List, [], ◌∷◌, ◌++◌, ◌∙◌, ap, map, subst, IfOk}
 use Rattle.proc_core.specs.Types.{Instr, Text, Value}
 use Rattle.run_model.specs.Core.{new_process}
-use Rattle.proc_core.specs.inner.Slots.{Holds}
+use Rattle.proc_core.specs.Stands.{Holds}
 use Rattle.proc_core.proofs.start.first_process.Goals as goal
 
 pub returns : goal.returns

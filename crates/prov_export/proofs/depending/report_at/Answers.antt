@@ -3,7 +3,7 @@ use Rattle.std.specs.List.{flat_map}
 use Rattle.std.specs.Fmt.{decimal}
 use Rattle.std.specs.Prelude.{IfOk}
 use Rattle.ldv_value.specs.Limits.{max_steps}
-use Rattle.trace_graph.specs.Building.{node_of}
+use Rattle.trace_graph.specs.Lent.{node_of}
 use Rattle.trace_graph.specs.Graph.{Parts}
 use Rattle.trace_graph.proofs.LentLaws.{key_within, keys_between}
 use Rattle.reach.specs.Depends.{depends_of}

@@ -1,6 +1,6 @@
 use Rattle.std.proofs.Common.{◌≡◌, ◌∙◌, ap, sym, subst, List, map}
 use Rattle.query_eval.specs.Picking.{pick_of, source_picks}
-use Rattle.query_eval.specs.Sources.{SourcesAreWide}
+use Rattle.query_eval.specs.inner.Sources.{SourcesAreWide}
 use Rattle.query_eval.specs.declared.source.Source.{Source}
 use Rattle.query_eval.proofs.SlotLevels.{picks-same}
 use Rattle.query_eval.proofs.picking.joined_picks.Goals as goal

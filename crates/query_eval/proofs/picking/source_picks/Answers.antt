@@ -3,7 +3,7 @@ use Rattle.std.proofs.lemmas.Result.{IfOk-weaker}
 use Rattle.core_parts.specs.Placing.{AreAllPlaced}
 use Rattle.query_eval.proofs.SinglePicks.{alone-picks}
 use Rattle.query_eval.specs.Picking.{row_picks, source_picks}
-use Rattle.query_eval.specs.Sources.{SourcesAreWide}
+use Rattle.query_eval.specs.inner.Sources.{SourcesAreWide}
 use Rattle.query_eval.specs.declared.source.Source.{Source}
 use Rattle.sql_model.specs.Scope.{InScope}
 use Rattle.query_eval.proofs.picking.source_picks.Goals as goal

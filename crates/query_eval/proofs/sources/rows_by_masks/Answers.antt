@@ -2,7 +2,7 @@ use Rattle.std.proofs.Common.{◌≡◌, ◌∙◌, ap, subst, sym, List, None, 
 use Rattle.std.proofs.lemmas.Result.{IfOk-weaker}
 use Rattle.core_parts.proofs.MaskLaws.{masks-fit}
 use Rattle.sql_model.specs.declared.column_test.ColumnTest.{ColumnTest}
-use Rattle.query_eval.specs.TableScan.{left_rows}
+use Rattle.query_eval.specs.inner.TableScan.{left_rows}
 use Rattle.query_eval.specs.StoredSources.{AreChosen}
 use Rattle.table_store.specs.CellTests.{AllFitColumns}
 use Rattle.query_eval.proofs.sources.rows_by_masks.Goals as goal

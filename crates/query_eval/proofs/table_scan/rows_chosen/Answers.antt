@@ -1,5 +1,5 @@
 use Rattle.std.proofs.Common.{List}
-use Rattle.query_eval.specs.TableScan.{rows_at_slots, rows_in}
+use Rattle.query_eval.specs.inner.TableScan.{rows_at_slots, rows_in}
 use Rattle.query_eval.specs.declared.source.SourceRow.{SourceRow}
 use Rattle.query_eval.proofs.TableScanLaws.{chosen_end, chosen_next}
 use Rattle.query_eval.proofs.table_scan.rows_chosen.Goals as goal

@@ -1,5 +1,5 @@
 use Rattle.std.proofs.Common.{◌≡◌, ◌++◌, ◌+◌, ◌-◌, ◌*◌, drop, length}
-use Rattle.query_eval.specs.TableScan.{rows_at_slots, rows_in}
+use Rattle.query_eval.specs.inner.TableScan.{rows_at_slots, rows_in}
 use Rattle.query_eval.proofs.table_scan.rows_chosen.Given as goal
 
 abbrev pub invariant-slots : goal.invariant-slots

@@ -1,5 +1,5 @@
 use Rattle.lanes.specs.Sets.{member}
-use Rattle.query_eval.specs.TableScan.{slot_at}
+use Rattle.query_eval.specs.inner.TableScan.{slot_at}
 use Rattle.query_eval.proofs.TableScanLaws.{tested_alike}
 use Rattle.query_eval.proofs.table_scan.slots_passing.Goals as goal
 

@@ -1,6 +1,6 @@
 use Rattle.std.proofs.Common.{◌≡◌, ◌∙◌, sym, ap, subst, length, map, ℕ, List}
 use Rattle.std.proofs.lemmas.List.{length-map}
-use Rattle.trace_graph.specs.Building.{node_of}
+use Rattle.trace_graph.specs.Lent.{node_of}
 use Rattle.reach.specs.Types.{Node, Edge}
 use Rattle.reach.specs.Found.{Times}
 use Rattle.reach.specs.Lent.{lent_node}

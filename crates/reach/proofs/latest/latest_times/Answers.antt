@@ -2,7 +2,7 @@ use Rattle.std.proofs.Common.{◌∙◌, sym, ℕ, List}
 use Rattle.std.specs.BinaryHeap.{heap_items}
 use Rattle.reach.specs.Types.{Edge}
 use Rattle.reach.specs.Found.{Times}
-use Rattle.reach.specs.Search.{Queue}
+use Rattle.reach.specs.inner.Search.{Queue}
 use Rattle.reach.proofs.TurnLaws.{turn_from, turn_long, turn_within, turn_smaller, turn_stands, begin_long, begin_within, begin_stands}
 use Rattle.reach.proofs.latest.latest_times.Goals as goal
 

@@ -1,7 +1,7 @@
 -- The state of the search is valid, and each turn takes a place out of the queue.
 use Rattle.std.proofs.Common.{◌≡◌, [], length}
 use Rattle.std.specs.BinaryHeap.{heap_items}
-use Rattle.reach.specs.Search.{IsSearch, IsWithin, work_left}
+use Rattle.reach.specs.inner.Search.{IsSearch, IsWithin, work_left}
 use Rattle.reach.proofs.latest.latest_times.Given as goal
 
 abbrev pub invariant-loop-by : goal.invariant-loop-by

@@ -1,7 +1,7 @@
 use Rattle.std.proofs.Common.{◌≡◌, ◌∙◌, ◌<◌, sym, ap, subst, map, length, ℕ, List, IsTrue}
 use Rattle.std.proofs.lemmas.List.{length-map}
 use Rattle.std.proofs.lemmas.Result.{IfOk-weaker}
-use Rattle.trace_graph.specs.Building.{node_of}
+use Rattle.trace_graph.specs.Lent.{node_of}
 use Rattle.trace_graph.specs.Graph.{Parts, are_between}
 use Rattle.reach.specs.Types.{Edge}
 use Rattle.reach.specs.Found.{open_sources}

@@ -1,5 +1,5 @@
 use Rattle.std.proofs.Common.{◌∙◌, ap, map}
-use Rattle.trace_graph.specs.Building.{node_of}
+use Rattle.trace_graph.specs.Lent.{node_of}
 use Rattle.trace_graph.proofs.LentLaws.{key_within, keys_between}
 use Rattle.run_tests.proofs.graphs.count_sources.Goals as goal
 

@@ -1,5 +1,5 @@
 use Rattle.std.proofs.Common.{◌≡◌, map, take}
-use Rattle.trace_graph.specs.Building.{node_of}
+use Rattle.trace_graph.specs.Lent.{node_of}
 use Rattle.trace_graph.proofs.key.keys_of.Given as goal
 
 abbrev pub invariant-loop-node : goal.invariant-loop-node

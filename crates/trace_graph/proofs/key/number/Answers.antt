@@ -1,5 +1,5 @@
 use Rattle.std.proofs.Common.{◌∙◌, ap, map}
-use Rattle.trace_graph.specs.Building.{node_of}
+use Rattle.trace_graph.specs.Lent.{node_of}
 use Rattle.trace_graph.proofs.KeyLaws.{numbered, key_place}
 use Rattle.trace_graph.proofs.key.number.Goals as goal
 

@@ -1,6 +1,6 @@
 -- The times of the notes that are left come to those of the edges so far.
 use Rattle.std.proofs.Common.{◌≡◌, drop, map}
-use Rattle.trace_graph.specs.Building.{edge_at, with_notes}
+use Rattle.trace_graph.specs.inner.Building.{edge_at, with_notes}
 use Rattle.trace_graph.proofs.note.add_piece.Given as goal
 
 abbrev pub invariant-loop-note : goal.invariant-loop-note

@@ -2,8 +2,8 @@
 use Rattle.std.proofs.Common.{◌∙◌, sym, ap, ℕ, ◌+◌, List, [], map, drop}
 use Rattle.ldv_value.proofs.Places.{drop_item}
 use Rattle.trace_graph.specs.Types.{Edge}
-use Rattle.trace_graph.specs.Building.{edge_at, with_notes}
-use Rattle.trace_graph.specs.Pieces.{in_pieces}
+use Rattle.trace_graph.specs.inner.Building.{edge_at, with_notes}
+use Rattle.trace_graph.specs.inner.Pieces.{in_pieces}
 use Rattle.trace_graph.specs.declared.note.Note.{Note}
 use Rattle.trace_graph.proofs.NoteLaws.{notes_then}
 use Rattle.trace_graph.proofs.note.add_pieces.Goals as goal

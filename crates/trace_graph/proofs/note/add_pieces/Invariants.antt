@@ -1,7 +1,7 @@
 -- The times of the pieces that are left come to those of the edges so far.
 use Rattle.std.proofs.Common.{◌≡◌, drop, map, []}
-use Rattle.trace_graph.specs.Building.{edge_at, with_notes}
-use Rattle.trace_graph.specs.Pieces.{in_pieces}
+use Rattle.trace_graph.specs.inner.Building.{edge_at, with_notes}
+use Rattle.trace_graph.specs.inner.Pieces.{in_pieces}
 use Rattle.trace_graph.proofs.note.add_pieces.Given as goal
 
 abbrev pub invariant-loop-piece : goal.invariant-loop-piece

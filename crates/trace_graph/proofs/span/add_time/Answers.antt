@@ -2,7 +2,7 @@ use Rattle.std.proofs.Common.{◌∙◌, ap, map, sym, List, ℕ}
 use Rattle.std.specs.Prelude.{Option, Some}
 use Rattle.std.proofs.lemmas.Result.{on_ok_weaker}
 use Rattle.indexmap.specs.IndexMap.{insert_entry}
-use Rattle.trace_graph.specs.Building.{edge_at, span_with, same_pair}
+use Rattle.trace_graph.specs.inner.Building.{edge_at, span_with, same_pair}
 use Rattle.trace_graph.specs.declared.span.Span.{Span}
 use Rattle.trace_graph.proofs.SpanLaws.{timed, put_twice}
 use Rattle.trace_graph.proofs.span.add_time.Goals as goal

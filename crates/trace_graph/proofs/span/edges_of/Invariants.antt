@@ -1,5 +1,5 @@
 use Rattle.std.proofs.Common.{◌≡◌, ◌++◌, map}
-use Rattle.trace_graph.specs.Building.{edge_at}
+use Rattle.trace_graph.specs.inner.Building.{edge_at}
 use Rattle.trace_graph.proofs.span.edges_of.Given as goal
 
 abbrev pub invariant-loop-ends : goal.invariant-loop-ends

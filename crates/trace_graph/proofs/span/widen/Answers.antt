@@ -1,6 +1,6 @@
 use Rattle.std.proofs.Common.{◌∙◌, ap}
 use Rattle.indexmap.specs.IndexMap.{insert_entry}
-use Rattle.trace_graph.specs.Building.{same_pair}
+use Rattle.trace_graph.specs.inner.Building.{same_pair}
 use Rattle.trace_graph.proofs.span.widen.Goals as goal
 
 pub returns : goal.returns

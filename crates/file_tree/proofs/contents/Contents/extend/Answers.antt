@@ -2,7 +2,7 @@ use Rattle.std.proofs.Common.{◌≡◌, ◌∙◌, sym, ap, subst, Some, None, 
 use Rattle.std.proofs.lemmas.Result.{on_ok_weaker, on_err_weaker}
 use Rattle.std.proofs.lemmas.Map.Text.{btree_map_updates_text}
 use Rattle.ldv_value.specs.FileState.{content_in, put_file}
-use Rattle.file_tree.specs.Views.{files_in, map_by_bytes}
+use Rattle.file_tree.specs.inner.Views.{files_in, map_by_bytes}
 use Rattle.file_tree.proofs.Seen.{seen_get, seen_put, put_back}
 use Rattle.file_tree.proofs.contents.Contents.extend.Goals as goal
 

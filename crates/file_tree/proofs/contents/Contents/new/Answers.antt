@@ -1,5 +1,5 @@
 use Rattle.std.proofs.Common.{◌∙◌, ap}
-use Rattle.file_tree.specs.Views.{files_in, map_by_bytes}
+use Rattle.file_tree.specs.inner.Views.{files_in, map_by_bytes}
 use Rattle.file_tree.proofs.Seen.{files_in-empty}
 use Rattle.file_tree.proofs.contents.Contents.new.Goals as goal
 

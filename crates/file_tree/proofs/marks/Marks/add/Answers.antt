@@ -3,7 +3,7 @@ use Rattle.std.specs.Prelude.{bytes_eq}
 use Rattle.std.specs.List.{list_any}
 use Rattle.std.proofs.lemmas.Map.Text.{btree_set_updates_text}
 use Rattle.ldv_value.specs.FileState.{add_path}
-use Rattle.file_tree.specs.Views.{paths_in, set_by_bytes}
+use Rattle.file_tree.specs.inner.Views.{paths_in, set_by_bytes}
 use Rattle.file_tree.proofs.Seen.{seen_add, seen_has}
 use Rattle.file_tree.proofs.marks.Marks.add.Goals as goal
 

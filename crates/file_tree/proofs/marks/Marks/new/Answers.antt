@@ -1,5 +1,5 @@
 use Rattle.std.proofs.Common.{◌∙◌, ap}
-use Rattle.file_tree.specs.Views.{paths_in, set_by_bytes}
+use Rattle.file_tree.specs.inner.Views.{paths_in, set_by_bytes}
 use Rattle.file_tree.proofs.Seen.{paths_in-empty}
 use Rattle.file_tree.proofs.marks.Marks.new.Goals as goal
 

@@ -1,6 +1,6 @@
 use Rattle.ldv_value.specs.FileState.{initial_files}
 use Rattle.ldv_value.proofs.FileLaws.{state-initial_files}
-use Rattle.file_tree.specs.Views.{files_from}
+use Rattle.file_tree.specs.Files.{files_from}
 use Rattle.file_tree.proofs.Seen.{tree_is, valid_from}
 use Rattle.file_tree.proofs.tree.Tree.of_files.Goals as goal
 

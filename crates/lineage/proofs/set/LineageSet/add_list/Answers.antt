@@ -1,7 +1,7 @@
 use Rattle.std.proofs.Common.{◌∙◌, ap, sym}
 use Rattle.std.specs.FinMap.{from_entries, get-from_entries}
 use Rattle.std.specs.Option.{option_or}
-use Rattle.lineage.specs.Blocks.{found_at}
+use Rattle.lineage.specs.inner.Blocks.{found_at}
 use Rattle.lineage.proofs.Laws.{row_total}
 use Rattle.lineage.proofs.Seen.{roomier_seen, united_seen}
 use Rattle.lineage.proofs.set.LineageSet.add_list.Goals as goal

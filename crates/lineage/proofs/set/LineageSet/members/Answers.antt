@@ -2,7 +2,7 @@ use Rattle.std.proofs.Common.{◌≡◌, ◌∙◌, sym, ap, subst, is_some, map
 use Rattle.std.specs.List.Sorted.{IsStrictlySortedBy}
 use Rattle.std.proofs.lemmas.Result.{IfOk-weaker}
 use Rattle.sql_model.specs.MemberOrder.{member_cmp}
-use Rattle.lineage.specs.Blocks.{all_rows}
+use Rattle.lineage.specs.inner.Blocks.{all_rows}
 use Rattle.lineage.specs.Lineage.{member, members_of}
 use Rattle.lineage.proofs.BlockOrder.{listed_blocks}
 use Rattle.lineage.proofs.Listed.{members-sorted}

@@ -1,6 +1,6 @@
 use Rattle.std.proofs.Common.{◌∙◌, ap, ◌%◌}
 use Rattle.std.specs.Option.{option_or}
-use Rattle.lineage.specs.Blocks.{block_of, found_at}
+use Rattle.lineage.specs.inner.Blocks.{block_of, found_at}
 use Rattle.lineage.proofs.Seen.{roomier_seen, united_seen, seen_in}
 use Rattle.lineage.proofs.set.LineageSet.union.Goals as goal
 

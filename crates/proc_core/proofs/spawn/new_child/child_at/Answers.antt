@@ -1,7 +1,7 @@
 use Rattle.std.proofs.Common.{[], ◌∷◌, ◌++◌, subst}
 use Rattle.run_model.specs.Core.{new_process}
 use Rattle.proc_core.specs.declared.process.SlotProcess.{SlotProcess}
-use Rattle.proc_core.specs.inner.Slots.{Holds}
+use Rattle.proc_core.specs.Stands.{Holds}
 use Rattle.proc_core.proofs.AtNumber.{item_same}
 use Rattle.proc_core.proofs.spawn.new_child.child_at.Goals as goal
 

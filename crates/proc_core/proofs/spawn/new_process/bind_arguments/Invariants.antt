@@ -1,6 +1,6 @@
 use Rattle.std.proofs.Common.{◌≡◌, ◌+◌, ◌≤◌, drop, length, map}
 use Rattle.run_model.specs.Core.{arguments_from}
-use Rattle.proc_core.specs.inner.Slots.{value_held}
+use Rattle.proc_core.specs.Stands.{value_held}
 use Rattle.proc_core.proofs.spawn.new_process.bind_arguments.Given as goal
 
 abbrev pub invariant-loop-left : goal.invariant-loop-left

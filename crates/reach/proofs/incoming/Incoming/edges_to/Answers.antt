@@ -1,6 +1,6 @@
 use Rattle.std.proofs.Common.{◌≤◌, ◌++◌, sym, ap, subst, arith, ℕ, List, length}
 use Rattle.reach.specs.Types.{Edge}
-use Rattle.reach.specs.Search.{edges_into}
+use Rattle.reach.specs.inner.Search.{edges_into}
 use Rattle.reach.specs.inner.Incoming.{IsChain}
 use Rattle.reach.proofs.ChainLaws.{left_more, left_smaller, left_none}
 use Rattle.reach.proofs.incoming.Incoming.edges_to.Goals as goal

@@ -1,6 +1,6 @@
 -- The found edges, with the rest of the chain, are the edges to the place.
 use Rattle.std.proofs.Common.{◌-◌, length}
-use Rattle.reach.specs.Search.{edges_into}
+use Rattle.reach.specs.inner.Search.{edges_into}
 use Rattle.reach.proofs.ChainLaws.{IsLeft}
 use Rattle.reach.proofs.incoming.Incoming.edges_to.Given as goal
 

@@ -2,7 +2,7 @@
 use Rattle.std.proofs.Common.{◌≡◌, drop, length}
 use Rattle.std.specs.List.Sorted.{IsPermutation}
 use Rattle.std.specs.BinaryHeap.{heap_items}
-use Rattle.reach.specs.Search.{times_with_sources, queue_after_edges}
+use Rattle.reach.specs.inner.Search.{times_with_sources, queue_after_edges}
 use Rattle.reach.proofs.search.Search.look_at_all.Given as goal
 
 abbrev pub invariant-loop-edge : goal.invariant-loop-edge

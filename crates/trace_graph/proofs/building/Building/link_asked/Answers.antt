@@ -2,7 +2,7 @@
 use Rattle.std.proofs.Common.{map}
 use Rattle.trace_graph.specs.Types.{Ask}
 use Rattle.trace_graph.specs.Links.{read_link}
-use Rattle.trace_graph.specs.Building.{parts_of}
+use Rattle.trace_graph.specs.inner.Building.{parts_of}
 use Rattle.trace_graph.specs.NodeTexts.{read_texts, made_texts}
 use Rattle.trace_graph.proofs.KnownPlaces.{at_after}
 use Rattle.trace_graph.proofs.TextLaws.{first_held, others_held}

@@ -1,6 +1,6 @@
 use Rattle.std.proofs.Common.{◌≡◌, drop, IsTrue}
 use Rattle.std.specs.List.{filter_map}
-use Rattle.trace_graph.specs.Building.{parts_of, with_links}
+use Rattle.trace_graph.specs.inner.Building.{parts_of, with_links}
 use Rattle.trace_graph.specs.Links.{change_link}
 use Rattle.trace_graph.specs.NodeTexts.{made_texts, are_held}
 use Rattle.trace_graph.proofs.building.Building.link_changes.Given as goal

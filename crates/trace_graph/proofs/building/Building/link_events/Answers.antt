@@ -1,7 +1,7 @@
 -- An event more is linked, and its notes are settled.
 use Rattle.std.proofs.Common.{◌∙◌, ℕ, List}
 use Rattle.trace_graph.specs.Types.{Event}
-use Rattle.trace_graph.specs.Building.{parts_of}
+use Rattle.trace_graph.specs.inner.Building.{parts_of}
 use Rattle.trace_graph.proofs.EventSteps.{parts_step, fits_step, held_step}
 use Rattle.trace_graph.proofs.building.Building.link_events.Goals as goal
 

@@ -1,5 +1,5 @@
 use Rattle.std.proofs.Common.{◌≡◌, drop, IsTrue}
-use Rattle.trace_graph.specs.Building.{parts_of, with_events, made_fits}
+use Rattle.trace_graph.specs.inner.Building.{parts_of, with_events, made_fits}
 use Rattle.trace_graph.specs.NodeTexts.{acts_held}
 use Rattle.trace_graph.proofs.building.Building.link_events.Given as goal
 

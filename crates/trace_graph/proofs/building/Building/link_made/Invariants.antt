@@ -1,6 +1,6 @@
 use Rattle.std.proofs.Common.{◌≡◌, drop, map, IsTrue}
 use Rattle.trace_graph.specs.Types.{Ask}
-use Rattle.trace_graph.specs.Building.{parts_of, with_links, IsAt}
+use Rattle.trace_graph.specs.inner.Building.{parts_of, with_links, IsAt}
 use Rattle.trace_graph.specs.Links.{made_link}
 use Rattle.trace_graph.specs.NodeTexts.{made_texts, are_held}
 use Rattle.trace_graph.proofs.building.Building.link_made.Given as goal

@@ -1,7 +1,7 @@
 use Rattle.std.proofs.Common.{◌∙◌, sym, ap, subst, ℕ}
 use Rattle.trace_graph.specs.Types.{Ask, Reply}
 use Rattle.trace_graph.specs.Graph.{Parts, place_in}
-use Rattle.trace_graph.specs.Building.{parts_of, with_place, with_noted, IsAt}
+use Rattle.trace_graph.specs.inner.Building.{parts_of, with_place, with_noted, IsAt}
 use Rattle.trace_graph.proofs.KnownPlaces.{ask_at, reply_at, statement_placed}
 use Rattle.trace_graph.proofs.building.Building.link_statement.Goals as goal
 

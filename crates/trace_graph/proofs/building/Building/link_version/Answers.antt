@@ -2,7 +2,8 @@ use Rattle.std.proofs.Common.{◌∙◌, sym, ap, subst}
 use Rattle.trace_graph.specs.Types.{Ask}
 use Rattle.trace_graph.specs.Graph.{Parts}
 use Rattle.trace_graph.specs.Links.{made_link}
-use Rattle.trace_graph.specs.Building.{node_of, parts_of, with_noted, IsAt}
+use Rattle.trace_graph.specs.inner.Building.{parts_of, with_noted, IsAt}
+use Rattle.trace_graph.specs.Lent.{node_of}
 use Rattle.trace_graph.proofs.KnownPlaces.{at_more, from_known}
 use Rattle.trace_graph.proofs.building.Building.link_version.Goals as goal
 

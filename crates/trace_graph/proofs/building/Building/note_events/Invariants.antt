@@ -1,6 +1,6 @@
 -- The events that are left are linked to what was built so far.
 use Rattle.std.proofs.Common.{◌≡◌, IsTrue}
-use Rattle.trace_graph.specs.Building.{parts_of, with_events, made_fits}
+use Rattle.trace_graph.specs.inner.Building.{parts_of, with_events, made_fits}
 use Rattle.trace_graph.specs.NodeTexts.{acts_held}
 use Rattle.trace_graph.proofs.building.Building.note_events.Given as goal
 

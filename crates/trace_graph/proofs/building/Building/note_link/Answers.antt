@@ -1,6 +1,7 @@
 use Rattle.std.proofs.Common.{◌∙◌, ap, map, List}
 use Rattle.trace_graph.specs.Types.{Edge}
-use Rattle.trace_graph.specs.Building.{node_of, edge_at, with_notes}
+use Rattle.trace_graph.specs.inner.Building.{edge_at, with_notes}
+use Rattle.trace_graph.specs.Lent.{node_of}
 use Rattle.trace_graph.proofs.NoteLaws.{noted_more}
 use Rattle.trace_graph.proofs.building.Building.note_link.Goals as goal
 

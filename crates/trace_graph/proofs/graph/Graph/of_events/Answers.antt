@@ -1,7 +1,7 @@
 use Rattle.std.proofs.Common.{◌≡◌, ◌∙◌, sym, ap, subst, refl, List, length, IsTrue, IfOk}
 use Rattle.trace_graph.specs.Types.{Event}
 use Rattle.trace_graph.specs.Graph.{Parts, graph_of, are_between}
-use Rattle.trace_graph.specs.Building.{with_events, no_parts, made_fits}
+use Rattle.trace_graph.specs.inner.Building.{with_events, no_parts, made_fits}
 use Rattle.trace_graph.specs.NodeTexts.{acts_held}
 use Rattle.trace_graph.proofs.TraceLaws.{trace_fits}
 use Rattle.trace_graph.proofs.TextLaws.{each_held}

@@ -1,27 +1,15 @@
 -- The rows of a table in blocks of 65,536, each block as a set of words.
-use Rattle.std.specs.Prelude.{◌≡◌, ℕ, zero, suc, ◌+◌, ◌-◌, ◌*◌, ◌/◌, ◌%◌, ◌<◌, ◌≤◌, List, [], ◌∷◌, ◌++◌, length, Bool, false, cond}
+use Rattle.std.specs.Prelude.{◌≡◌, ℕ, zero, suc, ◌+◌, ◌-◌, ◌*◌, ◌/◌, ◌%◌, ◌<◌, ◌≤◌, List, [], ◌∷◌, ◌++◌}
+use Rattle.std.specs.Prelude.{length, false, cond}
 use Rattle.std.specs.Prelude.{Option, Some, None, nat_lt, if◌then◌else◌, get_or}
 use Rattle.std.specs.Option.{option_or}
 use Rattle.std.specs.BTreeMap as tree
 use Rattle.std.specs.BTreeMap.{BTreeMap}
 use Rattle.std.specs.Map.{keys_of}
 use Rattle.lanes.specs.Sets.{member}
-use Rattle.lineage.specs.Lineage.{Row, row_cmp, Lineage, has_row}
+use Rattle.lineage.specs.Lineage.{Row, row_cmp}
 use Rattle.lineage.specs.declared.blocks.Block.{Block}
 use Rattle.lineage.specs.declared.versions.Versions.{Versions}
-
--- whether the row n of a block of a table is in the set
-abbrev pub has_in_block : Lineage → ℕ → ℕ → ℕ → Bool
-has_in_block set table block n = has_row set (table, 65536 * block + n)
-
--- no row of the block is in the set
-abbrev pub HasNone : Lineage → ℕ → ℕ → Type 0
-HasNone set table block = (n : ℕ) → n < 65536 → has_in_block set table block n ≡ false
-
--- 1,024 words: bit i of word j is set exactly where the row 64 * j + i of the block is in the set
-pub record IsBlock (set : Lineage) (table block : ℕ) (words : List ℕ) : Type 0 where
-  pub long : length words ≡ 1024
-  pub bits : (n : ℕ) → n < 65536 → member words n ≡ has_in_block set table block n
 
 -- ---- how a set keeps them
 

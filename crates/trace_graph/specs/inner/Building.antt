@@ -4,24 +4,15 @@ use Rattle.std.specs.Prelude.{if◌then◌else◌, nat_le, Option, Some, None}
 use Rattle.std.specs.List.{list_any}
 use Rattle.ldv_value.specs.Limits.{max_processes}
 use Rattle.run_model.specs.ValidTrace.{made_after}
-use Rattle.trace_graph.specs.Types.{Event, Node, Path, Process, Row, Ask, Reply, Edge}
-use Rattle.trace_graph.specs.declared.key.NodeKey.{NodeKey}
-use Rattle.trace_graph.specs.declared.key.NodeKey.TheVariants as keys
+use Rattle.trace_graph.specs.Types.{Event, Node, Edge}
 use Rattle.trace_graph.specs.declared.span.Span.{Span}
 use Rattle.trace_graph.specs.declared.note.Note.{Note}
 use Rattle.trace_graph.specs.declared.building.Building.{Building}
 use Rattle.trace_graph.specs.Links.{Link, event_links}
 use Rattle.trace_graph.specs.Graph.{Parts, same_node, place_in}
+use Rattle.trace_graph.specs.Lent.{node_of}
 
 -- ---- what lies in memory
-
--- the node that a key names
-abbrev pub node_of : NodeKey → Node
-node_of (keys.Path path) = Path path.now
-node_of (keys.Process process) = Process process
-node_of (keys.Row table row version) = Row (record { table = table.now; row = row; version = version })
-node_of (keys.Ask statement) = Ask statement
-node_of (keys.Reply statement) = Reply statement
 
 -- the edge of an entry: two places, and a span of time
 abbrev pub edge_at : (ℕ × ℕ) × Span → Edge

@@ -1,7 +1,7 @@
 -- The live row of a table with a key.
 use Rattle.std.specs.Prelude.{List, find}
 use Rattle.std.specs.Option.{option_map, option_to_list}
-use Rattle.query_eval.specs.TableScan.{with_version}
+use Rattle.query_eval.specs.inner.TableScan.{with_version}
 use Rattle.query_eval.specs.Types.{TableRow, Value}
 use Rattle.query_eval.specs.declared.source.SourceRow.{SourceRow}
 use Rattle.table_store.specs.Histories.{TableHistory, rows_now}

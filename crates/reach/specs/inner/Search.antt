@@ -1,26 +1,13 @@
 -- The search for the latest times, which goes backwards from the node.
-use Rattle.std.specs.Prelude.{◌≡◌, ℕ, ◌+◌, ◌-◌, ◌^◌, ◌⊎◌, min, List, [], ◌∷◌, Bool, true, false, ◌&&◌, not, ◌==◌, nat_le}
-use Rattle.std.specs.Prelude.{◌<◌, Option, None, Some, Contains, slice_set, length, sum_by, replicate, if◌then◌else◌}
+use Rattle.std.specs.Prelude.{◌≡◌, ℕ, ◌+◌, ◌-◌, ◌^◌, ◌⊎◌, List, [], ◌∷◌, Bool, true, false, ◌==◌}
+use Rattle.std.specs.Prelude.{◌<◌, Option, None, Some, Contains, slice_set, length, sum_by, replicate}
+use Rattle.std.specs.Prelude.{if◌then◌else◌}
 use Rattle.std.specs.List.{filter, All}
 use Rattle.reach.specs.Types.{Edge}
 use Rattle.reach.specs.Reach.{Leg, IsPath}
-use Rattle.reach.specs.Found.{Times, time_at, reaches}
+use Rattle.reach.specs.Found.{Times, time_at, reaches, last_by, is_later, times_with_source, room_of}
 
 -- ---- one edge
-
--- the latest time at which an edge may be taken, where its target may be left up to a time
-abbrev pub last_by : Edge → ℕ → ℕ
-last_by edge time = min edge.last time
-
--- it may be taken then, which is later than the latest time that its source has so far
-abbrev pub is_later : Times → Edge → ℕ → Bool
-is_later latest edge time =
-    nat_le edge.first (last_by edge time) && not (reaches (last_by edge time) (time_at latest edge.source))
-
--- with that time for its source
-abbrev pub times_with_source : Times → Edge → ℕ → Times
-times_with_source latest edge time =
-    if is_later latest edge time then slice_set latest edge.source (Some (last_by edge time)) else latest
 
 -- places whose edges are to be looked at, each with its latest time
 abbrev pub Queue : Type 0
@@ -111,11 +98,6 @@ abbrev pub AreLatest : List Edge → ℕ → ℕ → Times → Type 0
 AreLatest edges node limit latest = IsSearch edges node limit latest [] [] 0
 
 -- ---- how much is left
-
--- by how much a time may still rise, up to a limit
-abbrev pub room_of : ℕ → Option ℕ → ℕ
-room_of limit None = limit + 1
-room_of limit (Some time) = limit - time
 
 -- what falls with each place that is taken out of the queue. No time is above the limit
 abbrev pub work_left : Times → Queue → ℕ

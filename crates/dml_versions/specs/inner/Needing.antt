@@ -8,7 +8,7 @@ use Rattle.sql_model.specs.Scope.{table_at}
 use Rattle.table_store.specs.Histories.{tables_now}
 use Rattle.table_store.specs.Referring.{are_apart, parents_in_db}
 use Rattle.table_store.specs.Stops.{has_number}
-use Rattle.dml_versions.specs.Finding.{version_of}
+use Rattle.dml_versions.specs.inner.Finding.{version_of}
 use Rattle.dml_versions.specs.Types.{Member, Need, L, K, P, C, RowHistory, StoreHistory, Table, TableRow}
 use Rattle.dml_versions.specs.Versions.{versions_now}
 use Rattle.dml_versions.specs.declared.found.Found.{Found}

@@ -5,8 +5,7 @@ use Rattle.std.specs.declared.alloc.Global.{Global}
 use Rattle.std.specs.Coded.{Coded, code_by, coded×, coded_list, coded_ℕ}
 use Rattle.std.specs.FinMap.{FinMap, from_entries, entries, keys}
 use Rattle.ldv_value.specs.declared.file.File.{File}
-use Rattle.ldv_value.specs.FileState.{path_cmp, file_of, put_file, FileState}
-use Rattle.ldv_value.specs.FileState.{FileRefusal, NotFound, AlreadyExists}
+use Rattle.ldv_value.specs.FileState.{path_cmp, file_of, FileState, FileRefusal, NotFound, AlreadyExists}
 use Rattle.file_tree.specs.declared.error.TreeStop.{TreeStop}
 use Rattle.file_tree.specs.declared.error.TreeStop.TheVariants.{Absent, Taken}
 
@@ -43,11 +42,6 @@ files_in m = map file_from (entries m)
 
 abbrev pub paths_in : PathSet → List (List ℕ)
 paths_in m = keys m
-
--- files put in from the last to the first, so that of two at one path the first is kept
-abbrev pub files_from : List File → List File
-files_from [] = []
-files_from (f ∷ fs) = put_file f.path f.content (files_from fs)
 
 -- a refusal as an error of a tree
 abbrev pub stop_of : FileRefusal → TreeStop
