@@ -9,7 +9,7 @@ use crate::compact_joined::{CompactJoined, CompactRun};
 use crate::joined::{JoinedRun, Reason};
 use ldv_value::List;
 use package_codec::{
-    Cursor, Decode, DecodeError, Width, decode_list, decode_reason, decode_text, decode_u32,
+    Cursor, Decode, DecodeStop, Width, decode_list, decode_reason, decode_text, decode_u32,
     decode_u64,
 };
 use std::alloc::Global;
@@ -19,7 +19,7 @@ impl Decode for Reason {
 
     ghost reading = { named_reason_at };
 
-    fn decode(alloc: Global, cursor: &mut Cursor) -> Result<Reason, DecodeError> {
+    fn decode(alloc: Global, cursor: &mut Cursor) -> Result<Reason, DecodeStop> {
         let table = decode_text(alloc, cursor)?;
         let row = decode_u32(cursor)?;
         let (statement, rule) = decode_reason(cursor)?;
@@ -32,7 +32,7 @@ impl Decode for Reason {
     }
 }
 
-fn decode_bare_run(alloc: Global, cursor: &mut Cursor) -> Result<JoinedRun, DecodeError>
+fn decode_bare_run(alloc: Global, cursor: &mut Cursor) -> Result<JoinedRun, DecodeStop>
     ensures { Decodes result cursor.new (bare_run_at cursor.old) }
 {
     let start = decode_list(alloc, Width::Two, cursor)?;
@@ -54,7 +54,7 @@ fn decode_bare_run(alloc: Global, cursor: &mut Cursor) -> Result<JoinedRun, Deco
     })
 }
 
-fn decode_cut_run(alloc: Global, cursor: &mut Cursor) -> Result<CompactRun, DecodeError>
+fn decode_cut_run(alloc: Global, cursor: &mut Cursor) -> Result<CompactRun, DecodeStop>
     ensures { Decodes result cursor.new (compact_run_at cursor.old) }
 {
     let bare = decode_bare_run(alloc, cursor)?;
@@ -62,7 +62,7 @@ fn decode_cut_run(alloc: Global, cursor: &mut Cursor) -> Result<CompactRun, Deco
     Ok(CompactRun { bare, runs })
 }
 
-fn decode_cut_joined(alloc: Global, cursor: &mut Cursor) -> Result<CompactJoined, DecodeError>
+fn decode_cut_joined(alloc: Global, cursor: &mut Cursor) -> Result<CompactJoined, DecodeStop>
     ensures { Decodes result cursor.new (compact_joined_at cursor.old) }
 {
     let files = decode_list(alloc, Width::Four, cursor)?;
@@ -79,7 +79,7 @@ fn decode_cut_joined(alloc: Global, cursor: &mut Cursor) -> Result<CompactJoined
 
 /// Reads a joined package from all bytes between its magic and its digest, with the traces as runs.
 /// `Malformed`: the bytes aren't those of a joined package.
-pub fn decode_all(alloc: Global, bytes: &[u8]) -> Result<CompactJoined, DecodeError>
+pub fn decode_all(alloc: Global, bytes: &[u8]) -> Result<CompactJoined, DecodeStop>
     ensures { Makes result (compact_joined_of bytes.now) }
 {
     let mut cursor = Cursor::of(bytes);
@@ -87,6 +87,6 @@ pub fn decode_all(alloc: Global, bytes: &[u8]) -> Result<CompactJoined, DecodeEr
     if cursor.is_empty() {
         Ok(joined)
     } else {
-        Err(DecodeError::Malformed)
+        Err(DecodeStop::Malformed)
     }
 }

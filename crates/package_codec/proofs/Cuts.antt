@@ -2,8 +2,8 @@
 use Rattle.std.proofs.Common.{◌≡◌, ℕ, suc, ◌+◌, ◌-◌, ◌≤◌, ◌<◌, List, [], ◌∷◌, ◌++◌, Some, None, Err, refl, sym, ap, ◌∙◌, arith}
 use Rattle.run_model.specs.declared.event.Event.{Event}
 use Rattle.package_codec.specs.declared.trace.cutting.Cut.{Cut}
-use Rattle.package_codec.specs.declared.decode_error.DecodeError.{DecodeError}
-use Rattle.package_codec.specs.declared.decode_error.DecodeError.TheVariants.{NoMemory, Malformed}
+use Rattle.package_codec.specs.declared.decode_stop.DecodeStop.{DecodeStop}
+use Rattle.package_codec.specs.declared.decode_stop.DecodeStop.TheVariants.{NoMemory, Malformed}
 use Rattle.package_codec.specs.inner.Cutting.{cut_onto}
 use Rattle.package_codec.specs.Events.{event_at}
 use Rattle.package_codec.specs.Fields.{DecodeResult, ◌>>=◌, Decodes, items_at, made_at}
@@ -48,7 +48,7 @@ at_end cut count i bytes total lt h so_far =
     let one : with_cut cut (items_at event_at (count - i) bytes) ≡ None = rw (k, h) refl in
     sym so_far ∙ one
 
-pub ends : (cut : Cut) (count i : ℕ) (bytes left end : List ℕ) (total : DecodeResult (List EventRun)) (e : DecodeError) → i < count → Decodes {X = Event} (Err e) left (event_at bytes)
+pub ends : (cut : Cut) (count i : ℕ) (bytes left end : List ℕ) (total : DecodeResult (List EventRun)) (e : DecodeStop) → i < count → Decodes {X = Event} (Err e) left (event_at bytes)
     → with_cut cut (items_at event_at (count - i) bytes) ≡ total → Decodes {X = List EventRun} (Err e) end total
 ends cut count i bytes left end total NoMemory lt h so_far = tt
 ends cut count i bytes left end total Malformed lt h so_far = at_end cut count i bytes total lt h so_far

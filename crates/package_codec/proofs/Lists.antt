@@ -1,8 +1,8 @@
 -- Lists that are read or written item by item, as a loop does.
 use Rattle.std.proofs.Common.{◌≡◌, ℕ, suc, ◌-◌, ◌+◌, ◌≤◌, ◌<◌, List, [], ◌∷◌, ◌++◌, Some, None, Err, refl, sym, ap, ◌∙◌, append_assoc, arith}
 use Rattle.std.proofs.lemmas.List.{append-nil}
-use Rattle.package_codec.specs.declared.decode_error.DecodeError.{DecodeError}
-use Rattle.package_codec.specs.declared.decode_error.DecodeError.TheVariants.{NoMemory, Malformed}
+use Rattle.package_codec.specs.declared.decode_stop.DecodeStop.{DecodeStop}
+use Rattle.package_codec.specs.declared.decode_stop.DecodeStop.TheVariants.{NoMemory, Malformed}
 use Rattle.package_codec.specs.Fields.{DecodeResult, ◌>>=◌, Decodes, items_at}
 
 -- what was read before, and what is still read
@@ -34,7 +34,7 @@ at_end item_at front count i bytes total lt h so_far =
     let one : with_front front (items_at item_at (count - i) bytes) ≡ None = rw (k, h) refl in
     sym so_far ∙ one
 
-pub ends : {X : Type 0} (item_at : List ℕ → DecodeResult X) (front : List X) (count i : ℕ) (bytes left end : List ℕ) (total : DecodeResult (List X)) (e : DecodeError) → i < count → Decodes {X = X} (Err e) left (item_at bytes)
+pub ends : {X : Type 0} (item_at : List ℕ → DecodeResult X) (front : List X) (count i : ℕ) (bytes left end : List ℕ) (total : DecodeResult (List X)) (e : DecodeStop) → i < count → Decodes {X = X} (Err e) left (item_at bytes)
     → with_front front (items_at item_at (count - i) bytes) ≡ total → Decodes {X = List X} (Err e) end total
 ends item_at front count i bytes left end total NoMemory lt h so_far = tt
 ends item_at front count i bytes left end total Malformed lt h so_far = at_end item_at front count i bytes total lt h so_far

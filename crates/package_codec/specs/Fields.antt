@@ -5,8 +5,8 @@ use Rattle.std.specs.List.{flat_map}
 use Rattle.std.specs.Int.{Width, w8, w32, w64, byte_len, to_be_bytes, from_be_bytes, cast_signed}
 use Rattle.ldv_value.specs.Texts.{text_of}
 pub use Rattle.ldv_value.specs.Options.{◌>>=◌}
-use Rattle.package_codec.specs.declared.decode_error.DecodeError.{DecodeError}
-use Rattle.package_codec.specs.declared.decode_error.DecodeError.TheVariants.{NoMemory, Malformed}
+use Rattle.package_codec.specs.declared.decode_stop.DecodeStop.{DecodeStop}
+use Rattle.package_codec.specs.declared.decode_stop.DecodeStop.TheVariants.{NoMemory, Malformed}
 
 -- a value and the bytes after it, or nothing where the bytes begin with no spelling
 abbrev pub DecodeResult : Type 0 → Type 0
@@ -32,7 +32,7 @@ made_at make a_at bytes = do
   Some (b, a.1)
 
 -- A function returned what reading gives, and left what reading leaves, unless memory ran out.
-abbrev pub Decodes : {X : Type 0} → Result X DecodeError → List ℕ → DecodeResult X → Type 0
+abbrev pub Decodes : {X : Type 0} → Result X DecodeStop → List ℕ → DecodeResult X → Type 0
 Decodes (Ok x) left read = read ≡ Some (x, left)
 Decodes (Err NoMemory) left read = Unit {0}
 Decodes (Err Malformed) left read = read ≡ None
@@ -41,7 +41,7 @@ abbrev pub bytes_at : ℕ → List ℕ → DecodeResult (List ℕ)
 bytes_at n bytes = if nat_lt (length bytes) n then None else Some (take n bytes, drop n bytes)
 
 -- A function returned what a test of a part gives, unless memory ran out.
-abbrev pub Makes : {X : Type 0} → Result X DecodeError → Option X → Type 0
+abbrev pub Makes : {X : Type 0} → Result X DecodeStop → Option X → Type 0
 Makes (Ok x) made = made ≡ Some x
 Makes (Err NoMemory) made = Unit {0}
 Makes (Err Malformed) made = made ≡ None

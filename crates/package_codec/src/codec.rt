@@ -6,7 +6,7 @@ ghost use Rattle.package_codec.specs.Fields.{DecodeResult, Decodes, items_at, li
 ghost use Rattle.package_codec.specs.Widths.{of_count};
 
 use crate::cursor::Cursor;
-use crate::decode_error::DecodeError;
+use crate::decode_stop::DecodeStop;
 use crate::number::{decode_count, encode_count};
 use crate::width::Width;
 use ldv_value::{Bytes, List as Listed};
@@ -32,7 +32,7 @@ pub trait Decode: Drop {
     ghost reading: { List ℕ → DecodeResult Self };
 
     /// Reads an item, and moves the cursor behind it. `Malformed`: the bytes begin with no such item.
-    fn decode(alloc: Global, cursor: &mut Cursor) -> Result<Self, DecodeError>
+    fn decode(alloc: Global, cursor: &mut Cursor) -> Result<Self, DecodeStop>
         ensures { Decodes result cursor.new (reading cursor.old) };
 }
 
@@ -66,7 +66,7 @@ pub fn decode_list<X: Decode>(
     alloc: Global,
     width: Width,
     cursor: &mut Cursor,
-) -> Result<Listed<X>, DecodeError>
+) -> Result<Listed<X>, DecodeStop>
     ensures { Decodes result cursor.new (list_at (of_count width) X.reading cursor.old) }
 {
     let count = decode_count(width, cursor)?;
@@ -89,7 +89,7 @@ pub(crate) fn decode_items<X: Decode>(
     alloc: Global,
     count: usize,
     cursor: &mut Cursor,
-) -> Result<Listed<X>, DecodeError>
+) -> Result<Listed<X>, DecodeStop>
     ensures { Decodes result cursor.new (items_at X.reading count cursor.old) }
 {
     let mut items = list_for(alloc, count)?;
@@ -119,7 +119,7 @@ impl Decode for u32 {
 
     ghost reading = { number_at w32 };
 
-    fn decode(_alloc: Global, cursor: &mut Cursor) -> Result<u32, DecodeError> {
+    fn decode(_alloc: Global, cursor: &mut Cursor) -> Result<u32, DecodeStop> {
         crate::number::decode_u32(cursor)
     }
 }

@@ -6,53 +6,53 @@ ghost use Rattle.package_codec.specs.Fields.{Decodes, number_at, signed_at};
 ghost use Rattle.package_codec.specs.Widths.{of_count};
 
 use crate::cursor::Cursor;
-use crate::decode_error::DecodeError;
+use crate::decode_stop::DecodeStop;
 use crate::width::Width;
 use ldv_value::Bytes;
 use std::alloc::AllocError;
 
 /// Reads a number of one byte. `Malformed`: no byte is left.
-pub fn decode_u8(cursor: &mut Cursor) -> Result<u8, DecodeError>
+pub fn decode_u8(cursor: &mut Cursor) -> Result<u8, DecodeStop>
     ensures { Decodes result cursor.new (number_at w8 cursor.old) }
 {
     match cursor.next(1) {
-        None => Err(DecodeError::Malformed),
+        None => Err(DecodeStop::Malformed),
         Some(front) => Ok(front[0]),
     }
 }
 
 /// Reads a number of two bytes.
-pub(crate) fn decode_u16(cursor: &mut Cursor) -> Result<u16, DecodeError>
+pub(crate) fn decode_u16(cursor: &mut Cursor) -> Result<u16, DecodeStop>
     ensures { Decodes result cursor.new (number_at w16 cursor.old) }
 {
     match cursor.next(2) {
-        None => Err(DecodeError::Malformed),
+        None => Err(DecodeStop::Malformed),
         Some(front) => Ok(u16::from_be_bytes([front[0], front[1]])),
     }
 }
 
 /// Reads a number of four bytes. `Malformed`: fewer are left.
-pub fn decode_u32(cursor: &mut Cursor) -> Result<u32, DecodeError>
+pub fn decode_u32(cursor: &mut Cursor) -> Result<u32, DecodeStop>
     ensures { Decodes result cursor.new (number_at w32 cursor.old) }
 {
     match cursor.next(4) {
-        None => Err(DecodeError::Malformed),
+        None => Err(DecodeStop::Malformed),
         Some(front) => Ok(u32::from_be_bytes([front[0], front[1], front[2], front[3]])),
     }
 }
 
 /// Reads a number of eight bytes. `Malformed`: fewer are left.
-pub fn decode_u64(cursor: &mut Cursor) -> Result<u64, DecodeError>
+pub fn decode_u64(cursor: &mut Cursor) -> Result<u64, DecodeStop>
     ensures { Decodes result cursor.new (number_at w64 cursor.old) }
 {
     match cursor.next(8) {
-        None => Err(DecodeError::Malformed),
+        None => Err(DecodeStop::Malformed),
         Some(f) => Ok(u64::from_be_bytes([f[0], f[1], f[2], f[3], f[4], f[5], f[6], f[7]])),
     }
 }
 
 /// Reads a signed number in two's complement.
-pub(crate) fn decode_i64(cursor: &mut Cursor) -> Result<i64, DecodeError>
+pub(crate) fn decode_i64(cursor: &mut Cursor) -> Result<i64, DecodeStop>
     ensures { Decodes result cursor.new (signed_at cursor.old) }
 {
     Ok(decode_u64(cursor)?.cast_signed())
@@ -87,7 +87,7 @@ pub(crate) fn encode_i64(number: i64, to: &mut Bytes) -> Result<(), AllocError>
 }
 
 /// Reads a count of the given width.
-pub(crate) fn decode_count(width: Width, cursor: &mut Cursor) -> Result<u32, DecodeError>
+pub(crate) fn decode_count(width: Width, cursor: &mut Cursor) -> Result<u32, DecodeStop>
     ensures { Decodes result cursor.new (number_at (of_count width) cursor.old) }
 {
     match width {

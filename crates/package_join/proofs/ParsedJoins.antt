@@ -7,8 +7,8 @@ use Rattle.script_parse.specs.declared.script.Instr.{Instr}
 use Rattle.script_parse.specs.declared.script.Script.{Script}
 use Rattle.run_model.specs.Start.{start_script}
 use Rattle.package_codec.specs.declared.compact_package.CompactPackage.{CompactPackage}
-use Rattle.package_codec.specs.declared.decode_error.DecodeError.{DecodeError}
-use Rattle.package_codec.specs.declared.decode_error.DecodeError.TheVariants.{Malformed, NoMemory}
+use Rattle.package_codec.specs.declared.decode_stop.DecodeStop.{DecodeStop}
+use Rattle.package_codec.specs.declared.decode_stop.DecodeStop.TheVariants.{Malformed, NoMemory}
 use Rattle.package_codec.specs.declared.version.Version.TheVariants.{Two}
 use Rattle.package_codec.specs.CompactPackages.{expanded_package}
 use Rattle.package_codec.specs.Fields.{◌>>=◌, Makes}
@@ -83,7 +83,7 @@ by_read bytes (Some r) =
 cut_same : (bytes : List ℕ) → its_cut (parsed_joined_in bytes) ≡ compact_joined_in bytes
 cut_same bytes = by_read bytes (compact_joined_of bytes)
 
-pub cuts_made : (bytes : List ℕ) (result : Result ParsedJoined DecodeError) → Makes result (parsed_joined_in bytes)
+pub cuts_made : (bytes : List ℕ) (result : Result ParsedJoined DecodeStop) → Makes result (parsed_joined_in bytes)
     → Makes (cut_of result) (compact_joined_in bytes)
 cuts_made bytes (Ok p) made = sym (cut_same bytes) ∙ ap its_cut made
 cuts_made bytes (Err NoMemory) made = tt
@@ -137,6 +137,6 @@ read_starts bytes p is =
     let same : two.0 ≡ p = so_spelled (bytes_eq (compact_sections two.0.cut) bytes) two.0 p two.2 in
     subst StartRuns same (join_starts (picked_runs First one.0) (picked_runs Second one.0) two.0 refl refl two.1)
 
-pub starts_made : (bytes : List ℕ) (result : Result ParsedJoined DecodeError) → Makes result (parsed_joined_in bytes) → IfOk result StartRuns
+pub starts_made : (bytes : List ℕ) (result : Result ParsedJoined DecodeStop) → Makes result (parsed_joined_in bytes) → IfOk result StartRuns
 starts_made bytes (Ok p) made = read_starts bytes p made
 starts_made bytes (Err stop) made = tt

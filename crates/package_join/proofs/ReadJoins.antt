@@ -10,8 +10,8 @@ use Rattle.ldv_value.proofs.SameBytes.{bytes_eq-itself}
 use Rattle.sha2.specs.Sha256.{sha256}
 use Rattle.package_layout.specs.declared.damage.DamageKind.{DamageKind}
 use Rattle.package_layout.specs.declared.damage.DamageKind.TheVariants.{Magic, Digest, Form}
-use Rattle.package_codec.specs.declared.decode_error.DecodeError.{DecodeError}
-use Rattle.package_codec.specs.declared.decode_error.DecodeError.TheVariants.{Malformed}
+use Rattle.package_codec.specs.declared.decode_stop.DecodeStop.{DecodeStop}
+use Rattle.package_codec.specs.declared.decode_stop.DecodeStop.TheVariants.{Malformed}
 use Rattle.package_layout.specs.declared.layout.PackageStop.{PackageStop}
 use Rattle.package_layout.specs.declared.layout.PackageStop.TheVariants.{Damaged, NoMemory}
 use Rattle.package_codec.specs.Fields.{◌>>=◌, Makes}
@@ -213,10 +213,10 @@ middle_ok bytes m r h d is e =
     same_joined (middle bytes) (clean bytes h) ∙ ap (option_map whole_join) (ap compact_joined_in (sym is) ∙ e) in
     λ i. by_digest (d i) (o i)
 
-pub middle_form : (bytes m : List ℕ) (e : DecodeError) → IsBytes bytes → has_digest bytes ≡ true → m ≡ middle bytes → e ≡ Malformed
+pub middle_form : (bytes m : List ℕ) (e : DecodeStop) → IsBytes bytes → has_digest bytes ≡ true → m ≡ middle bytes → e ≡ Malformed
     → Makes {X = CompactJoined} (Err e) (compact_joined_in m) → digested_reading bytes ≡ Err Form
 middle_form bytes m e h d is form none =
-    let no : compact_joined_in m ≡ None = subst (λ (e : DecodeError). Makes {X = CompactJoined} (Err e) (compact_joined_in m)) form none in
+    let no : compact_joined_in m ≡ None = subst (λ (e : DecodeStop). Makes {X = CompactJoined} (Err e) (compact_joined_in m)) form none in
     let o : joined_in (middle bytes) ≡ None =
     same_joined (middle bytes) (clean bytes h) ∙ ap (option_map whole_join) (ap compact_joined_in (sym is) ∙ no) in
     λ i. by_digest (d i) (o i)

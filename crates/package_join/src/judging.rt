@@ -17,7 +17,7 @@ use joined_data::{
     join_with_runs,
 };
 use ldv_value::Bytes;
-use package_codec::{CompactPackage, DecodeError, Version};
+use package_codec::{CompactPackage, DecodeStop, Version};
 use package_layout::valid_script;
 use run_model::PackedFiles;
 use script_parse::Script;
@@ -64,27 +64,27 @@ fn join_of_packages(
     alloc: Global,
     a: CompactPackage,
     b: CompactPackage,
-) -> Result<CompactJoined, DecodeError>
+) -> Result<CompactJoined, DecodeStop>
     ensures { Makes result (join_of_packages a b) }
 {
     match join_with_runs(alloc, a, b) {
         Ok(joined) => Ok(joined),
-        Err(JoinStop::Clash(_)) => Err(DecodeError::Malformed),
-        Err(JoinStop::NoMemory) => Err(DecodeError::NoMemory),
+        Err(JoinStop::Clash(_)) => Err(DecodeStop::Malformed),
+        Err(JoinStop::NoMemory) => Err(DecodeStop::NoMemory),
     }
 }
 
-fn some_script(found: Option<Script>) -> Result<Script, DecodeError>
+fn some_script(found: Option<Script>) -> Result<Script, DecodeStop>
     ensures { Makes result found }
 {
     match found {
         Some(script) => Ok(script),
-        None => Err(DecodeError::Malformed),
+        None => Err(DecodeStop::Malformed),
     }
 }
 
 // The script of a package, which has to be valid.
-fn valid_start(alloc: Global, package: &CompactPackage) -> Result<Script, DecodeError>
+fn valid_start(alloc: Global, package: &CompactPackage) -> Result<Script, DecodeStop>
     ensures { Makes result (valid_start «package».now) }
 {
     let found = valid_script(alloc, Version::Two, package)?;
@@ -95,7 +95,7 @@ fn parsed_join(
     alloc: Global,
     a: CompactPackage,
     b: CompactPackage,
-) -> Result<ParsedJoined, DecodeError>
+) -> Result<ParsedJoined, DecodeStop>
     ensures { Makes result (parsed_join a b) }
 {
     let first = valid_start(alloc, &a)?;
@@ -104,7 +104,7 @@ fn parsed_join(
     Ok(ParsedJoined { cut, first, second })
 }
 
-fn parsed_anew(alloc: Global, joined: CompactJoined) -> Result<ParsedJoined, DecodeError>
+fn parsed_anew(alloc: Global, joined: CompactJoined) -> Result<ParsedJoined, DecodeStop>
     ensures { Makes result (parsed_anew joined) }
 {
     let Pair { first, second } = picked_pair(alloc, joined)?;
@@ -115,7 +115,7 @@ fn if_spelling_is(
     alloc: Global,
     bytes: &[u8],
     joined: ParsedJoined,
-) -> Result<ParsedJoined, DecodeError>
+) -> Result<ParsedJoined, DecodeStop>
     ensures so { Makes result (if_sections_are bytes.now joined) }
     ensures typed { IfOk result (λ p. AllByRecursion TypedCommonTable p.cut.tables) }
 {
@@ -124,11 +124,11 @@ fn if_spelling_is(
     if made.as_slice() == bytes {
         Ok(joined)
     } else {
-        Err(DecodeError::Malformed)
+        Err(DecodeStop::Malformed)
     }
 }
 
-fn joined_by_parts(alloc: Global, bytes: &[u8]) -> Result<ParsedJoined, DecodeError>
+fn joined_by_parts(alloc: Global, bytes: &[u8]) -> Result<ParsedJoined, DecodeStop>
     ensures made { Makes result (parsed_joined_in bytes.now) }
     ensures typed { IfOk result (λ p. AllByRecursion TypedCommonTable p.cut.tables) }
 {
@@ -140,7 +140,7 @@ fn joined_by_parts(alloc: Global, bytes: &[u8]) -> Result<ParsedJoined, DecodeEr
 /// The valid joined package whose sections these bytes are, with the first scripts of its runs. The packages
 /// of its runs are joined anew, and must be spelled by the same bytes: so no list of it needs a test of its
 /// own.
-pub(crate) fn parsed_joined_in(alloc: Global, bytes: &[u8]) -> Result<ParsedJoined, DecodeError>
+pub(crate) fn parsed_joined_in(alloc: Global, bytes: &[u8]) -> Result<ParsedJoined, DecodeStop>
     ensures cuts { Makes (cut_of result) (compact_joined_in bytes.now) }
     ensures parsed { IfOk result StartRuns }
     // The numbers of its tables are those of their types.

@@ -14,7 +14,7 @@ ghost use Rattle.package_join.specs.Valid.{has_joined_magic, joined_damage_befor
 use crate::judging::parsed_joined_in;
 use crate::spelling::joined_magic;
 use joined_data::{CompactJoined, CompactRun, Joined, JoinedRun, ParsedJoined};
-use package_codec::{DecodeError, events_in, first_eight};
+use package_codec::{DecodeStop, events_in, first_eight};
 use package_layout::{DamageKind, PackageStop, has_digest, middle};
 use std::alloc::{AllocError, Global};
 
@@ -175,7 +175,7 @@ fn middle_answer(alloc: Global, bytes: &[u8]) -> Result<ParsedJoined, PackageSto
 {
     match parsed_joined_in(alloc, middle(bytes)) {
         Ok(joined) => Ok(joined),
-        Err(DecodeError::Malformed) => Err(PackageStop::Damaged(DamageKind::Form)),
-        Err(DecodeError::NoMemory) => Err(PackageStop::NoMemory),
+        Err(DecodeStop::Malformed) => Err(PackageStop::Damaged(DamageKind::Form)),
+        Err(DecodeStop::NoMemory) => Err(PackageStop::NoMemory),
     }
 }

@@ -11,8 +11,8 @@ use Rattle.run_model.specs.declared.package.Package.{Package}
 use Rattle.package_layout.specs.declared.damage.DamageKind.TheVariants.{Digest, Form}
 use Rattle.package_codec.specs.declared.compact_package.CompactPackage.{CompactPackage}
 use Rattle.package_codec.specs.Events.{event_at}
-use Rattle.package_codec.specs.declared.decode_error.DecodeError.{DecodeError}
-use Rattle.package_codec.specs.declared.decode_error.DecodeError.TheVariants.{Malformed}
+use Rattle.package_codec.specs.declared.decode_stop.DecodeStop.{DecodeStop}
+use Rattle.package_codec.specs.declared.decode_stop.DecodeStop.TheVariants.{Malformed}
 use Rattle.package_codec.specs.Fields.{DecodeResult, ◌>>=◌, Makes, list_at}
 use Rattle.package_codec.specs.Plain.{fits_version}
 use Rattle.package_codec.specs.CompactPackages.{expanded_package, cut_at, with_events}
@@ -197,9 +197,9 @@ middle_read v bytes r h e = runs_read v (middle bytes) r (clean bytes h) e
 pub middle_ok : (v : Version) (bytes m : List ℕ) (r : CompactPackage) → IsBytes bytes → has_digest bytes ≡ true → m ≡ middle bytes → compact_in v m ≡ Some r → reading_as v bytes ≡ Ok (expanded_package r)
 middle_ok v bytes m r h d is e = read_ok v bytes r h d (ap (compact_in v) (sym is) ∙ e)
 
-pub middle_form : (v : Version) (bytes m : List ℕ) (e : DecodeError) → IsBytes bytes → has_digest bytes ≡ true → m ≡ middle bytes → e ≡ Malformed → Makes {X = CompactPackage} (Err e) (compact_in v m) → reading_as v bytes ≡ Err Form
+pub middle_form : (v : Version) (bytes m : List ℕ) (e : DecodeStop) → IsBytes bytes → has_digest bytes ≡ true → m ≡ middle bytes → e ≡ Malformed → Makes {X = CompactPackage} (Err e) (compact_in v m) → reading_as v bytes ≡ Err Form
 middle_form v bytes m e h d is form none =
-    let no : compact_in v m ≡ None = subst (λ (e : DecodeError). Makes {X = CompactPackage} (Err e) (compact_in v m)) form none in
+    let no : compact_in v m ≡ None = subst (λ (e : DecodeStop). Makes {X = CompactPackage} (Err e) (compact_in v m)) form none in
     read_none v bytes h d (ap (compact_in v) (sym is) ∙ no)
 
 pub middle_runs : (v : Version) (bytes m : List ℕ) (r : CompactPackage) → IsBytes bytes → m ≡ middle bytes → compact_in v m ≡ Some r → are_runs r.runs ≡ true

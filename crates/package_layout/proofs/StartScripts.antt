@@ -10,7 +10,7 @@ use Rattle.run_model.specs.Package.{or_empty, own_file, own_world}
 use Rattle.run_model.specs.Start.{start_script}
 use Rattle.run_model.specs.declared.package.Package.{Package}
 use Rattle.run_model.specs.declared.package.PackedFile.{PackedFile}
-use Rattle.package_codec.specs.declared.decode_error.DecodeError.{DecodeError}
+use Rattle.package_codec.specs.declared.decode_stop.DecodeStop.{DecodeStop}
 use Rattle.package_codec.specs.declared.compact_package.ParsedPackage.{ParsedPackage}
 use Rattle.package_codec.specs.declared.compact_package.CompactPackage.{CompactPackage}
 use Rattle.package_codec.specs.Fields.{◌>>=◌}
@@ -115,7 +115,7 @@ pub starts_with : (v : Version) (r : CompactPackage) (script : List Instr) → v
     → start_script (own_world r.bare) ≡ Some script
 starts_with v r script is = own_start r.bare.start r.bare.files script (packed_starts v r script is)
 
-pub with_start : (v : Version) (r : CompactPackage) (o : Option (List Instr)) (result : Result ParsedPackage DecodeError) → o ≡ valid_script v r
+pub with_start : (v : Version) (r : CompactPackage) (o : Option (List Instr)) (result : Result ParsedPackage DecodeStop) → o ≡ valid_script v r
     → IfOk result (λ (p : ParsedPackage). (p.cut ≡ r) × (o ≡ Some p.script.instructions)) → IfOk result StartsWith
 with_start v r o (Ok p) is parts = starts_with v p.cut p.script.instructions (ap (valid_script v) parts.0 ∙ sym is ∙ parts.1)
 with_start v r o (Err stop) is parts = tt

@@ -18,7 +18,7 @@ use crate::digest::{has_digest, middle};
 use crate::sections::decode_all;
 use crate::validity::valid_script;
 use package_codec::{
-    CompactPackage, DecodeError, ParsedPackage, Version, expanded_package, version_of,
+    CompactPackage, DecodeStop, ParsedPackage, Version, expanded_package, version_of,
 };
 use run_model::Package;
 use script_parse::Script;
@@ -188,20 +188,20 @@ fn middle_answer(
 {
     match parsed_in(alloc, version, middle(bytes)) {
         Ok(parsed) => Ok(parsed),
-        Err(DecodeError::Malformed) => Err(PackageStop::Damaged(DamageKind::Form)),
-        Err(DecodeError::NoMemory) => Err(PackageStop::NoMemory),
+        Err(DecodeStop::Malformed) => Err(PackageStop::Damaged(DamageKind::Form)),
+        Err(DecodeStop::NoMemory) => Err(PackageStop::NoMemory),
     }
 }
 
 // Nothing is expanded before all is judged: a few bytes can stand for 20,000,001 events.
-fn parsed_in(alloc: Global, version: Version, middle: &[u8]) -> Result<ParsedPackage, DecodeError>
+fn parsed_in(alloc: Global, version: Version, middle: &[u8]) -> Result<ParsedPackage, DecodeStop>
     ensures made { Makes (cut_of result) (compact_in version middle.now) }
     ensures parsed { IfOk result StartsWith }
 {
     match decode_all(alloc, version, middle) {
         Ok(package) => judged_package(alloc, version, package),
-        Err(DecodeError::Malformed) => Err(DecodeError::Malformed),
-        Err(DecodeError::NoMemory) => Err(DecodeError::NoMemory),
+        Err(DecodeStop::Malformed) => Err(DecodeStop::Malformed),
+        Err(DecodeStop::NoMemory) => Err(DecodeStop::NoMemory),
     }
 }
 
@@ -209,7 +209,7 @@ fn judged_package(
     alloc: Global,
     version: Version,
     package: CompactPackage,
-) -> Result<ParsedPackage, DecodeError>
+) -> Result<ParsedPackage, DecodeStop>
     ensures made { Makes (cut_of result) (package_if (valid_script version «package») «package») }
     ensures parsed { IfOk result StartsWith }
 {
@@ -217,7 +217,7 @@ fn judged_package(
     with_script(package, found)
 }
 
-fn with_script(package: CompactPackage, found: Option<Script>) -> Result<ParsedPackage, DecodeError>
+fn with_script(package: CompactPackage, found: Option<Script>) -> Result<ParsedPackage, DecodeStop>
     ensures made { Makes (cut_of result) (package_if (option_map (λ s. s.instructions) found) «package») }
     ensures parts { IfOk result (λ p. (p.cut ≡ «package»)
         × (option_map (λ s. s.instructions) found ≡ Some p.script.instructions)) }
@@ -227,6 +227,6 @@ fn with_script(package: CompactPackage, found: Option<Script>) -> Result<ParsedP
             cut: package,
             script,
         }),
-        None => Err(DecodeError::Malformed),
+        None => Err(DecodeStop::Malformed),
     }
 }

@@ -15,7 +15,7 @@ ghost use Rattle.package_layout.specs.Whole.{sections, trace_spelling, IsTyped};
 
 use ldv_value::{Bytes, List};
 use package_codec::{
-    CompactPackage, Cursor, DecodeError, EventRuns, Version, Width, decode_cut, decode_list,
+    CompactPackage, Cursor, DecodeStop, EventRuns, Version, Width, decode_cut, decode_list,
     decode_tables, decode_u8, decode_u32, decode_u64, encode_list, encode_tables, encode_trace,
     encode_u8, encode_u32, encode_u64,
 };
@@ -31,20 +31,20 @@ fn number_of_mode(mode: Mode) -> u8
     }
 }
 
-fn decode_mode(cursor: &mut Cursor) -> Result<Mode, DecodeError>
+fn decode_mode(cursor: &mut Cursor) -> Result<Mode, DecodeStop>
     ensures { Decodes result cursor.new (mode_at cursor.old) }
 {
     let number = decode_u8(cursor)?;
     mode_of(number)
 }
 
-fn mode_of(number: u8) -> Result<Mode, DecodeError>
+fn mode_of(number: u8) -> Result<Mode, DecodeStop>
     ensures { Makes result (mode_of number) }
 {
     match number {
         1 => Ok(Mode::Included),
         2 => Ok(Mode::Excluded),
-        _ => Err(DecodeError::Malformed),
+        _ => Err(DecodeStop::Malformed),
     }
 }
 
@@ -110,7 +110,7 @@ fn encode_parts(package: &Package, version: Version, to: &mut Bytes) -> Result<(
     encode_list(Width::Four, &package.logs, to)
 }
 
-fn decode_bare(alloc: Global, version: Version, cursor: &mut Cursor) -> Result<Package, DecodeError>
+fn decode_bare(alloc: Global, version: Version, cursor: &mut Cursor) -> Result<Package, DecodeStop>
     ensures { Decodes result cursor.new (bare_at version cursor.old) }
 {
     let mode = decode_mode(cursor)?;
@@ -136,7 +136,7 @@ fn decode_runs(
     alloc: Global,
     version: Version,
     cursor: &mut Cursor,
-) -> Result<EventRuns, DecodeError>
+) -> Result<EventRuns, DecodeStop>
     ensures { Decodes result cursor.new (cut_at version cursor.old) }
 {
     match version {
@@ -149,7 +149,7 @@ fn decode_sections(
     alloc: Global,
     version: Version,
     cursor: &mut Cursor,
-) -> Result<CompactPackage, DecodeError>
+) -> Result<CompactPackage, DecodeStop>
     ensures { Decodes result cursor.new (compact_sections_at version cursor.old) }
 {
     let bare = decode_bare(alloc, version, cursor)?;
@@ -162,7 +162,7 @@ pub(crate) fn decode_all(
     alloc: Global,
     version: Version,
     bytes: &[u8],
-) -> Result<CompactPackage, DecodeError>
+) -> Result<CompactPackage, DecodeStop>
     ensures { Makes result (compact_sections_of version bytes.now) }
 {
     let mut cursor = Cursor::of(bytes);
@@ -170,6 +170,6 @@ pub(crate) fn decode_all(
     if cursor.is_empty() {
         Ok(package)
     } else {
-        Err(DecodeError::Malformed)
+        Err(DecodeStop::Malformed)
     }
 }

@@ -11,7 +11,7 @@ ghost use Rattle.script_parse.specs.Lines.{line_of};
 use crate::forms::instruction;
 use crate::keyword::find_keyword;
 use crate::line::Line;
-use crate::line_error::LineError;
+use crate::line_stop::LineStop;
 use crate::operand::is_name;
 use crate::scan::{is_blank, tokens};
 use crate::token::Token;
@@ -19,11 +19,11 @@ use ldv_value::Utf8;
 use std::alloc::Global;
 
 /// Reads what a line says. `Malformed`: the line is bad whatever the other lines say.
-pub(crate) fn read_line(alloc: Global, line: &[u8]) -> Result<Line, LineError>
+pub(crate) fn read_line(alloc: Global, line: &[u8]) -> Result<Line, LineStop>
     ensures { GivesLine result (line_of line.now) }
 {
     if !is_text(line) {
-        return Err(LineError::Malformed);
+        return Err(LineStop::Malformed);
     }
     if is_comment(line) {
         return Ok(Line::Blank);
@@ -55,42 +55,42 @@ fn first_nonblank(line: &[u8]) -> Option<u8>
 }
 
 // What the tokens of a line say.
-fn form(alloc: Global, tokens: &[Token]) -> Result<Line, LineError>
+fn form(alloc: Global, tokens: &[Token]) -> Result<Line, LineStop>
     ensures { GivesLine result (form_of tokens.now) }
 {
     match tokens {
         [] => Ok(Line::Blank),
         [first, rest @ ..] => match first {
             Token::Word(word) => line_of_word(alloc, word.as_str(), rest),
-            Token::Number(_) => Err(LineError::Malformed),
-            Token::Quoted(_) => Err(LineError::Malformed),
+            Token::Number(_) => Err(LineStop::Malformed),
+            Token::Quoted(_) => Err(LineStop::Malformed),
         },
     }
 }
 
 // What a line says whose first token is a word: alone it is a label, else a keyword.
-fn line_of_word(alloc: Global, word: &str, rest: &[Token]) -> Result<Line, LineError>
+fn line_of_word(alloc: Global, word: &str, rest: &[Token]) -> Result<Line, LineStop>
     ensures { GivesLine result (line_of_word word.now rest.now) }
 {
     match rest {
         [] => label(alloc, word),
         [_, ..] => {
             let Some(keyword) = find_keyword(word) else {
-                return Err(LineError::Malformed);
+                return Err(LineStop::Malformed);
             };
             instruction(alloc, keyword, rest)
         }
     }
 }
 
-fn label(alloc: Global, word: &str) -> Result<Line, LineError>
+fn label(alloc: Global, word: &str) -> Result<Line, LineStop>
     ensures { GivesLine result (label_in word.now) }
 {
     let Some(name) = before_colon(word) else {
-        return Err(LineError::Malformed);
+        return Err(LineStop::Malformed);
     };
     if !is_name(name) {
-        return Err(LineError::Malformed);
+        return Err(LineStop::Malformed);
     }
     Ok(Line::Label(Utf8::of(alloc, name)?))
 }

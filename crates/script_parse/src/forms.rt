@@ -11,7 +11,7 @@ ghost use Rattle.script_parse.specs.Forms.{spawn_of, fetch_of, with_else, instru
 
 use crate::keyword::{Keyword, Sign, find_comparison, find_mode, find_sign};
 use crate::line::Line;
-use crate::line_error::LineError;
+use crate::line_stop::LineStop;
 use crate::operand::{name, names_from_one, operand, operands, operands_from_one, token_is};
 use crate::script::{CalcOp, Instr, Operand};
 use crate::token::Token;
@@ -23,7 +23,7 @@ pub(crate) fn instruction(
     alloc: Global,
     keyword: Keyword,
     tokens: &[Token],
-) -> Result<Line, LineError>
+) -> Result<Line, LineStop>
     ensures { GivesLine result (instruction_of keyword tokens.now) }
 {
     match keyword {
@@ -50,22 +50,22 @@ pub(crate) fn instruction(
 }
 
 // `x = ..`
-fn let_form(tokens: &[Token]) -> Result<Line, LineError>
+fn let_form(tokens: &[Token]) -> Result<Line, LineStop>
     ensures { GivesLine result (let_of tokens.now) }
 {
     let [x, equals, rest @ ..] = tokens else {
-        return Err(LineError::Malformed);
+        return Err(LineStop::Malformed);
     };
     let to = name(x)?;
     let made = let_value(to, rest)?;
     if !token_is(equals, "=") {
-        return Err(LineError::Malformed);
+        return Err(LineStop::Malformed);
     }
     Ok(Line::Plain(made))
 }
 
 // `v`, `int v` or `v + w`
-fn let_value(to: Utf8, tokens: &[Token]) -> Result<Instr, LineError>
+fn let_value(to: Utf8, tokens: &[Token]) -> Result<Instr, LineStop>
     ensures { GivesLine result (let_value to tokens.now) }
 {
     match tokens {
@@ -76,7 +76,7 @@ fn let_value(to: Utf8, tokens: &[Token]) -> Result<Instr, LineError>
         [int, v] => {
             let value = operand(v)?;
             if !token_is(int, "int") {
-                return Err(LineError::Malformed);
+                return Err(LineStop::Malformed);
             }
             Ok(Instr::ToInt { to, value })
         }
@@ -86,37 +86,37 @@ fn let_value(to: Utf8, tokens: &[Token]) -> Result<Instr, LineError>
             let right = operand(w)?;
             Ok(instr_of_sign(to, left, right, sign))
         }
-        _ => Err(LineError::Malformed),
+        _ => Err(LineStop::Malformed),
     }
 }
 
-fn sign(token: &Token) -> Result<Sign, LineError>
+fn sign(token: &Token) -> Result<Sign, LineStop>
     ensures { GivesLine result (sign_in token.now) }
 {
     match token {
-        Token::Word(word) => find_sign(word.as_str()).ok_or(LineError::Malformed),
-        Token::Number(_) => Err(LineError::Malformed),
-        Token::Quoted(_) => Err(LineError::Malformed),
+        Token::Word(word) => find_sign(word.as_str()).ok_or(LineStop::Malformed),
+        Token::Number(_) => Err(LineStop::Malformed),
+        Token::Quoted(_) => Err(LineStop::Malformed),
     }
 }
 
-fn comparison(token: &Token) -> Result<Cmp, LineError>
+fn comparison(token: &Token) -> Result<Cmp, LineStop>
     ensures { GivesLine result (comparison_in token.now) }
 {
     match token {
-        Token::Word(word) => find_comparison(word.as_str()).ok_or(LineError::Malformed),
-        Token::Number(_) => Err(LineError::Malformed),
-        Token::Quoted(_) => Err(LineError::Malformed),
+        Token::Word(word) => find_comparison(word.as_str()).ok_or(LineStop::Malformed),
+        Token::Number(_) => Err(LineStop::Malformed),
+        Token::Quoted(_) => Err(LineStop::Malformed),
     }
 }
 
-fn mode(token: &Token) -> Result<OpenMode, LineError>
+fn mode(token: &Token) -> Result<OpenMode, LineStop>
     ensures { GivesLine result (mode_in token.now) }
 {
     match token {
-        Token::Word(word) => find_mode(word.as_str()).ok_or(LineError::Malformed),
-        Token::Number(_) => Err(LineError::Malformed),
-        Token::Quoted(_) => Err(LineError::Malformed),
+        Token::Word(word) => find_mode(word.as_str()).ok_or(LineStop::Malformed),
+        Token::Number(_) => Err(LineStop::Malformed),
+        Token::Quoted(_) => Err(LineStop::Malformed),
     }
 }
 
@@ -147,45 +147,45 @@ fn instr_of_sign(to: Utf8, left: Operand, right: Operand, sign: Sign) -> Instr
 }
 
 // `x y v`
-fn cut_form(tokens: &[Token]) -> Result<Line, LineError>
+fn cut_form(tokens: &[Token]) -> Result<Line, LineStop>
     ensures { GivesLine result (cut_of tokens.now) }
 {
     let [x, y, v] = tokens else {
-        return Err(LineError::Malformed);
+        return Err(LineStop::Malformed);
     };
     let before = name(x)?;
     let after = name(y)?;
     let by = operand(v)?;
     if before == after {
-        return Err(LineError::Malformed);
+        return Err(LineStop::Malformed);
     }
     Ok(Line::Plain(Instr::Cut { before, after, by }))
 }
 
 // `L`
-fn goto_form(tokens: &[Token]) -> Result<Line, LineError>
+fn goto_form(tokens: &[Token]) -> Result<Line, LineStop>
     ensures { GivesLine result (goto_of tokens.now) }
 {
     let [l] = tokens else {
-        return Err(LineError::Malformed);
+        return Err(LineStop::Malformed);
     };
     let label = name(l)?;
     Ok(Line::Jumping(Instr::Jump { place: 0 }, label))
 }
 
 // `v = w goto L`
-fn if_form(tokens: &[Token]) -> Result<Line, LineError>
+fn if_form(tokens: &[Token]) -> Result<Line, LineStop>
     ensures { GivesLine result (if_of tokens.now) }
 {
     let [v, c, w, goto, l] = tokens else {
-        return Err(LineError::Malformed);
+        return Err(LineStop::Malformed);
     };
     let left = operand(v)?;
     let op = comparison(c)?;
     let right = operand(w)?;
     let label = name(l)?;
     if !token_is(goto, "goto") {
-        return Err(LineError::Malformed);
+        return Err(LineStop::Malformed);
     }
     Ok(Line::Jumping(
         Instr::JumpIf {
@@ -199,7 +199,7 @@ fn if_form(tokens: &[Token]) -> Result<Line, LineError>
 }
 
 // `v v*`
-fn print_form(alloc: Global, tokens: &[Token]) -> Result<Line, LineError>
+fn print_form(alloc: Global, tokens: &[Token]) -> Result<Line, LineStop>
     ensures { GivesLine result (print_of tokens.now) }
 {
     let values = operands_from_one(alloc, tokens)?;
@@ -207,22 +207,22 @@ fn print_form(alloc: Global, tokens: &[Token]) -> Result<Line, LineError>
 }
 
 // `v`
-fn exit_form(tokens: &[Token]) -> Result<Line, LineError>
+fn exit_form(tokens: &[Token]) -> Result<Line, LineStop>
     ensures { GivesLine result (exit_of tokens.now) }
 {
     let [v] = tokens else {
-        return Err(LineError::Malformed);
+        return Err(LineStop::Malformed);
     };
     let status = operand(v)?;
     Ok(Line::Plain(Instr::Exit { status }))
 }
 
 // `f v v*`
-fn write_form(alloc: Global, tokens: &[Token]) -> Result<Line, LineError>
+fn write_form(alloc: Global, tokens: &[Token]) -> Result<Line, LineStop>
     ensures { GivesLine result (write_of tokens.now) }
 {
     let [f, rest @ ..] = tokens else {
-        return Err(LineError::Malformed);
+        return Err(LineStop::Malformed);
     };
     let file = name(f)?;
     let values = operands_from_one(alloc, rest)?;
@@ -230,11 +230,11 @@ fn write_form(alloc: Global, tokens: &[Token]) -> Result<Line, LineError>
 }
 
 // `f g`
-fn copy_form(tokens: &[Token]) -> Result<Line, LineError>
+fn copy_form(tokens: &[Token]) -> Result<Line, LineStop>
     ensures { GivesLine result (copy_of tokens.now) }
 {
     let [f, g] = tokens else {
-        return Err(LineError::Malformed);
+        return Err(LineStop::Malformed);
     };
     let source = name(f)?;
     let target = name(g)?;
@@ -242,22 +242,22 @@ fn copy_form(tokens: &[Token]) -> Result<Line, LineError>
 }
 
 // `f`
-fn close_form(tokens: &[Token]) -> Result<Line, LineError>
+fn close_form(tokens: &[Token]) -> Result<Line, LineStop>
     ensures { GivesLine result (close_of tokens.now) }
 {
     let [f] = tokens else {
-        return Err(LineError::Malformed);
+        return Err(LineStop::Malformed);
     };
     let file = name(f)?;
     Ok(Line::Plain(Instr::Close { file }))
 }
 
 // `x v`
-fn exists_form(tokens: &[Token]) -> Result<Line, LineError>
+fn exists_form(tokens: &[Token]) -> Result<Line, LineStop>
     ensures { GivesLine result (exists_of tokens.now) }
 {
     let [x, v] = tokens else {
-        return Err(LineError::Malformed);
+        return Err(LineStop::Malformed);
     };
     let to = name(x)?;
     let path = operand(v)?;
@@ -265,11 +265,11 @@ fn exists_form(tokens: &[Token]) -> Result<Line, LineError>
 }
 
 // `x p`
-fn wait_form(tokens: &[Token]) -> Result<Line, LineError>
+fn wait_form(tokens: &[Token]) -> Result<Line, LineStop>
     ensures { GivesLine result (wait_of tokens.now) }
 {
     let [x, p] = tokens else {
-        return Err(LineError::Malformed);
+        return Err(LineStop::Malformed);
     };
     let to = name(x)?;
     let child = name(p)?;
@@ -277,11 +277,11 @@ fn wait_form(tokens: &[Token]) -> Result<Line, LineError>
 }
 
 // `c v v*`
-fn sql_form(alloc: Global, tokens: &[Token]) -> Result<Line, LineError>
+fn sql_form(alloc: Global, tokens: &[Token]) -> Result<Line, LineStop>
     ensures { GivesLine result (sql_of tokens.now) }
 {
     let [c, v, rest @ ..] = tokens else {
-        return Err(LineError::Malformed);
+        return Err(LineStop::Malformed);
     };
     let cursor = name(c)?;
     let text = operand(v)?;
@@ -294,11 +294,11 @@ fn sql_form(alloc: Global, tokens: &[Token]) -> Result<Line, LineError>
 }
 
 // `x c`
-fn count_form(tokens: &[Token]) -> Result<Line, LineError>
+fn count_form(tokens: &[Token]) -> Result<Line, LineStop>
     ensures { GivesLine result (count_of tokens.now) }
 {
     let [x, c] = tokens else {
-        return Err(LineError::Malformed);
+        return Err(LineStop::Malformed);
     };
     let to = name(x)?;
     let cursor = name(c)?;
@@ -306,11 +306,11 @@ fn count_form(tokens: &[Token]) -> Result<Line, LineError>
 }
 
 // `x c`
-fn status_form(tokens: &[Token]) -> Result<Line, LineError>
+fn status_form(tokens: &[Token]) -> Result<Line, LineStop>
     ensures { GivesLine result (status_of tokens.now) }
 {
     let [x, c] = tokens else {
-        return Err(LineError::Malformed);
+        return Err(LineStop::Malformed);
     };
     let to = name(x)?;
     let cursor = name(c)?;
@@ -318,11 +318,11 @@ fn status_form(tokens: &[Token]) -> Result<Line, LineError>
 }
 
 // The tokens before `else L` at the end, and the label.
-fn split_else(tokens: &[Token]) -> Result<(&[Token], Utf8), LineError>
+fn split_else(tokens: &[Token]) -> Result<(&[Token], Utf8), LineStop>
     ensures { GivesLineBy (λ r. (r.0.now, r.1)) result (else_of tokens.now) }
 {
     let Some(place) = else_place(tokens) else {
-        return Err(LineError::Malformed);
+        return Err(LineStop::Malformed);
     };
     let label = last_label(&tokens[place + 1..])?;
     Ok((&tokens[..place], label))
@@ -335,28 +335,28 @@ fn else_place(tokens: &[Token]) -> Option<usize>
     tokens.iter().position(|token| token_is(token, "else"))
 }
 
-fn last_label(tokens: &[Token]) -> Result<Utf8, LineError>
+fn last_label(tokens: &[Token]) -> Result<Utf8, LineStop>
     ensures { GivesLine result (last_label tokens.now) }
 {
     let [l] = tokens else {
-        return Err(LineError::Malformed);
+        return Err(LineStop::Malformed);
     };
     name(l)
 }
 
 // `f M v else L`
-fn open_form(tokens: &[Token]) -> Result<Line, LineError>
+fn open_form(tokens: &[Token]) -> Result<Line, LineStop>
     ensures { GivesLine result (with_else open_of tokens.now) }
 {
     let (front, label) = split_else(tokens)?;
     open_front(front, label)
 }
 
-fn open_front(tokens: &[Token], label: Utf8) -> Result<Line, LineError>
+fn open_front(tokens: &[Token], label: Utf8) -> Result<Line, LineStop>
     ensures { GivesLine result (open_of tokens.now label) }
 {
     let [f, m, v] = tokens else {
-        return Err(LineError::Malformed);
+        return Err(LineStop::Malformed);
     };
     let file = name(f)?;
     let mode = mode(m)?;
@@ -373,18 +373,18 @@ fn open_front(tokens: &[Token], label: Utf8) -> Result<Line, LineError>
 }
 
 // `x f else L`
-fn readline_form(tokens: &[Token]) -> Result<Line, LineError>
+fn readline_form(tokens: &[Token]) -> Result<Line, LineStop>
     ensures { GivesLine result (with_else readline_of tokens.now) }
 {
     let (front, label) = split_else(tokens)?;
     readline_front(front, label)
 }
 
-fn readline_front(tokens: &[Token], label: Utf8) -> Result<Line, LineError>
+fn readline_front(tokens: &[Token], label: Utf8) -> Result<Line, LineStop>
     ensures { GivesLine result (readline_of tokens.now label) }
 {
     let [x, f] = tokens else {
-        return Err(LineError::Malformed);
+        return Err(LineStop::Malformed);
     };
     let to = name(x)?;
     let file = name(f)?;
@@ -392,36 +392,36 @@ fn readline_front(tokens: &[Token], label: Utf8) -> Result<Line, LineError>
 }
 
 // `v else L`
-fn remove_form(tokens: &[Token]) -> Result<Line, LineError>
+fn remove_form(tokens: &[Token]) -> Result<Line, LineStop>
     ensures { GivesLine result (with_else remove_of tokens.now) }
 {
     let (front, label) = split_else(tokens)?;
     remove_front(front, label)
 }
 
-fn remove_front(tokens: &[Token], label: Utf8) -> Result<Line, LineError>
+fn remove_front(tokens: &[Token], label: Utf8) -> Result<Line, LineStop>
     ensures { GivesLine result (remove_of tokens.now label) }
 {
     let [v] = tokens else {
-        return Err(LineError::Malformed);
+        return Err(LineStop::Malformed);
     };
     let path = operand(v)?;
     Ok(Line::Jumping(Instr::Remove { path, place: 0 }, label))
 }
 
 // `p v v* else L`
-fn spawn_form(alloc: Global, tokens: &[Token]) -> Result<Line, LineError>
+fn spawn_form(alloc: Global, tokens: &[Token]) -> Result<Line, LineStop>
     ensures { GivesLine result (with_else spawn_of tokens.now) }
 {
     let (front, label) = split_else(tokens)?;
     spawn_front(alloc, front, label)
 }
 
-fn spawn_front(alloc: Global, tokens: &[Token], label: Utf8) -> Result<Line, LineError>
+fn spawn_front(alloc: Global, tokens: &[Token], label: Utf8) -> Result<Line, LineStop>
     ensures { GivesLine result (spawn_of tokens.now label) }
 {
     let [p, v, rest @ ..] = tokens else {
-        return Err(LineError::Malformed);
+        return Err(LineStop::Malformed);
     };
     let child = name(p)?;
     let path = operand(v)?;
@@ -438,18 +438,18 @@ fn spawn_front(alloc: Global, tokens: &[Token], label: Utf8) -> Result<Line, Lin
 }
 
 // `c x x* else L`
-fn fetch_form(alloc: Global, tokens: &[Token]) -> Result<Line, LineError>
+fn fetch_form(alloc: Global, tokens: &[Token]) -> Result<Line, LineStop>
     ensures { GivesLine result (with_else fetch_of tokens.now) }
 {
     let (front, label) = split_else(tokens)?;
     fetch_front(alloc, front, label)
 }
 
-fn fetch_front(alloc: Global, tokens: &[Token], label: Utf8) -> Result<Line, LineError>
+fn fetch_front(alloc: Global, tokens: &[Token], label: Utf8) -> Result<Line, LineStop>
     ensures { GivesLine result (fetch_of tokens.now label) }
 {
     let [c, rest @ ..] = tokens else {
-        return Err(LineError::Malformed);
+        return Err(LineStop::Malformed);
     };
     let cursor = name(c)?;
     let to = names_from_one(alloc, rest)?;

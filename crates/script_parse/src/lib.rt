@@ -12,7 +12,7 @@ mod keyword;
 mod labels;
 mod law;
 mod line;
-mod line_error;
+mod line_stop;
 mod number;
 mod operand;
 mod parse;

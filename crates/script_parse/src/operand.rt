@@ -6,7 +6,7 @@ ghost use Rattle.script_parse.specs.Names.{is_reserved, name_test};
 ghost use Rattle.script_parse.specs.Forms.{each, is_word, name_in, name_of, word_operand, operand_of};
 ghost use Rattle.script_parse.specs.Forms.{operands_of, operands_from_one, names_from_one};
 
-use crate::line_error::LineError;
+use crate::line_stop::LineStop;
 use crate::script::{Operand, Operands};
 use crate::token::Token;
 use ldv_value::{MAX_OPERANDS, Names, Utf8, Value, is_word};
@@ -36,27 +36,27 @@ fn is_reserved(text: &str) -> bool
     text == "null" || text == "else" || text == "int"
 }
 
-fn name_in(word: &Utf8) -> Result<Utf8, LineError>
+fn name_in(word: &Utf8) -> Result<Utf8, LineStop>
     ensures { GivesLine result (name_in word.now) }
 {
     if !is_name(word.as_str()) {
-        return Err(LineError::Malformed);
+        return Err(LineStop::Malformed);
     }
     Ok(word.copy()?)
 }
 
 /// The name that a token is.
-pub(crate) fn name(token: &Token) -> Result<Utf8, LineError>
+pub(crate) fn name(token: &Token) -> Result<Utf8, LineStop>
     ensures { GivesLine result (name_of token.now) }
 {
     match token {
         Token::Word(word) => name_in(word),
-        Token::Number(_) => Err(LineError::Malformed),
-        Token::Quoted(_) => Err(LineError::Malformed),
+        Token::Number(_) => Err(LineStop::Malformed),
+        Token::Quoted(_) => Err(LineStop::Malformed),
     }
 }
 
-fn word_operand(word: &Utf8) -> Result<Operand, LineError>
+fn word_operand(word: &Utf8) -> Result<Operand, LineStop>
     ensures { GivesLine result (word_operand word.now) }
 {
     if word.is_text("null") {
@@ -67,7 +67,7 @@ fn word_operand(word: &Utf8) -> Result<Operand, LineError>
 }
 
 /// The operand that a token is.
-pub(crate) fn operand(token: &Token) -> Result<Operand, LineError>
+pub(crate) fn operand(token: &Token) -> Result<Operand, LineStop>
     ensures { GivesLine result (operand_of token.now) }
 {
     match token {
@@ -78,7 +78,7 @@ pub(crate) fn operand(token: &Token) -> Result<Operand, LineError>
 }
 
 #[tactic(auto, using(crate::proofs::Each::each_rules))]
-fn all_operands(alloc: Global, tokens: &[Token]) -> Result<Operands, LineError>
+fn all_operands(alloc: Global, tokens: &[Token]) -> Result<Operands, LineStop>
     ensures { GivesLine result (each operand_of tokens.now) }
 {
     let mut operands = Operands::new(alloc);
@@ -90,7 +90,7 @@ fn all_operands(alloc: Global, tokens: &[Token]) -> Result<Operands, LineError>
 }
 
 #[tactic(auto, using(crate::proofs::Each::each_rules))]
-fn all_names(alloc: Global, tokens: &[Token]) -> Result<Names, LineError>
+fn all_names(alloc: Global, tokens: &[Token]) -> Result<Names, LineStop>
     ensures { GivesLine result (each name_of tokens.now) }
 {
     let mut names = Names::new(alloc);
@@ -102,24 +102,24 @@ fn all_names(alloc: Global, tokens: &[Token]) -> Result<Names, LineError>
 }
 
 /// At most 255 operands.
-pub(crate) fn operands(alloc: Global, tokens: &[Token]) -> Result<Operands, LineError>
+pub(crate) fn operands(alloc: Global, tokens: &[Token]) -> Result<Operands, LineStop>
     ensures { GivesLine result (operands_of tokens.now) }
 {
     if tokens.len() > MAX_OPERANDS {
-        return Err(LineError::Malformed);
+        return Err(LineStop::Malformed);
     }
     all_operands(alloc, tokens)
 }
 
 /// One operand and at most 255 more.
-pub(crate) fn operands_from_one(alloc: Global, tokens: &[Token]) -> Result<Operands, LineError>
+pub(crate) fn operands_from_one(alloc: Global, tokens: &[Token]) -> Result<Operands, LineStop>
     ensures { GivesLine result (operands_from_one tokens.now) }
 {
     match tokens {
-        [] => Err(LineError::Malformed),
+        [] => Err(LineStop::Malformed),
         [_, more @ ..] => {
             if more.len() > MAX_OPERANDS {
-                return Err(LineError::Malformed);
+                return Err(LineStop::Malformed);
             }
             all_operands(alloc, tokens)
         }
@@ -127,14 +127,14 @@ pub(crate) fn operands_from_one(alloc: Global, tokens: &[Token]) -> Result<Opera
 }
 
 /// One name and at most 255 more.
-pub(crate) fn names_from_one(alloc: Global, tokens: &[Token]) -> Result<Names, LineError>
+pub(crate) fn names_from_one(alloc: Global, tokens: &[Token]) -> Result<Names, LineStop>
     ensures { GivesLine result (names_from_one tokens.now) }
 {
     match tokens {
-        [] => Err(LineError::Malformed),
+        [] => Err(LineStop::Malformed),
         [_, more @ ..] => {
             if more.len() > MAX_OPERANDS {
-                return Err(LineError::Malformed);
+                return Err(LineStop::Malformed);
             }
             all_names(alloc, tokens)
         }

@@ -5,7 +5,7 @@ ghost use Rattle.script_parse.specs.inner.Gives.{GivesLine};
 ghost use Rattle.script_parse.specs.Tokens.{is_blank, escape_of, step_between, step_in_word, step_in_text};
 ghost use Rattle.script_parse.specs.Tokens.{step_escaped, step_closed, step, finish, tokens_of};
 
-use crate::line_error::LineError;
+use crate::line_stop::LineStop;
 use crate::token::{Token, Tokens, text_token, word_token};
 use ldv_value::Bytes;
 use std::alloc::Global;
@@ -26,7 +26,7 @@ pub(crate) enum LexState {
 }
 
 /// The tokens of a line.
-pub(crate) fn tokens(alloc: Global, line: &[u8]) -> Result<Tokens, LineError>
+pub(crate) fn tokens(alloc: Global, line: &[u8]) -> Result<Tokens, LineStop>
     ensures { GivesLine result (tokens_of line.now) }
 {
     let mut tokens = Tokens::new(alloc);
@@ -42,7 +42,7 @@ pub(crate) fn tokens(alloc: Global, line: &[u8]) -> Result<Tokens, LineError>
 }
 
 // The state after a byte, and the token that the byte ends, if it ends one.
-fn step(alloc: Global, state: LexState, b: u8) -> Result<(LexState, Option<Token>), LineError>
+fn step(alloc: Global, state: LexState, b: u8) -> Result<(LexState, Option<Token>), LineStop>
     ensures { GivesLine result (step state b) }
 {
     match state {
@@ -54,7 +54,7 @@ fn step(alloc: Global, state: LexState, b: u8) -> Result<(LexState, Option<Token
     }
 }
 
-fn between(alloc: Global, b: u8) -> Result<(LexState, Option<Token>), LineError>
+fn between(alloc: Global, b: u8) -> Result<(LexState, Option<Token>), LineStop>
     ensures { GivesLine result (step_between b) }
 {
     if is_blank(b) {
@@ -68,7 +68,7 @@ fn between(alloc: Global, b: u8) -> Result<(LexState, Option<Token>), LineError>
     Ok((LexState::InWord(bytes), None))
 }
 
-fn in_word(mut word: Bytes, b: u8) -> Result<(LexState, Option<Token>), LineError>
+fn in_word(mut word: Bytes, b: u8) -> Result<(LexState, Option<Token>), LineStop>
     ensures { GivesLine result (step_in_word word b) }
 {
     if is_blank(b) {
@@ -79,7 +79,7 @@ fn in_word(mut word: Bytes, b: u8) -> Result<(LexState, Option<Token>), LineErro
     Ok((LexState::InWord(word), None))
 }
 
-fn in_text(mut text: Bytes, b: u8) -> Result<(LexState, Option<Token>), LineError>
+fn in_text(mut text: Bytes, b: u8) -> Result<(LexState, Option<Token>), LineStop>
     ensures { GivesLine result (step_in_text text b) }
 {
     if b == b'"' {
@@ -93,28 +93,28 @@ fn in_text(mut text: Bytes, b: u8) -> Result<(LexState, Option<Token>), LineErro
     Ok((LexState::InText(text), None))
 }
 
-fn escape_byte(mut text: Bytes, b: u8) -> Result<(LexState, Option<Token>), LineError>
+fn escape_byte(mut text: Bytes, b: u8) -> Result<(LexState, Option<Token>), LineStop>
     ensures { GivesLine result (step_escaped text b) }
 {
     let Some(meant) = escape(b) else {
-        return Err(LineError::Malformed);
+        return Err(LineStop::Malformed);
     };
     text.push(meant)?;
     Ok((LexState::InText(text), None))
 }
 
-fn close_token(token: Token, b: u8) -> Result<(LexState, Option<Token>), LineError>
+fn close_token(token: Token, b: u8) -> Result<(LexState, Option<Token>), LineStop>
     ensures { GivesLine result (step_closed token b) }
 {
     if is_blank(b) {
         Ok((LexState::Between, Some(token)))
     } else {
-        Err(LineError::Malformed)
+        Err(LineStop::Malformed)
     }
 }
 
 // The token that the end of the line ends, if it ends one.
-fn finish(state: LexState) -> Result<Option<Token>, LineError>
+fn finish(state: LexState) -> Result<Option<Token>, LineStop>
     ensures { GivesLine result (finish state) }
 {
     match state {
@@ -123,8 +123,8 @@ fn finish(state: LexState) -> Result<Option<Token>, LineError>
             let token = word_token(word)?;
             Ok(Some(token))
         }
-        LexState::InText(_) => Err(LineError::Malformed),
-        LexState::Escaped(_) => Err(LineError::Malformed),
+        LexState::InText(_) => Err(LineStop::Malformed),
+        LexState::Escaped(_) => Err(LineStop::Malformed),
         LexState::Closed(token) => Ok(Some(token)),
     }
 }

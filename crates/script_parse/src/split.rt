@@ -8,7 +8,7 @@ ghost use Rattle.script_parse.specs.Script.{entry_of, entries_from, entries_of};
 
 use crate::form::read_line;
 use crate::line::{Entries, Entry, Line};
-use crate::line_error::LineError;
+use crate::line_stop::LineStop;
 use std::alloc::{AllocError, Global};
 
 /// The lines of a script that are neither empty nor comments, with their numbers from 1.
@@ -47,8 +47,8 @@ fn add(alloc: Global, entries: &mut Entries, number: u64, line: &[u8]) -> Result
                 line: Some(Line::Jumping(instr, label)),
             })
         }
-        Err(LineError::Malformed) => entries.push(Entry { number, line: None }),
-        Err(LineError::NoMemory) => Err(AllocError),
+        Err(LineStop::Malformed) => entries.push(Entry { number, line: None }),
+        Err(LineStop::NoMemory) => Err(AllocError),
     }
 }
 

@@ -6,7 +6,7 @@ ghost use Rattle.script_parse.specs.inner.Gives.{GivesLine};
 ghost use Rattle.ldv_value.specs.Texts.{text_of};
 ghost use Rattle.script_parse.specs.Tokens.{word_token, text_token};
 
-use crate::line_error::LineError;
+use crate::line_stop::LineStop;
 use crate::number::number;
 use ldv_value::{Bytes, List, TEXT_LIMIT, Utf8};
 
@@ -25,7 +25,7 @@ pub enum Token {
 pub(crate) type Tokens = List<Token>;
 
 /// The token of bytes without quotes.
-pub(crate) fn word_token(bytes: Bytes) -> Result<Token, LineError>
+pub(crate) fn word_token(bytes: Bytes) -> Result<Token, LineStop>
     ensures { GivesLine result (word_token bytes) }
 {
     match number(bytes.as_slice()) {
@@ -38,21 +38,21 @@ pub(crate) fn word_token(bytes: Bytes) -> Result<Token, LineError>
 }
 
 /// The token of bytes in quotes, with their escapes read.
-pub(crate) fn text_token(bytes: Bytes) -> Result<Token, LineError>
+pub(crate) fn text_token(bytes: Bytes) -> Result<Token, LineStop>
     ensures { GivesLine result (text_token bytes) }
 {
     if bytes.len() > TEXT_LIMIT {
-        return Err(LineError::Malformed);
+        return Err(LineStop::Malformed);
     }
     let text = text(bytes)?;
     Ok(Token::Quoted(text))
 }
 
-fn text(bytes: Bytes) -> Result<Utf8, LineError>
+fn text(bytes: Bytes) -> Result<Utf8, LineStop>
     ensures { GivesLine result (text_of bytes) }
 {
     match Utf8::of_utf8(bytes) {
         Some(text) => Ok(text),
-        None => Err(LineError::Malformed),
+        None => Err(LineStop::Malformed),
     }
 }

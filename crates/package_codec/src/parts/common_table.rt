@@ -2,7 +2,7 @@
 
 use crate::codec::{Decode, Encode, decode_items, encode_items, encode_list};
 use crate::cursor::Cursor;
-use crate::decode_error::DecodeError;
+use crate::decode_stop::DecodeStop;
 use crate::number::decode_u32;
 use crate::parts::decode_by::{DecodeBy, decode_rows};
 use crate::parts::table::{decode_schema, encode_schema};
@@ -35,7 +35,7 @@ impl DecodeBy<usize> for TableRow {
         alloc: Global,
         columns: usize,
         cursor: &mut Cursor,
-    ) -> Result<TableRow, DecodeError> {
+    ) -> Result<TableRow, DecodeStop> {
         let number = decode_u32(cursor)?;
         let values = decode_items(alloc, columns, cursor)?;
         Ok(TableRow { number, values })
@@ -62,7 +62,7 @@ impl Decode for Table {
 
     ghost reading = { common_table_at };
 
-    fn decode(alloc: Global, cursor: &mut Cursor) -> Result<Table, DecodeError> {
+    fn decode(alloc: Global, cursor: &mut Cursor) -> Result<Table, DecodeStop> {
         let name = decode_text(alloc, cursor)?;
         let schema = decode_schema(alloc, Version::Two, cursor)?;
         let next = decode_u32(cursor)?;

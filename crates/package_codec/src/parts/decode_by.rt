@@ -7,7 +7,7 @@ ghost use Rattle.package_codec.specs.Fields.{DecodeResult, Decodes, items_at, li
 ghost use Rattle.package_codec.specs.Widths.{of_count};
 
 use crate::cursor::Cursor;
-use crate::decode_error::DecodeError;
+use crate::decode_stop::DecodeStop;
 use crate::number::decode_count;
 use crate::width::Width;
 use ldv_value::List as Listed;
@@ -20,7 +20,7 @@ pub(crate) trait DecodeBy<C>: Drop {
     ghost reading: { C → List ℕ → DecodeResult Self };
 
     /// Reads an item.
-    fn decode_by(alloc: Global, by: C, cursor: &mut Cursor) -> Result<Self, DecodeError>
+    fn decode_by(alloc: Global, by: C, cursor: &mut Cursor) -> Result<Self, DecodeStop>
         ensures { Decodes result cursor.new (reading by cursor.old) };
 }
 
@@ -29,7 +29,7 @@ pub(crate) fn decode_rows<X: DecodeBy<usize>>(
     alloc: Global,
     columns: &Columns,
     cursor: &mut Cursor,
-) -> Result<Listed<X>, DecodeError>
+) -> Result<Listed<X>, DecodeStop>
     ensures { Decodes result cursor.new (list_at w32 (X.reading (length columns.now)) cursor.old) }
 {
     decode_list_by(alloc, Width::Four, columns.len(), cursor)
@@ -41,7 +41,7 @@ pub(crate) fn decode_list_by<C: Copy, X: DecodeBy<C>>(
     width: Width,
     by: C,
     cursor: &mut Cursor,
-) -> Result<Listed<X>, DecodeError>
+) -> Result<Listed<X>, DecodeStop>
     ensures { Decodes result cursor.new (list_at (of_count width) (X.reading by) cursor.old) }
 {
     let count = decode_count(width, cursor)?;
@@ -54,7 +54,7 @@ fn decode_items_by<C: Copy, X: DecodeBy<C>>(
     count: usize,
     by: C,
     cursor: &mut Cursor,
-) -> Result<Listed<X>, DecodeError>
+) -> Result<Listed<X>, DecodeStop>
     ensures { Decodes result cursor.new (items_at (X.reading by) count cursor.old) }
 {
     let mut items = Listed::new(alloc);

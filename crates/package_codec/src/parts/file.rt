@@ -7,7 +7,7 @@ ghost use Rattle.package_codec.specs.Spelling.{content_spelling};
 
 use crate::codec::{Decode, Encode};
 use crate::cursor::Cursor;
-use crate::decode_error::DecodeError;
+use crate::decode_stop::DecodeStop;
 use crate::number::{decode_u8, encode_u8};
 use crate::parts::text::{decode_sized, decode_text, encode_sized, encode_text};
 use ldv_value::Bytes;
@@ -45,26 +45,26 @@ impl Decode for PackedFile {
 
     ghost reading = { file_at };
 
-    fn decode(alloc: Global, cursor: &mut Cursor) -> Result<PackedFile, DecodeError> {
+    fn decode(alloc: Global, cursor: &mut Cursor) -> Result<PackedFile, DecodeStop> {
         let path = decode_text(alloc, cursor)?;
         let content = decode_content(alloc, cursor)?;
         Ok(PackedFile { path, content })
     }
 }
 
-fn decode_content(alloc: Global, cursor: &mut Cursor) -> Result<Option<Bytes>, DecodeError>
+fn decode_content(alloc: Global, cursor: &mut Cursor) -> Result<Option<Bytes>, DecodeStop>
     ensures { Decodes result cursor.new (content_at cursor.old) }
 {
     let tag = decode_u8(cursor)?;
     content_of_tag(alloc, tag, cursor)
 }
 
-fn content_of_tag(alloc: Global, tag: u8, cursor: &mut Cursor) -> Result<Option<Bytes>, DecodeError>
+fn content_of_tag(alloc: Global, tag: u8, cursor: &mut Cursor) -> Result<Option<Bytes>, DecodeStop>
     ensures { Decodes result cursor.new (content_of_tag tag cursor.old) }
 {
     match tag {
         1 => Ok(Some(decode_sized(alloc, cursor)?)),
         2 => Ok(None),
-        _ => Err(DecodeError::Malformed),
+        _ => Err(DecodeStop::Malformed),
     }
 }

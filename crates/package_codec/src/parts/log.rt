@@ -9,7 +9,7 @@ ghost use Rattle.package_codec.specs.Typed.{TypedRefusal, TypedValues};
 
 use crate::codec::{Decode, Encode, decode_list, encode_list};
 use crate::cursor::Cursor;
-use crate::decode_error::DecodeError;
+use crate::decode_stop::DecodeStop;
 use crate::number::{decode_u8, decode_u64, encode_u8, encode_u64};
 use crate::parts::text::{decode_text, encode_text};
 use crate::width::Width;
@@ -53,14 +53,14 @@ fn encode_row_key(table: &Utf8, key: &Values, to: &mut Bytes) -> Result<(), Allo
     encode_list(Width::One, key, to)
 }
 
-fn decode_refusal(alloc: Global, cursor: &mut Cursor) -> Result<SqlRefusal, DecodeError>
+fn decode_refusal(alloc: Global, cursor: &mut Cursor) -> Result<SqlRefusal, DecodeStop>
     ensures { Decodes result cursor.new (refusal_at cursor.old) }
 {
     let code = decode_u8(cursor)?;
     refusal_of_code(alloc, code, cursor)
 }
 
-fn refusal_of_code(alloc: Global, code: u8, cursor: &mut Cursor) -> Result<SqlRefusal, DecodeError>
+fn refusal_of_code(alloc: Global, code: u8, cursor: &mut Cursor) -> Result<SqlRefusal, DecodeStop>
     ensures { Decodes result cursor.new (refusal_of_code code cursor.old) }
 {
     match code {
@@ -85,7 +85,7 @@ fn refusal_of_code(alloc: Global, code: u8, cursor: &mut Cursor) -> Result<SqlRe
             let key = decode_list(alloc, Width::One, cursor)?;
             Ok(SqlRefusal::HasChild { table, key })
         }
-        _ => Err(DecodeError::Malformed),
+        _ => Err(DecodeStop::Malformed),
     }
 }
 
@@ -120,20 +120,20 @@ impl Decode for Reply {
 
     ghost reading = { reply_at };
 
-    fn decode(alloc: Global, cursor: &mut Cursor) -> Result<Reply, DecodeError> {
+    fn decode(alloc: Global, cursor: &mut Cursor) -> Result<Reply, DecodeStop> {
         let tag = decode_u8(cursor)?;
         reply_of_tag(alloc, tag, cursor)
     }
 }
 
-fn reply_of_tag(alloc: Global, tag: u8, cursor: &mut Cursor) -> Result<Reply, DecodeError>
+fn reply_of_tag(alloc: Global, tag: u8, cursor: &mut Cursor) -> Result<Reply, DecodeStop>
     ensures { Decodes result cursor.new (reply_of_tag tag cursor.old) }
 {
     match tag {
         1 => Ok(Reply::Rows(decode_list(alloc, Width::Four, cursor)?)),
         2 => Ok(Reply::Changed(decode_u64(cursor)?)),
         3 => Ok(Reply::Refused(decode_refusal(alloc, cursor)?)),
-        _ => Err(DecodeError::Malformed),
+        _ => Err(DecodeStop::Malformed),
     }
 }
 
@@ -157,7 +157,7 @@ impl Decode for Entry {
 
     ghost reading = { entry_at };
 
-    fn decode(alloc: Global, cursor: &mut Cursor) -> Result<Entry, DecodeError> {
+    fn decode(alloc: Global, cursor: &mut Cursor) -> Result<Entry, DecodeStop> {
         let text = decode_text(alloc, cursor)?;
         let params = decode_list(alloc, Width::Two, cursor)?;
         let reply = Reply::decode(alloc, cursor)?;
@@ -169,7 +169,7 @@ impl Decode for Entry {
     }
 }
 
-fn decode_name(alloc: Global, cursor: &mut Cursor) -> Result<ProcName, DecodeError>
+fn decode_name(alloc: Global, cursor: &mut Cursor) -> Result<ProcName, DecodeStop>
     ensures { Decodes result cursor.new (name_at cursor.old) }
 {
     let parts = decode_list(alloc, Width::Two, cursor)?;
@@ -195,7 +195,7 @@ impl Decode for Log {
 
     ghost reading = { log_at };
 
-    fn decode(alloc: Global, cursor: &mut Cursor) -> Result<Log, DecodeError> {
+    fn decode(alloc: Global, cursor: &mut Cursor) -> Result<Log, DecodeStop> {
         let process = decode_name(alloc, cursor)?;
         let entries = decode_list(alloc, Width::Four, cursor)?;
         Ok(Log { process, entries })

@@ -12,7 +12,7 @@ ghost use Rattle.package_codec.specs.Typed.{TypedForeign, TypedSchema, TypedTabl
 
 use crate::codec::{Decode, Encode, decode_items, decode_list, encode_items, encode_list};
 use crate::cursor::Cursor;
-use crate::decode_error::DecodeError;
+use crate::decode_stop::DecodeStop;
 use crate::number::{decode_u8, decode_u32, encode_count, encode_u8, encode_u32};
 use crate::parts::decode_by::{DecodeBy, decode_list_by, decode_rows};
 use crate::parts::text::{decode_text, encode_text};
@@ -53,7 +53,7 @@ impl Decode for Column {
 
     ghost reading = { column_at };
 
-    fn decode(alloc: Global, cursor: &mut Cursor) -> Result<Column, DecodeError> {
+    fn decode(alloc: Global, cursor: &mut Cursor) -> Result<Column, DecodeStop> {
         let name = decode_text(alloc, cursor)?;
         let (text, not_null) = decode_kind(cursor)?;
         Ok(Column {
@@ -64,14 +64,14 @@ impl Decode for Column {
     }
 }
 
-fn decode_kind(cursor: &mut Cursor) -> Result<(bool, bool), DecodeError>
+fn decode_kind(cursor: &mut Cursor) -> Result<(bool, bool), DecodeStop>
     ensures { Decodes result cursor.new (kind_at cursor.old) }
 {
     let number = decode_u8(cursor)?;
     kind_of(number)
 }
 
-fn kind_of(number: u8) -> Result<(bool, bool), DecodeError>
+fn kind_of(number: u8) -> Result<(bool, bool), DecodeStop>
     ensures { Makes result (kind_of number) }
 {
     match number {
@@ -79,7 +79,7 @@ fn kind_of(number: u8) -> Result<(bool, bool), DecodeError>
         2 => Ok((true, false)),
         3 => Ok((false, true)),
         4 => Ok((true, true)),
-        _ => Err(DecodeError::Malformed),
+        _ => Err(DecodeStop::Malformed),
     }
 }
 
@@ -97,14 +97,14 @@ pub(crate) fn number_of_rule(rule: Rule) -> u8
 }
 
 /// Reads a rule by its number.
-pub(crate) fn decode_rule(cursor: &mut Cursor) -> Result<Rule, DecodeError>
+pub(crate) fn decode_rule(cursor: &mut Cursor) -> Result<Rule, DecodeStop>
     ensures { Decodes result cursor.new (rule_at cursor.old) }
 {
     let number = decode_u8(cursor)?;
     rule_of(number)
 }
 
-fn rule_of(number: u8) -> Result<Rule, DecodeError>
+fn rule_of(number: u8) -> Result<Rule, DecodeStop>
     ensures { Makes result (rule_of number) }
 {
     match number {
@@ -113,7 +113,7 @@ fn rule_of(number: u8) -> Result<Rule, DecodeError>
         3 => Ok(Rule::K),
         4 => Ok(Rule::P),
         5 => Ok(Rule::C),
-        _ => Err(DecodeError::Malformed),
+        _ => Err(DecodeStop::Malformed),
     }
 }
 
@@ -142,7 +142,7 @@ pub fn encode_reason(statement: u32, rule: Rule, to: &mut Bytes) -> Result<(), A
 
 /// Reads why a row is there: the first statement that needed it, and the rule. `Malformed`: the bytes begin
 /// with no such reason.
-pub fn decode_reason(cursor: &mut Cursor) -> Result<(u32, Rule), DecodeError>
+pub fn decode_reason(cursor: &mut Cursor) -> Result<(u32, Rule), DecodeStop>
     ensures { Decodes result cursor.new (reason_at cursor.old) }
 {
     let statement = decode_u32(cursor)?;
@@ -159,7 +159,7 @@ impl DecodeBy<usize> for PackedRow {
         alloc: Global,
         columns: usize,
         cursor: &mut Cursor,
-    ) -> Result<PackedRow, DecodeError> {
+    ) -> Result<PackedRow, DecodeStop> {
         let number = decode_u32(cursor)?;
         let (statement, rule) = decode_reason(cursor)?;
         let values = decode_items(alloc, columns, cursor)?;
@@ -202,7 +202,7 @@ impl Decode for Foreign {
 
     ghost reading = { foreign_at };
 
-    fn decode(alloc: Global, cursor: &mut Cursor) -> Result<Foreign, DecodeError> {
+    fn decode(alloc: Global, cursor: &mut Cursor) -> Result<Foreign, DecodeStop> {
         let columns = decode_place_list(alloc, cursor)?;
         let parent = decode_text(alloc, cursor)?;
         Ok(Foreign { columns, parent })
@@ -236,7 +236,7 @@ fn decode_foreigns(
     alloc: Global,
     version: Version,
     cursor: &mut Cursor,
-) -> Result<Foreigns, DecodeError>
+) -> Result<Foreigns, DecodeStop>
     ensures { Decodes result cursor.new (foreigns_at version cursor.old) }
 {
     match version {
@@ -245,14 +245,14 @@ fn decode_foreigns(
     }
 }
 
-fn decode_place_list(alloc: Global, cursor: &mut Cursor) -> Result<Places, DecodeError>
+fn decode_place_list(alloc: Global, cursor: &mut Cursor) -> Result<Places, DecodeStop>
     ensures { Decodes result cursor.new (places_at cursor.old) }
 {
     let count = decode_u8(cursor)?;
     decode_places(alloc, count, cursor)
 }
 
-fn decode_places(alloc: Global, count: u8, cursor: &mut Cursor) -> Result<Places, DecodeError>
+fn decode_places(alloc: Global, count: u8, cursor: &mut Cursor) -> Result<Places, DecodeStop>
     ensures { Decodes result cursor.new (items_at (number_at w8) count cursor.old) }
 {
     let mut places = List::new(alloc);
@@ -282,7 +282,7 @@ pub(crate) fn decode_schema(
     alloc: Global,
     version: Version,
     cursor: &mut Cursor,
-) -> Result<Schema, DecodeError>
+) -> Result<Schema, DecodeStop>
     ensures { Decodes result cursor.new (schema_at version cursor.old) }
 {
     let columns = decode_list(alloc, Width::One, cursor)?;
@@ -314,7 +314,7 @@ impl DecodeBy<Version> for PackedTable {
         alloc: Global,
         version: Version,
         cursor: &mut Cursor,
-    ) -> Result<PackedTable, DecodeError> {
+    ) -> Result<PackedTable, DecodeStop> {
         let name = decode_text(alloc, cursor)?;
         let schema = decode_schema(alloc, version, cursor)?;
         let next = decode_u32(cursor)?;
@@ -361,7 +361,7 @@ pub fn decode_tables(
     alloc: Global,
     version: Version,
     cursor: &mut Cursor,
-) -> Result<PackedTables, DecodeError>
+) -> Result<PackedTables, DecodeStop>
     ensures { Decodes result cursor.new (list_at w16 (table_at version) cursor.old) }
 {
     decode_list_by(alloc, Width::Two, version, cursor)

@@ -6,42 +6,42 @@ ghost use Rattle.ldv_value.specs.Texts.{text_of};
 ghost use Rattle.package_codec.specs.Fields.{Decodes, Makes, sized_at, text_at, text_spelling};
 
 use crate::cursor::Cursor;
-use crate::decode_error::DecodeError;
+use crate::decode_stop::DecodeStop;
 use crate::number::{decode_u32, encode_count};
 use crate::width::Width;
 use ldv_value::{Bytes, Utf8};
 use std::alloc::{AllocError, Global};
 
 /// Reads bytes with their length before them.
-pub(crate) fn decode_sized(alloc: Global, cursor: &mut Cursor) -> Result<Bytes, DecodeError>
+pub(crate) fn decode_sized(alloc: Global, cursor: &mut Cursor) -> Result<Bytes, DecodeStop>
     ensures { Decodes result cursor.new (sized_at cursor.old) }
 {
     let count = decode_u32(cursor)?;
     match cursor.next(count as usize) {
-        None => Err(DecodeError::Malformed),
+        None => Err(DecodeStop::Malformed),
         Some(front) => Ok(Bytes::of_slice(alloc, front)?),
     }
 }
 
 /// Reads a text: the number of its bytes and the bytes. `Malformed`: too few bytes are left, or they aren't
 /// UTF-8.
-pub fn decode_text(alloc: Global, cursor: &mut Cursor) -> Result<Utf8, DecodeError>
+pub fn decode_text(alloc: Global, cursor: &mut Cursor) -> Result<Utf8, DecodeStop>
     ensures { Decodes result cursor.new (text_at cursor.old) }
 {
     let count = decode_u32(cursor)?;
     match cursor.next(count as usize) {
-        None => Err(DecodeError::Malformed),
+        None => Err(DecodeStop::Malformed),
         Some(front) => utf8_of(alloc, front),
     }
 }
 
 #[tactic(auto, using(ldv_value::proofs::TextTests::is_text, ldv_value::proofs::TextTests::no_text))]
-fn utf8_of(alloc: Global, front: &[u8]) -> Result<Utf8, DecodeError>
+fn utf8_of(alloc: Global, front: &[u8]) -> Result<Utf8, DecodeStop>
     ensures { Makes result (text_of front.now) }
 {
     match str::from_utf8(front) {
         Ok(text) => Ok(Utf8::of(alloc, text)?),
-        Err(_) => Err(DecodeError::Malformed),
+        Err(_) => Err(DecodeStop::Malformed),
     }
 }
 

@@ -6,7 +6,7 @@ ghost use Rattle.package_codec.specs.Reading.{value_of_tag};
 
 use crate::codec::{Decode, Encode, decode_list, encode_list};
 use crate::cursor::Cursor;
-use crate::decode_error::DecodeError;
+use crate::decode_stop::DecodeStop;
 use crate::number::{decode_i64, decode_u8, encode_i64, encode_u8};
 use crate::parts::text::{decode_text, encode_text};
 use crate::width::Width;
@@ -31,7 +31,7 @@ impl Decode for Utf8 {
 
     ghost reading = { text_at };
 
-    fn decode(alloc: Global, cursor: &mut Cursor) -> Result<Utf8, DecodeError> {
+    fn decode(alloc: Global, cursor: &mut Cursor) -> Result<Utf8, DecodeStop> {
         decode_text(alloc, cursor)
     }
 }
@@ -64,20 +64,20 @@ impl Decode for Value {
 
     ghost reading = { value_at };
 
-    fn decode(alloc: Global, cursor: &mut Cursor) -> Result<Value, DecodeError> {
+    fn decode(alloc: Global, cursor: &mut Cursor) -> Result<Value, DecodeStop> {
         let tag = decode_u8(cursor)?;
         value_of_tag(alloc, tag, cursor)
     }
 }
 
-fn value_of_tag(alloc: Global, tag: u8, cursor: &mut Cursor) -> Result<Value, DecodeError>
+fn value_of_tag(alloc: Global, tag: u8, cursor: &mut Cursor) -> Result<Value, DecodeStop>
     ensures { Decodes result cursor.new (value_of_tag tag cursor.old) }
 {
     match tag {
         0 => Ok(Value::Null),
         1 => Ok(Value::Int(decode_i64(cursor)?)),
         2 => Ok(Value::Text(decode_text(alloc, cursor)?)),
-        _ => Err(DecodeError::Malformed),
+        _ => Err(DecodeStop::Malformed),
     }
 }
 
@@ -99,7 +99,7 @@ impl Decode for Values {
 
     ghost reading = { values_at };
 
-    fn decode(alloc: Global, cursor: &mut Cursor) -> Result<Values, DecodeError> {
+    fn decode(alloc: Global, cursor: &mut Cursor) -> Result<Values, DecodeStop> {
         decode_list(alloc, Width::Two, cursor)
     }
 }

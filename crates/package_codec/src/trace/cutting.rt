@@ -11,7 +11,7 @@ ghost use Rattle.package_codec.specs.Version.{One};
 
 use crate::codec::Decode;
 use crate::cursor::Cursor;
-use crate::decode_error::DecodeError;
+use crate::decode_stop::DecodeStop;
 use crate::number::decode_u32;
 use crate::trace::event_run::{Begun, EventRun, EventRuns, joins};
 use ldv_value::List;
@@ -27,14 +27,14 @@ pub(crate) struct Cut {
 
 /// Reads a trace that is written event by event, as the runs of its events. `Malformed`: the bytes begin with
 /// no such trace.
-pub fn decode_cut(alloc: Global, cursor: &mut Cursor) -> Result<EventRuns, DecodeError>
+pub fn decode_cut(alloc: Global, cursor: &mut Cursor) -> Result<EventRuns, DecodeStop>
     ensures { Decodes result cursor.new (cut_at One cursor.old) }
 {
     let count = decode_u32(cursor)?;
     cut_events(alloc, count, cursor)
 }
 
-fn cut_events(alloc: Global, count: u32, cursor: &mut Cursor) -> Result<EventRuns, DecodeError>
+fn cut_events(alloc: Global, count: u32, cursor: &mut Cursor) -> Result<EventRuns, DecodeStop>
     ensures { Decodes result cursor.new
         (made_at (λ events. Some (runs_of events)) (items_at event_at count) cursor.old) }
 {

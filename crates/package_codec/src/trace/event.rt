@@ -11,7 +11,7 @@ ghost use Rattle.package_codec.specs.Events.{act_at};
 
 use crate::codec::{Decode, Encode, decode_list, encode_list};
 use crate::cursor::Cursor;
-use crate::decode_error::DecodeError;
+use crate::decode_stop::DecodeStop;
 use crate::number::{decode_u8, decode_u32, encode_u8, encode_u32};
 use crate::parts::text::{decode_text, encode_text};
 use crate::trace::event_part::{MadePart, ReadPart};
@@ -32,20 +32,20 @@ fn encode_flag(found: bool, to: &mut Bytes) -> Result<(), AllocError>
     }
 }
 
-fn decode_flag(cursor: &mut Cursor) -> Result<bool, DecodeError>
+fn decode_flag(cursor: &mut Cursor) -> Result<bool, DecodeStop>
     ensures { Decodes result cursor.new (flag_at cursor.old) }
 {
     let number = decode_u8(cursor)?;
     flag_of(number)
 }
 
-fn flag_of(number: u8) -> Result<bool, DecodeError>
+fn flag_of(number: u8) -> Result<bool, DecodeStop>
     ensures { Makes result (flag_of number) }
 {
     match number {
         0 => Ok(false),
         1 => Ok(true),
-        _ => Err(DecodeError::Malformed),
+        _ => Err(DecodeStop::Malformed),
     }
 }
 
@@ -80,13 +80,13 @@ fn encode_members(members: &Members, to: &mut Bytes) -> Result<(), AllocError>
     encode_grouped::<MadePart, Member>(members, to)
 }
 
-fn decode_needs(alloc: Global, cursor: &mut Cursor) -> Result<Needs, DecodeError>
+fn decode_needs(alloc: Global, cursor: &mut Cursor) -> Result<Needs, DecodeStop>
     ensures { Decodes result cursor.new (needs_at cursor.old) }
 {
     decode_grouped::<ReadPart, Need>(alloc, cursor)
 }
 
-fn decode_members(alloc: Global, cursor: &mut Cursor) -> Result<Members, DecodeError>
+fn decode_members(alloc: Global, cursor: &mut Cursor) -> Result<Members, DecodeStop>
     ensures { Decodes result cursor.new (members_at cursor.old) }
 {
     decode_grouped::<MadePart, Member>(alloc, cursor)
@@ -132,14 +132,14 @@ fn encode_act(act: &Act, to: &mut Bytes) -> Result<(), AllocError>
     }
 }
 
-fn decode_act(alloc: Global, cursor: &mut Cursor) -> Result<Act, DecodeError>
+fn decode_act(alloc: Global, cursor: &mut Cursor) -> Result<Act, DecodeStop>
     ensures { Decodes result cursor.new (act_at cursor.old) }
 {
     let tag = decode_u8(cursor)?;
     act_of_tag(alloc, tag, cursor)
 }
 
-fn act_of_tag(alloc: Global, tag: u8, cursor: &mut Cursor) -> Result<Act, DecodeError>
+fn act_of_tag(alloc: Global, tag: u8, cursor: &mut Cursor) -> Result<Act, DecodeStop>
     ensures { Decodes result cursor.new (act_of_tag tag cursor.old) }
 {
     match tag {
@@ -190,11 +190,11 @@ fn act_of_tag(alloc: Global, tag: u8, cursor: &mut Cursor) -> Result<Act, Decode
             status: decode_u8(cursor)?,
         }),
         14 => decode_asked(alloc, cursor),
-        _ => Err(DecodeError::Malformed),
+        _ => Err(DecodeStop::Malformed),
     }
 }
 
-fn decode_asked(alloc: Global, cursor: &mut Cursor) -> Result<Act, DecodeError>
+fn decode_asked(alloc: Global, cursor: &mut Cursor) -> Result<Act, DecodeStop>
     ensures { Decodes result cursor.new (act_of_tag 14 cursor.old) }
 {
     let statement = decode_u32(cursor)?;
@@ -228,7 +228,7 @@ impl Decode for Event {
 
     ghost reading = { event_at };
 
-    fn decode(alloc: Global, cursor: &mut Cursor) -> Result<Event, DecodeError> {
+    fn decode(alloc: Global, cursor: &mut Cursor) -> Result<Event, DecodeStop> {
         let step = decode_u32(cursor)?;
         let process = decode_u32(cursor)?;
         let act = decode_act(alloc, cursor)?;

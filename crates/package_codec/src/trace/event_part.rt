@@ -2,7 +2,7 @@
 
 use crate::codec::{Decode, Encode};
 use crate::cursor::Cursor;
-use crate::decode_error::DecodeError;
+use crate::decode_stop::DecodeStop;
 use crate::number::{decode_u32, encode_u8, encode_u32};
 use crate::parts::table::{decode_rule, number_of_rule};
 use crate::trace::group::GroupedRow;
@@ -44,7 +44,7 @@ impl Decode for ReadPart {
 
     ghost reading = { read_part_at };
 
-    fn decode(_alloc: Global, cursor: &mut Cursor) -> Result<ReadPart, DecodeError> {
+    fn decode(_alloc: Global, cursor: &mut Cursor) -> Result<ReadPart, DecodeStop> {
         let row = decode_u32(cursor)?;
         let version = decode_u32(cursor)?;
         let rule = decode_rule(cursor)?;
@@ -70,7 +70,7 @@ impl Decode for MadePart {
 
     ghost reading = { made_part_at };
 
-    fn decode(_alloc: Global, cursor: &mut Cursor) -> Result<MadePart, DecodeError> {
+    fn decode(_alloc: Global, cursor: &mut Cursor) -> Result<MadePart, DecodeStop> {
         let row = decode_u32(cursor)?;
         let version = decode_u32(cursor)?;
         Ok(MadePart { row, version })

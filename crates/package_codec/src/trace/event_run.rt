@@ -5,7 +5,7 @@ ghost use Rattle.package_codec.specs.Runs.{joins};
 
 use crate::codec::{Decode, Encode};
 use crate::cursor::Cursor;
-use crate::decode_error::DecodeError;
+use crate::decode_stop::DecodeStop;
 use crate::number::{decode_u32, encode_u32};
 use crate::trace::same_act::is_alike;
 use ldv_value::{Bytes, List};
@@ -51,7 +51,7 @@ impl Decode for EventRun {
 
     ghost reading = { event_run_at };
 
-    fn decode(alloc: Global, cursor: &mut Cursor) -> Result<EventRun, DecodeError> {
+    fn decode(alloc: Global, cursor: &mut Cursor) -> Result<EventRun, DecodeStop> {
         let first = Event::decode(alloc, cursor)?;
         let count = decode_u32(cursor)?;
         let stride = decode_u32(cursor)?;

@@ -10,7 +10,7 @@ ghost use Rattle.package_codec.specs.Groups.{grouped_at};
 
 use crate::codec::{Decode, Encode, decode_list, encode_list};
 use crate::cursor::Cursor;
-use crate::decode_error::DecodeError;
+use crate::decode_stop::DecodeStop;
 use crate::parts::text::{decode_text, encode_text};
 use crate::width::Width;
 use ldv_value::{Bytes, List as Listed, Utf8};
@@ -61,7 +61,7 @@ impl<P: Decode> Decode for Group<P> {
 
     ghost reading = { group_at P.reading };
 
-    fn decode(alloc: Global, cursor: &mut Cursor) -> Result<Group<P>, DecodeError> {
+    fn decode(alloc: Global, cursor: &mut Cursor) -> Result<Group<P>, DecodeStop> {
         let table = decode_text(alloc, cursor)?;
         let parts = decode_list(alloc, Width::Four, cursor)?;
         group_of(table, parts)
@@ -69,13 +69,13 @@ impl<P: Decode> Decode for Group<P> {
 }
 
 // A group has a name and isn't empty.
-fn group_of<P: Drop>(table: Utf8, parts: Listed<P>) -> Result<Group<P>, DecodeError>
+fn group_of<P: Drop>(table: Utf8, parts: Listed<P>) -> Result<Group<P>, DecodeStop>
     ensures { Makes result (group_of (record { 0 = table; 1 = parts })) }
 {
     if is_sql_name(table.as_str()) && !parts.is_empty() {
         Ok(Group { table, parts })
     } else {
-        Err(DecodeError::Malformed)
+        Err(DecodeStop::Malformed)
     }
 }
 
@@ -162,7 +162,7 @@ fn with_part<P: Drop>(group: Group<P>, part: P) -> Result<Group<P>, AllocError>
 pub(crate) fn decode_grouped<P: Decode + Copy, X: GroupedRow<P>>(
     alloc: Global,
     cursor: &mut Cursor,
-) -> Result<Listed<X>, DecodeError>
+) -> Result<Listed<X>, DecodeStop>
     ensures { Decodes result cursor.new (grouped_at X.place P.reading cursor.old) }
 {
     let groups = decode_list(alloc, Width::Two, cursor)?;
@@ -172,13 +172,13 @@ pub(crate) fn decode_grouped<P: Decode + Copy, X: GroupedRow<P>>(
 fn items_of_groups<P: Copy + Drop, X: GroupedRow<P>>(
     alloc: Global,
     groups: &Listed<Group<P>>,
-) -> Result<Listed<X>, DecodeError>
+) -> Result<Listed<X>, DecodeStop>
     ensures { Makes result (items_of_groups X.place groups.now) }
 {
     if neighbours_differ(groups) {
         Ok(ungroup_all(alloc, groups)?)
     } else {
-        Err(DecodeError::Malformed)
+        Err(DecodeStop::Malformed)
     }
 }
 

@@ -1,6 +1,6 @@
 use Rattle.std.proofs.Common.{Option, subst}
 use Rattle.std.specs.Prelude.{Err}
-use Rattle.package_codec.specs.declared.decode_error.DecodeError.{DecodeError}
+use Rattle.package_codec.specs.declared.decode_stop.DecodeStop.{DecodeStop}
 use Rattle.package_codec.specs.declared.compact_package.CompactPackage.{CompactPackage}
 use Rattle.package_codec.specs.Fields.{Makes}
 use Rattle.package_layout.specs.CompactReading.{compact_sections_of}
@@ -16,5 +16,5 @@ returns-in-Ok-clause-made c =
 pub returns-in-Err-Malformed-clause-made : goal.returns-in-Err-Malformed-clause-made
 returns-in-Err-Malformed-clause-made c =
     none_in c.args.version c.args.middle.now
-    (subst (λ (e : DecodeError). Makes {X = CompactPackage} (Err e) (compact_sections_of c.args.version c.args.middle.now))
+    (subst (λ (e : DecodeStop). Makes {X = CompactPackage} (Err e) (compact_sections_of c.args.version c.args.middle.now))
     c.in-Err-Malformed.field-0-is c.in-Err-Malformed.ensures)
