@@ -88,21 +88,27 @@ impl ClashTest<Table> for Rows {
     ghost differ = { λ _. rows_clash };
 
     fn clash_of(&self, a: &Table, b: &Table) -> Result<Option<Clash>, AllocError> {
-        first_clash(&a.name, a.rows.items(), b.rows.items())
+        let rows = RowsOf { table: &a.name };
+        first_clash(&rows, a.rows.items(), b.rows.items())
     }
 }
 
-// Rows of the table of this name have the same values.
-impl ClashTest<TableRow> for Utf8 {
+// Rows of a table have the same values.
+#[derive(Clone, Copy)]
+struct RowsOf<'a> {
+    table: &'a Utf8,
+}
+
+impl<'a> ClashTest<TableRow> for RowsOf<'a> {
     ghost use Rattle.joined_data.specs.Joined.{row_clash};
 
-    ghost differ = { row_clash };
+    ghost differ = { λ rows. row_clash rows.table.now };
 
     fn clash_of(&self, a: &TableRow, b: &TableRow) -> Result<Option<Clash>, AllocError> {
         clash_if(
             values_differ(&a.values, &b.values),
             ClashKind::Row,
-            self,
+            self.table,
             a.number,
         )
     }
