@@ -1,11 +1,10 @@
 -- The due output for two packages and for a joined one, by the result of reading.
 use Rattle.std.proofs.Common.{◌≡◌, ℕ, ◌≤◌, Bool, true, false, cond, List, length, sym, ap, ◌∙◌}
 use Rattle.std.specs.Prelude.{◌==◌, Option, Some, None, Ok, Err}
-use Rattle.std.specs.Int.{w32}
 use Rattle.ldv_value.specs.Limits.{input_limit}
 use Rattle.run_model.specs.declared.package.Package.{Package}
 use Rattle.package_layout.specs.declared.damage.DamageKind.{DamageKind}
-use Rattle.package_codec.specs.Fields.{DecodeResult, ◌>>=◌, bytes_at, number_at, sized_at}
+use Rattle.package_codec.specs.Fields.{DecodeResult, ◌>>=◌, sized_at}
 use Rattle.package_layout.specs.Valid.{reading}
 use Rattle.joined_data.specs.declared.joined.Joined.{Joined}
 use Rattle.joined_data.specs.declared.joined.Which.{Which}
@@ -18,16 +17,6 @@ use Rattle.ldv_top.specs.DueParts.{due_refusal}
 use Rattle.ldv_top.proofs.RecordLaws.{not_too_long}
 
 -- ---- the two of the input
-
-abbrev sized_by : ℕ × List ℕ → DecodeResult (List ℕ)
-sized_by count = bytes_at count.0 count.1
-
--- after the number
-pub sized_is : (bytes : List ℕ) (count : ℕ) (rest : List ℕ) → number_at w32 bytes ≡ Some (count, rest) → sized_at bytes ≡ bytes_at count rest
-sized_is bytes count rest is = ap (λ (found : DecodeResult ℕ). found >>= sized_by) is
-
-pub not_sized : (bytes : List ℕ) → number_at w32 bytes ≡ None → sized_at bytes ≡ None
-not_sized bytes is = ap (λ (found : DecodeResult ℕ). found >>= sized_by) is
 
 abbrev Pair : Type 0
 Pair = List ℕ × List ℕ

@@ -105,6 +105,13 @@ signed_law = made_law (to_be_bytes w64) (λ n. n < 2 ^ 64) always (number_at w64
 
 -- ---- texts
 
+abbrev sized_by : ℕ × List ℕ → DecodeResult (List ℕ)
+sized_by count = bytes_at count.0 count.1
+
+-- after the number
+pub sized_is : (bytes : List ℕ) (count : ℕ) (rest : List ℕ) → number_at w32 bytes ≡ Some (count, rest) → sized_at bytes ≡ bytes_at count rest
+sized_is bytes count rest is = ap (λ (found : DecodeResult ℕ). found >>= sized_by) is
+
 sized_took : (bytes x rest : List ℕ) → IsBytes bytes → sized_at bytes ≡ Some (x, rest) → Took text_spelling (λ _. Unit {0}) always IsCountable bytes x rest
 sized_took bytes x rest h e =
     let first = bind-some (number_at w32 bytes) (λ n. bytes_at n.0 n.1) (x, rest) e in

@@ -1,7 +1,8 @@
 //! A place in bytes, from which they are decoded.
 
 ghost use Rattle.std.specs.Prelude.{◌≡◌, ◌==◌, length, Some, None, MatchOption};
-ghost use Rattle.package_codec.specs.Fields.{bytes_at};
+ghost use Rattle.std.specs.Int.{w32};
+ghost use Rattle.package_codec.specs.Fields.{bytes_at, number_at, sized_at};
 
 use std::marker::Model;
 
@@ -48,5 +49,29 @@ impl<'a> Cursor<'a> {
         let front = &self.bytes[self.at..self.at + count];
         self.at += count;
         Some(front)
+    }
+
+    /// The number in the next four bytes, the highest first, which the cursor passes. `None` if fewer are
+    /// left.
+    pub(crate) fn next_u32(&mut self) -> Option<u32>
+        ensures { MatchOption result (number_at w32 self.old ≡ None)
+            (λ number. number_at w32 self.old ≡ Some (number, self.new)) }
+    {
+        match self.next(4) {
+            None => None,
+            Some(front) => Some(u32::from_be_bytes([front[0], front[1], front[2], front[3]])),
+        }
+    }
+
+    /// The next bytes, with their number in the four bytes before them, which the cursor passes. They aren't
+    /// copied. `None` if fewer are left.
+    pub fn next_with_length(&mut self) -> Option<&'a [u8]>
+        ensures { MatchOption result (sized_at self.old ≡ None)
+            (λ front. sized_at self.old ≡ Some (front.now, self.new)) }
+    {
+        match self.next_u32() {
+            None => None,
+            Some(count) => self.next(count as usize),
+        }
     }
 }

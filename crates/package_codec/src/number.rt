@@ -35,9 +35,9 @@ pub(crate) fn decode_u16(cursor: &mut Cursor) -> Result<u16, DecodeStop>
 pub fn decode_u32(cursor: &mut Cursor) -> Result<u32, DecodeStop>
     ensures { Decodes result cursor.new (number_at w32 cursor.old) }
 {
-    match cursor.next(4) {
+    match cursor.next_u32() {
         None => Err(DecodeStop::Malformed),
-        Some(front) => Ok(u32::from_be_bytes([front[0], front[1], front[2], front[3]])),
+        Some(number) => Ok(number),
     }
 }
 

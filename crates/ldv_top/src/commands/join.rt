@@ -1,13 +1,11 @@
 //! `join`: from two packages to their joined package. No list of their events is made.
 
-ghost use Rattle.std.specs.Prelude.{◌≡◌, ◌≤◌, length, map, string_bytes, IfOk, IfSome, MatchOption, None, Ok, Some};
-ghost use Rattle.std.specs.Int.{w32};
+ghost use Rattle.std.specs.Prelude.{◌≡◌, ◌≤◌, length, map, string_bytes, IfOk, IfSome, Ok};
 ghost use Rattle.std.specs.Option.{option_map};
 ghost use Rattle.ldv_value.specs.Limits.{input_limit};
 ghost use Rattle.joined_data.specs.Joined.{joined_of};
 ghost use Rattle.package_join.specs.Layout.{joined_spelling};
 ghost use Rattle.joined_data.specs.CompactJoins.{whole_join};
-ghost use Rattle.package_codec.specs.Fields.{number_at, sized_at};
 ghost use Rattle.package_codec.specs.CompactPackages.{expanded_package};
 ghost use Rattle.package_codec.specs.Runs.{IsCut};
 ghost use Rattle.package_layout.specs.Valid.{reading};
@@ -39,36 +37,14 @@ pub(crate) fn join_of(words: &[String]) -> Option<Command>
     }
 }
 
-// A number of four bytes, the highest first.
-fn length_in(cursor: &mut Cursor) -> Option<u32>
-    ensures { MatchOption result (number_at w32 cursor.old ≡ None)
-        (λ count. number_at w32 cursor.old ≡ Some (count, cursor.new)) }
-{
-    match cursor.next(4) {
-        None => None,
-        Some(front) => Some(u32::from_be_bytes([front[0], front[1], front[2], front[3]])),
-    }
-}
-
-// Bytes with their number before them. They aren't copied.
-fn length_prefixed_bytes<'a>(cursor: &mut Cursor<'a>) -> Option<&'a [u8]>
-    ensures { MatchOption result (sized_at cursor.old ≡ None)
-        (λ front. sized_at cursor.old ≡ Some (front.now, cursor.new)) }
-{
-    match length_in(cursor) {
-        None => None,
-        Some(count) => cursor.next(count as usize),
-    }
-}
-
 // Both packages, where the input is made of them and their lengths.
 #[tactic(auto, using(crate::proofs::JoinResponses::pairs))]
 fn pair_in<'a>(input: &'a [u8]) -> Option<(&'a [u8], &'a [u8])>
     ensures { option_map (λ pair. (pair.0.now, pair.1.now)) result ≡ pair_in input.now }
 {
     let mut cursor = Cursor::of(input);
-    let first = length_prefixed_bytes(&mut cursor)?;
-    let second = length_prefixed_bytes(&mut cursor)?;
+    let first = cursor.next_with_length()?;
+    let second = cursor.next_with_length()?;
     if cursor.is_empty() {
         Some((first, second))
     } else {

@@ -7,7 +7,7 @@ ghost use Rattle.package_codec.specs.Fields.{Decodes, Makes, sized_at, text_at, 
 
 use crate::cursor::Cursor;
 use crate::decode_stop::DecodeStop;
-use crate::number::{decode_u32, encode_count};
+use crate::number::encode_count;
 use crate::width::Width;
 use ldv_value::{Bytes, Utf8};
 use std::alloc::{AllocError, Global};
@@ -16,8 +16,7 @@ use std::alloc::{AllocError, Global};
 pub(crate) fn decode_sized(alloc: Global, cursor: &mut Cursor) -> Result<Bytes, DecodeStop>
     ensures { Decodes result cursor.new (sized_at cursor.old) }
 {
-    let count = decode_u32(cursor)?;
-    match cursor.next(count as usize) {
+    match cursor.next_with_length() {
         None => Err(DecodeStop::Malformed),
         Some(front) => Ok(Bytes::of_slice(alloc, front)?),
     }
@@ -28,8 +27,7 @@ pub(crate) fn decode_sized(alloc: Global, cursor: &mut Cursor) -> Result<Bytes, 
 pub fn decode_text(alloc: Global, cursor: &mut Cursor) -> Result<Utf8, DecodeStop>
     ensures { Decodes result cursor.new (text_at cursor.old) }
 {
-    let count = decode_u32(cursor)?;
-    match cursor.next(count as usize) {
+    match cursor.next_with_length() {
         None => Err(DecodeStop::Malformed),
         Some(front) => utf8_of(alloc, front),
     }
