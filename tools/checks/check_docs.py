@@ -17,9 +17,8 @@ docs/internals/ARCHITECTURE.md anew. Checked are
   crates (crate_map.py), and that the entry function and the first definition are where a head says;
 - its table of the kit's libraries against crates.txt, and that docs/internals/GUARANTEES.md names each of
   these among what is trusted, and in the table of each crate that uses it;
-- the table of meanings in docs/internals/DEFINITIONS.md: that what it names are files of specs, and that each
-  file of specs that the sources or the specs of another crate cite is among them, and that these cite no file
-  of specs/inner;
+- the rooms of specs: that the sources and the specs of a crate cite no file of another one's specs/inner, and
+  that what is meaning stands in specs, and everything else in specs/inner (spec_rooms.py says which is which);
 - each relative link of each document, with its heading where it names one;
 - the pages of docs/ that a program names, in a message, its help or a comment;
 - the lengths of README.md, docs/internals/ARCHITECTURE.md and docs/internals/notes/gate.md, and that the
@@ -46,7 +45,7 @@ import subprocess
 import sys
 from typing import Dict, Iterator, List, Optional, Set, Tuple, Union
 
-from . import ROOT, check_names, crate_map
+from . import ROOT, check_names, crate_map, spec_rooms
 
 CRATES = 'crates.txt'
 ARCHITECTURE = 'docs/internals/ARCHITECTURE.md'
@@ -278,21 +277,6 @@ def fill(root: str) -> None:
 # A crate whose inner files a path of antt leads to.
 INNER = re.compile(r'\bRattle\.(\w+)\.specs\.inner\b')
 
-# A module of specs in a path of antt.
-CITED = re.compile(r'\bRattle\.(\w+)\.specs\.([A-Z]\w*)')
-
-
-def cited_specs(root: str, crates: Dict[str, List[str]]) -> Dict[str, Dict[str, str]]:
-    """Of each crate the files of specs that sources or specs of others cite, with the first that does."""
-    cited: Dict[str, Dict[str, str]] = {}
-    for crate in crates:
-        for file in files_of(root, crate, ('src', 'specs')):
-            for name, module in CITED.findall(COMMENT.sub('', read(root, file))):
-                if name != crate:
-                    cited.setdefault(name, {}).setdefault(module, file)
-    return cited
-
-
 def check_inner(root: str, crates: Dict[str, List[str]], differ: Differences) -> None:
     """Only a crate itself cites its inner files, and proofs of others."""
     for crate in crates:
@@ -302,28 +286,19 @@ def check_inner(root: str, crates: Dict[str, List[str]], differ: Differences) ->
                     differ.add(file, 1, f'cites an inner file of {name}')
 
 
-def check_meanings(root: str, crates: Dict[str, List[str]], differ: Differences) -> None:
-    """A row names files of specs, or says that all are meaning but those that it names."""
-    check_inner(root, crates, differ)
-    cited = cited_specs(root, crates)
-    for number, cells, head in tables(read(root, DEFINITIONS)):
-        if head[0] != 'Specs of':
-            continue
-        crate = codes(cells[0])[0]
-        named = set(codes(cells[1]) + codes(cells[2]))
-        for name in sorted(named):
-            if not exists(root, f'crates/{crate}/specs/{name}.antt'):
-                differ.add(DEFINITIONS, number, f'there is no crates/{crate}/specs/{name}.antt')
-        if cells[1].startswith('all'):
-            named = set(cited.get(crate, {})) - set(codes(cells[1]))
-        for name in sorted(set(cited.get(crate, {})) - named - {'Types'}):
-            differ.add(DEFINITIONS, number, f'{cited[crate][name]} cites {name} of {crate}')
+def check_rooms(root: str, crates: Dict[str, List[str]], differ: Differences) -> None:
+    """Files of specs with a definition that is meaning stand in specs, all others in specs/inner."""
+    for room in spec_rooms.rooms(root, list(crates)):
+        if not room.is_right():
+            belongs = 'specs: a definition of it is meaning' if room.meaning else 'specs/inner: none of it is meaning'
+            differ.add(room.file(), 1, f'belongs to {belongs}')
 
 
 def check_crates(root: str, differ: Differences) -> None:
     check_list(root, differ)
     check_map(root, differ)
-    check_meanings(root, crates_in(root), differ)
+    check_inner(root, crates_in(root), differ)
+    check_rooms(root, crates_in(root), differ)
     check_kit(crates_in(root), differ, root)
 
 

@@ -348,24 +348,59 @@ class Layout(InFolder):
         self.assertEqual(found, ["crates.txt:10: c9 ends a chain of 9 crates",
                                  "crates.txt:11: c10 ends a chain of 10 crates"])
 
-    def test_meanings(self) -> None:
-        """A file of specs that another crate's sources or specs cite is named in the row of its crate."""
-        os.makedirs(os.path.join(self.folder, "docs", "internals"))
-        self.put("crates/low/specs/Adding.antt", "use Rattle.low.specs.Digits.{digits}\n")
-        self.put("crates/low/specs/Digits.antt", "")
-        self.put("crates/high/proofs/f/Answers.antt", "use Rattle.low.specs.Digits.{digits}\n")
-        high = "crates/high/specs/Sums.antt"
-        self.put(high, "-- use Rattle.low.specs.Digits.{digits}\nuse Rattle.low.specs.Adding.{added}\n"
-                       "use Rattle.low.specs.Types.{N}\n")
-        for meaning, made, found in (("`Adding`", "", ""), ("`Digits`", "`Adding`", ""),
-                                     ("all but `Digits`", "", ""), ("", "", f"{high} cites Adding of low\n"),
-                                     ("all but `Adding`", "", f"{high} cites Adding of low\n"),
-                                     ("`Adding` `Sums`", "", "there is no crates/low/specs/Sums.antt\n")):
-            self.put(check_docs.DEFINITIONS, "| Specs of | Meaning | Made of |\n|---|---|---|\n"
-                                              f"| `low` | {meaning} | {made} |\n")
-            differences = self.differences(
-                lambda root, differ: check_docs.check_meanings(root, check_docs.crates_in(root), differ))
-            self.assertEqual(differences, found and "docs/internals/DEFINITIONS.md:3: " + found, meaning)
+    def rooms(self) -> str:
+        return self.differences(lambda root, differ: check_docs.check_rooms(root, check_docs.crates_in(root), differ))
+
+    def test_rooms(self) -> None:
+        """What other crates or public calls cite, and what that is made of, is meaning, and nothing else is."""
+        self.put("crates/low/specs/Adding.antt",
+                 "use Rattle.low.specs.Digits.{digits}\nabbrev pub added : N\nadded = digits\n"
+                 "abbrev pub left : N\nleft = 1\n")
+        self.put("crates/low/specs/Digits.antt", "abbrev pub digits : N\ndigits = 2\n")
+        self.put("crates/high/proofs/f/Answers.antt", "use Rattle.low.specs.Adding.{left}\n")
+        adding, digits = (f"crates/low/specs/{name}.antt:1: belongs to specs/inner: none of it is meaning\n"
+                          for name in ("Adding", "Digits"))
+        self.assertEqual(self.rooms(), adding + digits)
+        for cited, found in (("-- use Rattle.low.specs.Adding.{added}\n", adding + digits),
+                             ("use Rattle.low.specs.Adding.{left}\n", digits),
+                             ("use Rattle.low.specs.Adding.{added}\n", ""),
+                             ("use Rattle.low.specs.Adding as adding\n", ""),
+                             ("use Rattle.low.specs.Digits.{digits as numbers}\n", adding)):
+            self.put("crates/high/specs/Sums.antt", cited)
+            self.assertEqual(self.rooms(), found, cited)
+
+    def test_rooms_of_calls(self) -> None:
+        """A contract makes meaning of what it cites if its call is public, and a body or an invariant doesn't."""
+        os.makedirs(os.path.join(self.folder, "crates", "low", "specs", "inner"))
+        self.put("crates/low/specs/inner/Sums.antt", "abbrev pub sum : N\nsum = 0\n")
+        wrong = "crates/low/specs/inner/Sums.antt:1: belongs to specs: a definition of it is meaning\n"
+        use = "ghost use Rattle.low.specs.inner.Sums.{sum};\n"
+        function = "pub fn add(n: u8) -> u8\n    ensures { %s }\n{\n    %s\n}\n"
+        method = "pub struct Heap {\n    n: u8,\n}\n\nimpl%s Heap {\n    %s\n}\n"
+        clause = "pub fn add(&self) -> u8\n        ensures { result ≡ sum }\n    {\n        1\n    }"
+        for out, source, found in (
+                ("add", function % ("result ≡ sum", "1"), wrong),
+                ("other", function % ("result ≡ sum", "1"), ""),
+                ("add", function % ("result ≡ n", "sum"), ""),
+                ("add", function % ("result ≡ add", "1 // sum"), ""),
+                ("Heap", method % ("", clause), wrong),
+                ("other", method % ("", clause), ""),
+                ("Heap", method % ("", clause.replace("pub fn", "pub(crate) fn")), ""),
+                ("Heap", method % (" Model for", "ghost Value = { sum };"), wrong),
+                ("Heap", method % (" Model for", "ghost Value = { N };\n\n    ghost invariant = { λ a. sum };"), ""),
+                ("Heap", method % (" Shown for", "ghost shown = { sum };"), wrong)):
+            self.put("crates/low/src/heap.rt", use + source)
+            self.put("crates/low/src/lib.rt", f"//! Low.\nmod heap;\npub use heap::{{{out}}};\n")
+            self.assertEqual(self.rooms(), found, source)
+
+    def test_rooms_of_programs(self) -> None:
+        """Of a program that is meaning which its head says to read first."""
+        os.remove(self.put("crates/high/src/lib.rt", ""))
+        self.put("crates/high/specs/Sums.antt", "abbrev pub sum : N\nsum = 0\n")
+        for first, found in (("Sums", ""), ("Digits", "crates/high/specs/Sums.antt:1: belongs to specs/inner: "
+                                                       "none of it is meaning\n")):
+            self.put("crates/high/src/main.rt", f"//! High.\n//!\n//! Read first: `specs/{first}.antt`.\n")
+            self.assertEqual(self.rooms(), found, first)
 
     def test_map(self) -> None:
         """The map is made from crates.txt and the heads, and what these name is there."""
