@@ -95,3 +95,5 @@ taken_all words old others clear m = elim (cases_Bool (member words m)) [
     | inr late ↦ rw (gone, le-ltb m (others.first + length others.numbers) late) (clear m gone ∙ sym (version_after others m late))
   ]
 ]
+
+pub ruleset taken_rules = (taken_none, taken_more, taken_all)

@@ -158,7 +158,7 @@ fn take_version(words: &[u64], versions: &mut Versions, n: usize, version: u32)
 }
 
 // Notes the versions of the rows of another block that aren't here.
-#[tactic(auto, using(crate::proofs::BlockLaws::taken_none, crate::proofs::BlockLaws::taken_more, crate::proofs::BlockLaws::taken_all))]
+#[tactic(auto, using(crate::proofs::BlockLaws::taken_rules))]
 fn take_versions(words: &[u64], versions: &mut Versions, others: &Versions)
     requires room { (n : ℕ) → HasRoomIn versions.old n (version_of others.now n) }
     requires clear { (n : ℕ) → member words.now n ≡ false → version_of versions.old n ≡ 0 }

@@ -89,3 +89,5 @@ module _ (slots : List RowHistory) (words : List ℕ) (members : (n : ℕ) → m
   walked_end made all at none so_far =
       sym (append-nil made)
       ∙ ap (λ (l : List TableRow). made ++ l) (sym (rows_now-none (drop at slots) (λ m. gone_at at m (none (at + m) (omega arith))))) ∙ so_far
+
+pub ruleset walk_rules = (next_stands, walked_on, walked_end)

@@ -40,7 +40,7 @@ fn after(rows: &Rows, slot: u64) -> u64
 }
 
 /// The rows that are live now, found by their bits.
-#[tactic(auto, using(crate::proofs::RowWalks::next_stands, crate::proofs::RowWalks::walked_on, crate::proofs::RowWalks::walked_end))]
+#[tactic(auto, using(crate::proofs::RowWalks::walk_rules))]
 pub(crate) fn standing_rows(alloc: Global, rows: &Rows) -> Result<TableRows, AllocError>
     ensures { IfOk result (λ made. made ≡ rows_now rows.now.slots) }
 {
