@@ -4,7 +4,7 @@ use Rattle.std.specs.List.{flat_map}
 use Rattle.inspect.specs.Types.{Event, Node, NamedProcess}
 use Rattle.trace_graph.specs.Graph.{Parts, graph_of, place_of}
 use Rattle.reach.specs.Depends.{depends_of}
-use Rattle.reach.specs.NodeLines.{node_line}
+use Rattle.trace_graph.specs.NodeLines.{node_line}
 use Rattle.inspect.specs.ProcessNames.{processes_of, name_in}
 
 -- a line for each node, with the names of the processes of the events

@@ -5,7 +5,7 @@ ghost use Rattle.std.specs.List.{flat_map};
 ghost use Rattle.ldv_value.specs.Gives.{Gives};
 ghost use Rattle.reach.specs.Depends.{depends_of};
 ghost use Rattle.reach.specs.Lent.{lent_node};
-ghost use Rattle.reach.specs.NodeLines.{node_line};
+ghost use Rattle.trace_graph.specs.NodeLines.{node_line};
 ghost use Rattle.run_model.specs.OutcomeText.{line};
 ghost use Rattle.run_model.specs.ValidTrace.{IsTrace};
 ghost use Rattle.trace_graph.specs.Lent.{node_of, lent_parts};
@@ -17,10 +17,10 @@ ghost use Rattle.inspect.specs.Stopping.{Stops};
 use crate::error::InspectStop;
 use crate::process_names::{Processes, append_process, processes_of};
 use ldv_value::Bytes;
-use reach::{append_number_line, append_path, append_version, depends};
+use reach::depends;
 use run_model::Package;
 use std::alloc::{AllocError, Global};
-use trace_graph::{LentGraph, NodeKey, NodeTexts};
+use trace_graph::{LentGraph, NodeKey, NodeTexts, append_number_line, append_path, append_version};
 
 /// A line for each node from which information may have got to a path by the end of the recorded run: paths
 /// sorted by bytes, then processes by creation number, rows by table, row and version, and statements and

@@ -6,9 +6,9 @@ ghost use Rattle.inspect.specs.FileReports.{file_line, files_report};
 ghost use Rattle.run_model.specs.OutcomeText.{line};
 
 use ldv_value::{Bytes, Utf8};
-use reach::append_numbered;
 use run_model::{Package, PackedFile};
 use std::alloc::{AllocError, Global};
+use trace_graph::append_numbered;
 
 /// A line for each file of a package, by path: `whole LENGTH PATH` with the length in bytes, or `present
 /// PATH` if the run only needed the file to be there.

@@ -6,9 +6,9 @@ ghost use Rattle.inspect.specs.RowReports.{row_line, rows_report, table_lines};
 
 use crate::append::append_rule;
 use ldv_value::{Bytes, Utf8};
-use reach::append_numbered;
 use run_model::{Package, PackedRow, PackedTable};
 use std::alloc::{AllocError, Global};
+use trace_graph::append_numbered;
 
 /// A line `TABLE ROW STATEMENT RULE` for each row of a package, by table and row: the first statement that
 /// needed the row, and its rule.

@@ -8,9 +8,9 @@ ghost use Rattle.inspect.specs.TraceReports.{path_act, trace_report, waited_text
 
 use crate::process_names::{Processes, append_process, processes_of};
 use ldv_value::{Bytes, Utf8, append_number};
-use reach::append_numbered;
 use run_model::{Act, Event, Package};
 use std::alloc::{AllocError, Global};
+use trace_graph::append_numbered;
 
 /// A line `STEP NAME ACT` for each event of a package, with the fields of the act. The flag `found` or
 /// `absent` stands before the path.

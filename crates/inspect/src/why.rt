@@ -11,9 +11,9 @@ use crate::append::append_rule;
 use crate::error::InspectStop;
 use crate::process_names::{Processes, append_process, processes_of};
 use ldv_value::Bytes;
-use reach::append_numbered;
 use run_model::{Act, Event, Package, PackedRow, PackedTable};
 use std::alloc::{AllocError, Global};
+use trace_graph::append_numbered;
 
 /// A line `statement S process NAME step T rule R` for a row of a package: the first statement that needed
 /// it, the process and the step that asked it, and the rule. `NoSuch` if and only if the package's tables

@@ -6,7 +6,7 @@ use Rattle.std.specs.Fmt.{decimal}
 use Rattle.ldv_value.specs.Limits.{max_steps}
 use Rattle.trace_graph.specs.Graph.{Parts, place_of}
 use Rattle.reach.specs.Depends.{depends_of}
-use Rattle.reach.specs.NodeLines.{node_line}
+use Rattle.trace_graph.specs.NodeLines.{node_line}
 use Rattle.prov_export.specs.Types.{Node}
 
 abbrev pub nodes_report : List Node → List ℕ

@@ -4,14 +4,14 @@ ghost use Rattle.std.specs.Prelude.{◌≡◌, ◌<◌, ◌++◌, length, map, I
 ghost use Rattle.std.specs.Fmt.{decimal};
 ghost use Rattle.std.specs.List.{flat_map};
 ghost use Rattle.reach.specs.Lent.{lent_node};
-ghost use Rattle.reach.specs.NodeLines.{node_line};
+ghost use Rattle.trace_graph.specs.NodeLines.{node_line};
 ghost use Rattle.trace_graph.specs.Lent.{node_of};
 ghost use Rattle.prov_export.specs.Dependence.{depends_at, depends_report};
 
 use ldv_value::{Bytes, MAX_STEPS, Utf8};
-use reach::{append_number_line, append_path, append_version, depends};
+use reach::depends;
 use std::alloc::{AllocError, Global};
-use trace_graph::{Graph, Node, NodeKey};
+use trace_graph::{Graph, Node, NodeKey, append_number_line, append_path, append_version};
 
 /// A line for each node from which information may have got to a path, in the order of the report on a
 /// package, with processes by their creation numbers. `None` if and only if the path is no node of the graph.

@@ -1,7 +1,6 @@
 pub mod Types
 pub mod Order
 pub mod Lent
-pub mod NodeLines
 pub mod Reach
 pub mod Found
 pub mod ReachLaws

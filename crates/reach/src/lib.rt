@@ -11,11 +11,9 @@ mod found;
 mod incoming;
 mod latest;
 mod law;
-mod lines;
 mod marks;
 mod search;
 mod sources;
 
 pub use law::reach_law;
-pub use lines::{append_number_line, append_numbered, append_path, append_version};
 pub use sources::depends;

@@ -1,5 +1,6 @@
 pub mod Types
 pub mod Links
+pub mod NodeLines
 pub mod Graph
 pub mod GraphLaws
 pub mod VersionLaws

@@ -2,7 +2,7 @@
 use Rattle.std.proofs.Common.{◌≡◌, ◌++◌, drop, map}
 use Rattle.std.specs.List.{flat_map}
 use Rattle.reach.specs.Lent.{lent_node}
-use Rattle.reach.specs.NodeLines.{node_line}
+use Rattle.trace_graph.specs.NodeLines.{node_line}
 use Rattle.inspect.specs.ProcessNames.{name_in}
 use Rattle.inspect.proofs.depends.append_nodes.Given as goal
 

@@ -3,7 +3,7 @@ use Rattle.std.proofs.Common.{◌≡◌, ◌++◌, drop, map}
 use Rattle.std.specs.Fmt.{decimal}
 use Rattle.std.specs.List.{flat_map}
 use Rattle.reach.specs.Lent.{lent_node}
-use Rattle.reach.specs.NodeLines.{node_line}
+use Rattle.trace_graph.specs.NodeLines.{node_line}
 use Rattle.prov_export.proofs.depending.append_nodes.Given as goal
 
 abbrev pub invariant-loop-node : goal.invariant-loop-node

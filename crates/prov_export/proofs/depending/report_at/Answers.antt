@@ -8,7 +8,7 @@ use Rattle.trace_graph.specs.Graph.{Parts}
 use Rattle.trace_graph.proofs.LentLaws.{key_within, keys_between}
 use Rattle.reach.specs.Depends.{depends_of}
 use Rattle.reach.specs.Lent.{lent_node}
-use Rattle.reach.specs.NodeLines.{node_line}
+use Rattle.trace_graph.specs.NodeLines.{node_line}
 use Rattle.reach.proofs.FoundLaws.{in_graph}
 use Rattle.prov_export.specs.Types.{Node}
 use Rattle.prov_export.proofs.depending.report_at.Goals as goal

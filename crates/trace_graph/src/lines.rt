@@ -3,7 +3,7 @@
 ghost use Rattle.std.specs.Prelude.{◌≡◌, ◌++◌, codes, OnOk};
 ghost use Rattle.std.specs.Fmt.{decimal};
 ghost use Rattle.run_model.specs.OutcomeText.{line};
-ghost use Rattle.reach.specs.NodeLines.{version_text};
+ghost use Rattle.trace_graph.specs.NodeLines.{version_text};
 
 use ldv_value::{Bytes, append_number};
 use std::alloc::AllocError;

@@ -2,7 +2,7 @@
 use Rattle.std.specs.Prelude.{ℕ, List, ◌++◌, codes}
 use Rattle.std.specs.Fmt.{decimal}
 use Rattle.run_model.specs.OutcomeText.{line}
-use Rattle.reach.specs.Types.{Member, Node, Path, Process, Row, Ask, Reply}
+use Rattle.trace_graph.specs.Types.{Member, Node, Path, Process, Row, Ask, Reply}
 
 -- `TABLE ROW VERSION`
 abbrev pub version_text : Member → List ℕ
