@@ -6,7 +6,7 @@ use Rattle.std.proofs.lemmas.Bool.{cases_Bool}
 use Rattle.std.proofs.lemmas.Slice.Eq.{bytes_eq-Decides}
 use Rattle.sql_model.specs.Scope.{same_text}
 use Rattle.run_model.specs.Slice.{Reason as SliceReason, packed_because}
-use Rattle.slicer.specs.Marks.{row_because, table_because, tables_because}
+use Rattle.run_model.specs.Packing.{row_because, table_because, tables_because}
 use Rattle.package_join.specs.Types.{PackedRow, Table, TableRow}
 use Rattle.joined_data.specs.declared.joined.JoinedRun.{JoinedRun}
 use Rattle.joined_data.specs.declared.joined.Reason.{Reason}

@@ -3,16 +3,16 @@
 ghost use Rattle.std.specs.Prelude.{◌≡◌, ◌++◌, ℕ, List as Items, [], IfOk, OnOk, map, filter};
 ghost use Rattle.std.specs.List.{filter_map};
 ghost use Rattle.std.specs.Option.{option_or};
-ghost use Rattle.slicer.specs.Marks.{has_name, reason_at};
+ghost use Rattle.run_model.specs.Packing.{has_name, reason_at};
 ghost use Rattle.joined_data.specs.Joined.{as_present, is_among, picked_file, picked_package, picked_table};
 ghost use Rattle.joined_data.specs.Joined.{run_package};
 ghost use Rattle.package_join.specs.inner.Picked.{file_by, reason_for, reason_if};
 
 use joined_data::{Joined, JoinedRun, Reason, Reasons, Which};
 use ldv_value::{CopyItem, List, Names};
-use run_model::{Mode, Package, PackedFile, PackedFiles, PackedTables};
-use slicer::{
-    NameSet, Reasons as FirstReasons, Why, has_name, note_named, pack_tables, set_of_names,
+use run_model::{
+    Mode, NameSet, Package, PackedFile, PackedFiles, PackedTables, Reasons as FirstReasons, Why,
+    has_name, note_named, pack_tables, set_of_names,
 };
 use sql_model::Tables;
 use std::alloc::{AllocError, Global};

@@ -3,7 +3,7 @@
 ghost use Rattle.std.specs.Prelude.{◌≡◌, IfOk};
 ghost use Rattle.std.specs.List.{filter_map};
 ghost use Rattle.run_model.specs.Start.{IsParsed};
-ghost use Rattle.slicer.specs.Marks.{has_name};
+ghost use Rattle.run_model.specs.Packing.{has_name};
 ghost use Rattle.joined_data.specs.CompactJoins.{whole_join};
 ghost use Rattle.package_join.specs.ParsedJoins.{StartRuns, script_by};
 ghost use Rattle.package_join.specs.Worlds.{empty_if, joined_world, seen_by, world_by, world_file, world_of};
@@ -11,9 +11,8 @@ ghost use Rattle.package_join.specs.Worlds.{empty_if, joined_world, seen_by, wor
 use crate::choosing::name_set;
 use joined_data::{CompactJoined, Joined, JoinedRun, ParsedJoined, Which};
 use ldv_value::{Bytes, File, Files, Utf8};
-use run_model::{PackedFile, PackedFiles, ParsedWorld, World};
+use run_model::{NameSet, PackedFile, PackedFiles, ParsedWorld, World, has_name};
 use script_parse::Script;
-use slicer::{NameSet, has_name};
 use sql_model::Tables;
 use std::alloc::{AllocError, Global};
 

@@ -2,8 +2,10 @@ pub mod ActLaws
 pub mod Equations
 pub mod Fronts
 pub mod KeyPlaces
+pub mod NameLaws
 pub mod NeverStuck
 pub mod OwnFiles
+pub mod ReasonLaws
 pub mod Settled
 pub mod StartScripts
 pub mod StepActs

@@ -8,6 +8,7 @@ pub mod LogRun
 pub mod Outcome
 pub mod OutcomeText
 pub mod Package
+pub mod Packing
 pub mod Run
 pub mod RunLaw
 pub mod Schedule

@@ -9,11 +9,11 @@ use Rattle.ldv_value.specs.Options.{only_if}
 use Rattle.ldv_value.proofs.Options.{option_or-none, option_or-assoc, is_some-true, is_some-false}
 use Rattle.run_model.specs.Types.{Need}
 use Rattle.run_model.specs.Slice.{Reason, is_read, reason_in}
-use Rattle.slicer.specs.declared.reasons.Why.{Why}
-use Rattle.slicer.specs.Marks.{reason_at, reason_of_read}
+use Rattle.run_model.specs.declared.first_reasons.Why.{Why}
+use Rattle.run_model.specs.Packing.{reason_at, reason_of_read}
 use Rattle.lanes.specs.Sets.{member}
 use Rattle.slicer.specs.inner.Rows.{asks, has_row, reason_due}
-use Rattle.slicer.proofs.ReasonLaws.{reason_step}
+use Rattle.run_model.proofs.ReasonLaws.{reason_step}
 use Rattle.slicer.proofs.RowSetLaws.{rows_same}
 
 only_none : (b : Bool) → only_if {A = Reason} b None ≡ None

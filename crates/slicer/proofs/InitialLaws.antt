@@ -20,7 +20,7 @@ use Rattle.run_model.specs.Slice.{Reason, first_reason, packed_because, rows_nee
 use Rattle.trace_graph.specs.Graph.{Parts, graph_of}
 use Rattle.trace_graph.specs.VersionLaws.{VersionsLaw, MadeLaw}
 use Rattle.slicer.specs.InitialRows.{ReadsInitialRows, is_row_of, at_first, is_seen, is_made, is_initial_node, is_packed}
-use Rattle.slicer.specs.Marks.{row_because, table_because, tables_because}
+use Rattle.run_model.specs.Packing.{row_because, table_because, tables_because}
 use Rattle.slicer.specs.inner.Rows.{graph_reason, tables_from}
 
 -- ---- what is packed

@@ -1,9 +1,8 @@
 pub mod DueLaws
+pub mod FileLaws
 pub mod FreshLaws
 pub mod InitialLaws
 pub mod InitialRows
-pub mod NameLaws
-pub mod ReasonLaws
 pub mod RowSetLaws
 pub mod RunRows
 pub mod StatementRows

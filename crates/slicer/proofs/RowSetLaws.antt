@@ -15,7 +15,7 @@ use Rattle.ldv_value.proofs.Booleans.{false≢true}
 use Rattle.lanes.specs.Sets.{member}
 use Rattle.sql_model.specs.Scope.{same_text}
 use Rattle.slicer.specs.inner.Rows.{words_at, words_among, words_in, has_number, has_among, has_row, is_row}
-use Rattle.slicer.proofs.ReasonLaws.{number_equal}
+use Rattle.run_model.proofs.ReasonLaws.{number_equal}
 use Rattle.ldv_value.proofs.Lists.{zero-last}
 
 -- ---- the bits of a block

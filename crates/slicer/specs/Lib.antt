@@ -1,3 +1,2 @@
 pub mod InitialRows
-pub mod Marks
 pub mod inner

@@ -4,13 +4,13 @@ ghost use Rattle.std.specs.Prelude.{◌≡◌, ◌||◌, ◌&&◌, not, List, �
 ghost use Rattle.std.specs.Prelude.{if◌then◌else◌};
 ghost use Rattle.std.specs.List.{filter_map};
 ghost use Rattle.std.specs.Option.{option_map};
-ghost use Rattle.slicer.specs.Marks.{has_name, need_as, packed_by};
+ghost use Rattle.slicer.specs.inner.Marks.{need_as, packed_by};
+ghost use Rattle.run_model.specs.Packing.{has_name};
 ghost use Rattle.run_model.specs.Slice.{is_path, whole_path, present_path, changed_path, names_initial};
 ghost use Rattle.run_model.specs.Slice.{packed_as, files_needed};
 
-use crate::name_set::{NameSet, add_name, has_name};
 use ldv_value::{File, Utf8};
-use run_model::{Act, Event, PackedFile, PackedFiles};
+use run_model::{Act, Event, NameSet, PackedFile, PackedFiles, add_name, has_name};
 use std::alloc::{AllocError, Global};
 
 fn only_if(path: &Utf8, found: bool) -> Option<&Utf8>

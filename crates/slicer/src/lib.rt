@@ -10,7 +10,6 @@ mod files;
 mod fresh;
 mod initial;
 mod law;
-mod name_set;
 mod needed;
 mod reasons;
 mod row_set;
@@ -18,7 +17,4 @@ mod tables;
 mod united;
 
 pub use law::initial_rows_law;
-pub use name_set::{NameSet, has_name, set_of_names};
 pub use needed::{Sliced, slice, slice_files};
-pub use reasons::{Reasons, RowReasons, Why, note_named};
-pub use tables::pack_tables;

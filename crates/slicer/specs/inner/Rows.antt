@@ -20,9 +20,9 @@ use Rattle.trace_graph.specs.declared.edge.Edge.{Edge}
 use Rattle.trace_graph.specs.Graph.{Parts, same_node}
 use Rattle.trace_graph.specs.GraphLaws.{passes_at}
 use Rattle.trace_graph.specs.VersionLaws.{is_statement}
-use Rattle.slicer.specs.declared.reasons.Why.{Why}
+use Rattle.run_model.specs.declared.first_reasons.Why.{Why}
 use Rattle.slicer.specs.InitialRows.{at_first, is_initial_node}
-use Rattle.slicer.specs.Marks.{reason_at, tables_because}
+use Rattle.run_model.specs.Packing.{reason_at, tables_because}
 
 -- ---- sets of rows
 

@@ -1,6 +1,6 @@
 use Rattle.std.proofs.Common.{◌≡◌, ◌++◌, drop}
 use Rattle.std.specs.List.{filter_map}
-use Rattle.slicer.specs.Marks.{has_name}
+use Rattle.run_model.specs.Packing.{has_name}
 use Rattle.package_join.specs.inner.Picked.{file_by}
 use Rattle.package_join.proofs.choosing.files_by.Given as goal
 

@@ -1,6 +1,6 @@
 use Rattle.std.proofs.Common.{◌≡◌, List, ℕ, drop}
 use Rattle.std.specs.Option.{option_or}
-use Rattle.slicer.specs.Marks.{reason_at}
+use Rattle.run_model.specs.Packing.{reason_at}
 use Rattle.package_join.specs.inner.Picked.{reason_for}
 use Rattle.package_join.proofs.choosing.first_reasons.Given as goal
 

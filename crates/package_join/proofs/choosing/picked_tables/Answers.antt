@@ -1,6 +1,6 @@
 use Rattle.std.proofs.Common.{◌∙◌}
 use Rattle.std.proofs.lemmas.Result.{IfOk-weaker}
-use Rattle.slicer.specs.Marks.{tables_because}
+use Rattle.run_model.specs.Packing.{tables_because}
 use Rattle.package_join.proofs.PickedBy.{tables_as_picked}
 use Rattle.package_join.proofs.choosing.picked_tables.Goals as goal
 

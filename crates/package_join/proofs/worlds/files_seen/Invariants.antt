@@ -1,6 +1,6 @@
 use Rattle.std.proofs.Common.{◌≡◌, ◌++◌}
 use Rattle.std.specs.List.{filter_map}
-use Rattle.slicer.specs.Marks.{has_name}
+use Rattle.run_model.specs.Packing.{has_name}
 use Rattle.package_join.specs.Worlds.{seen_by}
 use Rattle.package_join.proofs.worlds.files_seen.Given as goal
 

@@ -4,7 +4,7 @@ use Rattle.std.specs.Option.{option_map}
 use Rattle.std.proofs.lemmas.Result.{IfOk-weaker}
 use Rattle.ldv_value.specs.declared.file.File.{File}
 use Rattle.run_model.specs.Slice.{packed_as}
-use Rattle.slicer.specs.Marks.{need_as}
+use Rattle.slicer.specs.inner.Marks.{need_as}
 use Rattle.slicer.proofs.files.needed_files.Goals as goal
 
 pub returns : goal.returns

@@ -4,8 +4,8 @@ use Rattle.std.specs.Prelude.{◌&&◌, Option}
 use Rattle.ldv_value.proofs.Places.{drop_item}
 use Rattle.run_model.specs.declared.event.Event.{Event}
 use Rattle.run_model.specs.Slice.{is_path, whole_path, present_path, changed_path, names_initial}
-use Rattle.slicer.specs.Marks.{has_name}
-use Rattle.slicer.proofs.NameLaws.{named_more}
+use Rattle.run_model.specs.Packing.{has_name}
+use Rattle.slicer.proofs.FileLaws.{named_more}
 use Rattle.slicer.proofs.files.note_events.Goals as goal
 
 pub loop-event-preserved : goal.loop-event-preserved

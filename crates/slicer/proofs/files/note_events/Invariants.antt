@@ -1,7 +1,7 @@
 use Rattle.std.proofs.Common.{◌≡◌, ◌||◌, List, ℕ, drop}
 use Rattle.std.specs.Prelude.{◌&&◌, not}
 use Rattle.run_model.specs.Slice.{names_initial, present_path, whole_path}
-use Rattle.slicer.specs.Marks.{has_name}
+use Rattle.run_model.specs.Packing.{has_name}
 use Rattle.slicer.proofs.files.note_events.Given as goal
 
 abbrev pub invariant-loop-event : goal.invariant-loop-event

@@ -1,6 +1,6 @@
 use Rattle.std.proofs.Common.{◌≡◌, ◌++◌, drop}
 use Rattle.std.specs.List.{filter_map}
-use Rattle.slicer.specs.Marks.{packed_by}
+use Rattle.slicer.specs.inner.Marks.{packed_by}
 use Rattle.slicer.proofs.files.pack_files.Given as goal
 
 abbrev pub invariant-loop-file : goal.invariant-loop-file

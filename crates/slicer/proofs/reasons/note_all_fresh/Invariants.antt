@@ -3,7 +3,7 @@ use Rattle.std.specs.Option.{option_or}
 use Rattle.ldv_value.specs.Options.{only_if}
 use Rattle.lanes.specs.Sets.{member}
 use Rattle.run_model.specs.Slice.{reason_in}
-use Rattle.slicer.specs.Marks.{reason_at}
+use Rattle.run_model.specs.Packing.{reason_at}
 use Rattle.slicer.specs.inner.Rows.{has_row}
 use Rattle.slicer.proofs.reasons.note_all_fresh.Given as goal
 

@@ -2,7 +2,7 @@ use Rattle.std.proofs.Common.{◌≡◌, ◌∙◌, List, ℕ, ap}
 use Rattle.std.proofs.lemmas.Result.{IfOk-weaker}
 use Rattle.ldv_value.specs.Options.{only_if}
 use Rattle.run_model.specs.Slice.{first_reason}
-use Rattle.slicer.specs.Marks.{reason_at, tables_because}
+use Rattle.run_model.specs.Packing.{reason_at, tables_because}
 use Rattle.slicer.specs.inner.Rows.{graph_reason}
 use Rattle.slicer.proofs.tables.needed_tables.Goals as goal
 

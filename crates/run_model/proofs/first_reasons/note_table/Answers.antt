@@ -5,10 +5,10 @@ use Rattle.std.specs.Option.{option_or}
 use Rattle.std.proofs.lemmas.Map.Text.{btree_map_updates_text}
 use Rattle.run_model.specs.Slice.{Reason}
 use Rattle.run_model.specs.Types.{Need}
-use Rattle.slicer.specs.declared.reasons.Why.{Why}
-use Rattle.slicer.specs.Marks.{row_reason, reason_among, reason_at, reason_of_row}
-use Rattle.slicer.proofs.ReasonLaws.{read_step, none_empty}
-use Rattle.slicer.proofs.reasons.note_table.Goals as goal
+use Rattle.run_model.specs.declared.first_reasons.Why.{Why}
+use Rattle.run_model.specs.Packing.{row_reason, reason_among, reason_at, reason_of_row}
+use Rattle.run_model.proofs.ReasonLaws.{read_step, none_empty}
+use Rattle.run_model.proofs.first_reasons.note_table.Goals as goal
 
 pub returns-clause-noted : goal.returns-clause-noted
 returns-clause-noted c =

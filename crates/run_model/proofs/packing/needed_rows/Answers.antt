@@ -3,10 +3,10 @@ use Rattle.std.specs.Prelude.{Option, None, Some}
 use Rattle.std.specs.BTreeMap.{BTreeMap, get_by_text}
 use Rattle.std.specs.List.{filter_map}
 use Rattle.std.proofs.lemmas.Result.{IfOk-weaker}
-use Rattle.slicer.specs.declared.reasons.Why.{Why}
-use Rattle.slicer.specs.Marks.{reason_among, reason_at, row_because}
-use Rattle.slicer.proofs.ReasonLaws.{none_packed}
-use Rattle.slicer.proofs.tables.needed_rows.Goals as goal
+use Rattle.run_model.specs.declared.first_reasons.Why.{Why}
+use Rattle.run_model.specs.Packing.{reason_among, reason_at, row_because}
+use Rattle.run_model.proofs.ReasonLaws.{none_packed}
+use Rattle.run_model.proofs.packing.needed_rows.Goals as goal
 
 pub returns-in-None : goal.returns-in-None
 returns-in-None c =

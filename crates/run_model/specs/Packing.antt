@@ -1,4 +1,4 @@
--- The meaning of the maps of `src/`.
+-- Sets of names and maps of reasons in memory, and the tables that they pack.
 use Rattle.std.specs.Prelude.{ℕ, List, map, filter, Bool, ◌&&◌, ◌==◌, Option, is_some, option_and_then}
 use Rattle.std.specs.Prelude.{if◌then◌else◌, Some, None, String}
 use Rattle.std.specs.List.{filter_map}
@@ -10,20 +10,13 @@ use Rattle.sql_model.specs.Scope.{same_text}
 use Rattle.sql_model.specs.declared.need.Need.{Need}
 use Rattle.sql_model.specs.declared.table.Table.{Table}
 use Rattle.sql_model.specs.declared.table.TableRow.{TableRow}
-use Rattle.ldv_value.specs.declared.file.File.{File}
-use Rattle.run_model.specs.declared.package.PackedFile.{PackedFile}
 use Rattle.run_model.specs.declared.package.PackedRow.{PackedRow}
 use Rattle.run_model.specs.declared.package.PackedTable.{PackedTable}
-use Rattle.run_model.specs.Slice.{Reason, is_read, FileNeed, Whole, Present}
-use Rattle.run_model.specs.Slice.{packed_as, packed_because}
-use Rattle.slicer.specs.declared.reasons.Why.{Why}
-
--- ---- names
+use Rattle.run_model.specs.Slice.{Reason, is_read, packed_because}
+use Rattle.run_model.specs.declared.first_reasons.Why.{Why}
 
 abbrev pub has_name : BTreeMap (String Global) (Unit {0}) → List ℕ → Bool
 has_name names name = is_some (get_by_text names name)
-
--- ---- reasons by table and row
 
 abbrev pub reason_from : Why → Reason
 reason_from why = record { statement = why.statement; rule = why.rule }
@@ -48,8 +41,6 @@ abbrev pub reason_of_read : ℕ → Need → List ℕ → ℕ → Option Reason
 reason_of_read statement need table row = if is_read table row need
     then Some (record { statement = statement; rule = need.rule }) else None
 
--- ---- tables and rows by a map's reasons and names
-
 abbrev pub row_because : (ℕ → Option Reason) → TableRow → Option PackedRow
 row_because reason row = option_map (packed_because row) (reason row.number)
 
@@ -64,13 +55,3 @@ table_because reason table = record {
 abbrev pub tables_because : (List ℕ → ℕ → Option Reason) → (List ℕ → Bool) → List Table → List PackedTable
 tables_because reason is_named tables =
     map (table_because reason) (filter (λ table. is_named table.name) tables)
-
--- ---- files
-
-abbrev pub need_as : Bool → Bool → Option FileNeed
-need_as whole present = if whole then Some Whole else (if present then Some Present else None)
-
-abbrev pub packed_by : BTreeMap (String Global) (Unit {0}) → BTreeMap (String Global) (Unit {0}) → File
-    → Option PackedFile
-packed_by whole present file =
-    option_map (packed_as file) (need_as (has_name whole file.path) (has_name present file.path))

@@ -3,11 +3,11 @@
 ghost use Rattle.std.specs.Prelude.{◌≡◌, ◌||◌, List, ℕ, OnOk, IfOk, IfNone, IfSome, Bool, false};
 ghost use Rattle.std.specs.List.{list_any};
 ghost use Rattle.sql_model.specs.Scope.{same_text};
-ghost use Rattle.slicer.specs.Marks.{has_name};
+ghost use Rattle.run_model.specs.Packing.{has_name};
 ghost use Rattle.run_model.specs.Slice.{asks_table, is_table_needed};
 
+use crate::event::{Act, Event};
 use ldv_value::Utf8;
-use run_model::{Act, Event};
 use std::alloc::{AllocError, Global};
 use std::collections::BTreeMap;
 
@@ -22,7 +22,7 @@ pub fn has_name(names: &NameSet, name: &Utf8) -> bool
 }
 
 /// Puts a name into the set. It is copied if the set hasn't got it.
-pub(crate) fn add_name(alloc: Global, names: &mut NameSet, name: &Utf8) -> Result<(), AllocError>
+pub fn add_name(alloc: Global, names: &mut NameSet, name: &Utf8) -> Result<(), AllocError>
     ensures { OnOk result ((q : List ℕ) → has_name names.new q
         ≡ (has_name names.old q || same_text name.now q)) }
 {
@@ -72,7 +72,7 @@ fn add_tables(alloc: Global, names: &mut NameSet, act: &Act) -> Result<(), Alloc
 }
 
 /// The names of the tables that statements ask.
-pub(crate) fn tables_asked(alloc: Global, events: &[Event]) -> Result<NameSet, AllocError>
+pub fn tables_asked(alloc: Global, events: &[Event]) -> Result<NameSet, AllocError>
     ensures { IfOk result (λ names. (q : List ℕ) → has_name names q ≡ is_table_needed events.now q) }
 {
     let mut names = NameSet::new(alloc);

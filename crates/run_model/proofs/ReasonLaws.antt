@@ -15,8 +15,9 @@ use Rattle.ldv_value.proofs.Options.{option_or-none}
 use Rattle.sql_model.specs.Scope.{same_text}
 use Rattle.run_model.specs.Types.{Need, TableRow}
 use Rattle.run_model.specs.Slice.{Reason, is_read, reason_in}
-use Rattle.slicer.specs.declared.reasons.Why.{Why}
-use Rattle.slicer.specs.Marks.{reason_from, row_reason, reason_among, reason_at, reason_of_row, reason_of_read, row_because}
+use Rattle.run_model.specs.declared.first_reasons.Why.{Why}
+use Rattle.run_model.specs.Packing.{reason_from, row_reason, reason_among, reason_at, reason_of_row}
+use Rattle.run_model.specs.Packing.{reason_of_read, row_because}
 
 -- a list of reads is its first and the others
 pub reason_step : (statement : ℕ) (need : Need) (needs : List Need) (table : List ℕ) (row : ℕ)

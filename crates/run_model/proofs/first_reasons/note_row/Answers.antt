@@ -2,8 +2,8 @@ use Rattle.std.proofs.Common.{◌∙◌, sym}
 use Rattle.std.specs.BTreeMap.{get}
 use Rattle.std.specs.Ordering.{nat_cmp}
 use Rattle.ldv_value.proofs.Options.{is_some-false}
-use Rattle.slicer.proofs.ReasonLaws.{put_row}
-use Rattle.slicer.proofs.reasons.note_row.Goals as goal
+use Rattle.run_model.proofs.ReasonLaws.{put_row}
+use Rattle.run_model.proofs.first_reasons.note_row.Goals as goal
 
 pub returns-clause-noted : goal.returns-clause-noted
 returns-clause-noted c =

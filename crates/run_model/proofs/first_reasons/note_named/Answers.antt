@@ -5,10 +5,10 @@ use Rattle.std.specs.Option.{option_or}
 use Rattle.std.proofs.lemmas.Result.{on_ok_weaker, on_err_weaker}
 use Rattle.std.proofs.lemmas.Map.Text.{btree_map_updates_text}
 use Rattle.run_model.specs.Types.{Need}
-use Rattle.slicer.specs.declared.reasons.Why.{Why}
-use Rattle.slicer.specs.Marks.{reason_among, reason_of_row}
-use Rattle.slicer.proofs.ReasonLaws.{read_step, read_kept}
-use Rattle.slicer.proofs.reasons.note_named.Goals as goal
+use Rattle.run_model.specs.declared.first_reasons.Why.{Why}
+use Rattle.run_model.specs.Packing.{reason_among, reason_of_row}
+use Rattle.run_model.proofs.ReasonLaws.{read_step, read_kept}
+use Rattle.run_model.proofs.first_reasons.note_named.Goals as goal
 
 pub returns-in-Some-clause-noted : goal.returns-in-Some-clause-noted
 returns-in-Some-clause-noted c =

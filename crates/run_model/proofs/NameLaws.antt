@@ -1,6 +1,6 @@
 -- Sets of names, step by step.
-use Rattle.std.proofs.Common.{◌≡◌, ℕ, List, Bool, true, false, not, refl, sym, ap, ◌∙◌, cond, inl, inr}
-use Rattle.std.specs.Prelude.{Some, is_some, ◌||◌, ◌&&◌, String, string_bytes, string_cmp, bytes_eq}
+use Rattle.std.proofs.Common.{◌≡◌, ℕ, List, true, refl, sym, ap, ◌∙◌, cond, inl, inr}
+use Rattle.std.specs.Prelude.{Some, is_some, ◌||◌, String, string_bytes, string_cmp, bytes_eq}
 use Rattle.std.specs.declared.alloc.Global.{Global}
 use Rattle.std.specs.BTreeMap.{BTreeMap, get_by_text, UpdatesBy}
 use Rattle.std.specs.Cmp.Lexicographic.{slice_cmp}
@@ -9,7 +9,7 @@ use Rattle.std.proofs.lemmas.Bool.{cases_Bool}
 use Rattle.std.proofs.lemmas.Map.Text.{btree_map_updates_text}
 use Rattle.std.proofs.lemmas.Slice.Eq.{bytes_eq-Decides}
 use Rattle.sql_model.specs.Scope.{same_text}
-use Rattle.slicer.specs.Marks.{has_name}
+use Rattle.run_model.specs.Packing.{has_name}
 use Rattle.ldv_value.proofs.Booleans.{or-true, or-false}
 
 pub add_name : (m n : BTreeMap (String Global) (Unit {0})) (key : String Global) (name : List ℕ) → string_bytes key ≡ name
@@ -32,14 +32,3 @@ known_name m name known q = elim (cases_Bool (same_text name q)) [
       rw there refl
   | inr miss ↦ rw miss (sym (or-false (has_name m q)))
 ]
-
--- a name that an event names now, and that may be changed now, before the others
-pub named_more : (here now changed later found gone rest : Bool) → now ≡ (here || (not changed && found)) → later ≡ (changed || gone)
-    → (now || (not later && rest)) ≡ (here || (not changed && (found || (not gone && rest))))
-named_more here now changed later found gone rest is more = (λ j. is j || (not (more j) && rest)) ∙ by here changed found gone
-  where
-    by : (h c f g : Bool) → ((h || (not c && f)) || (not (c || g) && rest)) ≡ (h || (not c && (f || (not g && rest))))
-    by true c f g = refl
-    by false true f g = refl
-    by false false true g = refl
-    by false false false g = refl
