@@ -10,6 +10,4 @@ pub mod Listings
 pub mod Lists
 pub mod MaskLaws
 pub mod Names
-pub mod OnceLaws
 pub mod Places
-pub mod RowLists

@@ -4,7 +4,6 @@ pub mod Equality
 pub mod Fixing
 pub mod Listing
 pub mod Masking
-pub mod Needing
 pub mod Placing
 pub mod Types
 pub mod inner

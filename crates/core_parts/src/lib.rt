@@ -14,7 +14,6 @@ mod cores;
 mod equality;
 mod fixing;
 mod mask;
-mod needs;
 mod placed;
 mod refs;
 mod refs_by;
@@ -26,7 +25,6 @@ pub use cores::{column_indexes, core_of, query_of};
 pub use equality::{is_column, is_equal_test};
 pub use fixing::fixed_key;
 pub use mask::{exact_masks, masks_of};
-pub use needs::{needed_by, needs_in_order, union_of_needs};
 pub use placed::{
     BoundExpr, column_of_source, placed_at, placed_items, skip_places, take_place, take_places,
 };

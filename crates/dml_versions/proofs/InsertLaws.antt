@@ -4,7 +4,7 @@ use Rattle.std.specs.Prelude.{unwrap_or, nat_lt, Err, is_none, IfSome}
 use Rattle.std.specs.List.{list_all}
 use Rattle.std.specs.Option.{option_and_then, option_map, option_or}
 use Rattle.std.proofs.lemmas.Bool.Decides.{Decides-eqb}
-use Rattle.core_parts.specs.Needing.{needs_in_order, union_of_needs}
+use Rattle.lineage.specs.Needing.{needs_in_order, union_of_needs}
 use Rattle.ldv_value.proofs.Booleans.{and-parts, and-from}
 use Rattle.ldv_value.proofs.Lists.{length-map}
 use Rattle.ldv_value.proofs.Options.{option_or-none}

@@ -5,7 +5,7 @@ use Rattle.std.specs.Prelude.{filter, find, not, ◌&&◌, ◌||◌, nat_lt, if�
 use Rattle.std.specs.List.{flat_map, filter_map, cons_option, list_any, list_all, AllByRecursion}
 use Rattle.std.specs.Option.{option_map, option_or, option_and_then}
 use Rattle.std.proofs.lemmas.Bool.{ne_eqb, ltb-true}
-use Rattle.core_parts.specs.Needing.{need_by, needs_in_order, union_of_needs}
+use Rattle.lineage.specs.Needing.{need_by, needs_in_order, union_of_needs}
 use Rattle.ldv_value.proofs.Booleans.{and-parts, and-from, and-false, or-cases, or-left, or-right, false≢true}
 use Rattle.ldv_value.proofs.Cases.{cases-bool}
 use Rattle.ldv_value.proofs.Lists.{list_any-append, list_all-append, found-passes}

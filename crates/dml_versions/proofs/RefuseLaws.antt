@@ -2,8 +2,8 @@
 use Rattle.std.proofs.Common.{◌≡◌, ◌≢◌, ℕ, ◌<◌, List, [], ◌∷◌, ◌++◌, map, refl, ap, sym, ◌∙◌, subst, Option, Some, None, Bool, true, false, inl, inr, append_assoc}
 use Rattle.std.specs.Prelude.{filter, Err, if◌then◌else◌}
 use Rattle.std.specs.Option.{option_map, option_or, option_to_list}
-use Rattle.core_parts.proofs.RowLists.{Rises, needs_rise, read_with, read_last}
-use Rattle.core_parts.specs.Needing.{needs_in_order, union_of_needs}
+use Rattle.lineage.proofs.RowLists.{Rises, needs_rise, read_with, read_last}
+use Rattle.lineage.specs.Needing.{needs_in_order, union_of_needs}
 use Rattle.ldv_value.proofs.Options.{none-some}
 use Rattle.ldv_value.specs.Sorted.{is_strictly_sorted}
 use Rattle.sql_model.specs.Changes.{KeyClash, lacks_value, key_clash, table_after, is_full, key_refusal, refusal_if, or_else, matched}

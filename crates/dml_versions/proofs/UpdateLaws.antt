@@ -3,7 +3,7 @@ use Rattle.std.proofs.Common.{◌≡◌, ◌==◌, ℕ, ◌+◌, ◌<◌, ◌≤
 use Rattle.std.specs.Prelude.{filter, zip, Err, if◌then◌else◌, ◌&&◌, is_none, IfSome}
 use Rattle.std.specs.List.{flat_map, list_any, list_all, AllByRecursion}
 use Rattle.std.specs.Option.{option_map, option_or, option_and_then}
-use Rattle.core_parts.specs.Needing.{needs_in_order, union_of_needs}
+use Rattle.lineage.specs.Needing.{needs_in_order, union_of_needs}
 use Rattle.std.proofs.lemmas.Bool.Decides.{Decides-eqb}
 use Rattle.ldv_value.proofs.Booleans.{and-parts, and-from}
 use Rattle.ldv_value.proofs.Lists.{map-map, list_all-map, list_all-filter, list_all-weaker, list_any-map, list_any-false, all-weaker}

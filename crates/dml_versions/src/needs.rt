@@ -18,8 +18,8 @@ ghost use Rattle.table_store.specs.Referring.{CanBePut};
 
 use crate::found::FoundRows;
 use crate::tables::table_of;
-use core_parts::{needed_by, needs_in_order, union_of_needs};
 use ldv_value::{List, Numbers, RowList, Utf8};
+use lineage::{needed_by, needs_in_order, union_of_needs};
 use sql_model::{Member, Members, Need, Needs, Rule, TableRow, TableRows};
 use std::alloc::{AllocError, Global};
 use table_store::{Store, TableStore};

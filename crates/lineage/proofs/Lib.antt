@@ -6,9 +6,11 @@ pub mod Lent
 pub mod Listed
 pub mod ListedBlocks
 pub mod Maps
+pub mod OnceLaws
 pub mod Origins
 pub mod RoomLaws
 pub mod RowLaws
+pub mod RowLists
 pub mod Seen
 pub mod Unions
 pub mod VersionLaws

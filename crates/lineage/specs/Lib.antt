@@ -1,5 +1,6 @@
 pub mod Flat
 pub mod Lineage
+pub mod Needing
 pub mod RowBlock
 pub mod Rows
 pub mod StandsFor

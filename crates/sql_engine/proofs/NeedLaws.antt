@@ -13,8 +13,8 @@ use Rattle.std.proofs.lemmas.Bool.{cases_Bool}
 use Rattle.std.proofs.lemmas.Bool.Decides.{nat_tests}
 use Rattle.std.proofs.lemmas.Cmp.{tied_itself}
 use Rattle.std.proofs.lemmas.List.{append-nil}
-use Rattle.core_parts.specs.Needing.{need_by, union_of_needs}
-use Rattle.core_parts.proofs.RowLists.{IsBefore, Rises, sorted_united, read_united}
+use Rattle.lineage.specs.Needing.{need_by, union_of_needs}
+use Rattle.lineage.proofs.RowLists.{IsBefore, Rises, sorted_united, read_united}
 use Rattle.ldv_value.proofs.Booleans.{or-right, t-first, t-second}
 use Rattle.ldv_value.proofs.Orderings.{t-less}
 use Rattle.ldv_value.proofs.SameBytes.{bytes_eq-true}

@@ -7,9 +7,8 @@ ghost use Rattle.std.specs.Ordering.{nat_cmp};
 ghost use Rattle.lineage.specs.Lineage.{IsNamed};
 ghost use Rattle.sql_engine.specs.inner.Listing.{needs_of};
 
-use core_parts::{needed_by, union_of_needs};
 use ldv_value::Names;
-use lineage::LineageSet;
+use lineage::{LineageSet, needed_by, union_of_needs};
 use sql_model::{Needs, Rule};
 use std::alloc::{AllocError, Global};
 

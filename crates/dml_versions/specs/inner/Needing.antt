@@ -2,7 +2,7 @@
 use Rattle.std.specs.Prelude.{◌≡◌, ℕ, ◌+◌, ◌==◌, map, nat_lt, List, [], ◌∷◌, true, Option, Some, None, IfSome}
 use Rattle.std.specs.Prelude.{if◌then◌else◌}
 use Rattle.std.specs.Option.{option_map}
-use Rattle.core_parts.specs.Needing.{need_by, needs_in_order, union_of_needs}
+use Rattle.lineage.specs.Needing.{need_by, needs_in_order, union_of_needs}
 use Rattle.sql_model.specs.Needs.{Versions, needed_by, needed_row, read_of}
 use Rattle.sql_model.specs.Scope.{table_at}
 use Rattle.table_store.specs.Histories.{tables_now}

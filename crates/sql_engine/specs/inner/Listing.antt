@@ -1,7 +1,7 @@
 -- The lists that are recorded of a statement: the tables that it asks, and the rows that it needs.
 use Rattle.std.specs.Prelude.{ℕ, List, ◌++◌, map, filter, Bool}
 use Rattle.std.specs.List.{list_any}
-use Rattle.core_parts.specs.Needing.{need_by, union_of_needs}
+use Rattle.lineage.specs.Needing.{need_by, union_of_needs}
 use Rattle.lineage.specs.Lineage.{Lineage, members_of}
 use Rattle.sql_engine.specs.Types.{Catalog, L, H, Need, Statement}
 use Rattle.sql_model.specs.ForeignKeys.{with_parents}

@@ -1,5 +1,5 @@
 use Rattle.std.proofs.Common.{◌≡◌, ◌∙◌, ap, [], ◌∷◌, ◌++◌}
-use Rattle.core_parts.specs.Needing.{union_of_needs}
+use Rattle.lineage.specs.Needing.{union_of_needs}
 use Rattle.dml_versions.specs.inner.Needing.{child_need}
 use Rattle.dml_versions.specs.Versions.{versions_now}
 use Rattle.dml_versions.proofs.needs.with_child_row.Goals as goal

@@ -3,12 +3,12 @@ use Rattle.std.specs.Cmp.{IsStrictWeakOrder}
 use Rattle.std.specs.Ordering.{is_lt}
 use Rattle.std.proofs.lemmas.List.MinMax.{ranks_by}
 use Rattle.std.proofs.lemmas.Fn.{always_returns_same}
-use Rattle.core_parts.proofs.OnceLaws.{member_total, need_total}
-use Rattle.core_parts.specs.Needing.{need_order}
-use Rattle.core_parts.specs.Types.{Need}
+use Rattle.lineage.proofs.OnceLaws.{member_total, need_total}
+use Rattle.lineage.specs.Needing.{need_order}
+use Rattle.sql_model.specs.declared.need.Need.{Need}
 use Rattle.sql_model.specs.Sorting.{sorted_by}
 use Rattle.sql_model.proofs.StableSorting.{sorted-is}
-use Rattle.core_parts.proofs.needs.sort_needs.Goals as goal
+use Rattle.lineage.proofs.needs.sort_needs.Goals as goal
 
 pub returns : goal.returns
 returns c =

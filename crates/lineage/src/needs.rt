@@ -1,8 +1,8 @@
 //! Lists of needed rows, sorted by table and number.
 
 ghost use Rattle.std.specs.Prelude.{◌≡◌, [], ◌∷◌, map, IfOk, MatchOption, OnOk};
-ghost use Rattle.core_parts.specs.Needing.{need_by, need_order, needs_in_order, union_of_needs};
-ghost use Rattle.core_parts.specs.Needing.{is_last_row, once_each, with_other, IsLast, IsNext};
+ghost use Rattle.lineage.specs.Needing.{need_by, need_order, needs_in_order, union_of_needs};
+ghost use Rattle.lineage.specs.Needing.{is_last_row, once_each, with_other, IsLast, IsNext};
 ghost use Rattle.sql_model.specs.Sorting.{sorted_by};
 ghost use Rattle.sql_model.specs.MemberOrder.{member_cmp as member_order};
 

@@ -9,8 +9,9 @@ use Rattle.std.specs.declared.cmp.Ordering.TheVariants.{Less, Equal, Greater}
 use Rattle.std.proofs.lemmas.Bool.{cases_Bool}
 use Rattle.std.proofs.lemmas.Cmp.{on_total, then_total, nat_cmp_total, nat_list_cmp_total}
 use Rattle.std.proofs.lemmas.List.{length-append}
-use Rattle.core_parts.specs.Needing.{need_order, union_of_needs, into, united_by, needs_in_order, is_last_row, others_onto, once_each}
-use Rattle.core_parts.specs.Types.{Member, Need}
+use Rattle.lineage.specs.Needing.{need_order, union_of_needs, into, united_by, needs_in_order, is_last_row, others_onto, once_each}
+use Rattle.sql_model.specs.declared.need.Member.{Member}
+use Rattle.sql_model.specs.declared.need.Need.{Need}
 use Rattle.sql_model.specs.Sorting.{put_sorted, sorted_by}
 use Rattle.sql_model.specs.MemberOrder.{member_cmp}
 

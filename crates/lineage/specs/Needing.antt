@@ -6,8 +6,10 @@ use Rattle.std.specs.declared.cmp.Ordering.{Ordering}
 use Rattle.std.specs.declared.cmp.Ordering.TheVariants.{Less, Equal, Greater}
 use Rattle.std.specs.Ordering.{is_eq}
 use Rattle.sql_model.specs.MemberOrder.{member_cmp}
-use Rattle.core_parts.specs.Types.{Member, Need, Rule}
-use Rattle.core_parts.specs.declared.needs.Next.{Next}
+use Rattle.sql_model.specs.declared.need.Member.{Member}
+use Rattle.sql_model.specs.declared.need.Need.{Need}
+use Rattle.sql_model.specs.declared.need.Rule.{Rule}
+use Rattle.lineage.specs.declared.needs.Next.{Next}
 
 abbrev pub need_by : Rule → Member → Need
 need_by rule member = record { member = member; rule = rule }

@@ -1,8 +1,8 @@
 use Rattle.std.proofs.Common.{◌∙◌, ap}
 use Rattle.std.proofs.lemmas.Result.{IfOk-weaker}
-use Rattle.core_parts.proofs.OnceLaws.{once_sorted}
-use Rattle.core_parts.specs.Needing.{once_each}
-use Rattle.core_parts.proofs.needs.needs_in_order.Goals as goal
+use Rattle.lineage.proofs.OnceLaws.{once_sorted}
+use Rattle.lineage.specs.Needing.{once_each}
+use Rattle.lineage.proofs.needs.needs_in_order.Goals as goal
 
 pub returns : goal.returns
 returns c =

@@ -10,8 +10,8 @@ use Rattle.std.specs.declared.cmp.Ordering.{Ordering}
 use Rattle.std.specs.declared.cmp.Ordering.TheVariants.{Less, Equal, Greater}
 use Rattle.std.proofs.lemmas.Cmp.{on_total, then_total, nat_cmp_total, nat_list_cmp_total}
 use Rattle.std.proofs.lemmas.Map.Text.{is_eq-slice_cmp}
-use Rattle.core_parts.specs.Needing.{union_of_needs, into, united_by, needs_in_order}
-use Rattle.core_parts.specs.Types.{Need}
+use Rattle.lineage.specs.Needing.{union_of_needs, into, united_by, needs_in_order}
+use Rattle.sql_model.specs.declared.need.Need.{Need}
 use Rattle.sql_model.specs.Needs.{NeededRow, Versions, is_same_row, is_earlier_row, put_row, sorted_needs, read_of}
 
 -- ---- the order of rows
