@@ -6,7 +6,6 @@ pub mod CorePlaces
 pub mod CountedOn
 pub mod Equalities
 pub mod FixingLaws
-pub mod Listings
 pub mod Lists
 pub mod MaskLaws
 pub mod Names

@@ -2,7 +2,6 @@ pub mod Checking
 pub mod Conditions
 pub mod Equality
 pub mod Fixing
-pub mod Listing
 pub mod Masking
 pub mod Placing
 pub mod Types

@@ -15,8 +15,6 @@ mod equality;
 mod fixing;
 mod mask;
 mod placed;
-mod refs;
-mod refs_by;
 mod truths;
 
 pub use conditions::{conjuncts, conjuncts_of};
@@ -28,6 +26,4 @@ pub use mask::{exact_masks, masks_of};
 pub use placed::{
     BoundExpr, column_of_source, placed_at, placed_items, skip_places, take_place, take_places,
 };
-pub use refs::Refs;
-pub use refs_by::RefsBy;
 pub use truths::is_certain;

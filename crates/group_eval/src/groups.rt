@@ -8,8 +8,7 @@ ghost use Rattle.group_eval.specs.inner.Grouping.{groups_with_pick, keyed_groups
 ghost use Rattle.group_eval.specs.Types.{Value as Seen};
 ghost use Rattle.ldv_value.specs.Order.{values_order};
 
-use core_parts::Refs;
-use ldv_value::Places;
+use ldv_value::{Places, Refs};
 use lineage::Pick;
 use sql_model::KeyOf;
 use std::alloc::{AllocError, Global};

@@ -4,6 +4,7 @@ pub mod FileLaws
 pub mod FileLists
 pub mod FirstItems
 pub mod ItemLists
+pub mod Listings
 pub mod Lists
 pub mod Numbers
 pub mod Options

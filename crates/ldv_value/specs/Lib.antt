@@ -3,6 +3,7 @@ pub mod Digits
 pub mod FileState
 pub mod Gives
 pub mod Limits
+pub mod Listing
 pub mod Names
 pub mod Options
 pub mod Order

@@ -1,8 +1,8 @@
 -- Slots by the values of columns.
 use Rattle.std.proofs.Common.{◌≡◌, ◌∙◌, sym, ap, cond, ℕ, List, ◌∷◌, ◌++◌, Some, None}
 use Rattle.std.specs.Ordering.{is_eq}
-use Rattle.core_parts.proofs.Listings.{moved}
-use Rattle.core_parts.specs.declared.refs_by.RefsBy.{RefsBy}
+use Rattle.ldv_value.proofs.Listings.{moved}
+use Rattle.ldv_value.specs.declared.refs_by.RefsBy.{RefsBy}
 use Rattle.query_eval.proofs.TieKeys.{key_tied, no_key}
 use Rattle.query_eval.specs.Types.{Value}
 use Rattle.query_eval.specs.inner.Joining.{key_of, TieValues, tie_order, values_here}

@@ -7,7 +7,7 @@ use Rattle.std.specs.List.{AllByRecursion}
 use Rattle.core_parts.specs.Conditions.{meets}
 use Rattle.core_parts.specs.Placing.{AreAllPlaced}
 use Rattle.core_parts.specs.declared.placed.BoundExpr.{BoundExpr}
-use Rattle.core_parts.specs.declared.refs_by.RefsBy.{RefsBy}
+use Rattle.ldv_value.specs.declared.refs_by.RefsBy.{RefsBy}
 use Rattle.lineage.specs.Flat.{HasLength}
 use Rattle.lineage.specs.declared.answer.Pick.{Pick}
 use Rattle.query_eval.proofs.TieKeys.{found_slots}

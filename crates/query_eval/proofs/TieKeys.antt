@@ -11,7 +11,7 @@ use Rattle.ldv_value.specs.Cells.{value_at}
 use Rattle.ldv_value.specs.Order.{order}
 use Rattle.ldv_value.proofs.Booleans.{and-false}
 use Rattle.core_parts.specs.Equality.{equals}
-use Rattle.core_parts.specs.declared.refs_by.RefsBy.{RefsBy}
+use Rattle.ldv_value.specs.declared.refs_by.RefsBy.{RefsBy}
 use Rattle.query_eval.proofs.Tying.{equals_tied, equals_null, null_equals}
 use Rattle.query_eval.specs.Types.{Value, Null, Int, Text}
 use Rattle.query_eval.specs.inner.Joining.{non_null, known_values, key_of, TieValues, tie_order, are_all_equal, values_before, values_here}

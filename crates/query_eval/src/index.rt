@@ -11,8 +11,7 @@ ghost use Rattle.ldv_value.specs.Cells.{value_at};
 use crate::probe::Probe;
 use crate::slot_row::{value_in, value_of};
 use crate::source::{Source, SourceRow};
-use core_parts::{Refs, RefsBy};
-use ldv_value::{Key, List, Value};
+use ldv_value::{Key, List, Refs, RefsBy, Value};
 use std::alloc::{AllocError, Global};
 
 /// Values, as parts of a key.

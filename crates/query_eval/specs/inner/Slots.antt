@@ -3,9 +3,9 @@
 use Rattle.std.specs.Prelude.{◌≡◌, ℕ, List, [], ◌∷◌, ◌++◌, map, filter, Bool, slice_index_or}
 use Rattle.std.specs.Option.{option_map_or}
 use Rattle.std.specs.List.{flat_map, list_all}
-use Rattle.core_parts.specs.Listing.{listed, item_added}
+use Rattle.ldv_value.specs.Listing.{listed, item_added}
 use Rattle.core_parts.specs.declared.placed.BoundExpr.{BoundExpr}
-use Rattle.core_parts.specs.declared.refs_by.RefsBy.{RefsBy}
+use Rattle.ldv_value.specs.declared.refs_by.RefsBy.{RefsBy}
 use Rattle.lineage.specs.declared.answer.Pick.{Pick}
 use Rattle.query_eval.specs.Picking.{pick_of}
 use Rattle.query_eval.specs.inner.Sources.{joined_row_values}

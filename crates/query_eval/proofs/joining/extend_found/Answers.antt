@@ -1,6 +1,6 @@
 use Rattle.std.proofs.Common.{◌≡◌, ◌∙◌, ap, sym, ◌++◌, [], Bool, List, ℕ, Option, append-nil}
 use Rattle.std.specs.Option.{option_map_or}
-use Rattle.core_parts.specs.declared.refs_by.RefsBy.{RefsBy}
+use Rattle.ldv_value.specs.declared.refs_by.RefsBy.{RefsBy}
 use Rattle.query_eval.specs.inner.Joining.{TieValues}
 use Rattle.query_eval.specs.inner.Slots.{extended_by, slots_found, slots_listed, values_at}
 use Rattle.query_eval.proofs.joining.extend_found.Goals as goal

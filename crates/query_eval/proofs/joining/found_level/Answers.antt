@@ -1,7 +1,7 @@
 use Rattle.std.proofs.Common.{◌≡◌, ◌∙◌, ◌<◌, ◌-◌, ◌++◌, ◌∷◌, ap, length, List, ℕ, Bool, append_assoc, rules}
 use Rattle.lineage.specs.Flat.{rows_in}
 use Rattle.lineage.proofs.FlatLaws.{rows_joined, rest_long}
-use Rattle.core_parts.specs.declared.refs_by.RefsBy.{RefsBy}
+use Rattle.ldv_value.specs.declared.refs_by.RefsBy.{RefsBy}
 use Rattle.query_eval.specs.declared.probe.Probe.{Probe}
 use Rattle.query_eval.specs.declared.source.Source.{Source}
 use Rattle.query_eval.specs.inner.Joining.{TieValues}

@@ -3,7 +3,7 @@ use Rattle.std.specs.Prelude.{List, [], ◌∷◌, ◌++◌, cond, unwrap_or}
 use Rattle.std.specs.BTreeMap as tree
 use Rattle.std.specs.Ordering.{is_eq}
 use Rattle.std.specs.declared.cmp.Ordering.{Ordering}
-use Rattle.core_parts.specs.declared.refs_by.RefsBy.{RefsBy}
+use Rattle.ldv_value.specs.declared.refs_by.RefsBy.{RefsBy}
 
 module _ {K X : Type 0} (cmp : K → K → Ordering) where
   -- the items under a key, in their order

@@ -1,6 +1,6 @@
 use Rattle.std.proofs.Common.{sym, ◌∙◌}
-use Rattle.core_parts.proofs.Listings.{put_item}
-use Rattle.core_parts.proofs.refs_by.RefsBy.add_first.Goals as goal
+use Rattle.ldv_value.proofs.Listings.{put_item}
+use Rattle.ldv_value.proofs.refs_by.RefsBy.add_first.Goals as goal
 
 pub returns-in-Ok-clause-ok : goal.returns-in-Ok-clause-ok
 returns-in-Ok-clause-ok g c =

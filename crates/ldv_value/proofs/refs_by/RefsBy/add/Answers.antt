@@ -1,8 +1,8 @@
 use Rattle.std.proofs.Common.{rules, ap, []}
 use Rattle.std.specs.Prelude.{Option, unwrap_or}
 use Rattle.std.proofs.lemmas.Result.{on_err_weaker, on_ok_weaker}
-use Rattle.core_parts.proofs.Listings.{put_item, put_same}
-use Rattle.core_parts.proofs.refs_by.RefsBy.add.Goals as goal
+use Rattle.ldv_value.proofs.Listings.{put_item, put_same}
+use Rattle.ldv_value.proofs.refs_by.RefsBy.add.Goals as goal
 
 pub returns-in-Some-clause-ok : goal.returns-in-Some-clause-ok
 returns-in-Some-clause-ok g c =

@@ -2,7 +2,7 @@
 
 ghost use Rattle.std.specs.Prelude.{◌≡◌, [], OnErr, OnOk, unwrap_or};
 ghost use Rattle.std.specs.Option.{option_map};
-ghost use Rattle.core_parts.specs.Listing.{listed, item_added};
+ghost use Rattle.ldv_value.specs.Listing.{listed, item_added};
 
 use crate::refs::Refs;
 use std::alloc::{AllocError, Global};

@@ -9,8 +9,8 @@ use Rattle.std.specs.Ordering.{is_eq}
 use Rattle.std.specs.declared.cmp.Ordering.{Ordering}
 use Rattle.std.specs.declared.cmp.Ordering.TheVariants.{Equal}
 use Rattle.ldv_value.proofs.Orderings.{is_eq-true}
-use Rattle.core_parts.specs.Listing.{listed, item_added}
-use Rattle.core_parts.specs.declared.refs_by.RefsBy.{RefsBy}
+use Rattle.ldv_value.specs.Listing.{listed, item_added}
+use Rattle.ldv_value.specs.declared.refs_by.RefsBy.{RefsBy}
 
 -- an item that passes a test goes from those that are left to those that are there
 pub moved : {X : Type 0} (b : Bool) (items more : List X) (item : X) → cond b (items ++ item ∷ []) items ++ more ≡ items ++ cond b (item ∷ more) more
