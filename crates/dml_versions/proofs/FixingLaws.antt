@@ -1,9 +1,9 @@
 -- The key that WHERE fixes.
 use Rattle.std.proofs.Common.{◌≡◌, ◌∙◌, ◌+◌, ◌<◌, ap, sym, ℕ, List, [], ◌∷◌, arith, Some}
-use Rattle.core_parts.proofs.FixingLaws.{fixed-key}
-use Rattle.core_parts.specs.Conditions.{AreConditions}
-use Rattle.core_parts.specs.Fixing.{FixesKey as FixesBy}
-use Rattle.core_parts.specs.declared.placed.BoundExpr.{BoundExpr}
+use Rattle.predicates.proofs.FixingLaws.{fixed-key}
+use Rattle.predicates.specs.Conditions.{AreConditions}
+use Rattle.predicates.specs.Fixing.{FixesKey as FixesBy}
+use Rattle.predicates.specs.declared.placed.BoundExpr.{BoundExpr}
 use Rattle.sql_model.specs.Kinds.{names_in}
 use Rattle.ldv_value.specs.Cells.{value_at}
 use Rattle.sql_model.specs.Scope.{InScope, places_in}

@@ -3,7 +3,7 @@ use Rattle.std.proofs.Common.{◌≡◌, ℕ, ◌<◌, Bool, true, List, [], ◌
 use Rattle.std.specs.Prelude.{filter, find}
 use Rattle.std.specs.List.{AllByRecursion}
 use Rattle.std.specs.Option.{option_map, option_to_list}
-use Rattle.core_parts.proofs.Lists.{kept_twice}
+use Rattle.predicates.proofs.Lists.{kept_twice}
 use Rattle.sql_model.proofs.UniqueKeys.{values_in}
 use Rattle.sql_model.specs.Tables.{are_keys_unique}
 use Rattle.sql_model.specs.References.{has_key}

@@ -4,10 +4,10 @@ use Rattle.std.specs.Prelude.{filter, IfSome}
 use Rattle.std.specs.Option.{option_map_or, option_to_list}
 use Rattle.std.proofs.lemmas.Bool.{cases_Bool}
 use Rattle.std.proofs.Math.ListN.{drop_of_length-le}
-use Rattle.core_parts.proofs.MaskLaws.{masks-fit, masks-pass}
-use Rattle.core_parts.specs.Conditions.{AreConditions}
-use Rattle.core_parts.specs.Masking.{AreMasks, AreExact, passes_at}
-use Rattle.core_parts.specs.declared.placed.BoundExpr.{BoundExpr}
+use Rattle.predicates.proofs.MaskLaws.{masks-fit, masks-pass}
+use Rattle.predicates.specs.Conditions.{AreConditions}
+use Rattle.predicates.specs.Masking.{AreMasks, AreExact, passes_at}
+use Rattle.predicates.specs.declared.placed.BoundExpr.{BoundExpr}
 use Rattle.lanes.specs.Sets.{member, IsNext}
 use Rattle.ldv_value.proofs.Booleans.{true≢false}
 use Rattle.sql_model.specs.ColumnTests.{passes, passes_all}

@@ -13,7 +13,7 @@ use crate::needs::{needs_of, numbers_of};
 use crate::places::pick_places;
 use crate::statements::delete_of;
 use crate::tables::table_of;
-use core_parts::column_indexes;
+use predicates::column_indexes;
 use ldv_value::List;
 use sql_model::{Checked, Delete};
 use std::alloc::AllocError;

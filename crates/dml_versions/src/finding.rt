@@ -17,7 +17,7 @@ use crate::found::{Found, FoundRows};
 use crate::keys::picked_key;
 use crate::needs::version_of;
 use crate::tested::picked_tests;
-use core_parts::is_certain;
+use predicates::is_certain;
 use lanes::{after_member, next_one};
 use ldv_value::{List, Places, Values};
 use sql_model::{ColumnTest, Expr, RowKey, truth_of};

@@ -3,7 +3,7 @@
 ghost use Rattle.std.specs.Prelude.{◌≡◌, Some, IfOk, IfSome};
 ghost use Rattle.dml_versions.specs.inner.Fixing.{WhereFixesKey};
 
-use core_parts::{conjuncts_of, fixed_key};
+use predicates::{conjuncts_of, fixed_key};
 use ldv_value::{Places, Values};
 use sql_model::{Expr, Schema};
 use std::alloc::{AllocError, Global};

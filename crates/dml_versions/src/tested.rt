@@ -1,10 +1,10 @@
 //! Tests of single columns from WHERE, which choose rows of a table before WHERE is evaluated.
 
 ghost use Rattle.std.specs.Prelude.{◌≡◌, Some, IfOk, true, false};
-ghost use Rattle.core_parts.specs.Masking.{AreMasks, AreExact};
+ghost use Rattle.predicates.specs.Masking.{AreMasks, AreExact};
 ghost use Rattle.dml_versions.specs.inner.Testing.{AreTests, AreExactTests};
 
-use core_parts::{BoundExpr, conjuncts_of, exact_masks, masks_of};
+use predicates::{BoundExpr, conjuncts_of, exact_masks, masks_of};
 use ldv_value::{List, Places};
 use sql_model::{ColumnTest, Columns, Expr};
 use std::alloc::{AllocError, Global};

@@ -14,7 +14,7 @@ use crate::places::update_places;
 use crate::statements::update_of;
 use crate::tables::table_of;
 use crate::updates::updated_rows;
-use core_parts::column_indexes;
+use predicates::column_indexes;
 use ldv_value::List;
 use sql_model::{Checked, TableRows, Update};
 use std::alloc::AllocError;

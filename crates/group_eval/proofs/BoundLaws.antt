@@ -4,14 +4,14 @@ use Rattle.std.specs.Prelude.{Some, None, Bool, pos, Result, Ok, Err, IfOk}
 use Rattle.std.proofs.lemmas.List.{map-append, length-map}
 use Rattle.std.proofs.lemmas.Simd.{map-map}
 use Rattle.lineage.specs.declared.answer.Pick.{Pick}
-use Rattle.core_parts.proofs.Lists.{take-mapped, drop-mapped}
-use Rattle.core_parts.proofs.Places.{places-append}
+use Rattle.predicates.proofs.Lists.{take-mapped, drop-mapped}
+use Rattle.predicates.proofs.Places.{places-append}
 use Rattle.group_eval.specs.inner.Folding.{first_row, pick_environment, pick_environments, value_over}
 use Rattle.group_eval.specs.inner.Folding.{group_meaning}
-use Rattle.core_parts.specs.Placing.{own_places, other_places, IsPlaced}
+use Rattle.predicates.specs.Placing.{own_places, other_places, IsPlaced}
 use Rattle.group_eval.specs.inner.BoundAggregates.{BindsTo, first_meaning, IsBound}
 use Rattle.group_eval.specs.Types.{ColumnName, Expr, Fold, Operator, Value}
-use Rattle.core_parts.specs.declared.placed.BoundExpr.{BoundExpr}
+use Rattle.predicates.specs.declared.placed.BoundExpr.{BoundExpr}
 use Rattle.sql_model.proofs.Folds.{fold-Constant, fold-Column, fold-Negate, fold-Not, fold-Both, fold-IsNull, fold-Count, fold-Aggregate}
 use Rattle.sql_model.specs.Kinds.{names_in, names_step}
 use Rattle.sql_model.specs.Meaning.{Environment, Meaning, of_value, of_truth, eval, eval_step, both, negation_of, truth_not, null_test, aggregate_of, known_values, number_value, in_first}

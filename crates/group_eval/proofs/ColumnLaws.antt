@@ -3,9 +3,9 @@ use Rattle.std.proofs.Common.{◌≡◌, ◌∙◌, sym, ap, subst, refl, ℕ, L
 use Rattle.std.specs.Prelude.{Some, None, pos}
 use Rattle.std.proofs.lemmas.List.{length-map}
 use Rattle.std.proofs.lemmas.Simd.{map-map}
-use Rattle.core_parts.specs.Equality.{IsColumn}
-use Rattle.core_parts.specs.Placing.{IsPlaced}
-use Rattle.core_parts.specs.declared.placed.BoundExpr.{BoundExpr}
+use Rattle.predicates.specs.Equality.{IsColumn}
+use Rattle.predicates.specs.Placing.{IsPlaced}
+use Rattle.predicates.specs.declared.placed.BoundExpr.{BoundExpr}
 use Rattle.lineage.specs.declared.answer.Pick.{Pick}
 use Rattle.group_eval.proofs.BoundLaws.{column_first}
 use Rattle.group_eval.specs.inner.Columns.{value_in, IsValueAt}

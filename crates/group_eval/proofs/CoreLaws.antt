@@ -15,7 +15,7 @@ use Rattle.lineage.specs.declared.answer.Pick.{Pick}
 use Rattle.lineage.proofs.Origins.{stands-empty}
 use Rattle.lineage.proofs.RowLaws.{kept_origins-union}
 use Rattle.lineage.proofs.Unions.{version_union}
-use Rattle.core_parts.specs.Checking.{core_at, places_at}
+use Rattle.predicates.specs.Checking.{core_at, places_at}
 use Rattle.group_eval.specs.Evaluating.{group_values, is_group_kept, ArePlaced, IsHavingPlaced, IsPlacedPlan, group_answer, answers_of, rejected_of, IsGroupedBy, IsGrouped}
 use Rattle.group_eval.specs.inner.Folding.{first_row, pick_environments, group_meaning}
 use Rattle.group_eval.specs.inner.Grouping.{key_of, is_under, picks_under, keyed_groups, pick_groups}
@@ -24,12 +24,12 @@ use Rattle.group_eval.specs.Types.{Checked, ColumnName, Core, Expr, FromItem, It
 use Rattle.lineage.specs.Lineage.{union_of}
 use Rattle.group_eval.specs.inner.Uniting.{lineage_of_picks}
 use Rattle.group_eval.specs.declared.grouping.Grouped.{Grouped}
-use Rattle.core_parts.specs.declared.placed.BoundExpr.{BoundExpr}
+use Rattle.predicates.specs.declared.placed.BoundExpr.{BoundExpr}
 use Rattle.group_eval.specs.declared.plan.Plan.{Plan}
 use Rattle.sql_model.specs.Keys.{same_values}
 use Rattle.sql_model.specs.Meaning.{Environment, Meaning, eval, is_true}
 use Rattle.sql_model.specs.Needs.{Versions}
-use Rattle.core_parts.proofs.CorePlaces.{core-places}
+use Rattle.predicates.proofs.CorePlaces.{core-places}
 use Rattle.sql_model.specs.QueryAnswer.{Combination, combination_rows, joined_values, environments, item_values, first_values, group_key, has_key, groups_of, group_row, is_kept, distinct_values, one_combination}
 use Rattle.sql_model.specs.Refusals.{core_names, groups}
 use Rattle.ldv_value.specs.Cells.{value_at}

@@ -9,8 +9,8 @@ use Rattle.std.proofs.lemmas.Bool.{cases_Bool}
 use Rattle.std.proofs.lemmas.Simd.{map-map}
 use Rattle.ldv_value.proofs.Booleans.{true≢false}
 use Rattle.lineage.specs.declared.answer.Pick.{Pick}
-use Rattle.core_parts.proofs.Lists.{both_filters, kept_twice, all_kept}
-use Rattle.core_parts.proofs.CountedOn.{not_some, some_more, none_zero, later_some}
+use Rattle.predicates.proofs.Lists.{both_filters, kept_twice, all_kept}
+use Rattle.predicates.proofs.CountedOn.{not_some, some_more, none_zero, later_some}
 use Rattle.ldv_value.specs.Order.{values_order}
 use Rattle.sql_model.specs.Keys.{same_values}
 use Rattle.sql_model.specs.QueryAnswer.{distinct_values}

@@ -5,14 +5,14 @@ use Rattle.lineage.specs.Rows.{kept_origins, joined_row, AnswersStandFor, PicksS
 use Rattle.lineage.specs.StandsFor.{StandsFor}
 use Rattle.lineage.specs.declared.answer.Answer.{Answer}
 use Rattle.lineage.specs.declared.answer.Pick.{Pick}
-use Rattle.core_parts.specs.Checking.{core_at, IsChecked}
+use Rattle.predicates.specs.Checking.{core_at, IsChecked}
 use Rattle.group_eval.specs.inner.Folding.{first_row, group_meaning}
-use Rattle.core_parts.specs.Placing.{IsPlaced, AreAllPlaced}
+use Rattle.predicates.specs.Placing.{IsPlaced, AreAllPlaced}
 use Rattle.group_eval.specs.Types.{Catalog, Checked, Core, Query, Value}
 use Rattle.lineage.specs.Lineage.{union_of}
 use Rattle.group_eval.specs.inner.Uniting.{lineage_of_picks, lineage_of_groups}
 use Rattle.group_eval.specs.declared.grouping.Grouped.{Grouped}
-use Rattle.core_parts.specs.declared.placed.BoundExpr.{BoundExpr}
+use Rattle.predicates.specs.declared.placed.BoundExpr.{BoundExpr}
 use Rattle.group_eval.specs.declared.plan.Plan.{Plan}
 use Rattle.sql_model.specs.Meaning.{is_true}
 use Rattle.sql_model.specs.Needs.{Versions}

@@ -6,7 +6,7 @@ ghost use Rattle.lineage.specs.declared.answer.Pick.{Pick as Given};
 ghost use Rattle.sql_model.specs.Meaning.{known_values};
 ghost use Rattle.ldv_value.specs.Cells.{value_at};
 
-use core_parts::is_column;
+use predicates::is_column;
 use ldv_value::{List, Places, Value, Values};
 use lineage::Pick;
 use sql_model::{Expr, value_or};

@@ -8,7 +8,7 @@ ghost use Rattle.std.specs.Prelude.{◌≡◌, List as Items, ℕ, map, drop, If
 ghost use Rattle.sql_model.specs.declared.expr.Expr.TheVariants.{Aggregate};
 ghost use Rattle.group_eval.specs.inner.Columns.{known_column, IsKnown};
 ghost use Rattle.group_eval.specs.inner.Folding.{first_row, group_meaning, value_over};
-ghost use Rattle.core_parts.specs.Placing.{IsPlaced};
+ghost use Rattle.predicates.specs.Placing.{IsPlaced};
 ghost use Rattle.group_eval.specs.inner.BoundAggregates.{BindsTo, IsBound};
 ghost use Rattle.sql_model.specs.Kinds.{names_in};
 ghost use Rattle.sql_model.specs.Meaning.{aggregate_of, known_values};
@@ -16,7 +16,7 @@ ghost use Rattle.sql_model.specs.Scope.{InScope, places_in};
 
 use crate::columns::{KnownColumn, column_place};
 use crate::folds::{aggregate, count_value, fold_known};
-use core_parts::{BoundExpr, is_column, take_place, take_places};
+use predicates::{BoundExpr, is_column, take_place, take_places};
 use ldv_value::{CopyItem, List, Places, Truth, Value, Values};
 use lineage::Pick;
 use sql_model::{Expr, Fold, truth_of, value_of};

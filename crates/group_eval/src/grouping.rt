@@ -2,13 +2,13 @@
 
 ghost use Rattle.std.specs.FinMap as finmap;
 ghost use Rattle.std.specs.Prelude.{◌≡◌, ◌++◌, ◌∷◌, [], List as Items, map, IfOk, OnOk};
-ghost use Rattle.core_parts.specs.Checking.{HasCore};
+ghost use Rattle.predicates.specs.Checking.{HasCore};
 ghost use Rattle.group_eval.specs.Evaluating.{item_values, group_values, group_answer, is_group_kept};
 ghost use Rattle.group_eval.specs.Evaluating.{ArePlaced, IsHavingPlaced};
 ghost use Rattle.group_eval.specs.Evaluating.{IsPlacedPlan, AddsGroup, IsGroupedBy, IsGrouped};
 ghost use Rattle.group_eval.specs.inner.Folding.{first_row};
 ghost use Rattle.group_eval.specs.inner.Grouping.{own_picks, pick_groups, keyed_groups};
-ghost use Rattle.core_parts.specs.Placing.{AreAllPlaced};
+ghost use Rattle.predicates.specs.Placing.{AreAllPlaced};
 ghost use Rattle.sql_model.specs.Scope.{InScope};
 
 use crate::columns::KnownColumn;
@@ -16,7 +16,7 @@ use crate::group_value::{group_truth, group_value};
 use crate::groups::{KeyedGroup, groups_of};
 use crate::lineages::{add_lineages, lineage_of_picks};
 use crate::plan::{Plan, plan_of};
-use core_parts::{BoundExpr, column_indexes, core_of, is_certain};
+use predicates::{BoundExpr, column_indexes, core_of, is_certain};
 use ldv_value::{List, Refs, Values};
 use lineage::{Answer, Answers, LineageSet, Pick, Picks};
 use sql_model::Checked;

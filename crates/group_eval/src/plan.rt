@@ -8,7 +8,7 @@ ghost use Rattle.sql_model.specs.Kinds.{names_in};
 ghost use Rattle.sql_model.specs.Refusals.{core_names, items_of, names_of_items};
 ghost use Rattle.sql_model.specs.Scope.{InScope, places_in};
 
-use core_parts::{BoundExpr, placed_at, placed_items, skip_places, take_place};
+use predicates::{BoundExpr, placed_at, placed_items, skip_places, take_place};
 use ldv_value::{List, Places};
 use sql_model::{ColumnName, Core, Expr, Items as CoreItems};
 use std::alloc::{AllocError, Global};

@@ -2,9 +2,9 @@
 //! of a query. The engine only tells the rows that all of them come from together.
 
 ghost use Rattle.std.specs.Prelude.{◌≡◌, IsTrue, is_some};
-ghost use Rattle.core_parts.specs.Checking.{HasCore, IsQuery, core_at};
+ghost use Rattle.predicates.specs.Checking.{HasCore, IsQuery, core_at};
 
-use core_parts::core_of;
+use predicates::core_of;
 use group_eval::{Grouped, group};
 use ldv_value::Values;
 use lineage::{Answers, LineageSet, Picks};

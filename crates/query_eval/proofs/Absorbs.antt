@@ -10,8 +10,8 @@ use Rattle.ldv_value.proofs.Booleans.{true≢false, not-true}
 use Rattle.lineage.specs.Lineage.{Lineage, union_of}
 use Rattle.lineage.specs.declared.answer.Answer.{Answer}
 use Rattle.lineage.proofs.Unions.{union_assoc, none_union}
-use Rattle.core_parts.proofs.Lists.{both_filters, kept_twice, all_kept}
-use Rattle.core_parts.proofs.CountedOn.{not_some, some_more, none_zero, later_some}
+use Rattle.predicates.proofs.Lists.{both_filters, kept_twice, all_kept}
+use Rattle.predicates.proofs.CountedOn.{not_some, some_more, none_zero, later_some}
 use Rattle.ldv_value.specs.Order.{values_order}
 use Rattle.sql_model.specs.Keys.{same_values}
 use Rattle.sql_model.specs.QueryAnswer.{distinct_values}

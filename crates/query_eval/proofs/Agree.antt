@@ -2,7 +2,7 @@
 use Rattle.std.proofs.Common.{◌≡◌, ℕ, zero, suc, ◌<◌, List, [], ◌∷◌, ◌++◌, length, refl, ap, arith}
 use Rattle.std.specs.Prelude.{Option, slice_get, unwrap_or}
 use Rattle.std.specs.List.{AllByRecursion}
-use Rattle.core_parts.proofs.Agree.{alike}
+use Rattle.predicates.proofs.Agree.{alike}
 use Rattle.ldv_value.specs.declared.value.Value.{Value}
 use Rattle.ldv_value.specs.declared.value.Value.TheVariants.{Null}
 use Rattle.sql_model.specs.declared.expr.ColumnName.{ColumnName}

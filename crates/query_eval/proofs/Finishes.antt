@@ -9,8 +9,8 @@ use Rattle.lineage.specs.Rows.{kept_origins, IsRow, AnswersStandFor}
 use Rattle.lineage.specs.StandsFor.{StandsFor}
 use Rattle.lineage.specs.declared.answer.Answer.{Answer}
 use Rattle.query_eval.proofs.Merges.{lineage_of_answers-stands}
-use Rattle.core_parts.specs.Checking.{places_at}
-use Rattle.core_parts.proofs.CorePlaces.{statement-is}
+use Rattle.predicates.specs.Checking.{places_at}
+use Rattle.predicates.proofs.CorePlaces.{statement-is}
 use Rattle.query_eval.specs.Finishing.{as_key, sort_columns, by_columns, IsLimited, IsFinished, rows_in_order}
 use Rattle.query_eval.specs.Merging.{lineage_of_answers}
 use Rattle.query_eval.specs.Types.{Checked, Order, Query, TheQuery}

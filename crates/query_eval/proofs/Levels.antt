@@ -9,10 +9,10 @@ use Rattle.ldv_value.proofs.Lists.{filter-append}
 use Rattle.query_eval.proofs.Agree.{first_rows_tell}
 use Rattle.query_eval.proofs.Product.{extensions, products-more, pushed, EachSplits, all_of, all_there}
 use Rattle.query_eval.specs.inner.Joining.{combos, tests, is_ready, ready_conditions, later_conditions, extensions_left, extensions_of, extensions_of_all, are_tied, AreTies, EachHas, extensions_by_ties}
-use Rattle.core_parts.specs.Placing.{IsPlaced, AreAllPlaced}
+use Rattle.predicates.specs.Placing.{IsPlaced, AreAllPlaced}
 use Rattle.query_eval.specs.inner.Sources.{joined_row_values, AreWide}
 use Rattle.query_eval.specs.Types.{ColumnName, Value}
-use Rattle.core_parts.specs.declared.placed.BoundExpr.{BoundExpr}
+use Rattle.predicates.specs.declared.placed.BoundExpr.{BoundExpr}
 use Rattle.query_eval.specs.declared.probe.Probe.{Probe}
 use Rattle.query_eval.specs.declared.source.SourceRow.{SourceRow}
 use Rattle.sql_model.specs.Kinds.{names_in}

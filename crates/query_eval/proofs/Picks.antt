@@ -15,14 +15,14 @@ use Rattle.lineage.specs.Rows.{kept_origins, PicksStandFor, joined_row}
 use Rattle.lineage.specs.StandsFor.{StandsFor, origin_at}
 use Rattle.lineage.specs.declared.answer.Pick.{Pick}
 use Rattle.lineage.proofs.Origins.{AreDistinct, distinct-sorted, stands-empty, stands-with_version}
-use Rattle.core_parts.proofs.Lists.{kept_twice}
-use Rattle.core_parts.specs.Conditions.{AreConditions}
+use Rattle.predicates.proofs.Lists.{kept_twice}
+use Rattle.predicates.specs.Conditions.{AreConditions}
 use Rattle.query_eval.specs.inner.Joining.{combos, tests}
 use Rattle.query_eval.specs.Picking.{rows_added, kept_rows, pick_of}
 use Rattle.query_eval.specs.inner.Sources.{table_row, source_rows, joined_row_values, AreSources, are_kept}
 use Rattle.query_eval.specs.inner.Sources.{LeavesPicked}
 use Rattle.query_eval.specs.Types.{Core, FromItem, Table, TableRow, Value}
-use Rattle.core_parts.specs.declared.placed.BoundExpr.{BoundExpr}
+use Rattle.predicates.specs.declared.placed.BoundExpr.{BoundExpr}
 use Rattle.query_eval.specs.declared.source.Source.{Source}
 use Rattle.query_eval.specs.declared.source.SourceRow.{SourceRow}
 use Rattle.sql_model.specs.Needs.{Versions}

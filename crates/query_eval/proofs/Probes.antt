@@ -6,14 +6,14 @@ use Rattle.ldv_value.proofs.Booleans.{and-assoc, and-true}
 use Rattle.ldv_value.specs.declared.value.Cmp.TheVariants.{Eq}
 use Rattle.query_eval.proofs.Agree.{value_first}
 use Rattle.query_eval.proofs.Levels.{joined_row_values-one}
-use Rattle.core_parts.proofs.Equalities.{equals-turned}
-use Rattle.core_parts.proofs.Places.{placed-more}
-use Rattle.core_parts.specs.Placing.{AreAllPlaced}
-use Rattle.core_parts.specs.Equality.{equals}
+use Rattle.predicates.proofs.Equalities.{equals-turned}
+use Rattle.predicates.proofs.Places.{placed-more}
+use Rattle.predicates.specs.Placing.{AreAllPlaced}
+use Rattle.predicates.specs.Equality.{equals}
 use Rattle.query_eval.specs.inner.Joining.{tests, are_all_equal, are_tied, values_before, values_here, AreTies, AreTiesWith, IsBetween, IsEquality, IsProbeOf}
 use Rattle.query_eval.specs.inner.Sources.{joined_row_values}
 use Rattle.query_eval.specs.Types.{ColumnName, Compare, Expr, Null, Value}
-use Rattle.core_parts.specs.declared.placed.BoundExpr.{BoundExpr}
+use Rattle.predicates.specs.declared.placed.BoundExpr.{BoundExpr}
 use Rattle.query_eval.specs.declared.probe.Probe.{Probe}
 use Rattle.query_eval.specs.declared.source.SourceRow.{SourceRow}
 use Rattle.sql_model.proofs.Folds.{fold-Both, fold-Column}

@@ -8,16 +8,16 @@ use Rattle.lineage.specs.Rows.{kept_origins, IsRow, AnswersStandFor, PicksStandF
 use Rattle.lineage.specs.StandsFor.{StandsFor}
 use Rattle.lineage.specs.declared.answer.Answer.{Answer}
 use Rattle.lineage.specs.declared.answer.Pick.{Pick}
-use Rattle.core_parts.specs.Checking.{core_at, places_at}
-use Rattle.core_parts.specs.Placing.{AreAllPlaced}
+use Rattle.predicates.specs.Checking.{core_at, places_at}
+use Rattle.predicates.specs.Placing.{AreAllPlaced}
 use Rattle.query_eval.specs.Projecting.{values_over}
 use Rattle.query_eval.specs.Projecting.{projected_answer, answer_of_all_columns, IsProjected}
 use Rattle.query_eval.specs.Types.{Checked, Core, Item, Value}
-use Rattle.core_parts.specs.declared.placed.BoundExpr.{BoundExpr}
+use Rattle.predicates.specs.declared.placed.BoundExpr.{BoundExpr}
 use Rattle.sql_model.specs.Kinds.{names_in}
 use Rattle.sql_model.specs.Meaning.{eval}
 use Rattle.sql_model.specs.Needs.{Versions}
-use Rattle.core_parts.proofs.CorePlaces.{core-places}
+use Rattle.predicates.proofs.CorePlaces.{core-places}
 use Rattle.sql_model.specs.QueryAnswer.{Origin, Combination, combination_rows, joined_values, item_values, group_row, one_combination, rows_in_scope, is_kept, groups_of}
 use Rattle.sql_model.specs.Refusals.{groups, names_of_items}
 use Rattle.sql_model.specs.Scope.{InScope, environment, places_in, place_of, scope_of}

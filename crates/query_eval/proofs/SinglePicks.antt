@@ -1,8 +1,8 @@
 -- The picks of one source.
 use Rattle.std.proofs.Common.{◌≡◌, ◌∙◌, sym, ap, refl, suc, Bool, true, false, cond, List, [], ◌∷◌, ◌++◌, map, length, append_assoc, append-nil, arith}
 use Rattle.std.specs.Prelude.{filter}
-use Rattle.core_parts.specs.Conditions.{meets}
-use Rattle.core_parts.specs.declared.placed.BoundExpr.{BoundExpr}
+use Rattle.predicates.specs.Conditions.{meets}
+use Rattle.predicates.specs.declared.placed.BoundExpr.{BoundExpr}
 use Rattle.query_eval.specs.inner.Joining.{combos, tests}
 use Rattle.query_eval.specs.Picking.{pick_of, meets_row, row_lineage, row_pick, row_picks, source_picks}
 use Rattle.query_eval.specs.declared.source.Source.{Source}

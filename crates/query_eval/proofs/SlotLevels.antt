@@ -4,9 +4,9 @@ use Rattle.std.proofs.lemmas.Bool.{cases_Bool}
 use Rattle.std.proofs.lemmas.List.{map-append, length-map}
 use Rattle.std.specs.Prelude.{filter, ◌&&◌}
 use Rattle.std.specs.List.{AllByRecursion}
-use Rattle.core_parts.specs.Conditions.{meets}
-use Rattle.core_parts.specs.Placing.{AreAllPlaced}
-use Rattle.core_parts.specs.declared.placed.BoundExpr.{BoundExpr}
+use Rattle.predicates.specs.Conditions.{meets}
+use Rattle.predicates.specs.Placing.{AreAllPlaced}
+use Rattle.predicates.specs.declared.placed.BoundExpr.{BoundExpr}
 use Rattle.ldv_value.specs.declared.refs_by.RefsBy.{RefsBy}
 use Rattle.lineage.specs.Flat.{HasLength}
 use Rattle.lineage.specs.declared.answer.Pick.{Pick}

@@ -9,10 +9,10 @@ use Rattle.std.specs.declared.cmp.Ordering.TheVariants.{Less}
 use Rattle.std.proofs.lemmas.Bool.Decides.{Decides-eqb}
 use Rattle.std.proofs.lemmas.Bool.{cases_Bool}
 use Rattle.std.proofs.lemmas.List.{drop_all, length-append}
-use Rattle.core_parts.proofs.Checks.{checked-is, tables-there}
-use Rattle.core_parts.specs.Checking.{core_at, IsChecked}
-use Rattle.core_parts.specs.Placing.{AreAllPlaced}
-use Rattle.core_parts.specs.declared.placed.BoundExpr.{BoundExpr}
+use Rattle.predicates.proofs.Checks.{checked-is, tables-there}
+use Rattle.predicates.specs.Checking.{core_at, IsChecked}
+use Rattle.predicates.specs.Placing.{AreAllPlaced}
+use Rattle.predicates.specs.declared.placed.BoundExpr.{BoundExpr}
 use Rattle.ldv_value.proofs.Booleans.{and-first, and-parts, and-second, true≢false}
 use Rattle.ldv_value.proofs.Lists.{all-tested, all-weaker, list_all-map}
 use Rattle.ldv_value.proofs.SameBytes.{bytes_eq-true}
@@ -21,9 +21,9 @@ use Rattle.ldv_value.proofs.Orderings.{is_lt-true}
 use Rattle.ldv_value.proofs.Options.{same-some}
 use Rattle.lineage.specs.Lineage.{name_at}
 use Rattle.lineage.specs.declared.answer.Pick.{Pick}
-use Rattle.core_parts.proofs.FixingLaws.{fixed-key}
-use Rattle.core_parts.proofs.MaskLaws.{masks-pass}
-use Rattle.core_parts.specs.Masking.{AreMasks}
+use Rattle.predicates.proofs.FixingLaws.{fixed-key}
+use Rattle.predicates.proofs.MaskLaws.{masks-pass}
+use Rattle.predicates.specs.Masking.{AreMasks}
 use Rattle.sql_model.specs.declared.column_test.ColumnTest.{ColumnTest}
 use Rattle.query_eval.proofs.Agree.{value_first}
 use Rattle.query_eval.proofs.KeyLookupLaws.{keyed-rows}
@@ -31,10 +31,10 @@ use Rattle.query_eval.proofs.TableScanLaws.{rows-left}
 use Rattle.query_eval.proofs.Widths.{all-wide}
 use Rattle.query_eval.proofs.Picks.{all-stand}
 use Rattle.query_eval.proofs.Probes.{value-next}
-use Rattle.core_parts.specs.Conditions.{AreConditions}
+use Rattle.predicates.specs.Conditions.{AreConditions}
 use Rattle.query_eval.specs.inner.Conditions.{AreOfCore}
-use Rattle.core_parts.specs.Fixing.{FixesKey}
-use Rattle.core_parts.specs.Conditions.{meets}
+use Rattle.predicates.specs.Fixing.{FixesKey}
+use Rattle.predicates.specs.Conditions.{meets}
 use Rattle.query_eval.specs.inner.TableScan.{row_passes}
 use Rattle.query_eval.specs.Picking.{source_picks, ArePicked}
 use Rattle.query_eval.specs.inner.Sources.{table_row, HaveWidths, TablesAreWide, are_kept, AreSources}

@@ -10,7 +10,7 @@ use Rattle.std.proofs.lemmas.List.{append-nil, append_assoc}
 use Rattle.ldv_value.specs.Cells.{value_at}
 use Rattle.ldv_value.specs.Order.{order}
 use Rattle.ldv_value.proofs.Booleans.{and-false}
-use Rattle.core_parts.specs.Equality.{equals}
+use Rattle.predicates.specs.Equality.{equals}
 use Rattle.ldv_value.specs.declared.refs_by.RefsBy.{RefsBy}
 use Rattle.query_eval.proofs.Tying.{equals_tied, equals_null, null_equals}
 use Rattle.query_eval.specs.Types.{Value, Null, Int, Text}

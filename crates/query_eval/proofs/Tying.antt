@@ -5,8 +5,8 @@ use Rattle.std.specs.Cmp.{eq_by_cmp_equiv}
 use Rattle.ldv_value.specs.declared.value.Value.{Value}
 use Rattle.ldv_value.specs.declared.value.Value.TheVariants.{Null, Int, Text}
 use Rattle.ldv_value.specs.Order.{order, order_total}
-use Rattle.core_parts.specs.Equality.{equals}
-use Rattle.core_parts.proofs.Equalities.{truth_of_bool-true}
+use Rattle.predicates.specs.Equality.{equals}
+use Rattle.predicates.proofs.Equalities.{truth_of_bool-true}
 use Rattle.sql_model.specs.Meaning.{is_null}
 
 -- `=` of what isn't NULL is a tie in the order

@@ -4,7 +4,7 @@ use Rattle.std.specs.declared.cmp.Ordering.{Ordering}
 use Rattle.lineage.specs.Rows.{kept_origins, AnswersStandFor}
 use Rattle.lineage.specs.StandsFor.{StandsFor}
 use Rattle.lineage.specs.declared.answer.Answer.{Answer}
-use Rattle.core_parts.specs.Checking.{IsChecked}
+use Rattle.predicates.specs.Checking.{IsChecked}
 use Rattle.query_eval.specs.Merging.{lineage_of_answers}
 use Rattle.query_eval.specs.Types.{Catalog, Checked, Order, Query}
 use Rattle.query_eval.specs.declared.order_limit.Finished.{Finished}

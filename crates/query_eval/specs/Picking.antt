@@ -4,9 +4,9 @@ use Rattle.std.specs.FinMap.{empty}
 use Rattle.lineage.specs.Lineage.{Lineage, with_version}
 use Rattle.lineage.specs.Rows.{joined_row, PicksStandFor}
 use Rattle.lineage.specs.declared.answer.Pick.{Pick}
-use Rattle.core_parts.specs.Checking.{core_at, WasChecked}
-use Rattle.core_parts.specs.Conditions.{meets}
-use Rattle.core_parts.specs.declared.placed.BoundExpr.{BoundExpr}
+use Rattle.predicates.specs.Checking.{core_at, WasChecked}
+use Rattle.predicates.specs.Conditions.{meets}
+use Rattle.predicates.specs.declared.placed.BoundExpr.{BoundExpr}
 use Rattle.query_eval.specs.inner.Joining.{combos, tests}
 use Rattle.query_eval.specs.inner.Sources.{joined_row_values, source_rows}
 use Rattle.query_eval.specs.StoredSources.{table_names, TellVersions}

@@ -3,9 +3,9 @@ use Rattle.std.specs.Prelude.{◌≡◌, ℕ, List, [], ◌∷◌, map, Bool, fa
 use Rattle.lineage.specs.Rows.{joined_row, AnswersStandFor, PicksStandFor}
 use Rattle.lineage.specs.declared.answer.Answer.{Answer}
 use Rattle.lineage.specs.declared.answer.Pick.{Pick}
-use Rattle.core_parts.specs.Checking.{core_at, IsChecked}
+use Rattle.predicates.specs.Checking.{core_at, IsChecked}
 use Rattle.query_eval.specs.Types.{Catalog, Checked, Core, Query, Value}
-use Rattle.core_parts.specs.declared.placed.BoundExpr.{BoundExpr}
+use Rattle.predicates.specs.declared.placed.BoundExpr.{BoundExpr}
 use Rattle.sql_model.specs.Meaning.{Meaning, eval}
 use Rattle.sql_model.specs.Needs.{Versions}
 use Rattle.sql_model.specs.QueryAnswer.{Combination, rows_in_scope}

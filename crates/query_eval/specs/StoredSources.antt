@@ -2,11 +2,11 @@
 use Rattle.std.specs.Prelude.{◌≡◌, ℕ, ◌+◌, ◌<◌, List, [], ◌∷◌, map, length, Bool, true}
 use Rattle.std.specs.Prelude.{Option, Some, None, option_and_then, IfSome}
 use Rattle.std.specs.List.{list_any, AllByRecursion}
-use Rattle.core_parts.specs.Masking.{AreMasks}
+use Rattle.predicates.specs.Masking.{AreMasks}
 use Rattle.sql_model.specs.declared.column_test.ColumnTest.{ColumnTest}
-use Rattle.core_parts.specs.declared.placed.BoundExpr.{BoundExpr}
+use Rattle.predicates.specs.declared.placed.BoundExpr.{BoundExpr}
 use Rattle.lineage.specs.Lineage.{name_at}
-use Rattle.core_parts.specs.Fixing.{FixesKey}
+use Rattle.predicates.specs.Fixing.{FixesKey}
 use Rattle.query_eval.specs.inner.KeyLookup.{keyed_rows}
 use Rattle.query_eval.specs.inner.TableScan.{left_rows}
 use Rattle.query_eval.specs.Types.{Column, FromItem, Value}

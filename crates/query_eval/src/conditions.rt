@@ -2,14 +2,14 @@
 
 ghost use Rattle.std.specs.Prelude.{◌≡◌, ◌++◌, List as Items, ℕ, drop, IfOk};
 ghost use Rattle.std.specs.List.{flat_map};
-ghost use Rattle.core_parts.specs.Checking.{HasCore};
-ghost use Rattle.core_parts.specs.Conditions.{Adds, AreConditions};
+ghost use Rattle.predicates.specs.Checking.{HasCore};
+ghost use Rattle.predicates.specs.Conditions.{Adds, AreConditions};
 ghost use Rattle.query_eval.specs.inner.Conditions.{AreOfCore};
 ghost use Rattle.sql_model.specs.Kinds.{names_in};
 ghost use Rattle.sql_model.specs.Refusals.{core_names, names_of_items};
 ghost use Rattle.sql_model.specs.Scope.{InScope, places_in};
 
-use core_parts::{BoundExpr, column_indexes, conjuncts, core_of, skip_places};
+use predicates::{BoundExpr, column_indexes, conjuncts, core_of, skip_places};
 use ldv_value::{List, Places};
 use sql_model::{Checked, Core, Item, items_of};
 use std::alloc::{AllocError, Global};

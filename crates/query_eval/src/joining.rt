@@ -11,7 +11,7 @@ ghost use Rattle.query_eval.specs.inner.Joining.{combos, tests, is_ready, ready_
 ghost use Rattle.query_eval.specs.inner.Joining.{extensions_left, extensions_of_all, EachHas};
 ghost use Rattle.query_eval.specs.inner.Slots.{combinations_at, extended_by, extended_by_index};
 ghost use Rattle.query_eval.specs.inner.Slots.{extended_by_ties, slots_found, slots_meet, values_at};
-ghost use Rattle.core_parts.specs.Placing.{AreAllPlaced};
+ghost use Rattle.predicates.specs.Placing.{AreAllPlaced};
 ghost use Rattle.query_eval.specs.inner.Sources.{source_rows, AreWide, SourcesAreWide};
 ghost use Rattle.query_eval.specs.declared.source.Source.{Source as GivenSource};
 ghost use Rattle.query_eval.specs.declared.source.SourceRow.{SourceRow as Given};
@@ -23,7 +23,7 @@ use crate::probe::{Probe, ties_of};
 use crate::slot_row::slots_of;
 use crate::source::{Source, SourceRow, width_with};
 use crate::testing::{RowTest, SlotTest, are_met_in};
-use core_parts::BoundExpr;
+use predicates::BoundExpr;
 use ldv_value::List;
 use lineage::{FlatRows, split_row};
 use std::alloc::{AllocError, Global};

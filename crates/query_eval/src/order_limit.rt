@@ -1,14 +1,14 @@
 //! ORDER BY and LIMIT.
 
 ghost use Rattle.std.specs.Prelude.{◌≡◌, ◌≤◌, length, IfOk, Some};
-ghost use Rattle.core_parts.specs.Checking.{IsQuery};
+ghost use Rattle.predicates.specs.Checking.{IsQuery};
 ghost use Rattle.query_eval.specs.Finishing.{IsFinished, IsLimited};
 ghost use Rattle.query_eval.specs.Types.{Int};
 ghost use Rattle.sql_model.specs.QueryAnswer.{limit_of};
 
 use crate::lineages::united_set;
 use crate::sort::{sort_answers, sort_columns};
-use core_parts::{column_indexes, query_of};
+use predicates::{column_indexes, query_of};
 use ldv_value::{List, Value};
 use lineage::{Answers, LineageSet};
 use sql_model::Checked;

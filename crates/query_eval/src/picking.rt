@@ -2,8 +2,8 @@
 
 ghost use Rattle.std.specs.Prelude.{◌≡◌, ◌++◌, ◌∷◌, [], List as Items, map, IfOk, IfErr, OnOk};
 ghost use Rattle.std.specs.FinMap.{empty};
-ghost use Rattle.core_parts.specs.Checking.{HasCore};
-ghost use Rattle.core_parts.specs.Placing.{AreAllPlaced};
+ghost use Rattle.predicates.specs.Checking.{HasCore};
+ghost use Rattle.predicates.specs.Placing.{AreAllPlaced};
 ghost use Rattle.lineage.specs.Lineage.{with_version};
 ghost use Rattle.query_eval.specs.Picking.{rows_added, kept_rows, source_picks, ArePicked};
 ghost use Rattle.query_eval.specs.inner.Sources.{SourcesAreWide};
@@ -15,7 +15,7 @@ use crate::joining::join;
 use crate::single::picks_alone;
 use crate::source::{Source, SourceRow, Sources};
 use crate::sources::sources_of;
-use core_parts::{BoundExpr, core_of};
+use predicates::{BoundExpr, core_of};
 use ldv_value::{CopyItem, List, Values};
 use lineage::{FlatRows, LineageRows, Pick, Picks, split_row};
 use sql_model::Checked;

@@ -3,9 +3,9 @@
 ghost use Rattle.std.specs.Prelude.{◌≡◌, ◌∷◌, ◌<◌, IfOk, IfSome, OnOk, List as Items, true};
 ghost use Rattle.query_eval.specs.inner.Joining.{AreTies, AreTiesWith, IsBetween, IsEquality, IsProbeOf};
 ghost use Rattle.query_eval.specs.inner.Joining.{is_equal_sign};
-ghost use Rattle.core_parts.specs.declared.placed.BoundExpr.{BoundExpr as Given};
+ghost use Rattle.predicates.specs.declared.placed.BoundExpr.{BoundExpr as Given};
 
-use core_parts::{BoundExpr, column_of_source, is_column, is_equal_test};
+use predicates::{BoundExpr, column_of_source, is_column, is_equal_test};
 use ldv_value::List;
 use sql_model::{Expr, Operator};
 use std::alloc::{AllocError, Global};

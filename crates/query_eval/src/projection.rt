@@ -1,13 +1,13 @@
 //! The answer rows of a core that doesn't group.
 
 ghost use Rattle.std.specs.Prelude.{◌≡◌, ◌++◌, ℕ, List as Items, map, IfOk};
-ghost use Rattle.core_parts.specs.Placing.{AreAllPlaced};
-ghost use Rattle.core_parts.specs.Checking.{HasCore};
+ghost use Rattle.predicates.specs.Placing.{AreAllPlaced};
+ghost use Rattle.predicates.specs.Checking.{HasCore};
 ghost use Rattle.query_eval.specs.Projecting.{projected_answer, values_over, answer_of_all_columns, IsProjected};
 ghost use Rattle.sql_model.specs.Refusals.{names_of_items};
 ghost use Rattle.sql_model.specs.Scope.{InScope, places_in};
 
-use core_parts::{BoundExpr, column_indexes, core_of, placed_items};
+use predicates::{BoundExpr, column_indexes, core_of, placed_items};
 use ldv_value::{List, Places, Values};
 use lineage::{Answer, Answers, Picks};
 use sql_model::{Checked, Item, value_of};

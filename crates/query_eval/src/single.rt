@@ -2,7 +2,7 @@
 
 ghost use Rattle.std.specs.Prelude.{◌≡◌, ◌++◌, ◌∷◌, List as Items, IfOk, OnOk};
 ghost use Rattle.std.specs.FinMap.{empty};
-ghost use Rattle.core_parts.specs.Placing.{AreAllPlaced};
+ghost use Rattle.predicates.specs.Placing.{AreAllPlaced};
 ghost use Rattle.lineage.specs.Lineage.{with_version};
 ghost use Rattle.query_eval.specs.Picking.{row_lineage, row_pick, row_picks};
 ghost use Rattle.query_eval.specs.inner.Slots.{are_met_by};
@@ -11,7 +11,7 @@ ghost use Rattle.sql_model.specs.Scope.{InScope};
 
 use crate::source::{SourceRow, SourceRows};
 use crate::testing::are_met;
-use core_parts::BoundExpr;
+use predicates::BoundExpr;
 use ldv_value::List;
 use lent_cells::Listed;
 use lineage::{LineageRows, Pick, Picks};

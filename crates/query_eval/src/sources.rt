@@ -3,13 +3,13 @@
 ghost use Rattle.std.specs.Prelude.{◌≡◌, IfOk, Some};
 ghost use Rattle.std.specs.List.{AllByRecursion};
 ghost use Rattle.std.specs.Option.{option_map};
-ghost use Rattle.core_parts.specs.Masking.{AreMasks};
+ghost use Rattle.predicates.specs.Masking.{AreMasks};
 ghost use Rattle.query_eval.specs.StoredSources.{AreChosen, AreStored, HasVersion, IsPlace, IsStored, IsTaken};
 
 use crate::key_lookup::rows_of_key;
 use crate::source::{Source, SourceRows, Sources, width_with};
 use crate::table_scan::rows_left;
-use core_parts::{BoundExpr, fixed_key, masks_of};
+use predicates::{BoundExpr, fixed_key, masks_of};
 use ldv_value::{List, Names};
 use sql_model::{ColumnTest, FromItem, RowKey};
 use std::alloc::{AllocError, Global};

@@ -5,7 +5,7 @@ ghost use Rattle.query_eval.specs.inner.Slots.{is_met_by, are_met_by, slots_meet
 
 use crate::slot_row::SlotRow;
 use crate::source::Source;
-use core_parts::{BoundExpr, is_certain};
+use predicates::{BoundExpr, is_certain};
 use lent_cells::{CellsAt, truth_over};
 
 // Whether a condition is True over a row.

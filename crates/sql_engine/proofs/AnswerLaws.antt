@@ -4,8 +4,8 @@ use Rattle.std.specs.Prelude.{if◌then◌else◌, not, ◌+◌, ◌<◌, ◌≤
 use Rattle.std.specs.List.{flat_map}
 use Rattle.std.specs.FinMap.{empty}
 use Rattle.std.proofs.lemmas.List.{append-nil, append_assoc}
-use Rattle.core_parts.proofs.Checks.{checked-is}
-use Rattle.core_parts.specs.Checking.{core_at, IsChecked, WasChecked}
+use Rattle.predicates.proofs.Checks.{checked-is}
+use Rattle.predicates.specs.Checking.{core_at, IsChecked, WasChecked}
 use Rattle.dml_versions.specs.Versions.{versions_now}
 use Rattle.group_eval.specs.Evaluating.{IsGrouped}
 use Rattle.group_eval.specs.declared.grouping.Grouped.{Grouped}

@@ -5,7 +5,7 @@ use Rattle.std.specs.List.{flat_map}
 use Rattle.std.proofs.lemmas.Bool.{cases_Bool}
 use Rattle.std.proofs.lemmas.List.{map-append}
 use Rattle.ldv_value.proofs.Lists.{map-map}
-use Rattle.core_parts.specs.Checking.{IsQuery}
+use Rattle.predicates.specs.Checking.{IsQuery}
 use Rattle.dml_versions.proofs.CheckLaws.{accepted}
 use Rattle.dml_versions.specs.Changing.{IsChange, IsCheckedOver, IsStoreAfter}
 use Rattle.sql_model.specs.Tables.{AreWellFormed}

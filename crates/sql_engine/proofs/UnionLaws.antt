@@ -9,7 +9,7 @@ use Rattle.std.proofs.lemmas.Simd.{map-map}
 use Rattle.std.proofs.lemmas.Grind.{flat_map-append}
 use Rattle.ldv_value.proofs.Booleans.{true≢false, or-parts, or-right}
 use Rattle.ldv_value.proofs.Lists.{filter-append, filter-filter}
-use Rattle.core_parts.proofs.Lists.{kept_twice}
+use Rattle.predicates.proofs.Lists.{kept_twice}
 use Rattle.sql_engine.specs.inner.Answering.{merges_later}
 use Rattle.sql_engine.specs.Types.{Core, Table, Value}
 use Rattle.sql_model.proofs.SameValues.{same_exact}

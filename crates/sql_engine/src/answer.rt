@@ -2,13 +2,13 @@
 
 ghost use Rattle.std.specs.Prelude.{◌≡◌, ◌||◌, map, IfOk};
 ghost use Rattle.std.specs.List.{list_all, list_any};
-ghost use Rattle.core_parts.specs.Checking.{IsQuery};
+ghost use Rattle.predicates.specs.Checking.{IsQuery};
 ghost use Rattle.sql_engine.specs.inner.Answering.{values_of, IsAnswered, IsHidden};
 ghost use Rattle.sql_model.specs.Needs.{has_merging, sums_up};
 ghost use Rattle.sql_model.specs.Refusals.{groups};
 
 use crate::cores::all_rows;
-use core_parts::query_of;
+use predicates::query_of;
 use ldv_value::{List, RowList};
 use lineage::{Answers, LineageSet};
 use query_eval::{finish, united_set};

@@ -4,13 +4,13 @@ ghost use Rattle.std.specs.Prelude.{◌≡◌, ◌≤◌, ◌<◌, ◌∷◌, �
 ghost use Rattle.std.specs.Prelude.{if◌then◌else◌};
 ghost use Rattle.lineage.specs.Rows.{AnswersStandFor};
 ghost use Rattle.sql_model.specs.Needs.{Versions};
-ghost use Rattle.core_parts.specs.Checking.{HasCore, IsQuery};
+ghost use Rattle.predicates.specs.Checking.{HasCore, IsQuery};
 ghost use Rattle.sql_engine.specs.inner.Answering.{AreRows, IsEvaluated, IsCore, AreAll, merges_later};
 ghost use Rattle.sql_engine.specs.Types.{StoreHistory};
 ghost use Rattle.sql_model.specs.QueryAnswer.{Origin, AnswerRow, once};
 ghost use Rattle.sql_model.specs.Refusals.{cores_of};
 
-use core_parts::{core_of, query_of};
+use predicates::{core_of, query_of};
 use group_eval::group;
 use ldv_value::List;
 use lineage::{Answers, LineageSet, Picks};

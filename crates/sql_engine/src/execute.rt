@@ -2,7 +2,7 @@
 //! lists are recorded.
 
 ghost use Rattle.std.specs.Prelude.{◌≡◌, ◌<◌, ◌≤◌, length, Some, Ok, IfOk, OnOk, OnErr, IsTrue, Bool};
-ghost use Rattle.core_parts.specs.Checking.{IsQuery};
+ghost use Rattle.predicates.specs.Checking.{IsQuery};
 ghost use Rattle.dml_versions.specs.Changing.{IsCheckedOver};
 ghost use Rattle.sql_engine.specs.Asking.{IsRecorded, IsOutcome, recorded_of};
 ghost use Rattle.sql_engine.specs.inner.Keeping.{IsCacheOf};

@@ -2,9 +2,9 @@
 use Rattle.std.specs.Prelude.{◌≡◌, ℕ, List, [], ◌∷◌, ◌++◌}
 use Rattle.lineage.specs.declared.answer.Pick.{Pick}
 use Rattle.group_eval.specs.inner.Folding.{first_row, group_meaning}
-use Rattle.core_parts.specs.Placing.{IsPlaced}
+use Rattle.predicates.specs.Placing.{IsPlaced}
 use Rattle.group_eval.specs.Types.{Expr}
-use Rattle.core_parts.specs.declared.placed.BoundExpr.{BoundExpr}
+use Rattle.predicates.specs.declared.placed.BoundExpr.{BoundExpr}
 use Rattle.sql_model.specs.Kinds.{names_in}
 use Rattle.sql_model.specs.Meaning.{Meaning, eval}
 use Rattle.sql_model.specs.Scope.{InScope, places_in, environment}

@@ -1,8 +1,8 @@
 -- The expressions that are evaluated over the groups of a core.
 use Rattle.std.specs.Prelude.{◌≡◌, List, map, Option, Some, None}
-use Rattle.core_parts.specs.Placing.{IsPlaced, AreAllPlaced}
+use Rattle.predicates.specs.Placing.{IsPlaced, AreAllPlaced}
 use Rattle.group_eval.specs.Types.{Core, Expr, Item}
-use Rattle.core_parts.specs.declared.placed.BoundExpr.{BoundExpr}
+use Rattle.predicates.specs.declared.placed.BoundExpr.{BoundExpr}
 use Rattle.group_eval.specs.declared.plan.Plan.{Plan}
 use Rattle.sql_model.specs.Scope.{InScope, places_in}
 

@@ -1,8 +1,8 @@
 -- The conditions of a core, one by one.
 use Rattle.std.specs.Prelude.{◌≡◌, ℕ, List, Some}
-use Rattle.core_parts.specs.Checking.{core_at, IsChecked}
-use Rattle.core_parts.specs.Conditions.{AreConditions}
-use Rattle.core_parts.specs.declared.placed.BoundExpr.{BoundExpr}
+use Rattle.predicates.specs.Checking.{core_at, IsChecked}
+use Rattle.predicates.specs.Conditions.{AreConditions}
+use Rattle.predicates.specs.declared.placed.BoundExpr.{BoundExpr}
 use Rattle.query_eval.specs.Types.{Catalog, Checked, Core, Query}
 use Rattle.sql_model.specs.Scope.{scope_of}
 

@@ -7,14 +7,14 @@ use Rattle.std.specs.Ordering.{ordering_then}
 use Rattle.std.specs.declared.cmp.Ordering.{Ordering}
 use Rattle.ldv_value.specs.Order.{order}
 use Rattle.ldv_value.specs.declared.value.Cmp.TheVariants.{Eq}
-use Rattle.core_parts.specs.Conditions.{meets}
-use Rattle.core_parts.specs.Equality.{equals, is_equal_test}
-use Rattle.core_parts.specs.Placing.{IsPlaced, AreAllPlaced}
+use Rattle.predicates.specs.Conditions.{meets}
+use Rattle.predicates.specs.Equality.{equals, is_equal_test}
+use Rattle.predicates.specs.Placing.{IsPlaced, AreAllPlaced}
 use Rattle.query_eval.specs.inner.Sources.{joined_row_values}
 use Rattle.query_eval.specs.Types.{ColumnName, Operator, Add, Subtract, Multiply, Compare, And, Or}
 use Rattle.query_eval.specs.Types.{Expr, Value, Null, Int, Text}
 use Rattle.sql_model.specs.declared.expr.Expr.TheVariants.{Both, Column}
-use Rattle.core_parts.specs.declared.placed.BoundExpr.{BoundExpr}
+use Rattle.predicates.specs.declared.placed.BoundExpr.{BoundExpr}
 use Rattle.query_eval.specs.declared.probe.Probe.{Probe}
 use Rattle.query_eval.specs.declared.source.SourceRow.{SourceRow}
 use Rattle.sql_model.specs.Meaning.{is_true, truth}

@@ -4,7 +4,7 @@ use Rattle.std.specs.Prelude.{◌≡◌, ℕ, List, [], ◌∷◌, ◌++◌, map
 use Rattle.std.specs.Option.{option_map_or}
 use Rattle.std.specs.List.{flat_map, list_all}
 use Rattle.ldv_value.specs.Listing.{listed, item_added}
-use Rattle.core_parts.specs.declared.placed.BoundExpr.{BoundExpr}
+use Rattle.predicates.specs.declared.placed.BoundExpr.{BoundExpr}
 use Rattle.ldv_value.specs.declared.refs_by.RefsBy.{RefsBy}
 use Rattle.lineage.specs.declared.answer.Pick.{Pick}
 use Rattle.query_eval.specs.Picking.{pick_of}

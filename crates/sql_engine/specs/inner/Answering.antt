@@ -2,7 +2,7 @@
 use Rattle.std.specs.Prelude.{◌≡◌, ℕ, List, [], ◌∷◌, ◌++◌, map, Bool, true, false, cond, not, Some}
 use Rattle.std.specs.Prelude.{if◌then◌else◌}
 use Rattle.std.specs.List.{flat_map, list_any}
-use Rattle.core_parts.specs.Checking.{core_at, IsChecked, WasChecked}
+use Rattle.predicates.specs.Checking.{core_at, IsChecked, WasChecked}
 use Rattle.dml_versions.specs.Versions.{versions_now}
 use Rattle.lineage.specs.Lineage.{Lineage, IsUnion}
 use Rattle.lineage.specs.Rows.{kept_origins, joined_row, AnswersStandFor, PicksStandFor}

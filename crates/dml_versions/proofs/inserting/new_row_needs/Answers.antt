@@ -1,6 +1,6 @@
 use Rattle.std.proofs.Common.{◌==◌, length, ap, sym, ◌∙◌, subst, List, []}
 use Rattle.std.specs.Prelude.{IfSome}
-use Rattle.core_parts.proofs.Lists.{none-counted}
+use Rattle.predicates.proofs.Lists.{none-counted}
 use Rattle.sql_model.specs.Changes.{numbered_rows}
 use Rattle.sql_model.specs.Scope.{table_at}
 use Rattle.table_store.specs.Histories.{tables_now, table_now}

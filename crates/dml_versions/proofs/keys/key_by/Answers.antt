@@ -1,8 +1,8 @@
 use Rattle.std.proofs.Common.{List, length, subst}
 use Rattle.std.specs.Prelude.{Some, IfSome}
-use Rattle.core_parts.proofs.Lists.{IfSome-weaker}
-use Rattle.core_parts.specs.Fixing.{FixesKey as FixesBy}
-use Rattle.core_parts.specs.declared.placed.BoundExpr.{BoundExpr}
+use Rattle.predicates.proofs.Lists.{IfSome-weaker}
+use Rattle.predicates.specs.Fixing.{FixesKey as FixesBy}
+use Rattle.predicates.specs.declared.placed.BoundExpr.{BoundExpr}
 use Rattle.dml_versions.proofs.FixingLaws.{key-fixed}
 use Rattle.dml_versions.specs.inner.Fixing.{WhereFixesKey}
 use Rattle.dml_versions.proofs.keys.key_by.Goals as goal

@@ -1,6 +1,6 @@
 use Rattle.std.proofs.Common.{◌++◌, [], List, ℕ, Option, drop, ap, sym, ◌∙◌, append-nil, subst}
-use Rattle.core_parts.proofs.Lists.{take-mapped}
-use Rattle.core_parts.specs.Placing.{own_places}
+use Rattle.predicates.proofs.Lists.{take-mapped}
+use Rattle.predicates.specs.Placing.{own_places}
 use Rattle.sql_model.specs.Kinds.{names_in}
 use Rattle.sql_model.specs.Scope.{place_of, places_in}
 use Rattle.dml_versions.specs.inner.Finding.{IsPickPlaced, pick_names}

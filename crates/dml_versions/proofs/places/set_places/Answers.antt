@@ -1,9 +1,9 @@
 use Rattle.std.proofs.Common.{◌≡◌, ◌+◌, ◌++◌, ◌∷◌, List, ℕ, drop, map, ap, sym, ◌∙◌}
 use Rattle.std.specs.List.{flat_map}
 use Rattle.ldv_value.proofs.Places.{drop_item}
-use Rattle.core_parts.proofs.Lists.{moved-one, take-mapped}
-use Rattle.core_parts.proofs.Places.{places-append, others-front}
-use Rattle.core_parts.specs.Placing.{own_places}
+use Rattle.predicates.proofs.Lists.{moved-one, take-mapped}
+use Rattle.predicates.proofs.Places.{places-append, others-front}
+use Rattle.predicates.specs.Placing.{own_places}
 use Rattle.sql_model.specs.Kinds.{names_in}
 use Rattle.sql_model.specs.Scope.{place_of, places_in}
 use Rattle.dml_versions.specs.Types.{Set}

@@ -1,6 +1,6 @@
 use Rattle.std.proofs.Common.{subst, List}
-use Rattle.core_parts.specs.Masking.{AreMasks}
-use Rattle.core_parts.specs.declared.placed.BoundExpr.{BoundExpr}
+use Rattle.predicates.specs.Masking.{AreMasks}
+use Rattle.predicates.specs.declared.placed.BoundExpr.{BoundExpr}
 use Rattle.dml_versions.proofs.tested.some_tests.Goals as goal
 
 pub returns-clause-tests : goal.returns-clause-tests

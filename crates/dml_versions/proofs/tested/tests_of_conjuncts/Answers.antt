@@ -1,8 +1,8 @@
 use Rattle.std.proofs.Common.{rules, ◌≡◌, ◌∙◌, sym, subst, List, true, false}
 use Rattle.std.proofs.lemmas.Result.{IfOk-weaker}
 use Rattle.ldv_value.proofs.Booleans.{true≢false}
-use Rattle.core_parts.specs.Masking.{AreMasks, AreExact}
-use Rattle.core_parts.specs.declared.placed.BoundExpr.{BoundExpr}
+use Rattle.predicates.specs.Masking.{AreMasks, AreExact}
+use Rattle.predicates.specs.declared.placed.BoundExpr.{BoundExpr}
 use Rattle.dml_versions.specs.declared.tested.WhereTests.{WhereTests}
 use Rattle.dml_versions.proofs.tested.tests_of_conjuncts.Goals as goal
 

@@ -1,6 +1,6 @@
 use Rattle.std.proofs.Common.{◌≡◌, ◌+◌, ◌++◌, ◌∷◌, List, ℕ, Option, drop, map, ap, sym, ◌∙◌}
 use Rattle.ldv_value.proofs.Places.{drop_item}
-use Rattle.core_parts.proofs.Lists.{moved-one}
+use Rattle.predicates.proofs.Lists.{moved-one}
 use Rattle.sql_model.specs.Changes.{updated_row}
 use Rattle.dml_versions.proofs.MadeLaws.{row-updated}
 use Rattle.dml_versions.specs.inner.Finding.{row_of}

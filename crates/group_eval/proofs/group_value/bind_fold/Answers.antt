@@ -1,7 +1,7 @@
 use Rattle.std.proofs.Common.{map, drop, List, ℕ, ◌++◌, ◌∙◌, ap}
 use Rattle.lineage.specs.declared.answer.Pick.{Pick}
 use Rattle.group_eval.proofs.BoundLaws.{settle-Aggregate}
-use Rattle.core_parts.specs.Placing.{own_places}
+use Rattle.predicates.specs.Placing.{own_places}
 use Rattle.group_eval.proofs.group_value.bind_fold.Goals as goal
 
 pub returns : goal.returns

@@ -1,7 +1,7 @@
 use Rattle.std.proofs.Common.{rules, ◌≡◌, ◌∙◌, ap, sym, subst, map, List, true}
 use Rattle.std.proofs.lemmas.Result.{IfOk-weaker}
-use Rattle.core_parts.specs.Equality.{IsColumn}
-use Rattle.core_parts.specs.Placing.{IsPlaced}
+use Rattle.predicates.specs.Equality.{IsColumn}
+use Rattle.predicates.specs.Placing.{IsPlaced}
 use Rattle.lineage.specs.declared.answer.Pick.{Pick}
 use Rattle.group_eval.proofs.ColumnLaws.{column_read}
 use Rattle.group_eval.proofs.BoundLaws.{bound_read}

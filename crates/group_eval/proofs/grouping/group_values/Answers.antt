@@ -3,8 +3,8 @@ use Rattle.std.specs.Prelude.{Some, Option}
 use Rattle.std.proofs.lemmas.Result.{IfOk-weaker}
 use Rattle.lineage.specs.declared.answer.Pick.{Pick}
 use Rattle.group_eval.specs.Evaluating.{ArePlaced, group_values, item_values}
-use Rattle.core_parts.specs.Placing.{AreAllPlaced}
-use Rattle.core_parts.specs.declared.placed.BoundExpr.{BoundExpr}
+use Rattle.predicates.specs.Placing.{AreAllPlaced}
+use Rattle.predicates.specs.declared.placed.BoundExpr.{BoundExpr}
 use Rattle.sql_model.specs.Scope.{InScope}
 use Rattle.group_eval.proofs.grouping.group_values.Goals as goal
 

@@ -2,12 +2,12 @@ use Rattle.std.proofs.Common.{◌≡◌, ◌+◌, ◌++◌, ◌∷◌, [], List,
 use Rattle.std.proofs.lemmas.List.{drop_all}
 use Rattle.ldv_value.proofs.Places.{drop_item}
 use Rattle.lineage.specs.declared.answer.Pick.{Pick}
-use Rattle.core_parts.proofs.Lists.{moved-one}
+use Rattle.predicates.proofs.Lists.{moved-one}
 use Rattle.group_eval.specs.Evaluating.{item_values}
 use Rattle.group_eval.specs.inner.Folding.{group_meaning}
-use Rattle.core_parts.specs.Placing.{AreAllPlaced}
+use Rattle.predicates.specs.Placing.{AreAllPlaced}
 use Rattle.group_eval.specs.Types.{Value}
-use Rattle.core_parts.specs.declared.placed.BoundExpr.{BoundExpr}
+use Rattle.predicates.specs.declared.placed.BoundExpr.{BoundExpr}
 use Rattle.group_eval.proofs.grouping.values_of_items.Goals as goal
 
 pub loop-item-init : goal.loop-item-init

@@ -2,7 +2,7 @@ use Rattle.std.proofs.Common.{◌≡◌, ◌+◌, ◌++◌, ◌∷◌, List, ℕ
 use Rattle.ldv_value.proofs.Places.{drop_item}
 use Rattle.group_eval.specs.Types.{ColumnName}
 use Rattle.sql_model.specs.Scope.{places_in, place_of}
-use Rattle.core_parts.proofs.Lists.{moved-one}
+use Rattle.predicates.proofs.Lists.{moved-one}
 use Rattle.group_eval.proofs.plan.column_places.Goals as goal
 
 pub loop-column-preserved : goal.loop-column-preserved

@@ -1,6 +1,6 @@
 use Rattle.std.proofs.Common.{drop}
 use Rattle.ldv_value.proofs.Places.{drop_item}
-use Rattle.core_parts.proofs.Places.{item-passed}
+use Rattle.predicates.proofs.Places.{item-passed}
 use Rattle.group_eval.specs.Types.{Expr}
 use Rattle.group_eval.proofs.plan.skip_conditions.Goals as goal
 

@@ -1,8 +1,8 @@
 use Rattle.std.proofs.Common.{◌≡◌, ◌∙◌, ap, sym, subst, List}
 use Rattle.std.proofs.lemmas.Result.{IfOk-weaker}
 use Rattle.ldv_value.proofs.Options.{same-some}
-use Rattle.core_parts.specs.Conditions.{AreConditions}
-use Rattle.core_parts.proofs.CorePlaces.{core-places}
+use Rattle.predicates.specs.Conditions.{AreConditions}
+use Rattle.predicates.proofs.CorePlaces.{core-places}
 use Rattle.query_eval.specs.Types.{Core}
 use Rattle.sql_model.specs.Refusals.{core_names}
 use Rattle.sql_model.specs.Scope.{InScope, places_in, scope_of}

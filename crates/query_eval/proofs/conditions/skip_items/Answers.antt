@@ -1,6 +1,6 @@
 use Rattle.std.proofs.Common.{drop}
 use Rattle.ldv_value.proofs.Places.{drop_item}
-use Rattle.core_parts.proofs.Places.{item-passed}
+use Rattle.predicates.proofs.Places.{item-passed}
 use Rattle.query_eval.specs.Types.{Item}
 use Rattle.query_eval.proofs.conditions.skip_items.Goals as goal
 

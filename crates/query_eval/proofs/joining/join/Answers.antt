@@ -6,7 +6,7 @@ use Rattle.ldv_value.proofs.Places.{drop_item}
 use Rattle.lineage.specs.Flat.{SlotRows}
 use Rattle.query_eval.specs.inner.Joining.{combos, tests, extensions_left, EachHas}
 use Rattle.query_eval.specs.inner.Slots.{combinations_at}
-use Rattle.core_parts.specs.Placing.{AreAllPlaced}
+use Rattle.predicates.specs.Placing.{AreAllPlaced}
 use Rattle.query_eval.specs.inner.Sources.{source_rows, SourcesAreWide}
 use Rattle.query_eval.specs.declared.source.Source.{Source}
 use Rattle.query_eval.specs.declared.source.SourceRow.{SourceRow}

@@ -2,7 +2,7 @@ use Rattle.std.proofs.Common.{◌≡◌, ◌≤◌, ◌*◌, ◌^◌, List, drop
 use Rattle.std.specs.Prelude.{filter}
 use Rattle.query_eval.specs.inner.Joining.{combos, tests, extensions_left, EachHas}
 use Rattle.query_eval.specs.inner.Slots.{combinations_at}
-use Rattle.core_parts.specs.Placing.{AreAllPlaced}
+use Rattle.predicates.specs.Placing.{AreAllPlaced}
 use Rattle.query_eval.specs.inner.Sources.{source_rows, SourcesAreWide}
 use Rattle.sql_model.specs.Scope.{InScope}
 use Rattle.query_eval.proofs.joining.join.Given as goal

@@ -1,7 +1,7 @@
 use Rattle.std.proofs.Common.{rules, ◌≡◌, ◌+◌, ◌∙◌, ap, sym, subst, ℕ, List}
 use Rattle.query_eval.specs.inner.Joining.{ready_conditions, later_conditions, extensions_left, extensions_of_all, EachHas}
 use Rattle.query_eval.specs.inner.Slots.{combinations_at}
-use Rattle.core_parts.specs.Placing.{AreAllPlaced}
+use Rattle.predicates.specs.Placing.{AreAllPlaced}
 use Rattle.query_eval.proofs.Levels.{ready_conditions-placed, later_conditions-placed, step-long, step-same}
 use Rattle.query_eval.specs.declared.source.SourceRow.{SourceRow}
 use Rattle.query_eval.proofs.joining.join_source.Goals as goal

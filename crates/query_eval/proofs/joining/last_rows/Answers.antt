@@ -1,10 +1,10 @@
 use Rattle.std.proofs.Common.{rules, ◌≡◌, ◌==◌, ◌∙◌, ap, sym, length, List, true}
 use Rattle.std.specs.Prelude.{filter}
-use Rattle.core_parts.specs.declared.placed.BoundExpr.{BoundExpr}
+use Rattle.predicates.specs.declared.placed.BoundExpr.{BoundExpr}
 use Rattle.query_eval.proofs.Levels.{no-conditions}
 use Rattle.query_eval.proofs.SlotLevels.{kept-same}
 use Rattle.query_eval.specs.inner.Slots.{combinations_at, slots_meet}
-use Rattle.core_parts.proofs.Lists.{none-counted}
+use Rattle.predicates.proofs.Lists.{none-counted}
 use Rattle.query_eval.proofs.joining.last_rows.Goals as goal
 
 pub returns-then-is_empty : goal.returns-then-is_empty

@@ -1,5 +1,5 @@
 use Rattle.std.proofs.Common.{rules, ◌≡◌, ◌∙◌, subst, ap, List, ℕ, map}
-use Rattle.core_parts.specs.Placing.{AreAllPlaced}
+use Rattle.predicates.specs.Placing.{AreAllPlaced}
 use Rattle.query_eval.proofs.Levels.{others-placed, tied-level}
 use Rattle.query_eval.proofs.SlotLevels.{level-same}
 use Rattle.query_eval.specs.declared.source.Source.{Source}

@@ -1,7 +1,7 @@
 use Rattle.std.proofs.Common.{◌≡◌, ◌∙◌, ap, subst, ℕ, List, length, Option}
 use Rattle.std.proofs.lemmas.Result.{IfOk-weaker}
 use Rattle.lineage.specs.declared.answer.Answer.{Answer}
-use Rattle.core_parts.specs.Checking.{places_at}
+use Rattle.predicates.specs.Checking.{places_at}
 use Rattle.query_eval.specs.Finishing.{IsFinished, IsLimited, by_columns, sort_columns}
 use Rattle.query_eval.specs.declared.sort.SortColumn.{SortColumn}
 use Rattle.sql_model.specs.Sorting.{sorted_by}

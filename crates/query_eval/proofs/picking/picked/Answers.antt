@@ -1,5 +1,5 @@
 use Rattle.std.proofs.Common.{◌≡◌, subst, List, rules}
-use Rattle.core_parts.specs.declared.placed.BoundExpr.{BoundExpr}
+use Rattle.predicates.specs.declared.placed.BoundExpr.{BoundExpr}
 use Rattle.query_eval.specs.StoredSources.{AreStored}
 use Rattle.query_eval.specs.Types.{FromItem}
 use Rattle.query_eval.proofs.StoredSourceLaws.{stored-picked}

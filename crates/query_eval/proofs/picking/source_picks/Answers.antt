@@ -1,6 +1,6 @@
 use Rattle.std.proofs.Common.{◌≡◌, ◌∙◌, ◌∷◌, [], ap, sym, subst, List}
 use Rattle.std.proofs.lemmas.Result.{IfOk-weaker}
-use Rattle.core_parts.specs.Placing.{AreAllPlaced}
+use Rattle.predicates.specs.Placing.{AreAllPlaced}
 use Rattle.query_eval.proofs.SinglePicks.{alone-picks}
 use Rattle.query_eval.specs.Picking.{row_picks, source_picks}
 use Rattle.query_eval.specs.inner.Sources.{SourcesAreWide}

@@ -1,6 +1,6 @@
 use Rattle.std.proofs.Common.{rules, ◌≡◌, ◌∷◌, ◌∙◌, ap, List, ℕ, drop, true}
 use Rattle.query_eval.specs.inner.Joining.{IsBetween, IsEquality, IsProbeOf}
-use Rattle.core_parts.proofs.Lists.{IfSome-weaker}
+use Rattle.predicates.proofs.Lists.{IfSome-weaker}
 use Rattle.query_eval.proofs.Probes.{probe-is}
 use Rattle.query_eval.proofs.probe.probe_of.Goals as goal
 

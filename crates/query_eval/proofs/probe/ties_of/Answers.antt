@@ -1,6 +1,6 @@
 use Rattle.std.proofs.Common.{rules, ◌≡◌, [], List, length, subst}
 use Rattle.ldv_value.proofs.Lists.{nil-from-length}
-use Rattle.core_parts.specs.declared.placed.BoundExpr.{BoundExpr}
+use Rattle.predicates.specs.declared.placed.BoundExpr.{BoundExpr}
 use Rattle.query_eval.specs.inner.Joining.{AreTiesWith}
 use Rattle.query_eval.proofs.Probes.{ties_end}
 use Rattle.query_eval.proofs.probe.ties_of.Goals as goal

@@ -1,5 +1,5 @@
 use Rattle.std.proofs.Common.{◌≡◌, List, ◌++◌, map}
-use Rattle.core_parts.specs.Placing.{AreAllPlaced}
+use Rattle.predicates.specs.Placing.{AreAllPlaced}
 use Rattle.query_eval.specs.Projecting.{projected_answer}
 use Rattle.sql_model.specs.Scope.{InScope}
 use Rattle.query_eval.proofs.projection.project_items.Given as goal

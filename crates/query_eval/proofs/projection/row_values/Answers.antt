@@ -1,10 +1,10 @@
 use Rattle.std.proofs.Common.{◌≡◌, ◌+◌, ◌++◌, ◌∷◌, List, drop, subst, ap, sym, ◌∙◌}
 use Rattle.ldv_value.specs.declared.value.Value.{Value}
 use Rattle.ldv_value.proofs.Places.{drop_item}
-use Rattle.core_parts.specs.Placing.{AreAllPlaced}
+use Rattle.predicates.specs.Placing.{AreAllPlaced}
 use Rattle.query_eval.specs.Projecting.{values_over, meaning}
-use Rattle.core_parts.specs.declared.placed.BoundExpr.{BoundExpr}
-use Rattle.core_parts.proofs.Lists.{moved-one}
+use Rattle.predicates.specs.declared.placed.BoundExpr.{BoundExpr}
+use Rattle.predicates.proofs.Lists.{moved-one}
 use Rattle.query_eval.proofs.projection.row_values.Goals as goal
 
 pub loop-placed-preserved : goal.loop-placed-preserved

@@ -1,5 +1,5 @@
 use Rattle.std.proofs.Common.{◌≡◌, List, ◌++◌, drop}
-use Rattle.core_parts.specs.Placing.{AreAllPlaced}
+use Rattle.predicates.specs.Placing.{AreAllPlaced}
 use Rattle.query_eval.specs.Projecting.{values_over}
 use Rattle.sql_model.specs.Scope.{InScope}
 use Rattle.query_eval.proofs.projection.row_values.Given as goal

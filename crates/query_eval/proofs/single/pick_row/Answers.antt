@@ -1,5 +1,5 @@
 use Rattle.std.proofs.Common.{◌≡◌, ◌∙◌, ap, sym, ◌++◌, ◌∷◌, []}
-use Rattle.core_parts.specs.Conditions.{meets}
+use Rattle.predicates.specs.Conditions.{meets}
 use Rattle.lineage.specs.declared.answer.Pick.{Pick}
 use Rattle.query_eval.proofs.SinglePicks.{mapped-kept, mapped-left}
 use Rattle.query_eval.proofs.SlotLevels.{met_by}

@@ -1,5 +1,5 @@
 use Rattle.std.proofs.Common.{◌≡◌, ◌++◌, List}
-use Rattle.core_parts.specs.Placing.{AreAllPlaced}
+use Rattle.predicates.specs.Placing.{AreAllPlaced}
 use Rattle.query_eval.specs.Picking.{row_picks}
 use Rattle.sql_model.specs.Scope.{InScope}
 use Rattle.query_eval.proofs.single.picks_alone.Given as goal

@@ -1,5 +1,5 @@
 use Rattle.std.proofs.Common.{sym, ◌∙◌}
-use Rattle.core_parts.proofs.Lists.{none-counted}
+use Rattle.predicates.proofs.Lists.{none-counted}
 use Rattle.query_eval.proofs.Abbreviations.{unsorted}
 use Rattle.query_eval.proofs.sort.sort_answers.Goals as goal
 

@@ -1,6 +1,6 @@
 use Rattle.std.proofs.Common.{◌≡◌, [], Some, length, rules}
 use Rattle.std.proofs.lemmas.Result.{IfOk-weaker}
-use Rattle.core_parts.specs.Fixing.{FixesKey}
+use Rattle.predicates.specs.Fixing.{FixesKey}
 use Rattle.query_eval.specs.inner.KeyLookup.{keyed_rows}
 use Rattle.query_eval.specs.StoredSources.{AreChosen}
 use Rattle.query_eval.proofs.sources.chosen_rows.Goals as goal

@@ -1,6 +1,6 @@
 use Rattle.std.proofs.Common.{◌≡◌, ◌∙◌, ap, subst, sym, List, None, rules}
 use Rattle.std.proofs.lemmas.Result.{IfOk-weaker}
-use Rattle.core_parts.proofs.MaskLaws.{masks-fit}
+use Rattle.predicates.proofs.MaskLaws.{masks-fit}
 use Rattle.sql_model.specs.declared.column_test.ColumnTest.{ColumnTest}
 use Rattle.query_eval.specs.inner.TableScan.{left_rows}
 use Rattle.query_eval.specs.StoredSources.{AreChosen}
