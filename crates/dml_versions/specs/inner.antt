@@ -1,6 +1,6 @@
-pub mod Fixing
-pub mod Making
-pub mod Testing
 pub mod Finding
+pub mod Fixing
 pub mod Holding
+pub mod Making
 pub mod Needing
+pub mod Testing

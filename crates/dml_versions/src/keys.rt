@@ -3,8 +3,8 @@
 ghost use Rattle.std.specs.Prelude.{◌≡◌, Some, IfOk, IfSome};
 ghost use Rattle.dml_versions.specs.inner.Fixing.{WhereFixesKey};
 
-use predicates::{conjuncts_of, fixed_key};
 use ldv_value::{Places, Values};
+use predicates::{conjuncts_of, fixed_key};
 use sql_model::{Expr, Schema};
 use std::alloc::{AllocError, Global};
 

@@ -8,8 +8,8 @@ ghost use Rattle.sql_model.specs.Kinds.{names_in};
 ghost use Rattle.sql_model.specs.Refusals.{update_names};
 ghost use Rattle.sql_model.specs.Scope.{InScope, places_in};
 
-use predicates::take_places;
 use ldv_value::{List, PlaceLists, Places};
+use predicates::take_places;
 use sql_model::{Expr, Set, Update};
 use std::alloc::{AllocError, Global};
 

@@ -6,8 +6,8 @@ ghost use Rattle.dml_versions.specs.inner.Making.{place_given, places_given, IsP
 ghost use Rattle.dml_versions.specs.inner.Making.{values_from};
 ghost use Rattle.sql_model.specs.Changes.{plain_value};
 
-use predicates::constant_value;
 use ldv_value::{List, Names, RowList, Utf8, Value, Values};
+use predicates::constant_value;
 use sql_model::{Column, Expr, ExprRows, Exprs};
 use std::alloc::{AllocError, Global};
 

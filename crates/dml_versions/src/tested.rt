@@ -4,8 +4,8 @@ ghost use Rattle.std.specs.Prelude.{◌≡◌, Some, IfOk, true, false};
 ghost use Rattle.predicates.specs.Masking.{AreMasks, AreExact};
 ghost use Rattle.dml_versions.specs.inner.Testing.{AreTests, AreExactTests};
 
-use predicates::{BoundExpr, conjuncts_of, exact_masks, masks_of};
 use ldv_value::{List, Places};
+use predicates::{BoundExpr, conjuncts_of, exact_masks, masks_of};
 use sql_model::{ColumnTest, Columns, Expr};
 use std::alloc::{AllocError, Global};
 

@@ -6,9 +6,9 @@ ghost use Rattle.lineage.specs.declared.answer.Pick.{Pick as Given};
 ghost use Rattle.sql_model.specs.Meaning.{known_values};
 ghost use Rattle.ldv_value.specs.Cells.{value_at};
 
-use predicates::is_column;
 use ldv_value::{List, Places, Value, Values};
 use lineage::Pick;
+use predicates::is_column;
 use sql_model::{Expr, value_or};
 use std::alloc::{AllocError, Global};
 

@@ -16,9 +16,9 @@ ghost use Rattle.sql_model.specs.Scope.{InScope, places_in};
 
 use crate::columns::{KnownColumn, column_place};
 use crate::folds::{aggregate, count_value, fold_known};
-use predicates::{BoundExpr, is_column, take_place, take_places};
 use ldv_value::{CopyItem, List, Places, Truth, Value, Values};
 use lineage::Pick;
+use predicates::{BoundExpr, is_column, take_place, take_places};
 use sql_model::{Expr, Fold, truth_of, value_of};
 use sqlite_items::Boxed;
 use std::alloc::{AllocError, Global};

@@ -16,9 +16,9 @@ use crate::group_value::{group_truth, group_value};
 use crate::groups::{KeyedGroup, groups_of};
 use crate::lineages::{add_lineages, lineage_of_picks};
 use crate::plan::{Plan, plan_of};
-use predicates::{BoundExpr, column_indexes, core_of, is_certain};
 use ldv_value::{List, Refs, Values};
 use lineage::{Answer, Answers, LineageSet, Pick, Picks};
+use predicates::{BoundExpr, column_indexes, core_of, is_certain};
 use sql_model::Checked;
 use std::alloc::{AllocError, Global};
 

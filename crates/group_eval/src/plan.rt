@@ -8,8 +8,8 @@ ghost use Rattle.sql_model.specs.Kinds.{names_in};
 ghost use Rattle.sql_model.specs.Refusals.{core_names, items_of, names_of_items};
 ghost use Rattle.sql_model.specs.Scope.{InScope, places_in};
 
-use predicates::{BoundExpr, placed_at, placed_items, skip_places, take_place};
 use ldv_value::{List, Places};
+use predicates::{BoundExpr, placed_at, placed_items, skip_places, take_place};
 use sql_model::{ColumnName, Core, Expr, Items as CoreItems};
 use std::alloc::{AllocError, Global};
 

@@ -4,10 +4,10 @@
 ghost use Rattle.std.specs.Prelude.{◌≡◌, IsTrue, is_some};
 ghost use Rattle.predicates.specs.Checking.{HasCore, IsQuery, core_at};
 
-use predicates::core_of;
 use group_eval::{Grouped, group};
 use ldv_value::Values;
 use lineage::{Answers, LineageSet, Picks};
+use predicates::core_of;
 use query_eval::{Finished, finish, merge, picked, project};
 use sql_check::{CheckStop, check, groups};
 use sql_model::{Catalog, Checked, Statement};

@@ -1,3 +1,3 @@
+pub mod Blocks
 pub mod Held
 pub mod Laid
-pub mod Blocks

@@ -4,6 +4,7 @@
 //! A `LineageSet` is a bitmap in blocks (`blocks`, and `table_blocks` for those of all tables), with the
 //! versions above 0 beside it (`versions`). The `LineageRows` of one row are a list while they are few
 //! (`held`). `FlatRows` has joined rows by slots, one list for all of them.
+//! Lists of needed rows, each with its rule, are sorted and united in `needs`.
 //!
 //! Entry: `union` in `src/set.rt`. Read first: `specs/Lineage.antt`.
 #![tactic(auto)]

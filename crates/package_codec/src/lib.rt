@@ -29,12 +29,12 @@ pub use number::{decode_u8, decode_u32, decode_u64, encode_u8, encode_u32, encod
 pub use parts::table::{decode_reason, decode_tables, encode_reason, encode_tables};
 pub use parts::text::{decode_text, encode_text};
 pub use plain::fits_version;
-pub use trace::{asked_count, is_trace};
 pub use trace::cutting::decode_cut;
 pub use trace::event_run::{EventRun, EventRuns};
 pub use trace::expanding::{events_in, expanded_package};
 pub use trace::law::runs_law;
 pub use trace::run_rules::are_runs;
 pub use trace::writing::encode_trace;
+pub use trace::{asked_count, is_trace};
 pub use version::{MAGIC_LENGTH, Version, first_eight, magic, version_of};
 pub use width::Width;

@@ -9,8 +9,8 @@ ghost use Rattle.sql_model.specs.Kinds.{names_in};
 ghost use Rattle.sql_model.specs.Refusals.{core_names, names_of_items};
 ghost use Rattle.sql_model.specs.Scope.{InScope, places_in};
 
-use predicates::{BoundExpr, column_indexes, conjuncts, core_of, skip_places};
 use ldv_value::{List, Places};
+use predicates::{BoundExpr, column_indexes, conjuncts, core_of, skip_places};
 use sql_model::{Checked, Core, Item, items_of};
 use std::alloc::{AllocError, Global};
 

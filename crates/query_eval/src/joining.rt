@@ -23,9 +23,9 @@ use crate::probe::{Probe, ties_of};
 use crate::slot_row::slots_of;
 use crate::source::{Source, SourceRow, width_with};
 use crate::testing::{RowTest, SlotTest, are_met_in};
-use predicates::BoundExpr;
 use ldv_value::List;
 use lineage::{FlatRows, split_row};
+use predicates::BoundExpr;
 use std::alloc::{AllocError, Global};
 
 // Adds the rows of a prefix and each of the slots that are looked up by it that pass.

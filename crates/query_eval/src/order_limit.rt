@@ -8,9 +8,9 @@ ghost use Rattle.sql_model.specs.QueryAnswer.{limit_of};
 
 use crate::lineages::united_set;
 use crate::sort::{sort_answers, sort_columns};
-use predicates::{column_indexes, query_of};
 use ldv_value::{List, Value};
 use lineage::{Answers, LineageSet};
+use predicates::{column_indexes, query_of};
 use sql_model::Checked;
 use std::alloc::{AllocError, Global};
 

@@ -5,8 +5,8 @@ ghost use Rattle.query_eval.specs.inner.Joining.{AreTies, AreTiesWith, IsBetween
 ghost use Rattle.query_eval.specs.inner.Joining.{is_equal_sign};
 ghost use Rattle.predicates.specs.declared.placed.BoundExpr.{BoundExpr as Given};
 
-use predicates::{BoundExpr, column_of_source, is_column, is_equal_test};
 use ldv_value::List;
+use predicates::{BoundExpr, column_of_source, is_column, is_equal_test};
 use sql_model::{Expr, Operator};
 use std::alloc::{AllocError, Global};
 

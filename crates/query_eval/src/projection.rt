@@ -7,9 +7,9 @@ ghost use Rattle.query_eval.specs.Projecting.{projected_answer, values_over, ans
 ghost use Rattle.sql_model.specs.Refusals.{names_of_items};
 ghost use Rattle.sql_model.specs.Scope.{InScope, places_in};
 
-use predicates::{BoundExpr, column_indexes, core_of, placed_items};
 use ldv_value::{List, Places, Values};
 use lineage::{Answer, Answers, Picks};
+use predicates::{BoundExpr, column_indexes, core_of, placed_items};
 use sql_model::{Checked, Item, value_of};
 use std::alloc::{AllocError, Global};
 

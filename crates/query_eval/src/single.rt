@@ -11,10 +11,10 @@ ghost use Rattle.sql_model.specs.Scope.{InScope};
 
 use crate::source::{SourceRow, SourceRows};
 use crate::testing::are_met;
-use predicates::BoundExpr;
 use ldv_value::List;
 use lent_cells::Listed;
 use lineage::{LineageRows, Pick, Picks};
+use predicates::BoundExpr;
 use std::alloc::{AllocError, Global};
 
 /// The picks of the rows of a table that meet conditions.

@@ -9,8 +9,8 @@ ghost use Rattle.query_eval.specs.StoredSources.{AreChosen, AreStored, HasVersio
 use crate::key_lookup::rows_of_key;
 use crate::source::{Source, SourceRows, Sources, width_with};
 use crate::table_scan::rows_left;
-use predicates::{BoundExpr, fixed_key, masks_of};
 use ldv_value::{List, Names};
+use predicates::{BoundExpr, fixed_key, masks_of};
 use sql_model::{ColumnTest, FromItem, RowKey};
 use std::alloc::{AllocError, Global};
 use table_store::{Store, TableStore};

@@ -5,8 +5,8 @@ ghost use Rattle.query_eval.specs.inner.Slots.{is_met_by, are_met_by, slots_meet
 
 use crate::slot_row::SlotRow;
 use crate::source::Source;
-use predicates::{BoundExpr, is_certain};
 use lent_cells::{CellsAt, truth_over};
+use predicates::{BoundExpr, is_certain};
 
 // Whether a condition is True over a row.
 fn is_met<R: CellsAt>(cond: &BoundExpr, row: &R) -> bool

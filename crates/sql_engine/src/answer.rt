@@ -8,9 +8,9 @@ ghost use Rattle.sql_model.specs.Needs.{has_merging, sums_up};
 ghost use Rattle.sql_model.specs.Refusals.{groups};
 
 use crate::cores::all_rows;
-use predicates::query_of;
 use ldv_value::{List, RowList};
 use lineage::{Answers, LineageSet};
+use predicates::query_of;
 use query_eval::{finish, united_set};
 use sql_check::groups;
 use sql_model::{Checked, Core};

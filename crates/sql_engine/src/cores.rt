@@ -10,10 +10,10 @@ ghost use Rattle.sql_engine.specs.Types.{StoreHistory};
 ghost use Rattle.sql_model.specs.QueryAnswer.{Origin, AnswerRow, once};
 ghost use Rattle.sql_model.specs.Refusals.{cores_of};
 
-use predicates::{core_of, query_of};
 use group_eval::group;
 use ldv_value::List;
 use lineage::{Answers, LineageSet, Picks};
+use predicates::{core_of, query_of};
 use query_eval::{merge, picked, project};
 use sql_check::groups;
 use sql_model::{Checked, Core};
