@@ -2,7 +2,8 @@
 use Rattle.std.proofs.Common.{◌≡◌, ℕ, List, true, refl, sym, ap, ◌∙◌, cond, inl, inr}
 use Rattle.std.specs.Prelude.{Some, is_some, ◌||◌, String, string_bytes, string_cmp, bytes_eq}
 use Rattle.std.specs.declared.alloc.Global.{Global}
-use Rattle.std.specs.BTreeMap.{BTreeMap, get_by_text, UpdatesBy}
+use Rattle.std.specs.BTreeMap.{BTreeMap, get_by_text, is_at, IsUnchanged, UpdatesBy}
+use Rattle.std.specs.Map.{lookup}
 use Rattle.std.specs.Cmp.Lexicographic.{slice_cmp}
 use Rattle.std.specs.Ordering.{nat_cmp}
 use Rattle.std.proofs.lemmas.Bool.{cases_Bool}
@@ -32,3 +33,8 @@ known_name m name known q = elim (cases_Bool (same_text name q)) [
       rw there refl
   | inr miss ↦ rw miss (sym (or-false (has_name m q)))
 ]
+
+-- names that a refused insertion left as they were
+pub names_unchanged : (m n : BTreeMap (String Global) (Unit {0})) → IsUnchanged m n → (q : List ℕ) → has_name n q ≡ has_name m q
+names_unchanged m n same q =
+    ap (λ (es : List (String Global × Unit {0})). is_some (lookup (is_at (λ k. slice_cmp nat_cmp q (string_bytes k))) es)) same

@@ -1,6 +1,6 @@
 //! Sets of names.
 
-ghost use Rattle.std.specs.Prelude.{◌≡◌, ◌||◌, List, ℕ, OnOk, IfOk, IfNone, IfSome, Bool, false};
+ghost use Rattle.std.specs.Prelude.{◌≡◌, ◌||◌, List, ℕ, OnErr, OnOk, IfOk, IfNone, IfSome, Bool, false};
 ghost use Rattle.std.specs.List.{list_any};
 ghost use Rattle.sql_model.specs.Scope.{same_text};
 ghost use Rattle.run_model.specs.Packing.{has_name};
@@ -21,10 +21,13 @@ pub fn has_name(names: &NameSet, name: &Utf8) -> bool
     names.contains_key(name.as_str())
 }
 
-/// Puts a name into the set. It is copied if the set hasn't got it.
+/// Puts a name into the set. It is copied if the set hasn't got it. `AllocError` means out of memory only,
+/// and then the set is as before.
+#[tactic(auto, using(crate::proofs::NameLaws::names_unchanged))]
 pub fn add_name(alloc: Global, names: &mut NameSet, name: &Utf8) -> Result<(), AllocError>
-    ensures { OnOk result ((q : List ℕ) → has_name names.new q
+    ensures added { OnOk result ((q : List ℕ) → has_name names.new q
         ≡ (has_name names.old q || same_text name.now q)) }
+    ensures err { OnErr result ((q : List ℕ) → has_name names.new q ≡ has_name names.old q) }
 {
     if has_name(names, name) {
         return Ok(());
