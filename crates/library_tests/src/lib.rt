@@ -19,6 +19,8 @@ mod chains;
 #[cfg(test)]
 mod expressions;
 #[cfg(test)]
+mod flat_rows;
+#[cfg(test)]
 mod kernels;
 #[cfg(test)]
 mod lineage_rows;

@@ -138,6 +138,148 @@ fn rows_have_the_same_values_without_lineage(rt: HostRuntime) -> Result<(), Fail
     Ok(())
 }
 
+// ---- joins of each shape, with the rows that SQLite gives in the order of row numbers
+
+// No row of a source, of one that is looked up, of a product, and no row that meets a constant.
+fn joins_of_nothing() -> [Want; 6] {
+    [
+        ("SELECT x.k, y.k FROM t x, t y WHERE x.k > 9", ""),
+        ("SELECT x.k, y.k FROM t x JOIN t y ON y.k > 9", ""),
+        (
+            "SELECT x.k, y.k FROM t x JOIN t y ON x.v = y.v AND y.k > 9",
+            "",
+        ),
+        (
+            "SELECT x.k, z.k FROM t x JOIN t y ON x.v = y.v AND y.k > 9 JOIN t z ON z.v = y.v",
+            "",
+        ),
+        (
+            "SELECT x.k, y.k FROM t x JOIN t y ON x.v = y.v WHERE x.k = 4",
+            "",
+        ),
+        ("SELECT x.k, y.k FROM t x, t y WHERE 1 = 2", ""),
+    ]
+}
+
+#[test]
+fn joins_of_nothing_are_empty(rt: HostRuntime) -> Result<(), Fail> {
+    expect_over_t(&rt, rt.alloc(), true, &joins_of_nothing())?;
+    Ok(())
+}
+
+// Conditions on two columns of one source, which no mask tests.
+fn single_sources() -> [Want; 2] {
+    [
+        ("SELECT k FROM t WHERE v = k * 10", "1 from 0; 2 from 1"),
+        (
+            "SELECT x.k FROM t x WHERE x.v + x.k > 10 AND x.g <> 'c'",
+            "1 from 0; 2 from 1",
+        ),
+    ]
+}
+
+#[test]
+fn rows_of_one_source_are_tested(rt: HostRuntime) -> Result<(), Fail> {
+    expect_over_t(&rt, rt.alloc(), true, &single_sources())?;
+    Ok(())
+}
+
+// By two columns at once, by one of each earlier source, by one column twice, and with sources of which rows
+// are left out before.
+fn joins_by_equalities() -> [Want; 6] {
+    [
+        (
+            "SELECT x.k, y.k FROM t x JOIN t y ON x.g = y.g AND x.v = y.v",
+            "1 1 from 0; 2 2 from 1; 3 3 from 2; 5 5 from 4",
+        ),
+        (
+            "SELECT x.k, y.k, z.k FROM t x JOIN t y ON x.v = y.v JOIN t z ON z.g = y.g AND z.v = x.v",
+            "1 1 1 from 0; 1 5 5 from 0 4; 2 2 2 from 1; 3 3 3 from 2; 5 1 1 from 0 4; 5 5 5 from 4",
+        ),
+        (
+            "SELECT x.k, y.k, z.k FROM t x JOIN t y ON y.k = x.k + 1 JOIN t z ON z.k = x.k AND z.g = y.g",
+            "1 2 1 from 0 1; 3 4 3 from 2 3",
+        ),
+        (
+            "SELECT x.k, z.k FROM t x JOIN t y ON x.k <> y.k JOIN t z ON z.k = x.k AND z.k = y.k",
+            "",
+        ),
+        (
+            "SELECT z.k FROM t x JOIN t y ON x.k = y.k JOIN t z ON z.k = x.k AND z.k = y.k WHERE x.k < 3",
+            "1 from 0; 2 from 1",
+        ),
+        (
+            "SELECT x.k, y.k FROM t x JOIN t y ON x.g = y.g WHERE x.k > 3 AND y.k > 2",
+            "4 3 from 2 3; 4 4 from 3; 5 5 from 4",
+        ),
+    ]
+}
+
+#[test]
+fn rows_are_joined_by_equalities(rt: HostRuntime) -> Result<(), Fail> {
+    expect_over_t(&rt, rt.alloc(), true, &joins_by_equalities())?;
+    Ok(())
+}
+
+// Conditions between the first source and the last, with one between them that no condition ties.
+fn joins_over_a_source() -> [Want; 4] {
+    [
+        (
+            "SELECT x.k, y.k, z.k FROM t x, t y, t z WHERE z.k = x.k + 3 AND y.k = 2",
+            "1 2 4 from 0 1 3; 2 2 5 from 1 4",
+        ),
+        (
+            "SELECT x.k, y.k, z.k FROM t x, t y, t z WHERE x.g = z.g AND x.k < z.k AND y.v = 10",
+            "1 1 2 from 0 1; 1 5 2 from 0 1 4; 3 1 4 from 0 2 3; 3 5 4 from 2 3 4",
+        ),
+        (
+            "SELECT x.k, y.k, z.k FROM t x JOIN t y ON y.k < 3 JOIN t z ON z.v = x.v AND z.k > x.k",
+            "1 1 5 from 0 4; 1 2 5 from 0 1 4",
+        ),
+        (
+            "SELECT x.k, y.k, z.k FROM t x, t y, t z WHERE x.k + y.k + z.k = 14",
+            "4 5 5 from 3 4; 5 4 5 from 3 4; 5 5 4 from 3 4",
+        ),
+    ]
+}
+
+#[test]
+fn conditions_see_the_first_source_and_the_last(rt: HostRuntime) -> Result<(), Fail> {
+    expect_over_t(&rt, rt.alloc(), true, &joins_over_a_source())?;
+    Ok(())
+}
+
+fn products() -> [Want; 5] {
+    [
+        (
+            "SELECT x.k, y.k FROM t x, t y WHERE x.k + y.k = 5",
+            "1 4 from 0 3; 2 3 from 1 2; 3 2 from 1 2; 4 1 from 0 3",
+        ),
+        (
+            "SELECT x.k, y.k FROM t x JOIN t y ON x.v < y.v AND NOT x.g = y.g",
+            "3 1 from 0 2; 3 2 from 1 2; 3 5 from 2 4; 5 2 from 1 4",
+        ),
+        (
+            "SELECT x.k, y.k FROM t x, t y WHERE x.v IS NULL AND y.k < 3 OR y.k * x.k = 10",
+            "2 5 from 1 4; 4 1 from 0 3; 4 2 from 1 3; 5 2 from 1 4",
+        ),
+        (
+            "SELECT x.k, y.k, z.k FROM t x, t y, t z WHERE x.k < 3 AND y.k = 2 AND z.k < 3",
+            "1 2 1 from 0 1; 1 2 2 from 0 1; 2 2 1 from 0 1; 2 2 2 from 1",
+        ),
+        (
+            "SELECT x.k, y.k FROM t x, t y WHERE 1 = 1 AND x.k = y.k AND x.k < 2",
+            "1 1 from 0",
+        ),
+    ]
+}
+
+#[test]
+fn products_are_tested_row_by_row(rt: HostRuntime) -> Result<(), Fail> {
+    expect_over_t(&rt, rt.alloc(), true, &products())?;
+    Ok(())
+}
+
 // ---- merged rows
 
 fn merged_wants() -> [Want; 4] {
@@ -273,7 +415,7 @@ fn changes() -> [Case; 3] {
     ]
 }
 
-fn after_changes() -> [Want; 3] {
+fn after_changes() -> [Want; 4] {
     [
         (
             "SELECT v, k FROM t",
@@ -282,6 +424,10 @@ fn after_changes() -> [Want; 3] {
         (
             "SELECT x.k, y.k FROM t x JOIN t y ON x.g = y.g AND x.g = 'a'",
             "1 1 from 0",
+        ),
+        (
+            "SELECT x.k, z.k FROM t x JOIN t y ON x.g = y.g JOIN t z ON z.k = y.k AND z.g = x.g",
+            "1 1 from 0; 3 3 from 2; 3 4 from 2 3; 4 3 from 2 3; 4 4 from 3; 5 5 from 4; 9 9 from 5",
         ),
         (
             "SELECT DISTINCT g FROM t WHERE k > 3",
@@ -338,8 +484,8 @@ fn expect_others(
 }
 
 // Of merged rows the first alone, a row of one source alone, a row too many, no rejected group, cut rows as
-// kept ones, another order, no row of a table.
-fn wrongs() -> [Want; 7] {
+// kept ones, another order, no row of a table, the first source changing fastest, one equality of two.
+fn wrongs() -> [Want; 9] {
     [
         (
             "SELECT DISTINCT v FROM t",
@@ -363,6 +509,14 @@ fn wrongs() -> [Want; 7] {
             "'a' from 1; 'a' from 0; 'c' from 4",
         ),
         ("SELECT v FROM t WHERE k = 5", "10 from"),
+        (
+            "SELECT x.k, y.k FROM t x, t y WHERE x.k + y.k = 5",
+            "4 1 from 0 3; 3 2 from 1 2; 2 3 from 1 2; 1 4 from 0 3",
+        ),
+        (
+            "SELECT x.k, y.k FROM t x JOIN t y ON x.g = y.g AND x.v = y.v",
+            "1 1 from 0; 1 2 from 0 1; 2 1 from 0 1; 2 2 from 1; 3 3 from 2; 5 5 from 4",
+        ),
     ]
 }
 

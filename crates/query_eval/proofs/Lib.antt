@@ -1,6 +1,7 @@
 pub mod Abbreviations
 pub mod Absorbs
 pub mod Agree
+pub mod Asks
 pub mod Finishes
 pub mod Indexes
 pub mod KeyLookupLaws

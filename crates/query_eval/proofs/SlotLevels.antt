@@ -2,7 +2,8 @@
 use Rattle.std.proofs.Common.{◌≡◌, ◌∙◌, sym, ap, refl, ℕ, ◌<◌, Bool, true, false, List, [], ◌∷◌, ◌++◌, map, length, drop, append_assoc, inl, inr}
 use Rattle.std.proofs.lemmas.Bool.{cases_Bool}
 use Rattle.std.proofs.lemmas.List.{map-append, length-map}
-use Rattle.std.specs.Prelude.{filter, ◌&&◌}
+use Rattle.std.specs.Prelude.{filter, ◌&&◌, Option}
+use Rattle.std.specs.BTreeSet.{BTreeSet}
 use Rattle.std.specs.List.{AllByRecursion}
 use Rattle.predicates.specs.Conditions.{meets}
 use Rattle.predicates.specs.Placing.{AreAllPlaced}
@@ -16,8 +17,9 @@ use Rattle.query_eval.specs.Types.{Value}
 use Rattle.query_eval.specs.declared.probe.Probe.{Probe}
 use Rattle.query_eval.specs.declared.source.Source.{Source}
 use Rattle.query_eval.specs.declared.source.SourceRow.{SourceRow}
+use Rattle.query_eval.specs.inner.Asked.{AreAsked, IsIndex}
 use Rattle.query_eval.specs.inner.Joining.{are_all_equal, extensions_by_ties, extensions_of, tests, TieValues, values_before, values_here, with_values}
-use Rattle.query_eval.specs.inner.Slots.{are_met_by, combinations_at, extended_by, extended_by_all, extended_by_index, extended_by_ties, IsIndex, pick_at, row_at, rows_at, slots_meet, slots_with, values_at}
+use Rattle.query_eval.specs.inner.Slots.{are_met_by, combinations_at, extended_by, extended_by_all, extended_by_index, extended_by_ties, pick_at, row_at, rows_at, slots_meet, slots_with, values_at}
 use Rattle.sql_model.proofs.Evaluations.{truth_by_places}
 use Rattle.sql_model.specs.Evaluation.{eval_at}
 use Rattle.sql_model.specs.Meaning.{is_true, truth}
@@ -108,11 +110,11 @@ module _ (scope : List InScope) (conds : List BoundExpr) (all : AreAllPlaced sco
 
 -- ---- slots that are looked up
 
-pub indexed-same : (test : List ℕ → Bool) (sources : List Source) (index : RefsBy TieValues ℕ) (ties : List Probe) (rows : List SourceRow) (slots : List ℕ) → IsIndex index ties rows slots
-    → 0 < length ties → (ps : List (List ℕ)) → extended_by_index test sources index ties ps ≡ extended_by_ties test sources ties rows slots ps
-indexed-same test sources index ties rows slots is some [] = refl
-indexed-same test sources index ties rows slots is some (p ∷ ps) = λ j.
-    extended_by test p (found_slots index ties rows slots (values_at sources p) is some j) ++ indexed-same test sources index ties rows slots is some ps j
+module _ (test : List ℕ → Bool) (sources : List Source) (asked : Option (BTreeSet TieValues)) (index : RefsBy TieValues ℕ) (ties : List Probe) (rows : List SourceRow) (slots : List ℕ)
+    (is : IsIndex asked index ties rows slots) (some : 0 < length ties) where
+  pub indexed-same : (ps : List (List ℕ)) → AreAsked asked sources ties ps → extended_by_index test sources index ties ps ≡ extended_by_ties test sources ties rows slots ps
+  indexed-same [] all = refl
+  indexed-same (p ∷ ps) all = λ j. extended_by test p (found_slots asked index ties rows slots (values_at sources p) is some all.0 j) ++ indexed-same ps all.1 j
 
 -- without ties each slot is looked up
 untied-slots : (rows : List SourceRow) (slots : List ℕ) → slots ≡ slots_with [] [] rows slots

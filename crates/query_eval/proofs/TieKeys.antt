@@ -1,6 +1,7 @@
 -- Keys of several values, none of which is NULL.
-use Rattle.std.proofs.Common.{◌≡◌, ◌∙◌, sym, ap, refl, ℕ, ◌<◌, arith, true, false, ◌&&◌, List, [], ◌∷◌, ◌++◌, length, Option, Some, None}
+use Rattle.std.proofs.Common.{◌≡◌, ◌∙◌, sym, ap, subst, refl, ℕ, ◌<◌, arith, true, false, ◌&&◌, List, [], ◌∷◌, ◌++◌, length, Option, Some, None}
 use Rattle.std.specs.Prelude.{option_and_then, option_map}
+use Rattle.std.specs.BTreeSet.{BTreeSet}
 use Rattle.std.specs.Option.{option_map_or}
 use Rattle.std.specs.Cmp.Lexicographic.{slice_cmp}
 use Rattle.std.specs.Ordering.{is_eq, ordering_then}
@@ -14,8 +15,9 @@ use Rattle.predicates.specs.Equality.{equals}
 use Rattle.ldv_value.specs.declared.refs_by.RefsBy.{RefsBy}
 use Rattle.query_eval.proofs.Tying.{equals_tied, equals_null, null_equals}
 use Rattle.query_eval.specs.Types.{Value, Null, Int, Text}
+use Rattle.query_eval.specs.inner.Asked.{IsAskedBy, IsIndex}
 use Rattle.query_eval.specs.inner.Joining.{non_null, known_values, key_of, TieValues, tie_order, are_all_equal, values_before, values_here}
-use Rattle.query_eval.specs.inner.Slots.{row_at, slots_found, slots_listed, slots_with, IsIndex}
+use Rattle.query_eval.specs.inner.Slots.{row_at, slots_found, slots_listed, slots_with}
 use Rattle.query_eval.specs.declared.probe.Probe.{Probe}
 use Rattle.query_eval.specs.declared.source.SourceRow.{SourceRow}
 use Rattle.sql_model.specs.Meaning.{is_null}
@@ -101,7 +103,7 @@ key_exact (v ∷ vs) key is =
 
 -- ---- equal values are a tie in the order
 
-then_eq : (a b : Ordering) → is_eq (ordering_then a b) ≡ (is_eq a && is_eq b)
+pub then_eq : (a b : Ordering) → is_eq (ordering_then a b) ≡ (is_eq a && is_eq b)
 then_eq Less b = refl
 then_eq Equal b = refl
 then_eq Greater b = refl
@@ -164,14 +166,15 @@ none_with ties vs none rows (slot ∷ slots) = rw (none (values_here ties (row_a
 
 -- ---- the slots of a joined row
 
-pub found_slots : (map : RefsBy TieValues ℕ) (ties : List Probe) (rows : List SourceRow) (slots : List ℕ) (values : List Value) → IsIndex map ties rows slots → 0 < length ties
+pub found_slots : (asked : Option (BTreeSet TieValues)) (map : RefsBy TieValues ℕ) (ties : List Probe) (rows : List SourceRow) (slots : List ℕ) (values : List Value)
+    → IsIndex asked map ties rows slots → 0 < length ties → IsAskedBy asked (key_of (values_before ties values))
     → slots_found map ties values ≡ slots_with ties (values_before ties values) rows slots
-found_slots map [] rows slots values index some = absurd (omega (arith, some))
-found_slots map (tie ∷ ties) rows slots values index some = by (key_of vs) refl
+found_slots asked map [] rows slots values index some is = absurd (omega (arith, some))
+found_slots asked map (tie ∷ ties) rows slots values index some is = by (key_of vs) refl
   where
     vs : List Value
     vs = values_before (tie ∷ ties) values
 
     by : (o : Option TieValues) → o ≡ key_of vs → option_map_or (slots_listed map) o [] ≡ slots_with (tie ∷ ties) vs rows slots
     by None none = none_with (tie ∷ ties) vs (no_key_equal (value_at values tie.from) (values_before ties values) (sym none)) rows slots
-    by (Some k) found = index k ∙ ap (λ (l : List Value). slots_with (tie ∷ ties) l rows slots) (key_exact vs k (sym found))
+    by (Some k) found = index k (subst (IsAskedBy asked) (sym found) is) ∙ ap (λ (l : List Value). slots_with (tie ∷ ties) l rows slots) (key_exact vs k (sym found))

@@ -1,4 +1,5 @@
 pub mod Abbreviating
+pub mod Asked
 pub mod Conditions
 pub mod Joining
 pub mod KeyLookup

@@ -1,13 +1,15 @@
 //! The slots of a source by the values of columns.
 
-ghost use Rattle.std.specs.Prelude.{◌≡◌, ◌++◌, ◌∷◌, [], List as Items, ℕ, IfOk, OnOk};
+ghost use Rattle.std.specs.Prelude.{◌≡◌, ◌++◌, ◌∷◌, [], true, List as Items, ℕ, IfOk, OnOk};
 ghost use Rattle.std.specs.Prelude.{option_and_then, unwrap_or};
 ghost use Rattle.std.specs.Option.{option_map, option_map_or};
 ghost use Rattle.query_eval.specs.inner.Joining.{non_null, known_values, key_of, TieValues};
 ghost use Rattle.query_eval.specs.inner.Joining.{values_before, values_here};
-ghost use Rattle.query_eval.specs.inner.Slots.{row_at, values_at, slots_listed, slots_with, IsIndex};
+ghost use Rattle.query_eval.specs.inner.Asked.{is_asked, IsIndex};
+ghost use Rattle.query_eval.specs.inner.Slots.{row_at, values_at, slot_added, slots_listed, slots_with};
 ghost use Rattle.ldv_value.specs.Cells.{value_at};
 
+use crate::asked::{AskedKeys, is_asked};
 use crate::probe::Probe;
 use crate::slot_row::{value_in, value_of};
 use crate::source::{Source, SourceRow};
@@ -103,37 +105,56 @@ fn key_here<'a>(
     }
 }
 
-// Adds a slot under the key of its row, if there is one.
+// Adds a slot under a key, if that is asked for.
+fn add_asked<'a>(
+    map: &mut SlotsByKey<'a>,
+    key: TieKey<'a>,
+    slot: &'a u32,
+    asked: &Option<AskedKeys<'a>>,
+) -> Result<(), AllocError>
+    ensures { OnOk result ((other : TieValues) → is_asked asked.now other ≡ true
+        → slots_listed map.new other ≡ slot_added key.entry slot.now other (slots_listed map.old other)) }
+{
+    if is_asked(asked, &key) {
+        map.add(key, slot)
+    } else {
+        Ok(())
+    }
+}
+
+// Adds a slot under the key of its row, if there is one that is asked for.
 fn add_known<'a>(
     alloc: Global,
     map: &mut SlotsByKey<'a>,
     rows: &'a [SourceRow],
     slot: &'a u32,
     ties: &[Probe],
+    asked: &Option<AskedKeys<'a>>,
 ) -> Result<(), AllocError>
-    ensures { OnOk result ((key : TieValues) → (rest : Items ℕ)
+    ensures { OnOk result ((key : TieValues) → is_asked asked.now key ≡ true → (rest : Items ℕ)
         → slots_listed map.new key ++ slots_with ties.now (key.0 ∷ key.1) rows.now rest
         ≡ slots_listed map.old key ++ slots_with ties.now (key.0 ∷ key.1) rows.now (slot.now ∷ rest)) }
 {
     let own = key_here(alloc, rows, *slot, ties)?;
     match own {
         None => Ok(()),
-        Some(key) => map.add(key, slot),
+        Some(key) => add_asked(map, key, slot, asked),
     }
 }
 
-/// The index of slots by the columns of ties.
+/// The index of slots by the columns of ties. It has all slots of each key that is asked for.
 pub(crate) fn index_of<'a>(
     alloc: Global,
     rows: &'a [SourceRow],
     slots: &'a [u32],
     ties: &[Probe],
+    asked: &Option<AskedKeys<'a>>,
 ) -> Result<Index<'a>, AllocError>
-    ensures { IfOk result (λ index. IsIndex index.map ties.now rows.now slots.now) }
+    ensures { IfOk result (λ index. IsIndex asked.now index.map ties.now rows.now slots.now) }
 {
     let mut map = RefsBy::new(alloc);
     for slot in slots {
-        add_known(alloc, &mut map, rows, slot, ties)?;
+        add_known(alloc, &mut map, rows, slot, ties, asked)?;
     }
     Ok(Index { map })
 }

@@ -17,6 +17,7 @@ ghost use Rattle.query_eval.specs.declared.source.Source.{Source as GivenSource}
 ghost use Rattle.query_eval.specs.declared.source.SourceRow.{SourceRow as Given};
 ghost use Rattle.sql_model.specs.Scope.{InScope};
 
+use crate::asked::keys_asked;
 use crate::extending::{extend_by, scan_level};
 use crate::index::{Index, index_of, key_before, slots_under};
 use crate::probe::{Probe, ties_of};
@@ -95,7 +96,8 @@ fn tied_level<'a, T: SlotTest>(
     ensures rows { IfOk result (λ made. made.rows
         ≡ extended_by_ties (T.test test.now) sources.now ties.now rows.now slots.now prefixes.now.rows) }
 {
-    let index = index_of(alloc, rows, slots, ties)?;
+    let asked = keys_asked(alloc, prefixes, sources, slots.len(), ties)?;
+    let index = index_of(alloc, rows, slots, ties, &asked)?;
     let made = found_level(alloc, prefixes, sources, &index, ties, test)?;
     Ok(made)
 }

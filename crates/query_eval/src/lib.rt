@@ -12,6 +12,7 @@
 #![tactic(auto)]
 
 mod abbreviated;
+mod asked;
 mod conditions;
 mod extending;
 mod index;

@@ -1,6 +1,6 @@
 -- A FROM list from left to right, over rows by slots: the places, from 0, of rows among those of their
 -- source.
-use Rattle.std.specs.Prelude.{◌≡◌, ℕ, List, [], ◌∷◌, ◌++◌, map, filter, Bool, slice_index_or}
+use Rattle.std.specs.Prelude.{ℕ, List, [], ◌∷◌, ◌++◌, map, filter, Bool, slice_index_or}
 use Rattle.std.specs.Option.{option_map_or}
 use Rattle.std.specs.List.{flat_map, list_all}
 use Rattle.ldv_value.specs.Listing.{listed, item_added}
@@ -78,11 +78,6 @@ slots_listed map key = listed tie_order map key
 -- a slot more under a key
 abbrev pub slot_added : TieValues → ℕ → TieValues → List ℕ → List ℕ
 slot_added own slot key slots = item_added tie_order own slot key slots
-
--- under each key just the slots at which the columns equal it, in their order
-abbrev pub IsIndex : RefsBy TieValues ℕ → List Probe → List SourceRow → List ℕ → Type 0
-IsIndex map ties rows slots =
-    (key : TieValues) → slots_listed map key ≡ slots_with ties (key.0 ∷ key.1) rows slots
 
 -- the slots that a map has for a joined row
 abbrev pub slots_found : RefsBy TieValues ℕ → List Probe → List Value → List ℕ
