@@ -1,10 +1,9 @@
 -- The result of an INSERT and the store after it.
 use Rattle.std.proofs.Common.{◌≡◌, ◌==◌, ℕ, ◌+◌, ◌<◌, ◌≤◌, List, [], ◌∷◌, ◌++◌, map, length, refl, ap, sym, ◌∙◌, subst, arith, Option, Some, None, true, false}
-use Rattle.std.specs.Prelude.{unwrap_or, nat_lt, Err, is_none, IfSome}
-use Rattle.std.specs.List.{list_all}
+use Rattle.std.specs.Prelude.{unwrap_or, nat_lt, Err, IfSome}
+use Rattle.std.specs.List.{list_all, AllByRecursion}
 use Rattle.std.specs.Option.{option_and_then, option_map, option_or}
 use Rattle.std.proofs.lemmas.Bool.Decides.{Decides-eqb}
-use Rattle.lineage.specs.Needing.{needs_in_order, union_of_needs}
 use Rattle.ldv_value.proofs.Booleans.{and-parts, and-from}
 use Rattle.ldv_value.proofs.Lists.{length-map}
 use Rattle.ldv_value.proofs.Options.{option_or-none}
@@ -21,25 +20,26 @@ use Rattle.sql_model.specs.Scope.{table_at, catalog_of, has_column}
 use Rattle.sql_model.specs.Statements.{target, refusal_of, after_unless}
 use Rattle.sql_model.specs.Tables.{is_valid_table, has_kind, each_value}
 use Rattle.table_store.specs.Histories.{tables_now, table_now, history_at, last_next_number, changed_at, table_with_rows as history_inserted, AreKeptBefore}
-use Rattle.table_store.specs.Referring.{parent_stop, child_stop, missing_stop, insert_refusal, with_put, are_apart, parents_in_db}
+use Rattle.table_store.specs.Referring.{parent_stop, child_stop, missing_stop, insert_refusal, with_put, parents_in_db, parents_now, IsAtVersion}
 use Rattle.table_store.specs.RowOrder.{AreInOrder}
 use Rattle.table_store.specs.Stops.{with_inserted, with_changed, have_shape, has_shape, insert_stop, key_stop, stop_if, StopsAs}
 use Rattle.table_store.specs.declared.error.StoreStop.{StoreStop}
 use Rattle.table_store.specs.declared.error.StoreStop.TheVariants as stop
+use Rattle.table_store.proofs.PutRowLaws.{put_inserted}
 use Rattle.dml_versions.proofs.AfterLaws.{all_needed, change-by, after-by}
 use Rattle.dml_versions.proofs.CheckLaws.{found-distinct, found-valid, names-there, rows-fit}
 use Rattle.dml_versions.proofs.KeptLaws.{SameAll}
 use Rattle.dml_versions.proofs.MatchLaws.{same-changed}
-use Rattle.dml_versions.proofs.ReferLaws.{refs_stop, added-childless, put-inserted, parents-same}
-use Rattle.dml_versions.proofs.RefuseLaws.{stop_by, due_by, not-refused, not-full, no-clash-by, child-there, same-all-by, all-needs, refused-change, refused-after}
+use Rattle.dml_versions.proofs.ReferLaws.{refs_stop, added-childless, parents-same, with-parents}
+use Rattle.dml_versions.proofs.RefuseLaws.{stop_by, due_by, not-refused, not-full, child-there, same-all-by, same-all-own, all-needs, refused-change, refused-after}
 use Rattle.dml_versions.proofs.TableLaws.{table-now, history-name, schema-now}
 use Rattle.dml_versions.proofs.VersionLaws.{updates-history_of_new_row, versions-changed}
 use Rattle.dml_versions.specs.Changing.{IsWhole, IsStoreAfter, IsChildThere, inserted_change, refused_change}
 use Rattle.sql_model.specs.Tables.{AreWellFormed}
 use Rattle.sql_model.proofs.UniqueKeys.{or_none}
 use Rattle.sql_model.proofs.NewNumbers.{row_precedes}
-use Rattle.dml_versions.specs.inner.Needing.{inserted_member, parent_needs, HaveParents}
-use Rattle.dml_versions.specs.Types.{Need, Statement, TheInsert, Insert, Changed, Column, Expr, Value, Table, TableRow, StoreHistory, TableHistory}
+use Rattle.dml_versions.specs.inner.Needing.{inserted_member, with_parent_rows}
+use Rattle.dml_versions.specs.Types.{Member, Need, Statement, TheInsert, Insert, Changed, Column, Expr, Value, Table, TableRow, StoreHistory, TableHistory}
 use Rattle.dml_versions.specs.Versions.{versions_now}
 use Rattle.dml_versions.specs.declared.change.Change.{Change}
 
@@ -134,13 +134,10 @@ module _ (store : StoreHistory) (insert : Insert) (table : TableHistory) (there 
     below : list_all (λ (row : TableRow). nat_lt row.number t.next) t.rows ≡ true
     below = (and-parts (is_strictly_sorted row_precedes t.rows) (list_all (λ (row : TableRow). nat_lt row.number t.next) t.rows) (table-parts t valid).numbers).1
 
-    apart : key_clash (table_after s (catalog_of db) t) ≡ None → are_apart (numbered_rows t.next new) t ≡ true
-    apart none = ap (λ (u : Table). is_none (key_clash u)) (put-inserted t below new) ∙ ap is_none none
-
     origins_are : parents_needed s (catalog_of db) t db ≡ parents_in_db (numbered_rows t.next new) db t
     origins_are =
         parents-same insert.table (table_after s (catalog_of db)) (with_put (numbered_rows t.next new)) (λ u. refl) (λ u. refl)
-        db t target_is refl (sym (ap (λ (u : Table). u.rows) (put-inserted t below new))) t.schema.foreign (numbered_rows t.next new)
+        db t target_is refl (sym (ap (λ (u : Table). u.rows) (put_inserted t below new))) t.schema.foreign (numbered_rows t.next new)
         ∙ ap (λ (n : List ℕ). parents_of db (with_changed n (with_put (numbered_rows t.next new)) db) t.schema.foreign (numbered_rows t.next new)) (sym named)
 
     pub insert-fits : stop_by t (lacks_value s (catalog_of db) t) (key_clash (table_after s (catalog_of db) t)) (is_full s t) ≡ None
@@ -153,16 +150,25 @@ module _ (store : StoreHistory) (insert : Insert) (table : TableHistory) (there 
     abbrev whole : List Need
     whole = all_needed s store
 
-    pub insert-needs : (next : ℕ) → next ≡ t.next → (needs : List Need) → HaveParents store insert.table (numbered_rows next rows) [] needs
-        → stop_by t (lacks_value s (catalog_of db) t) (key_clash (table_after s (catalog_of db) t)) (is_full s t) ≡ None
-        → needs ≡ whole
-    insert-needs next next_is needs have fine =
-        let given : numbered_rows next rows ≡ numbered_rows t.next new = λ j. numbered_rows (next_is j) (rows_is j) in
-        let are : are_apart (numbered_rows t.next new) t ≡ true → needs ≡ union_of_needs [] (needs_in_order (parent_needs store (numbered_rows t.next new) t)) =
-        subst (λ (l : List TableRow). are_apart l t ≡ true → needs ≡ union_of_needs [] (needs_in_order (parent_needs store l t))) given
-        (subst (λ (o : Option Table). IfSome o (λ u. are_apart (numbered_rows next rows) u ≡ true → needs ≡ union_of_needs [] (needs_in_order (parent_needs store (numbered_rows next rows) u)))) target_is have) in
-        are (apart (no-clash-by t (lacks_value s (catalog_of db) t) (key_clash (table_after s (catalog_of db) t)) (is_full s t) fine))
-        ∙ all-needs store s insert.table table there order target_is check [] refl refl tt (parents_in_db (numbered_rows t.next new) db t) origins_are
+    pub insert-needs : (members : List Member) (all : List Need)
+        → IfSome (table_at insert.table db) (λ u. members ≡ parents_now store (numbered_rows u.next rows) u)
+        → AllByRecursion (IsAtVersion store) members → all ≡ with_parent_rows members []
+        → all ≡ whole
+    insert-needs members all are versions is =
+        let fresh : List TableRow = numbered_rows t.next new in
+        let here : members ≡ parents_now store (numbered_rows t.next rows) t =
+        subst (λ (o : Option Table). IfSome o (λ u. members ≡ parents_now store (numbered_rows u.next rows) u)) target_is are in
+        let same : members ≡ parents_now store fresh t = here ∙ ap (λ (l : List (List Value)). parents_now store (numbered_rows t.next l) t) rows_is in
+        with-parents store fresh [] all members t same versions is
+        ∙ all-needs store s insert.table table there order target_is check [] refl refl tt (parents_in_db fresh db t) origins_are
+
+    -- where its own table refuses it, parents don't matter
+    pub insert-rules : (X : Type 0) (at : StoreStop) → StopsAs {X = X} (option_and_then (insert_stop rows) (table_at insert.table db)) (Err at)
+        → (all : List Need) → SameAll at all whole
+    insert-rules X at stops all =
+        same-all-own t (lacks_value s (catalog_of db) t) (key_clash (table_after s (catalog_of db) t)) (is_full s t) all whole X at
+        (subst (λ (o : Option StoreStop). StopsAs {X = X} o (Err at))
+        (ap (option_and_then (insert_stop rows)) target_is ∙ ap (λ (l : List (List Value)). insert_stop l t) rows_is ∙ own_is) stops)
 
     -- ---- nothing refuses it
 

@@ -1,10 +1,9 @@
 -- The refusals of a change by references, which are the same for the store and for the statement, and the
 -- rows that they need.
-use Rattle.std.proofs.Common.{◌≡◌, ◌==◌, ℕ, ◌+◌, ◌<◌, ◌≤◌, List, [], ◌∷◌, ◌++◌, map, refl, ap, sym, ◌∙◌, subst, Option, Some, None, Bool, true, false, inl, inr, ◌⊎◌, cond, arith, append-nil, eq-eqb}
-use Rattle.std.specs.Prelude.{filter, find, not, ◌&&◌, ◌||◌, nat_lt, if◌then◌else◌, unwrap_or, IfSome, IsSome}
+use Rattle.std.proofs.Common.{◌≡◌, ◌==◌, ℕ, ◌+◌, List, [], ◌∷◌, ◌++◌, map, refl, ap, sym, ◌∙◌, subst, Option, Some, None, Bool, true, false, inl, inr, ◌⊎◌, cond, eq-eqb}
+use Rattle.std.specs.Prelude.{filter, find, not, ◌&&◌, ◌||◌, if◌then◌else◌}
 use Rattle.std.specs.List.{flat_map, filter_map, cons_option, list_any, list_all, AllByRecursion}
 use Rattle.std.specs.Option.{option_map, option_or, option_and_then}
-use Rattle.std.proofs.lemmas.Bool.{ne_eqb, ltb-true}
 use Rattle.lineage.specs.Needing.{need_by, needs_in_order, union_of_needs}
 use Rattle.ldv_value.proofs.Booleans.{and-parts, and-from, and-false, or-cases, or-left, or-right, false≢true}
 use Rattle.ldv_value.proofs.Cases.{cases-bool}
@@ -16,7 +15,7 @@ use Rattle.sql_laws.proofs.Orphans.{first_holds}
 use Rattle.sql_laws.proofs.TableNames.{table-trans, more-differs}
 use Rattle.sql_laws.proofs.StatementParts.{refs_of}
 use Rattle.sql_model.proofs.SortedLists.{sorted-all, sorted-tail}
-use Rattle.sql_model.specs.Changes.{numbered_rows, had_row, with_rows}
+use Rattle.sql_model.specs.Changes.{had_row}
 use Rattle.sql_model.specs.Needs.{needed_by, read_of}
 use Rattle.sql_model.specs.QueryAnswer.{Origin}
 use Rattle.sql_model.specs.References.{reference, has_key, is_lost, MissingParent, Child, Orphan, orphan_by, orphans_of, other_rows, child_of, children, orphans, first_in, parents_in, parents_by, parents_of}
@@ -24,15 +23,14 @@ use Rattle.sql_model.specs.Scope.{same_text, is_table, table_at, has_row}
 use Rattle.sql_model.specs.Tables.{table_precedes}
 use Rattle.table_store.specs.Histories.{tables_now, table_now, history_at, history_of_row, version_now, last_next_number}
 use Rattle.table_store.specs.RowOrder.{AreInOrder}
-use Rattle.table_store.specs.Referring.{CanBePut, parent_stop, child_stop, with_put, are_apart, parents_in_db, version_at, origin_now, parents_now, IsAtVersion}
-use Rattle.table_store.specs.Stops.{replaced_by, with_changed, with_replaced, had_rows, has_number}
+use Rattle.table_store.specs.Referring.{parent_stop, child_stop, parents_in_db, version_at, origin_now, parents_now, IsAtVersion}
+use Rattle.table_store.specs.Stops.{with_changed, has_number}
 use Rattle.table_store.specs.declared.error.StoreStop.{StoreStop}
 use Rattle.table_store.specs.declared.error.StoreStop.TheVariants as stop
-use Rattle.table_store.proofs.FormedLaws.{values_numbered}
 use Rattle.dml_versions.proofs.StandingLaws.{updates-are, number-stands, version-is}
 use Rattle.dml_versions.proofs.TableLaws.{table-found, table-now}
 use Rattle.dml_versions.specs.inner.Finding.{version_of}
-use Rattle.dml_versions.specs.inner.Needing.{parent_needs, IsRowThere}
+use Rattle.dml_versions.specs.inner.Needing.{parent_needs, with_parent_rows, IsRowThere}
 use Rattle.dml_versions.specs.Types.{Member, Need, P, NoParent, HasChild, StoreHistory, Table, TableHistory, TableRow, Value}
 use Rattle.dml_versions.specs.Versions.{updates_in, versions_now}
 use Rattle.sql_model.specs.declared.table.Foreign.{Foreign}
@@ -274,90 +272,13 @@ parents_read store (o ∷ os) all =
     λ j. record { member = record { table = o.table; row = o.row; version = version j }; rule = P } ∷ parents_read store os all.1 j
 
 -- the needs that are made of parents
-pub with-parents : (store : StoreHistory) (rows : List TableRow) (needs all : List Need) (members : List Member) (o : Option Table)
-    → IfSome o (λ own. are_apart rows own ≡ true → members ≡ parents_now store rows own)
-    → AllByRecursion (IsAtVersion store) members
-    → all ≡ union_of_needs needs (needs_in_order (map (need_by P) members))
-    → IfSome o (λ own. are_apart rows own ≡ true → all ≡ union_of_needs needs (needs_in_order (parent_needs store rows own)))
-with-parents store rows needs all members None are versions is = tt
-with-parents store rows needs all members (Some own) are versions is = λ apart.
-    let same : members ≡ parents_now store rows own = are apart in
+pub with-parents : (store : StoreHistory) (rows : List TableRow) (needs all : List Need) (members : List Member) (own : Table)
+    → members ≡ parents_now store rows own → AllByRecursion (IsAtVersion store) members → all ≡ with_parent_rows members needs
+    → all ≡ union_of_needs needs (needs_in_order (parent_needs store rows own))
+with-parents store rows needs all members own same versions is =
     is ∙ ap (λ (ns : List Need). union_of_needs needs (needs_in_order ns))
     (ap (map (need_by P)) same
     ∙ parents_read store (parents_in_db rows (tables_now store) own) (subst (AllByRecursion (IsAtVersion store)) same versions))
-
--- ---- a table without foreign keys
-
-module _ (before after : List Table) where
-  none_referred : (rows : List TableRow) → parents_of before after [] rows ≡ []
-  none_referred [] = refl
-  none_referred (row ∷ rows) = none_referred rows
-
-united_alone : (needs : List Need) → union_of_needs needs [] ≡ needs
-united_alone [] = refl
-united_alone (need ∷ needs) = ap (λ (l : List Need). need ∷ l) (united_alone needs)
-
--- its rows need no others
-pub no-parents : (store : StoreHistory) (rows : List TableRow) (needs : List Need) (t : Table) (o : Option Table) → o ≡ Some t → t.schema.foreign ≡ []
-    → IfSome o (λ own. are_apart rows own ≡ true → needs ≡ union_of_needs needs (needs_in_order (parent_needs store rows own)))
-no-parents store rows needs t None is none = tt
-no-parents store rows needs t (Some own) is none = λ apart.
-    let db : List Table = tables_now store in
-    let after : List Table = with_changed own.name (with_put rows) db in
-    let foreigns : own.schema.foreign ≡ [] = ap (λ (u : Table). u.schema.foreign) (same-some own t is) ∙ none in
-    let parents : parents_in_db rows db own ≡ [] = ap (λ (fs : List Foreign). parents_of db after fs rows) foreigns ∙ none_referred db after rows in
-    sym (ap (λ (os : List Origin). union_of_needs needs (needs_in_order (map (read_of (versions_now store)) (map (needed_by P) os)))) parents
-    ∙ united_alone needs)
-
--- ---- rows that are put
-
--- those that stood
-none_new : (t : Table) (rows : List TableRow) → list_all (had_row t) rows ≡ true → filter (λ row. not (had_row t row)) rows ≡ []
-none_new t [] all = refl
-none_new t (row ∷ rows) all =
-    let both = and-parts (had_row t row) (list_all (had_row t) rows) all in
-    rw both.0 (none_new t rows both.1)
-
-pub put-replaced : (rows : List TableRow) (t : Table) → had_rows rows t ≡ true → with_put rows t ≡ with_replaced rows t
-put-replaced rows t stand =
-    ap (λ (l : List TableRow). with_rows t (map (replaced_by rows) t.rows ++ l) t.next) (none_new t rows stand)
-    ∙ ap (λ (l : List TableRow). with_rows t l t.next) (append-nil (map (replaced_by rows) t.rows))
-
--- those that are new
-none_found : (number n : ℕ) → number < n → (values : List (List Value)) → find (λ (new : TableRow). new.number == number) (numbered_rows n values) ≡ None
-none_found number n less [] = refl
-none_found number n less (v ∷ vs) =
-    let other : (n == number) ≡ false = ne_eqb n number (λ same. absurd (omega (arith, less, same))) in
-    rw other (none_found number (n + 1) (omega (arith, less)) vs)
-
-none_replaced : (next : ℕ) (values : List (List Value)) (rows : List TableRow) → list_all (λ (row : TableRow). nat_lt row.number next) rows ≡ true
-    → map (replaced_by (numbered_rows next values)) rows ≡ rows
-none_replaced next values [] below = refl
-none_replaced next values (row ∷ rows) below =
-    let both = and-parts (nat_lt row.number next) (list_all (λ (r : TableRow). nat_lt r.number next) rows) below in
-    let none = none_found row.number next (ltb-true row.number next both.0) values in
-    λ j. unwrap_or (none j) row ∷ none_replaced next values rows both.1 j
-
-not_stood : (number next : ℕ) → next ≤ number → (rows : List TableRow) → list_all (λ (row : TableRow). nat_lt row.number next) rows ≡ true
-    → list_any (λ (old : TableRow). old.number == number) rows ≡ false
-not_stood number next from [] below = refl
-not_stood number next from (row ∷ rows) below =
-    let both = and-parts (nat_lt row.number next) (list_all (λ (r : TableRow). nat_lt r.number next) rows) below in
-    let less : row.number < next = ltb-true row.number next both.0 in
-    let other : (row.number == number) ≡ false = ne_eqb row.number number (λ same. absurd (omega (arith, less, from, same))) in
-    rw other (not_stood number next from rows both.1)
-
-all_new : (t : Table) → list_all (λ (row : TableRow). nat_lt row.number t.next) t.rows ≡ true → (n : ℕ) → t.next ≤ n → (values : List (List Value))
-    → filter (λ row. not (had_row t row)) (numbered_rows n values) ≡ numbered_rows n values
-all_new t below n from [] = refl
-all_new t below n from (v ∷ vs) =
-    let more = all_new t below (n + 1) (omega (arith, from)) vs in
-    rw (not_stood n t.next from t.rows below) (ap (λ (l : List TableRow). record { number = n; values = v } ∷ l) more)
-
-pub put-inserted : (t : Table) → list_all (λ (row : TableRow). nat_lt row.number t.next) t.rows ≡ true → (values : List (List Value))
-    → with_put (numbered_rows t.next values) t ≡ with_rows t (t.rows ++ numbered_rows t.next values) t.next
-put-inserted t below values =
-    λ j. with_rows t (none_replaced t.next values t.rows below j ++ all_new t below t.next (omega arith) values j) t.next
 
 -- ---- parents by what tables become
 
@@ -421,19 +342,6 @@ module _ (name : List ℕ) (f g : Table → Table) (f_named : (t : Table) → (f
         → parents_of db (with_changed name f db) foreigns given ≡ parents_of db (with_changed name g db) foreigns given
     parents-same foreigns given =
         λ j. flat_map (λ (row : TableRow). flat_map (λ (foreign : Foreign). same_by row.values foreign j) foreigns) given
-
--- ---- rows that are numbered from the next number on
-
-pub next-there : (next : ℕ) (o : Option Table) → option_map (λ (table : Table). table.next) o ≡ Some next → IsSome o
-next-there next None is = cc
-next-there next (Some t) is = refl
-
-pub next-put : (next : ℕ) (values : List (List Value)) (o : Option Table) → option_map (λ (table : Table). table.next) o ≡ Some next
-    → IfSome o (CanBePut (numbered_rows next values))
-next-put next values None is = tt
-next-put next values (Some t) is =
-    let same : t.next ≡ next = same-some t.next next is in
-    inr (λ j. numbered_rows (sym same j) (sym (values_numbered next values) j))
 
 -- ---- the version of a row that is there
 

@@ -84,11 +84,15 @@ own-child t false None true table row key is = cc
 own-child t false None false table row key is = cc
 own-child t false (Some clash) full table row key is = cc
 
--- without a cause no two rows have one key
-pub no-clash-by : (t : Table) (lacks : Bool) (clash : Option KeyClash) (full : Bool) → stop_by t lacks clash full ≡ None → clash ≡ None
-no-clash-by t true clash full is = cc
-no-clash-by t false None full is = refl
-no-clash-by t false (Some clash) full is = cc
+-- what the table's own rules refuse hangs on no parents
+pub same-all-own : (t : Table) (lacks : Bool) (clash : Option KeyClash) (full : Bool) (all others : List Need) (X : Type 0) (at : StoreStop)
+    → StopsAs {X = X} (stop_by t lacks clash full) (Err at) → SameAll at all others
+same-all-own t lacks clash full all others X stop.NotNull stops = tt
+same-all-own t lacks clash full all others X (stop.KeyTaken earlier later key) stops = tt
+same-all-own t lacks clash full all others X stop.Full stops = tt
+same-all-own t lacks clash full all others X (stop.NoParent of key) stops = absurd (own-parent t lacks clash full of key stops)
+same-all-own t lacks clash full all others X (stop.HasChild of row key) stops = absurd (own-child t lacks clash full of row key stops)
+same-all-own t lacks clash full all others X stop.NoMemory stops = tt
 
 -- then what references refuse
 abbrev pub due_by : Table → Bool → Option KeyClash → Bool → Option MissingParent → Option Orphan → Option StoreStop

@@ -1,6 +1,6 @@
 -- The result of an UPDATE and the store after it, from the rows that it matches.
-use Rattle.std.proofs.Common.{◌≡◌, ◌==◌, ℕ, ◌+◌, ◌<◌, ◌≤◌, List, [], ◌∷◌, inl, map, length, refl, ap, sym, ◌∙◌, subst, arith, Option, Some, None, Bool, true, false}
-use Rattle.std.specs.Prelude.{filter, zip, Err, if◌then◌else◌, ◌&&◌, is_none, IfSome}
+use Rattle.std.proofs.Common.{◌≡◌, ◌==◌, ℕ, ◌+◌, ◌<◌, ◌≤◌, List, [], ◌∷◌, map, length, refl, ap, sym, ◌∙◌, subst, arith, Option, Some, None, Bool, true, false}
+use Rattle.std.specs.Prelude.{filter, zip, Err, if◌then◌else◌, ◌&&◌, IfSome}
 use Rattle.std.specs.List.{flat_map, list_any, list_all, AllByRecursion}
 use Rattle.std.specs.Option.{option_map, option_or, option_and_then}
 use Rattle.lineage.specs.Needing.{needs_in_order, union_of_needs}
@@ -20,28 +20,28 @@ use Rattle.sql_model.specs.Scope.{InScope, same_text, table_at, catalog_of, own_
 use Rattle.sql_model.specs.Statements.{refusal_of, after_unless}
 use Rattle.sql_model.specs.Tables.{is_valid_table, has_kind, fits, each_value, is_row}
 use Rattle.table_store.specs.Histories.{tables_now, table_now, history_at, rows_now, last_next_number, changed_at, table_with_values, rows_with_values, AreKeptBefore, history_of_row}
-use Rattle.table_store.specs.Referring.{parent_stop, child_stop, missing_stop, orphan_stop, is_of, replace_refusal, with_put, are_apart, parents_in_db, CanBePut}
+use Rattle.table_store.specs.Referring.{parent_stop, child_stop, missing_stop, orphan_stop, is_of, replace_refusal, with_put, parents_in_db, parents_now, IsAtVersion}
 use Rattle.table_store.specs.RowOrder.{AreInOrder}
 use Rattle.table_store.specs.Stops.{is_among, with_replaced, with_changed, are_sorted_rows, had_rows, have_shape, has_shape, values_of, replace_stop, stop_if, key_stop, StopsAs}
 use Rattle.table_store.specs.declared.error.StoreStop.{StoreStop}
 use Rattle.table_store.specs.declared.error.StoreStop.TheVariants as stop
+use Rattle.table_store.proofs.PutRowLaws.{put_replaced}
 use Rattle.dml_versions.proofs.AfterLaws.{all_needed, after-by}
 use Rattle.dml_versions.proofs.CheckLaws.{found-valid, found-distinct, sets-fit}
 use Rattle.dml_versions.proofs.KeptLaws.{SameAll}
 use Rattle.dml_versions.proofs.MatchLaws.{rows-sorted, same-changed, matched-stand}
 use Rattle.dml_versions.proofs.MatchedChange.{matched-change}
 use Rattle.dml_versions.proofs.NumberLaws.{AreSorted, replaced-some, made-sorted, some-sorted, made-in, among-some}
-use Rattle.dml_versions.proofs.ReferLaws.{refs_stop, children-same, others-agree, put-replaced}
-use Rattle.dml_versions.proofs.RefuseLaws.{stop_by, due_by, not-refused, no-clash-by, child-there, same-all-by, all-needs, refused-change, refused-after}
+use Rattle.dml_versions.proofs.ReferLaws.{children-same, others-agree, with-parents}
+use Rattle.dml_versions.proofs.RefuseLaws.{stop_by, due_by, not-refused, child-there, same-all-by, same-all-own, all-needs, refused-change, refused-after}
 use Rattle.dml_versions.proofs.StandingLaws.{IsStanding}
 use Rattle.dml_versions.proofs.TableLaws.{table-now, scope-is, history-name, schema-now}
 use Rattle.dml_versions.proofs.VersionLaws.{updates-rows_with_values, versions-changed}
 use Rattle.dml_versions.specs.Changing.{IsWhole, IsStoreAfter, IsChildThere, matched_change, refused_change}
 use Rattle.sql_model.specs.Tables.{AreWellFormed}
-use Rattle.sql_model.proofs.UniqueKeys.{or_none}
 use Rattle.dml_versions.specs.inner.Finding.{scope_in, test_in, found_row, row_of}
-use Rattle.dml_versions.specs.inner.Needing.{need_found, parent_needs, HaveParents}
-use Rattle.dml_versions.specs.Types.{Need, Statement, TheUpdate, Update, Column, Table, TableRow, StoreHistory, TableHistory}
+use Rattle.dml_versions.specs.inner.Needing.{need_found, parent_needs, with_parent_rows}
+use Rattle.dml_versions.specs.Types.{Member, Need, Statement, TheUpdate, Update, Column, Table, TableRow, StoreHistory, TableHistory}
 use Rattle.dml_versions.specs.Versions.{versions_now, updates_of}
 use Rattle.dml_versions.specs.declared.change.Change.{Change}
 use Rattle.dml_versions.specs.declared.found.Found.{Found}
@@ -196,10 +196,7 @@ module _ (store : StoreHistory) (update : Update) (table : TableHistory) (there 
   stood_all = made-in make (λ row. refl) test t.rows
 
   put_is : with_put new t ≡ table_after s (catalog_of db) t
-  put_is = put-replaced new t stood_all ∙ replaced_is
-
-  apart : key_clash (table_after s (catalog_of db) t) ≡ None → are_apart new t ≡ true
-  apart none = ap (λ (u : Table). is_none (key_clash u)) put_is ∙ ap is_none none
+  put_is = put_replaced new t stood_all ∙ replaced_is
 
   origins_are : parents_needed s (catalog_of db) t db ≡ parents_in_db new db t
   origins_are =
@@ -231,9 +228,6 @@ module _ (store : StoreHistory) (update : Update) (table : TableHistory) (there 
     pub update-stand : had_rows rows t ≡ true
     update-stand = ap (λ (l : List TableRow). had_rows l t) rows_is ∙ made-in make (λ row. refl) test t.rows
 
-    pub update-put : IfSome (table_at update.table db) (CanBePut rows)
-    update-put = subst (λ (o : Option Table). IfSome o (CanBePut rows)) (sym target_is) (inl (update-stand, update-sorted))
-
     pub update-due : option_and_then (replace_refusal rows db) (table_at update.table db)
         ≡ due_by t (lacks_value s (catalog_of db) t) (key_clash (table_after s (catalog_of db) t)) false missing orphan
     update-due =
@@ -244,15 +238,24 @@ module _ (store : StoreHistory) (update : Update) (table : TableHistory) (there 
     pub update-own : (needs : List Need) → needs ≡ map (need_found update.table) found → needs ≡ whole_own
     update-own needs is = is ∙ ap (map (need_found update.table)) found_is
 
-    pub update-needs : (needs all : List Need) → needs ≡ map (need_found update.table) found → HaveParents store update.table rows needs all
-        → own ≡ None → all ≡ whole
-    update-needs needs all needs_is have fine =
-        let are : are_apart new t ≡ true → all ≡ union_of_needs needs (needs_in_order (parent_needs store new t)) =
-        subst (λ (l : List TableRow). are_apart l t ≡ true → all ≡ union_of_needs needs (needs_in_order (parent_needs store l t))) rows_is
-        (subst (λ (o : Option Table). IfSome o (λ u. are_apart rows u ≡ true → all ≡ union_of_needs needs (needs_in_order (parent_needs store rows u)))) target_is have) in
-        are (apart (no-clash-by t (lacks_value s (catalog_of db) t) (key_clash (table_after s (catalog_of db) t)) false fine))
+    pub update-needs : (members : List Member) (needs all : List Need)
+        → IfSome (table_at update.table db) (λ u. members ≡ parents_now store rows u)
+        → AllByRecursion (IsAtVersion store) members → needs ≡ map (need_found update.table) found → all ≡ with_parent_rows members needs
+        → all ≡ whole
+    update-needs members needs all are versions needs_is is =
+        let here : members ≡ parents_now store rows t = subst (λ (o : Option Table). IfSome o (λ u. members ≡ parents_now store rows u)) target_is are in
+        let same : members ≡ parents_now store new t = here ∙ ap (λ (l : List TableRow). parents_now store l t) rows_is in
+        with-parents store new needs all members t same versions is
         ∙ ap (λ (l : List Need). union_of_needs l (needs_in_order (parent_needs store new t))) (update-own needs needs_is)
         ∙ all-needs store s update.table table there order target_is check old old_is old_sorted old_stand (parents_in_db new db t) origins_are
+
+    -- where its own table refuses it, parents don't matter
+    pub update-rules : (X : Type 0) (at : StoreStop) → StopsAs {X = X} (option_and_then (replace_stop rows) (table_at update.table db)) (Err at)
+        → (all : List Need) → SameAll at all whole
+    update-rules X at stops all =
+        same-all-own t (lacks_value s (catalog_of db) t) (key_clash (table_after s (catalog_of db) t)) false all whole X at
+        (subst (λ (o : Option StoreStop). StopsAs {X = X} o (Err at))
+        (ap (option_and_then (replace_stop rows)) target_is ∙ ap (λ (l : List TableRow). replace_stop l t) rows_is ∙ stop_is) stops)
 
     -- ---- nothing refuses it
 
@@ -262,9 +265,6 @@ module _ (store : StoreHistory) (update : Update) (table : TableHistory) (there 
 
       refused_not : refusal_of (Some s) db ≡ None
       refused_not = not-refused store s update.table table there order target_is check none_due
-
-      pub update-fine : own ≡ None
-      update-fine = (or_none own (refs_stop missing orphan) none_due).0
 
       pub update-change : IsWhole s store (matched_change update.table found whole)
       update-change = matched-change store s update.table table there order refl refl refl old old_is old_sorted old_stand refused_not found found_is whole refl

@@ -125,26 +125,20 @@ fn made_within(alloc: Global, name: &Utf8, next: u32, rows: &RowList) -> Result<
     inserted_members(alloc, name, next, rows)
 }
 
-/// The result of a change that the store refused. `needs` has the rows that the change matches, and `change`
-/// is the result that it would have if it were accepted.
+/// The result of a change that the store refused. `needs` has the rows that the change matches, and `all`
+/// these and the parents of new values, which only a refusal by references needs.
 pub(crate) fn refused_by_store(
     store: &Store,
     name: &Utf8,
     needs: Needs,
-    change: Change,
+    all: Needs,
     stop: StoreStop,
 ) -> Result<Change, AllocError>
     requires { IsSome (history_at name.now store.now) }
     ensures { IfOk result (λ refused. IfSome (history_at name.now store.now)
         (λ table. IsChildThere (tables_now store.now) stop
-        → refused_change (versions_now store.now) name.now table.slots needs change.needs stop
-        ≡ Some refused)) }
+        → refused_change (versions_now store.now) name.now table.slots needs all stop ≡ Some refused)) }
 {
-    let Change {
-        reply: _reply,
-        made: _made,
-        needs: all,
-    } = change;
     let table = table_of(store, name);
     let refused = refused_change(store, name, table, needs, all, stop)?;
     Ok(refused)

@@ -46,7 +46,12 @@ pub fn delete(
         Ok(()) => Ok(change),
         Err(stop) => {
             let none = List::new(alloc);
-            let refused = refused_by_store(store, &delete.table, none, change, stop)?;
+            let Change {
+                reply: _reply,
+                made: _made,
+                needs: all,
+            } = change;
+            let refused = refused_by_store(store, &delete.table, none, all, stop)?;
             Ok(refused)
         }
     }

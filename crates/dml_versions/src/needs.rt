@@ -1,26 +1,21 @@
 //! The rows that a change needs, and the versions that it makes.
 
 ghost use Rattle.std.specs.Prelude.{◌≡◌, ◌==◌, ◌+◌, ◌<◌, ◌≤◌, ◌^◌, false, map, length, slice_get};
-ghost use Rattle.std.specs.Prelude.{IfOk, IfSome, IsSome, IsTrue};
-ghost use Rattle.std.specs.Prelude.{nat_le};
+ghost use Rattle.std.specs.Prelude.{IfOk, IsTrue, nat_le};
 ghost use Rattle.std.specs.List.{AllByRecursion, position_or_len};
 ghost use Rattle.std.specs.Option.{option_map, option_map_or};
 ghost use Rattle.sql_model.specs.Changes.{numbered_rows};
 ghost use Rattle.dml_versions.specs.inner.Finding.{version_of};
 ghost use Rattle.dml_versions.specs.inner.Needing.{need_found, updated_member, inserted_member, number_found};
-ghost use Rattle.dml_versions.specs.inner.Needing.{key_need, put_need, put_some, with_key_rows};
-ghost use Rattle.dml_versions.specs.inner.Needing.{with_parent_rows};
-ghost use Rattle.dml_versions.specs.inner.Needing.{child_need, with_child_row, HaveParents, IsRowThere};
+ghost use Rattle.dml_versions.specs.inner.Needing.{key_need, put_need, put_some, with_key_rows, with_parent_rows};
+ghost use Rattle.dml_versions.specs.inner.Needing.{child_need, with_child_row, IsRowThere};
 ghost use Rattle.dml_versions.specs.Versions.{versions_now};
-ghost use Rattle.sql_model.specs.Scope.{table_at};
 ghost use Rattle.table_store.specs.Histories.{tables_now};
-ghost use Rattle.table_store.specs.Referring.{CanBePut};
 
 use crate::found::FoundRows;
-use crate::tables::table_of;
 use ldv_value::{List, Numbers, RowList, Utf8};
 use lineage::{needed_by, needs_in_order, union_of_needs};
-use sql_model::{Member, Members, Need, Needs, Rule, TableRow, TableRows};
+use sql_model::{Member, Members, Need, Needs, Rule};
 use std::alloc::{AllocError, Global};
 use table_store::{Store, TableStore};
 
@@ -199,60 +194,19 @@ fn has_row_at(needs: &[Need], place: usize, row: u32) -> bool
     }
 }
 
-/// The given needs and the parents of rows that a change puts into a table, if `keep` is true; otherwise
-/// none.
-pub(crate) fn parent_needs_if(
-    store: &Store,
-    name: &Utf8,
-    rows: &TableRows,
+/// Needs with the parent rows that are needed beside them if `keep` is true, and otherwise none.
+pub(crate) fn with_parents_if(
     needs: &Needs,
+    parents: Members,
     keep: bool,
 ) -> Result<Needs, AllocError>
-    requires there { IsSome (table_at name.now (tables_now store.now)) }
-    requires put { IfSome (table_at name.now (tables_now store.now)) (CanBePut rows.now) }
-    ensures { IfOk result (λ all. IsTrue keep → HaveParents store.now name.now rows.now needs.now all) }
+    ensures { IfOk result (λ all. IsTrue keep → all ≡ with_parent_rows parents needs.now) }
 {
     if keep {
-        parent_needs(store, name, rows, needs)
+        with_parent_rows(needs, parents)
     } else {
         Ok(List::new(needs.allocator()))
     }
-}
-
-// Needs, and those of the parents of rows of a table, once these are put. Where the table has no foreign key
-// nothing is looked up.
-fn parent_needs(
-    store: &Store,
-    name: &Utf8,
-    rows: &TableRows,
-    needs: &Needs,
-) -> Result<Needs, AllocError>
-    requires there { IsSome (table_at name.now (tables_now store.now)) }
-    requires put { IfSome (table_at name.now (tables_now store.now)) (CanBePut rows.now) }
-    ensures { IfOk result (HaveParents store.now name.now rows.now needs.now) }
-{
-    let table = table_of(store, name);
-    if table.schema().foreign.is_empty() {
-        return needs.copy();
-    }
-    let all = needs_by_references(store, name, rows, needs)?;
-    Ok(all)
-}
-
-/// The given needs and the parents, by a table's foreign keys, of rows that a change puts into it.
-pub(crate) fn needs_by_references(
-    store: &Store,
-    name: &Utf8,
-    rows: &TableRows,
-    needs: &Needs,
-) -> Result<Needs, AllocError>
-    requires there { IsSome (table_at name.now (tables_now store.now)) }
-    requires put { IfSome (table_at name.now (tables_now store.now)) (CanBePut rows.now) }
-    ensures { IfOk result (HaveParents store.now name.now rows.now needs.now) }
-{
-    let parents = store.parents_by_row(name.as_str(), rows)?;
-    let all = with_parent_rows(needs, parents)?;
-    Ok(all)
 }
 
 // Needs with the parent rows that are needed beside them.
@@ -311,25 +265,4 @@ fn version_in(store: &Store, table: &Utf8, row: u32) -> u32
             version_of(held, row)
         }
     }
-}
-
-/// Copies of new rows with their numbers, from `next` on.
-pub(crate) fn numbered_rows(
-    alloc: Global,
-    rows: &RowList,
-    next: u32,
-) -> Result<TableRows, AllocError>
-    requires { next + length rows.now < 2 ^ 32 }
-    ensures { IfOk result (λ made. made ≡ numbered_rows next rows.now) }
-{
-    let mut made = List::with_capacity(alloc, rows.len())?;
-    let mut number = next;
-    for values in rows.items() {
-        made.push(TableRow {
-            number,
-            values: values.copy()?,
-        })?;
-        number += 1;
-    }
-    Ok(made)
 }

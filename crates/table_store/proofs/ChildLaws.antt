@@ -83,31 +83,31 @@ put_in_set old new made updates key = updates.0 (record { values = key }) ∙ by
     by false true = refl
     by false false = refl
 
-module _ (keys : BTreeSet RowKey) (made q : List Value) where
+module _ (given : List Value → Bool) (made q : List Value) where
   -- a key that a given row has isn't lost
-  pub kept_key : (old : Bool) → in_set keys made ≡ true → old ≡ (old || (same_values made q && not (in_set keys q)))
+  pub kept_key : (old : Bool) → given made ≡ true → old ≡ (old || (same_values made q && not (given q)))
   kept_key old has = sym (or-false old) ∙ ap (λ (b : Bool). old || b) (sym none)
     where
-      none : (same_values made q && not (in_set keys q)) ≡ false
+      none : (same_values made q && not (given q)) ≡ false
       none = elim (cases_Bool (same_values made q)) [
         | inl same ↦
-            let there : in_set keys q ≡ true = ap (in_set keys) (sym (same_exact made q same)) ∙ has in
+            let there : given q ≡ true = ap given (sym (same_exact made q same)) ∙ has in
             λ j. same j && not (there j)
-        | inr other ↦ λ j. other j && not (in_set keys q)
+        | inr other ↦ λ j. other j && not (given q)
       ]
 
-  lost_is : in_set keys made ≡ false → same_values made q ≡ (same_values made q && not (in_set keys q))
+  lost_is : given made ≡ false → same_values made q ≡ (same_values made q && not (given q))
   lost_is gone = elim (cases_Bool (same_values made q)) [
     | inl same ↦
-        let none : in_set keys q ≡ false = ap (in_set keys) (sym (same_exact made q same)) ∙ gone in
+        let none : given q ≡ false = ap given (sym (same_exact made q same)) ∙ gone in
         same ∙ sym (λ j. same j && not (none j))
-    | inr other ↦ other ∙ sym (λ j. other j && not (in_set keys q))
+    | inr other ↦ other ∙ sym (λ j. other j && not (given q))
   ]
 
-pub lost_key : (keys old new : BTreeSet RowKey) (made : RowKey) (q : List Value) → in_set keys made.values ≡ false → Updates key_order old new made true
-    → in_set new q ≡ (in_set old q || (same_values made.values q && not (in_set keys q)))
-lost_key keys old new made q gone updates =
-    put_in_set old new made updates q ∙ ap (λ (b : Bool). in_set old q || b) (lost_is keys made.values q gone)
+pub lost_key : (given : List Value → Bool) (old new : BTreeSet RowKey) (made : RowKey) (q : List Value) → given made.values ≡ false → Updates key_order old new made true
+    → in_set new q ≡ (in_set old q || (same_values made.values q && not (given q)))
+lost_key given old new made q gone updates =
+    put_in_set old new made updates q ∙ ap (λ (b : Bool). in_set old q || b) (lost_is given made.values q gone)
 
 -- ---- the keys that the rows of some numbers had
 

@@ -11,7 +11,7 @@ use Rattle.sql_model.specs.KeyOrder.{key_order}
 use Rattle.sql_model.specs.Keys.{same_values, values_at, key_at}
 use Rattle.sql_model.specs.References.{has_key}
 use Rattle.table_store.specs.Types.{Value, RowKey, TableRow}
-use Rattle.table_store.specs.inner.Claims.{claim_stop, taken_stop, old_number}
+use Rattle.table_store.specs.Claims.{claim_stop, taken_stop, old_number}
 use Rattle.table_store.specs.Histories.{RowHistory, rows_now}
 use Rattle.table_store.specs.KeyIndex.{HeldKeys, AreHeld, AreIndexed}
 use Rattle.table_store.specs.RowOrder.{AreInOrder}

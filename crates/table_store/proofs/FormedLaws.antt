@@ -27,7 +27,7 @@ if_none : (b : Bool) (stop : StoreStop) → stop_if b stop ≡ None → b ≡ fa
 if_none true stop is = absurd (none-some stop (sym is))
 if_none false stop is = refl
 
-clash_none : (t : Table) (o : Option KeyClash) → key_stop t o ≡ None → o ≡ None
+pub clash_none : (t : Table) (o : Option KeyClash) → key_stop t o ≡ None → o ≡ None
 clash_none t None is = refl
 clash_none t (Some clash) is = absurd (none-some _ (sym is))
 

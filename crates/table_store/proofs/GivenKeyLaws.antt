@@ -14,8 +14,9 @@ use Rattle.sql_model.specs.Keys.{same_values, values_at, key_at}
 use Rattle.sql_model.specs.References.{has_key}
 use Rattle.sql_model.proofs.SameValues.{same_exact}
 use Rattle.table_store.specs.Types.{Value, RowKey, TableRow}
-use Rattle.table_store.specs.inner.Claims.{IsIndexOf, both_stop}
-use Rattle.table_store.specs.inner.GivenKeys.{with_claims, unless_given, keeper, clash_of, earlier_clash, first_clash, is_below, IsLate, HasKeyAt, IsClash, AreJudged}
+use Rattle.table_store.specs.Claims.{IsIndexOf, both_stop}
+use Rattle.table_store.specs.GivenKeys.{with_claims, unless_given, keeper, clash_of, earlier_clash}
+use Rattle.table_store.specs.GivenKeys.{first_clash, is_below, IsLate, HasKeyAt, IsClash, AreJudged}
 use Rattle.table_store.specs.KeyIndex.{row_of_key, HeldKeys, AreHeld}
 use Rattle.table_store.specs.Stops.{replaced_by, are_sorted_rows}
 use Rattle.table_store.specs.declared.keys.clash.Clash.{Clash}

@@ -3,7 +3,7 @@ use Rattle.std.proofs.Common.{◌≡◌, ℕ, List, [], ◌∷◌, ap, sym, subs
 use Rattle.std.specs.Option.{option_or}
 use Rattle.sql_model.specs.Keys.{key_at}
 use Rattle.table_store.specs.Types.{RowKey, TableRow}
-use Rattle.table_store.specs.inner.GivenKeys.{with_claims}
+use Rattle.table_store.specs.GivenKeys.{with_claims}
 use Rattle.table_store.specs.KeyIndex.{HeldKeys, AreHeld, AreIndexed}
 
 -- ---- rows that are held, once numbers are taken over

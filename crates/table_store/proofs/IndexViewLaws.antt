@@ -12,7 +12,7 @@ use Rattle.ldv_value.specs.Order.{order}
 use Rattle.sql_model.specs.KeyOrder.{key_order}
 use Rattle.sql_model.proofs.SameValues.{same_exact}
 use Rattle.table_store.specs.Types.{Value, Null, Int, Text, RowKey}
-use Rattle.table_store.specs.inner.IndexView.{held_as}
+use Rattle.table_store.specs.IndexView.{held_as}
 use Rattle.table_store.specs.KeyIndex.{HeldKeys, in_place, int_key}
 use Rattle.table_store.proofs.KeyMapLaws.{entered}
 

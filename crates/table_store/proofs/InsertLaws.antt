@@ -11,7 +11,7 @@ use Rattle.sql_model.specs.Changes.{KeyClash, key_clash, clash_or, clash_after, 
 use Rattle.sql_model.specs.Keys.{values_at, key_at}
 use Rattle.row_version.specs.History.{current_values}
 use Rattle.table_store.specs.Types.{Value, Column, Foreign, TableRow}
-use Rattle.table_store.specs.inner.Claims.{claim_stop}
+use Rattle.table_store.specs.Claims.{claim_stop}
 use Rattle.table_store.specs.inner.Grid.{are_of_kinds, AreNumberedFrom, next_after}
 use Rattle.table_store.specs.Histories.{RowHistory, TableHistory, no_history, row_of, row_now, rows_now, history_of_new_row, table_now, last_next_number}
 use Rattle.table_store.specs.KeyIndex.{HeldKeys, AreHeld, AreIndexed}

@@ -9,7 +9,7 @@ use Rattle.sql_model.specs.Changes.{clash_after, clash_by}
 use Rattle.sql_model.specs.Keys.{values_at, key_at}
 use Rattle.sql_model.specs.References.{has_key}
 use Rattle.table_store.specs.Types.{TableRow}
-use Rattle.table_store.specs.inner.Claims.{KeepsKey}
+use Rattle.table_store.specs.Claims.{KeepsKey}
 use Rattle.table_store.specs.Histories.{RowHistory, rows_now}
 use Rattle.table_store.specs.KeyIndex.{HeldKeys, AreHeld, AreIndexed}
 use Rattle.table_store.specs.RowOrder.{AreInOrder}

@@ -1,5 +1,5 @@
 -- The refusals of a change by references, after those by its own table.
-use Rattle.std.proofs.Common.{◌≡◌, ◌∙◌, ℕ, List, sym, ap, subst, Bool, true, false, Option, Some, None}
+use Rattle.std.proofs.Common.{◌≡◌, ◌∙◌, ℕ, List, refl, sym, ap, subst, Bool, true, false, Option, Some, None}
 use Rattle.std.specs.Prelude.{Result, Err, nat_lt, ◌+◌, length}
 use Rattle.std.specs.List.{list_any}
 use Rattle.std.specs.Option.{option_map, option_and_then, option_or}
@@ -12,27 +12,32 @@ use Rattle.table_store.specs.Stops.{StopsAs, insert_stop, key_stop, stop_if, wit
 use Rattle.table_store.specs.Types.{Table, Value}
 use Rattle.table_store.specs.declared.error.StoreStop.{StoreStop}
 use Rattle.table_store.specs.declared.error.StoreStop.TheVariants.{NotNull, Full, NoParent, HasChild}
+use Rattle.table_store.proofs.ClaimLaws.{stop_before, stop_later}
 
 -- what is told of a table that is there
 pub later_is : (f : Table → Option StoreStop) (o : Option Table) (t : Table) (later : Option StoreStop) → o ≡ Some t
     → option_map f o ≡ Some later → f t ≡ later
 later_is f o t later found is = same-some (f t) later (sym (ap (option_map f) found) ∙ is)
 
--- the whole refusal is due as that of the own table and the later one
-pub whole_none : (own rest : Table → Option StoreStop) (o : Option Table) (t : Table) (later : Option StoreStop) → o ≡ Some t
-    → rest t ≡ later → option_or (own t) later ≡ None
-    → option_and_then (λ (table : Table). option_or (own table) (rest table)) o ≡ None
-whole_none own rest o t later found same none =
-    ap (option_and_then (λ (table : Table). option_or (own table) (rest table))) found
-    ∙ ap (λ (l : Option StoreStop). option_or (own t) l) same ∙ none
+-- the whole refusal is that of the own table, or else the later one
+module _ (own rest : Table → Option StoreStop) where
+  abbrev whole : Table → Option StoreStop
+  whole table = option_or (own table) (rest table)
 
-pub whole_stops : (X : Type 0) (own rest : Table → Option StoreStop) (o : Option Table) (t : Table) (later : Option StoreStop) (stop : StoreStop) → o ≡ Some t
-    → rest t ≡ later → StopsAs {X = X} (option_or (own t) later) (Err stop)
-    → StopsAs {X = X} (option_and_then (λ (table : Table). option_or (own table) (rest table)) o) (Err stop)
-whole_stops X own rest o t later stop found same is =
-    subst (λ (due : Option StoreStop). StopsAs {X = X} due (Err stop))
-    (sym (ap (option_and_then (λ (table : Table). option_or (own table) (rest table))) found
-    ∙ ap (λ (l : Option StoreStop). option_or (own t) l) same)) is
+  pub both_none : (o : Option Table) (later : Option StoreStop) → option_and_then own o ≡ None → option_map rest o ≡ Some later → later ≡ None → option_and_then whole o ≡ None
+  both_none None later first told none = refl
+  both_none (Some t) later first told none =
+      let second : rest t ≡ None = same-some (rest t) later told ∙ none in
+      λ j. option_or (first j) (second j)
+
+  pub later_stops : (X : Type 0) (o : Option Table) (later : Option StoreStop) (stop : StoreStop) → option_and_then own o ≡ None → option_map rest o ≡ Some later → later ≡ Some stop
+      → StopsAs {X = X} (option_and_then whole o) (Err stop)
+  later_stops X None later stop first told is = absurd (none-some later told)
+  later_stops X (Some t) later stop first told is = stop_later X (own t) (rest t) stop first (same-some (rest t) later told ∙ is)
+
+  pub first_stops : (X Y : Type 0) (o : Option Table) (stop : StoreStop) → StopsAs {X = X} (option_and_then own o) (Err stop) → StopsAs {X = Y} (option_and_then whole o) (Err stop)
+  first_stops X Y None stop is = stop_before X Y None None stop is
+  first_stops X Y (Some t) stop is = stop_before X Y (own t) (rest t) stop is
 
 -- what references alone refuse
 pub alone_is : (rest : Table → Option StoreStop) (o : Option Table) (t : Table) (later : Option StoreStop) → o ≡ Some t

@@ -14,6 +14,7 @@ pub mod IndexChangeLaws
 pub mod IndexLaws
 pub mod IndexViewLaws
 pub mod InsertLaws
+pub mod JudgeLaws
 pub mod KeptKeyLaws
 pub mod KeyMapLaws
 pub mod LaterLaws
@@ -27,6 +28,7 @@ pub mod ParentLaws
 pub mod ParentSetLaws
 pub mod PastLaws
 pub mod PutLaws
+pub mod PutRowLaws
 pub mod RefusalLaws
 pub mod RekeyLaws
 pub mod RowLaws

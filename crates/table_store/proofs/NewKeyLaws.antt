@@ -14,8 +14,8 @@ use Rattle.sql_model.specs.Keys.{values_at, key_at}
 use Rattle.sql_model.specs.References.{has_key}
 use Rattle.sql_model.proofs.SameValues.{same_exact}
 use Rattle.table_store.specs.Types.{Value, RowKey, Table, TableRow}
-use Rattle.table_store.specs.inner.Claims.{taken_stop, old_number, IsIndexOf}
-use Rattle.table_store.specs.inner.NewKeys.{new_in, numbers_from, IsFree, AreClaimed, AreNewKeys, AddsKey}
+use Rattle.table_store.specs.Claims.{taken_stop, old_number, IsIndexOf}
+use Rattle.table_store.specs.NewKeys.{new_in, numbers_from, IsFree, AreClaimed, AreNewKeys, AddsKey}
 use Rattle.table_store.specs.Histories.{RowHistory, rows_now}
 use Rattle.table_store.specs.KeyIndex.{HeldKeys, AreHeld, AreIndexed, row_of_key}
 use Rattle.table_store.specs.RowOrder.{AreInOrder}

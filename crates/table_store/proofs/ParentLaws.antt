@@ -20,7 +20,6 @@ use Rattle.sql_model.proofs.UniqueRows.{found_same, keys_apart, repeats_map, sam
 use Rattle.sql_model.specs.Changes.{key_clash, numbered_rows, had_row}
 use Rattle.sql_model.specs.KeyOrder.{key_order}
 use Rattle.sql_model.specs.Keys.{key_at, repeats, same_values, values_at}
-use Rattle.sql_model.specs.Meaning.{is_null}
 use Rattle.sql_model.specs.QueryAnswer.{Origin}
 use Rattle.sql_model.specs.References.{has_key, parents_by, parents_in, reference}
 use Rattle.sql_model.specs.Scope.{is_table, table_at}
@@ -28,9 +27,9 @@ use Rattle.sql_model.specs.Tables.{AreWellFormed, are_keys_unique}
 use Rattle.table_store.specs.inner.Afterwards.{is_keyed}
 use Rattle.table_store.specs.Histories.{RowHistory, StoreHistory, TableHistory, history_at, history_of_row, is_history, is_of_number, no_history, row_now, rows_now, slot_of_row, table_now, tables_now, version_now}
 use Rattle.table_store.specs.inner.ParentRows.{if_stands, last_row_with, member_at, member_now, member_of, number_in, number_of_key, number_put, parent_by, parent_in, parent_number, parents_in_row, unless_given}
-use Rattle.table_store.specs.Referring.{CanBePut, IsAtVersion, are_apart, origin_now, parents_now, version_at, with_put}
+use Rattle.table_store.specs.Referring.{IsAtVersion, are_apart, origin_now, parents_now, version_at, with_put}
 use Rattle.table_store.specs.RowOrder.{AreInOrder}
-use Rattle.table_store.specs.Stops.{are_sorted_numbers, are_sorted_rows, has_number, is_among, replaced_by, values_of, with_changed}
+use Rattle.table_store.specs.Stops.{are_sorted_numbers, are_sorted_rows, has_number, is_among, replaced_by, with_changed}
 use Rattle.table_store.specs.Types.{Foreign, Member, RowKey, Table, TableRow, Value}
 use Rattle.table_store.proofs.ChildLaws.{any_found}
 use Rattle.table_store.proofs.IndexLaws.{no_slot_has, row_in_slot}
@@ -116,7 +115,7 @@ module _ (places : List ℕ) (key : List Value) where
   abbrev number_if : TableRow → Bool → Option ℕ
   number_if row b = if b then Some row.number else None
 
-  last_pushed : (rows : List TableRow) (row : TableRow) → last_row_with places (rows ++ row ∷ []) key ≡ cond (p row) (Some row.number) (last_row_with places rows key)
+  pub last_pushed : (rows : List TableRow) (row : TableRow) → last_row_with places (rows ++ row ∷ []) key ≡ cond (p row) (Some row.number) (last_row_with places rows key)
   last_pushed [] row = refl
   last_pushed (first ∷ rows) row = ap (λ (o : Option ℕ). option_or o (number_if first (p first))) (last_pushed rows row) ∙ by (p row)
     where
@@ -328,14 +327,10 @@ only_row places key rows keyed unique = only-one places key rows (apart_keys pla
 
 -- ---- given rows are sorted
 
-numbered_sorted : (n : ℕ) (values : List (List Value)) → are_sorted_rows (numbered_rows n values) ≡ true
+pub numbered_sorted : (n : ℕ) (values : List (List Value)) → are_sorted_rows (numbered_rows n values) ≡ true
 numbered_sorted n [] = refl
 numbered_sorted n (one ∷ []) = refl
 numbered_sorted n (one ∷ two ∷ values) = λ j. lt-ltb n (n + 1) (omega arith) j && numbered_sorted (n + 1) (two ∷ values) j
-
-pub put_sorted : (rows : List TableRow) (t : Table) → CanBePut rows t → are_sorted_rows rows ≡ true
-put_sorted rows t (inl stand) = stand.1
-put_sorted rows t (inr fresh) = ap are_sorted_rows fresh ∙ numbered_sorted t.next (values_of rows)
 
 pub numbers_sorted : (rows : List TableRow) → are_sorted_rows rows ≡ true → are_sorted_numbers (numbers rows) ≡ true
 numbers_sorted rows sorted = sorted-under nat_lt (λ (row : TableRow). row.number) rows ∙ sorted
@@ -423,24 +418,6 @@ module _ (store : StoreHistory) (name : List ℕ) (h : TableHistory) (next : ℕ
 
   pub member_version : (number : Option ℕ) (member : Option Member) → member ≡ member_of h number → at_now member
   member_version number member is = subst (λ (o : Option Member). at_now o) (sym is) (of_number number)
-
--- ---- one foreign key of a row
-
-module _ (store : StoreHistory) (given : List Value → Option ℕ) (ns own : List ℕ) (values : List Value) (f : Foreign) where
-  abbrev of_null : Bool → Option Member
-  of_null b = parent_in store given ns own f (table_at f.parent (tables_now store)) (if b then None else Some (values_at f.columns values))
-
-  none_of : (o : Option Table) → None ≡ parent_in store given ns own f o None
-  none_of None = refl
-  none_of (Some t) = refl
-
-  pub parent_null : list_any is_null (values_at f.columns values) ≡ true → None ≡ parent_by store given ns own values f
-  parent_null is = none_of (table_at f.parent (tables_now store)) ∙ sym (ap of_null is)
-
-  pub parent_key : list_any is_null (values_at f.columns values) ≡ false → (key : List Value) → key ≡ values_at f.columns values
-      → parent_in store given ns own f (table_at f.parent (tables_now store)) (Some key) ≡ parent_by store given ns own values f
-  parent_key some key is =
-      ap (λ (k : List Value). parent_in store given ns own f (table_at f.parent (tables_now store)) (Some k)) is ∙ sym (ap of_null some)
 
 -- ---- lists of lists
 

@@ -3,7 +3,7 @@
 use Rattle.std.proofs.Common.{◌≡◌, ℕ, ◌+◌, ◌<◌, ◌≤◌, List, [], ◌∷◌, refl, sym, ap, ◌∙◌, subst, Bool, true, false, ◌⊎◌, inl, inr, arith}
 use Rattle.std.specs.Prelude.{Option, Some, None, map, find, length, not, unwrap_or, ◌&&◌, ◌||◌, ◌==◌, if◌then◌else◌}
 use Rattle.std.specs.List.{filter_map, list_any, list_all}
-use Rattle.std.specs.Option.{option_map, option_map_or}
+use Rattle.std.specs.Option.{option_map}
 use Rattle.std.proofs.lemmas.Bool.{cases_Bool, ne_eqb}
 use Rattle.ldv_value.proofs.Booleans.{and-parts, and-true, or-comm, or-left, or-right, or-false, or-cases, or-parts, not-so, true≢false, same-tests}
 use Rattle.ldv_value.proofs.Lists.{list_any-append, found-passes}
@@ -13,7 +13,6 @@ use Rattle.std.proofs.lemmas.Bool.Decides.{Decides-eqb}
 use Rattle.sql_model.proofs.UniqueRows.{same_both, found_same, keys_apart, repeats_map}
 use Rattle.sql_model.specs.Changes.{numbered_rows, had_row}
 use Rattle.sql_model.specs.Keys.{same_values, values_at, repeats}
-use Rattle.sql_model.specs.Meaning.{is_null}
 use Rattle.sql_model.specs.References.{MissingParent, first_in, reference, has_key, missing_key, missing_by, missing_parents}
 use Rattle.sql_model.specs.Scope.{same_text, is_table, table_at}
 use Rattle.sql_model.specs.Tables.{are_keys_unique}
@@ -90,41 +89,6 @@ missed f key = record { parent = f.parent; key = key }
 abbrev missed_if : Foreign → List Value → Bool → Option MissingParent
 missed_if f key b = if b then None else Some (missed f key)
 
-module _ (has : Table → List Value → Bool) (db : List Table) (values : List Value) (f : Foreign) where
-  abbrev of_null : Bool → Option MissingParent
-  of_null b = put_missing has (table_at f.parent db) f (if b then None else Some (values_at f.columns values))
-
-  none_of : (o : Option Table) → put_missing has o f None ≡ None
-  none_of None = refl
-  none_of (Some t) = refl
-
-  -- a row that has NULL refers to no key
-  pub refers_none : list_any is_null (values_at f.columns values) ≡ true → None ≡ missing_put has db values f
-  refers_none is = sym (ap of_null is ∙ none_of (table_at f.parent db))
-
-  by_there : (o : Option Table) (b : Bool) (key : List Value) → b ≡ option_map_or (λ (parent : Table). has parent key) o false
-      → missed_if f key b ≡ put_missing has o f (Some key)
-  by_there None b key is = ap (missed_if f key) is
-  by_there (Some t) b key is = ap (missed_if f key) is
-
-  missing_is : list_any is_null (values_at f.columns values) ≡ false → (key : List Value) → key ≡ values_at f.columns values
-      → (b : Bool) → b ≡ option_map_or (λ (parent : Table). has parent key) (table_at f.parent db) false
-      → missed_if f key b ≡ missing_put has db values f
-  missing_is some key is b there =
-      by_there (table_at f.parent db) b key there
-      ∙ ap (λ (k : List Value). put_missing has (table_at f.parent db) f (Some k)) is
-      ∙ sym (ap of_null some)
-
-  pub missing_none : list_any is_null (values_at f.columns values) ≡ false → (key : List Value) → key ≡ values_at f.columns values
-      → (b : Bool) → b ≡ option_map_or (λ (parent : Table). has parent key) (table_at f.parent db) false → b ≡ true
-      → None ≡ missing_put has db values f
-  missing_none some key is b there on = sym (ap (missed_if f key) on) ∙ missing_is some key is b there
-
-  pub missing_some : list_any is_null (values_at f.columns values) ≡ false → (key : List Value) → key ≡ values_at f.columns values
-      → (b : Bool) → b ≡ option_map_or (λ (parent : Table). has parent key) (table_at f.parent db) false → b ≡ false
-      → Some (missed f key) ≡ missing_put has db values f
-  missing_some some key is b there off = sym (ap (missed_if f key) off) ∙ missing_is some key is b there
-
 -- ---- foreign keys whose parent is another table
 
 module _ (own : List ℕ) (numbers : List ℕ) (db : List Table) (one two : List Value → Bool) where
@@ -161,7 +125,7 @@ module _ (own : List ℕ) (numbers : List ℕ) (db : List Table) (one two : List
 
 -- ---- new rows
 
-numbered_keys : (places : List ℕ) (key : List Value) (next : ℕ) (rows : List (List Value))
+pub numbered_keys : (places : List ℕ) (key : List Value) (next : ℕ) (rows : List (List Value))
     → list_any (has_key places key) (numbered_rows next rows) ≡ list_any (has_values places key) rows
 numbered_keys places key next [] = refl
 numbered_keys places key next (values ∷ rows) = ap (λ (b : Bool). has_values places key values || b) (numbered_keys places key (next + 1) rows)
@@ -345,13 +309,6 @@ find_none p [] is = refl
 find_none p (x ∷ xs) is = elim (cases_Bool (p x)) [
   | inl hit ↦ let wrong : Some x ≡ None = rw hit at is in cc
   | inr miss ↦ rw miss (find_none p xs (rw miss at is))
-]
-
-pub find_some : {X : Type 0} (p : X → Bool) (xs : List X) (x : X) → find p xs ≡ Some x → list_any p xs ≡ true
-find_some p [] x is = cc
-find_some p (y ∷ ys) x is = elim (cases_Bool (p y)) [
-  | inl hit ↦ or-left (p y) (list_any p ys) hit
-  | inr miss ↦ or-right (p y) (list_any p ys) (find_some p ys x (rw miss at is))
 ]
 
 module _ (places : List ℕ) (key : List Value) (q : TableRow → Bool) where

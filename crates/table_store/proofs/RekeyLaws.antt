@@ -18,7 +18,7 @@ use Rattle.sql_model.proofs.SameValues.{same_turned}
 use Rattle.ldv_value.specs.Sorted.{precedes_first}
 use Rattle.ldv_value.proofs.Options.{option_or-none}
 use Rattle.table_store.specs.Types.{Value, RowKey, Table, TableRow}
-use Rattle.table_store.specs.inner.Claims.{IsIndexOf, both_stop}
+use Rattle.table_store.specs.Claims.{IsIndexOf, both_stop}
 use Rattle.table_store.specs.Histories.{TableHistory, rows_now, table_now}
 use Rattle.table_store.specs.KeyIndex.{row_of_key, HeldKeys}
 use Rattle.table_store.specs.Stops.{replaced_by, with_replaced, are_sorted_rows, key_stop, stop_if, replace_stop, StopsAs}

@@ -4,11 +4,12 @@ use Rattle.std.specs.Prelude.{find, IfSome, IsSome}
 use Rattle.std.specs.Option.{option_map}
 use Rattle.std.proofs.lemmas.Bool.{cases_eq}
 use Rattle.std.proofs.lemmas.List.{length-set, length-map, get_or-map, map-set}
+use Rattle.ldv_value.proofs.Options.{none-some, same-some}
 use Rattle.ldv_value.specs.Sorted.{is_strictly_sorted, precedes_first, text_precedes}
 use Rattle.sql_model.specs.Scope.{is_table, table_at}
 use Rattle.sql_model.specs.Tables.{AreWellFormed, is_valid_table, table_precedes}
 use Rattle.table_store.specs.Types.{Value, Catalog, Table, TableRow}
-use Rattle.table_store.specs.Histories.{TableHistory, StoreHistory, table_now, tables_now, is_history, in_table, changed_at, rows_as_of, next_as_of, AreKeptBefore, last_since, last_next_number, table_with_rows, table_with_values, table_without}
+use Rattle.table_store.specs.Histories.{TableHistory, StoreHistory, history_at, table_now, tables_now, is_history, in_table, changed_at, rows_as_of, next_as_of, AreKeptBefore, last_since, last_next_number, table_with_rows, table_with_values, table_without}
 use Rattle.table_store.specs.Stops.{with_changed}
 use Rattle.table_store.specs.StoreView.{AreStored, are_sorted, no_table}
 use Rattle.table_store.proofs.FormedLaws.{all_at, formed_set, valid_all}
@@ -141,6 +142,11 @@ module _ (catalog : Catalog) (tables : List TableHistory) (before : ℕ) (stored
   pub at_place : table_at name (tables_now seen) ≡ Some (table_now (get_or tables place no_table))
   at_place = ap (λ (s : StoreHistory). table_at name (tables_now s)) (sym view) ∙ table_found catalog tables before stored name place found.0 found.1
 
+  pub history_there : (h : TableHistory) → history_at name seen ≡ Some h → h ≡ get_or tables place no_table
+  history_there h there =
+      same-some h (get_or tables place no_table)
+      (sym there ∙ ap (λ (s : StoreHistory). history_at name s) (sym view) ∙ place_found catalog tables before stored name place found.0 found.1)
+
   pub time_is : before ≡ seen.time
   time_is = ap (λ (s : StoreHistory). s.time) view
 
@@ -177,3 +183,9 @@ not_missing tables time seen view name there none =
     let some : IsSome (find (is_history name) tables) = there_from name tables (subst (λ (s : StoreHistory). IsSome (table_at name (tables_now s))) (sym view) there) in
     let wrong : IsSome {T = TableHistory} None = subst (λ (o : Option TableHistory). IsSome o) none some in
     cc
+
+-- nor is one that was found
+pub not_gone : (tables : List TableHistory) (time : ℕ) (seen : StoreHistory) → record { tables = tables; time = time } ≡ seen → (name : List ℕ) (h : TableHistory) → history_at name seen ≡ Some h
+    → find (is_history name) tables ≡ None → ⊥
+not_gone tables time seen view name h there none =
+    none-some h (sym none ∙ ap (λ (s : StoreHistory). history_at name s) view ∙ there)

@@ -1,6 +1,12 @@
 pub mod CellTests
+pub mod Claims
+pub mod GivenKeys
 pub mod Histories
+pub mod IndexView
 pub mod KeyIndex
+pub mod NewKeys
+pub mod Planning
+pub mod Plans
 pub mod Referring
 pub mod RowOrder
 pub mod Scans

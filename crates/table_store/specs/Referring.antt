@@ -1,5 +1,5 @@
 -- The refusals by references between the tables of a store, and the parent rows of given rows.
-use Rattle.std.specs.Prelude.{◌≡◌, ℕ, ◌++◌, ◌==◌, ◌⊎◌, Bool, true, not, List, [], ◌∷◌, map, filter, Option}
+use Rattle.std.specs.Prelude.{◌≡◌, ℕ, ◌++◌, ◌==◌, Bool, not, List, [], ◌∷◌, map, filter, Option}
 use Rattle.std.specs.Prelude.{Some, is_none}
 use Rattle.std.specs.Cmp.Lexicographic.{slice_cmp}
 use Rattle.std.specs.List.{list_any}
@@ -11,8 +11,7 @@ use Rattle.sql_model.specs.Changes.{key_clash, numbered_rows, had_row, with_rows
 use Rattle.sql_model.specs.QueryAnswer.{Origin}
 use Rattle.sql_model.specs.References.{MissingParent, Orphan, first_in, missing_parents, orphans, parents_of}
 use Rattle.table_store.specs.Histories.{StoreHistory, tables_now, history_at, history_of_row, version_now}
-use Rattle.table_store.specs.Stops.{insert_stop, replace_stop, is_among, replaced_by, values_of, had_rows}
-use Rattle.table_store.specs.Stops.{are_sorted_rows}
+use Rattle.table_store.specs.Stops.{insert_stop, replace_stop, is_among, replaced_by}
 use Rattle.table_store.specs.Stops.{with_inserted, with_replaced, with_removed, with_changed}
 use Rattle.table_store.specs.Types.{Foreign, Member, Table, TableRow, Value}
 use Rattle.table_store.specs.declared.error.StoreStop.{StoreStop}
@@ -65,12 +64,6 @@ abbrev pub with_put : List TableRow → Table → Table
 with_put rows table =
     with_rows table (map (replaced_by rows) table.rows ++ filter (λ row. not (had_row table row)) rows)
     table.next
-
--- rows of a table that stand, sorted by number, or that are numbered from its next number on
-abbrev pub CanBePut : List TableRow → Table → Type 0
-CanBePut rows table =
-    (had_rows rows table ≡ true) × (are_sorted_rows rows ≡ true)
-    ⊎ (rows ≡ numbered_rows table.next (values_of rows))
 
 -- those that had their key before
 abbrev pub parents_in_db : List TableRow → List Table → Table → List Origin

@@ -6,7 +6,7 @@ use Rattle.table_store.specs.Types.{Column, Schema, Table}
 use Rattle.table_store.specs.Histories.{RowHistory, NextSince, TableHistory, no_history, last_next_number}
 use Rattle.table_store.specs.Histories.{last_since, history_of_new_row, rows_now}
 use Rattle.table_store.specs.inner.ChildPairs.{Pairs, AreReferred, pair_by}
-use Rattle.table_store.specs.inner.IndexView.{held_in}
+use Rattle.table_store.specs.IndexView.{held_in}
 use Rattle.table_store.specs.KeyIndex.{HeldKeys, AreIndexed}
 use Rattle.table_store.specs.inner.Nexts.{nexts_of, AreInTime}
 use Rattle.table_store.specs.inner.RowHistories.{RowsHistory}

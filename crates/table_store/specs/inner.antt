@@ -1,15 +1,11 @@
 pub mod Afterwards
 pub mod ChildPairs
 pub mod ChildSteps
-pub mod Claims
-pub mod GivenKeys
 pub mod Grid
-pub mod IndexView
-pub mod NewKeys
+pub mod Judging
 pub mod Nexts
 pub mod ParentRows
 pub mod ParentSet
 pub mod Past
-pub mod Plans
 pub mod RowChanges
 pub mod RowHistories

@@ -9,10 +9,10 @@
 //! the rows and the keys that they claim. The keys of new rows are compared with each other and with those of
 //! live rows (`claim`). If an UPDATE leaves the key alone, the index stays as it is. If it changes a key, the
 //! keys of the updated rows are compared with each other and with those of all other rows (`rekey`, `clash`).
-//! References are judged over the tables as they would be (`refusals`, by `parents` and `children`), once
-//! nothing else refuses the change. Keys enter the index before the rows change; those of updated rows get
-//! their numbers afterwards, which takes no memory. The rows to which given rows would refer are collected by
-//! `parent_set`, where keys may be shared, and row by row by `parent_rows`.
+//! References are judged over the tables as they would be (`judged`, `refusals`, `children`), once nothing
+//! else refuses the change. Keys enter the index before the rows change; those of updated rows get their
+//! numbers afterwards, which takes no memory. `judged` also has the rows to which given rows would refer, row
+//! by row, and `parent_set` has them in order, where keys may be shared.
 //!
 //! Folders: `rows` has the rows, their columns and their log, `keys` the index of a table and the keys that
 //! rows claim, `references` children, parents and what they refuse.
@@ -32,5 +32,7 @@ mod store;
 mod table;
 
 pub use error::StoreStop;
+pub use plans::{InsertPlan, ReplacePlan};
+pub use references::judged::Judged;
 pub use store::Store;
 pub use table::TableStore;

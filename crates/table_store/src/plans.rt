@@ -7,14 +7,16 @@ use sql_model::TableRows;
 
 /// New rows of a table, and their keys.
 #[derive(Drop)]
-pub(crate) struct InsertPlan {
-    pub(crate) rows: RowList,
+pub struct InsertPlan {
+    /// The rows, as they were given.
+    pub rows: RowList,
     pub(crate) keys: NewKeys,
 }
 
 /// Other values of rows of a table, and the numbers that the keys get that change hands.
 #[derive(Drop)]
-pub(crate) struct ReplacePlan {
-    pub(crate) rows: TableRows,
+pub struct ReplacePlan {
+    /// The rows with these values, as they were given.
+    pub rows: TableRows,
     pub(crate) claims: Index,
 }

@@ -6,7 +6,7 @@ mod child_rows;
 mod child_set;
 mod children;
 pub(crate) mod first_place;
+pub(crate) mod judged;
 pub(crate) mod parent_rows;
 pub(crate) mod parent_set;
-mod parents;
 pub(crate) mod refusals;

@@ -7,7 +7,7 @@ ghost use Rattle.table_store.specs.KeyIndex.{AreIndexed};
 ghost use Rattle.table_store.specs.TableView.{IsStored, kinds_in};
 ghost use Rattle.table_store.specs.inner.ChildPairs.{AreReferred, pair_by};
 ghost use Rattle.table_store.specs.inner.Grid.{are_of_kinds, AreNumberedFrom, next_after};
-ghost use Rattle.table_store.specs.inner.IndexView.{held_in};
+ghost use Rattle.table_store.specs.IndexView.{held_in};
 ghost use Rattle.table_store.specs.inner.Nexts.{nexts_of};
 
 use crate::keys::index::{Index, index_of};

@@ -2,9 +2,9 @@
 
 ghost use Rattle.std.specs.Prelude.{◌≡◌, ◌==◌, ℕ, ◌+◌, ◌*◌, ◌/◌, ◌<◌, ◌≤◌, Bool, true, false, List, [], ◌∷◌};
 ghost use Rattle.std.specs.Prelude.{◌++◌, Option, Some, None, find, OnOk, OnErr, IfOk, IsOk, IsSome, IfSome};
-ghost use Rattle.std.specs.Prelude.{length, map, slice_get, slice_index_or, slice_set};
+ghost use Rattle.std.specs.Prelude.{length, map, slice_get, slice_index_or, slice_set, IsTrue};
 ghost use Rattle.std.specs.List.{AllByRecursion, list_all};
-ghost use Rattle.std.specs.Option.{option_map, option_map_or, option_or};
+ghost use Rattle.std.specs.Option.{option_and_then, option_map, option_map_or, option_or};
 ghost use Rattle.lanes.specs.Sets.{member};
 ghost use Rattle.ldv_value.specs.Sorted.{text_precedes};
 ghost use Rattle.sql_model.specs.Scope.{catalog_of, table_at};
@@ -19,20 +19,22 @@ ghost use Rattle.table_store.specs.Stops.{had_rows, all_stand, insert_stop, repl
 ghost use Rattle.table_store.specs.Stops.{is_among, with_inserted, with_replaced, with_removed, StopsAs};
 ghost use Rattle.sql_model.specs.Changes.{numbered_rows};
 ghost use Rattle.sql_model.specs.References.{has_key};
-ghost use Rattle.table_store.specs.Referring.{are_apart, insert_refusal, replace_refusal, delete_refusal};
+ghost use Rattle.table_store.specs.Referring.{insert_refusal, replace_refusal, delete_refusal};
 ghost use Rattle.table_store.specs.Referring.{parents_in_order, parents_now};
-ghost use Rattle.table_store.specs.Referring.{CanBePut, IsAtVersion, is_of, missing_stop, orphan_stop};
+ghost use Rattle.table_store.specs.Referring.{is_of, missing_stop, orphan_stop, IsAtVersion};
 ghost use Rattle.table_store.specs.StoreChange.{IsStoreChange};
-ghost use Rattle.table_store.specs.inner.Plans.{IsInsertPlan, IsReplacePlan};
+ghost use Rattle.table_store.specs.Histories.{changed_at, AreKeptBefore};
+ghost use Rattle.table_store.specs.Plans.{IsInsertPlan, IsReplacePlan};
+ghost use Rattle.table_store.specs.Planning.{IsPlannedInsert, IsPlannedReplace};
 ghost use Rattle.table_store.specs.StoreView.{store_at_start, no_table, are_sorted};
 ghost use Rattle.table_store.specs.TableView.{history_at_start};
 ghost use Rattle.table_store.specs.Types.{Null, Value};
 
 use crate::error::StoreStop;
 use crate::plans::{InsertPlan, ReplacePlan};
-use crate::references::parent_rows::parents_by_row;
+use crate::references::judged::{Judged, judge_new};
 use crate::references::parent_set::parents_in_order;
-use crate::references::refusals::{delete_refusal, insert_refusal, replace_refusal};
+use crate::references::refusals::{delete_refusal, replace_judged};
 use crate::table::TableStore;
 use ldv_value::{Cmp, Numbers, RowList, Values};
 use sql_model::{Catalog, Members, Table, TableRow, TableRows, Tables};
@@ -234,27 +236,6 @@ impl Store {
         }
     }
 
-    /// The live rows, at their versions, that `rows` would refer to after they were put into a table: row by
-    /// row, and for each row in the order of its foreign keys. A row that several refer to occurs several
-    /// times. The table is in the store. `rows` are live rows of it with new values, sorted by number, or new
-    /// rows numbered from the number of its next row on. If two rows would have one key, the result may be
-    /// any rows.
-    pub fn parents_by_row(&self, table: &str, rows: &TableRows) -> Result<Members, AllocError>
-        requires there { IsSome (table_at table.now (tables_now self.now)) }
-        requires put { IfSome (table_at table.now (tables_now self.now)) (CanBePut rows.now) }
-        ensures versions { IfOk result (λ members. AllByRecursion (IsAtVersion self.now) members) }
-        ensures parents { IfOk result (λ members. IfSome (table_at table.now (tables_now self.now))
-            (λ own. are_apart rows.now own ≡ true → members ≡ parents_now self.now rows.now own)) }
-    {
-        match self.table(table) {
-            None => unreachable!(),
-            Some(own) => {
-                let members = parents_by_row(self, own, rows.items())?;
-                Ok(members)
-            }
-        }
-    }
-
     /// Adds rows to a table at a time, numbered from the number of its next row on, and returns that number.
     /// The table is in the store, the time is later than that of the last change, and each row has a value
     /// for each column, of its kind. `NotNull`, `KeyTaken`, `Full` and `NoParent` are tried in this order,
@@ -271,22 +252,21 @@ impl Store {
         ensures first { IfOk result (λ first. option_map (λ table. table.next)
             (table_at table.now (tables_now self.old)) ≡ Some first) }
     {
-        match place_in(&self.tables, table) {
-            None => unreachable!(),
-            Some(place) => {
-                let plan = match plan_in(&self.tables, place, rows) {
-                    Ok(plan) => plan,
-                    Err(stop) => return Err(stop),
-                };
-                match self.judge_insert(table, &plan.rows)? {
-                    None => {}
-                    Some(stop) => return Err(stop),
-                }
-                let first = insert_in(&mut self.tables, place, plan, time)?;
-                self.time = time;
-                Ok(first)
-            }
+        let plan = match self.plan_insert(table, rows) {
+            Ok(plan) => plan,
+            Err(stop) => return Err(stop),
+        };
+        let judged = self.judge_insert(table, &plan, false)?;
+        let Judged {
+            stop,
+            parents: _parents,
+        } = judged;
+        match stop {
+            None => {}
+            Some(stop) => return Err(stop),
         }
+        let first = self.commit_insert(table, plan, time)?;
+        Ok(first)
     }
 
     /// Gives rows, each by its number, other values at a time. The table is in the store, and the time is
@@ -305,22 +285,21 @@ impl Store {
         ensures { IsStoreChange (replace_refusal rows (tables_now self.old)) (table_with_values time rows)
             (with_replaced rows) table.now time self.old self.new result }
     {
-        match place_in(&self.tables, table) {
-            None => unreachable!(),
-            Some(place) => {
-                let plan = match plan_values_in(&self.tables, place, rows) {
-                    Ok(plan) => plan,
-                    Err(stop) => return Err(stop),
-                };
-                match self.judge_replace(table, plan.rows.items())? {
-                    None => {}
-                    Some(stop) => return Err(stop),
-                }
-                replace_in(&mut self.tables, place, plan, time)?;
-                self.time = time;
-                Ok(())
-            }
+        let plan = match self.plan_replace(table, rows) {
+            Ok(plan) => plan,
+            Err(stop) => return Err(stop),
+        };
+        let judged = self.judge_replace(table, &plan, false)?;
+        let Judged {
+            stop,
+            parents: _parents,
+        } = judged;
+        match stop {
+            None => {}
+            Some(stop) => return Err(stop),
         }
+        self.commit_replace(table, plan, time)?;
+        Ok(())
     }
 
     /// Deletes the rows with these numbers at a time. The table is in the store, and the time is later than
@@ -351,40 +330,167 @@ impl Store {
         }
     }
 
-    // What references refuse new rows for.
-    fn judge_insert(&self, table: &str, rows: &RowList) -> Result<Option<StoreStop>, AllocError>
-        requires { IsSome (table_at table.now (tables_now self.now)) }
-        ensures { IfOk result (λ stop. option_map
-            (λ own. missing_stop own.schema.foreign (numbered_rows own.next rows.now)
-            (with_changed own.name (with_inserted rows.now) (tables_now self.now)))
-            (table_at table.now (tables_now self.now)) ≡ Some stop) }
+    /// New rows of a table, with their keys, for `judge_insert` and `commit_insert`. The table is in the
+    /// store, and each row has a value for each column, of its kind. `NotNull`, `KeyTaken` and `Full` are
+    /// tried in this order, and `NoMemory` comes if memory runs out.
+    pub fn plan_insert(&self, table: &str, rows: RowList) -> Result<InsertPlan, StoreStop>
+        requires there { IsSome (table_at table.now (tables_now self.now)) }
+        requires shape { IfSome (table_at table.now (tables_now self.now))
+            (λ table. have_shape rows table ≡ true) }
+        ensures stop { StopsAs
+            (option_and_then (insert_stop rows) (table_at table.now (tables_now self.now))) result }
+        ensures plan { IfOk result (IsPlannedInsert self.now table.now) }
+        ensures rows { IfOk result (λ plan. plan.rows ≡ rows) }
     {
         match self.table(table) {
             None => unreachable!(),
+            Some(own) => match own.plan_insert(rows) {
+                Ok(plan) => Ok(plan),
+                Err(stop) => Err(stop),
+            },
+        }
+    }
+
+    /// What references say of planned new rows: `NoParent` if a parent is missing, and, if `keep` is true,
+    /// the live rows, at their versions, to which the new rows would refer, row by row and for each row in
+    /// the order of its foreign keys. A row that several refer to occurs several times.
+    pub fn judge_insert(
+        &self,
+        table: &str,
+        plan: &InsertPlan,
+        keep: bool,
+    ) -> Result<Judged, AllocError>
+        requires { IsPlannedInsert self.now table.now plan.now }
+        ensures stop { IfOk result (λ judged. option_map
+            (λ own. missing_stop own.schema.foreign (numbered_rows own.next plan.now.rows)
+            (with_changed own.name (with_inserted plan.now.rows) (tables_now self.now)))
+            (table_at table.now (tables_now self.now)) ≡ Some judged.stop) }
+        ensures versions { IfOk result (λ judged. IsTrue keep
+            → AllByRecursion (IsAtVersion self.now) judged.parents) }
+        ensures parents { IfOk result (λ judged. IsTrue keep
+            → IfSome (table_at table.now (tables_now self.now)) (λ own. judged.parents
+            ≡ parents_now self.now (numbered_rows own.next plan.now.rows) own)) }
+    {
+        self.tell_formed();
+        match self.table(table) {
+            None => unreachable!(),
             Some(own) => {
-                let stop = insert_refusal(self, own, rows)?;
-                Ok(stop)
+                let judged = judge_new(self, own, &plan.rows, keep)?;
+                Ok(judged)
             }
         }
     }
 
-    // What references refuse new values of rows for.
-    fn judge_replace(&self, table: &str, rows: &[TableRow]) -> Result<Option<StoreStop>, AllocError>
+    /// Adds planned rows, which references don't refuse, at a time, numbered from the number of the table's
+    /// next row on, and returns that number. The time is later than that of the last change. On `AllocError`
+    /// nothing has changed.
+    pub fn commit_insert(
+        &mut self,
+        table: &str,
+        plan: InsertPlan,
+        time: u32,
+    ) -> Result<u32, AllocError>
+        requires plan { IsPlannedInsert self.old table.now plan }
+        requires later { self.old.time < time }
+        ensures first { IfOk result (λ first. option_map (λ table. table.next)
+            (table_at table.now (tables_now self.old)) ≡ Some first) }
+        ensures ok { OnOk result
+            (self.new ≡ changed_at time table.now (table_with_rows time plan.rows) self.old) }
+        ensures now { OnOk result (tables_now self.new
+            ≡ with_changed table.now (with_inserted plan.rows) (tables_now self.old)) }
+        ensures earlier { OnOk result (AreKeptBefore time self.old self.new) }
+        ensures err { OnErr result (self.new ≡ self.old) }
+    {
+        match place_in(&self.tables, table) {
+            None => unreachable!(),
+            Some(place) => {
+                let first = insert_in(&mut self.tables, place, plan, time)?;
+                self.time = time;
+                Ok(first)
+            }
+        }
+    }
+
+    /// Other values of rows, with the numbers that keys get, for `judge_replace` and `commit_replace`. The
+    /// table is in the store. The rows are sorted by number, and each has the number of a live row and a
+    /// value for each column, of its kind. `NotNull` and `KeyTaken` are tried in this order, and `NoMemory`
+    /// comes if memory runs out.
+    pub fn plan_replace(&self, table: &str, rows: TableRows) -> Result<ReplacePlan, StoreStop>
         requires there { IsSome (table_at table.now (tables_now self.now)) }
-        requires sorted { are_sorted_rows rows.now ≡ true }
+        requires shape { IfSome (table_at table.now (tables_now self.now))
+            (λ table. have_shape (values_of rows) table ≡ true) }
+        requires sorted { are_sorted_rows rows ≡ true }
         requires stand { IfSome (table_at table.now (tables_now self.now))
-            (λ table. had_rows rows.now table ≡ true) }
-        ensures { IfOk result (λ stop. option_map
-            (λ own. option_or (missing_stop own.schema.foreign rows.now
-            (with_changed own.name (with_replaced rows.now) (tables_now self.now)))
-            (orphan_stop (is_of rows.now) own (with_replaced rows.now own) (tables_now self.now)))
-            (table_at table.now (tables_now self.now)) ≡ Some stop) }
+            (λ table. had_rows rows table ≡ true) }
+        ensures stop { StopsAs
+            (option_and_then (replace_stop rows) (table_at table.now (tables_now self.now))) result }
+        ensures plan { IfOk result (IsPlannedReplace self.now table.now) }
+        ensures rows { IfOk result (λ plan. plan.rows ≡ rows) }
+    {
+        match self.table(table) {
+            None => unreachable!(),
+            Some(own) => match own.plan_replace(rows) {
+                Ok(plan) => Ok(plan),
+                Err(stop) => Err(stop),
+            },
+        }
+    }
+
+    /// What references say of planned new values of rows: `NoParent` if a parent is missing, or else
+    /// `HasChild` if another row would lose its parent, and, if `keep` is true, the live rows, at their
+    /// versions, to which the rows would refer, row by row and for each row in the order of its foreign keys.
+    /// A row that several refer to occurs several times.
+    pub fn judge_replace(
+        &self,
+        table: &str,
+        plan: &ReplacePlan,
+        keep: bool,
+    ) -> Result<Judged, AllocError>
+        requires { IsPlannedReplace self.now table.now plan.now }
+        ensures stop { IfOk result (λ judged. option_map
+            (λ own. option_or (missing_stop own.schema.foreign plan.now.rows
+            (with_changed own.name (with_replaced plan.now.rows) (tables_now self.now)))
+            (orphan_stop (is_of plan.now.rows) own (with_replaced plan.now.rows own)
+            (tables_now self.now)))
+            (table_at table.now (tables_now self.now)) ≡ Some judged.stop) }
+        ensures versions { IfOk result (λ judged. IsTrue keep
+            → AllByRecursion (IsAtVersion self.now) judged.parents) }
+        ensures parents { IfOk result (λ judged. IsTrue keep
+            → IfSome (table_at table.now (tables_now self.now))
+            (λ own. judged.parents ≡ parents_now self.now plan.now.rows own)) }
     {
         match self.table(table) {
             None => unreachable!(),
             Some(own) => {
-                let stop = replace_refusal(self, own, rows)?;
-                Ok(stop)
+                let judged = replace_judged(self, own, plan.rows.items(), keep)?;
+                Ok(judged)
+            }
+        }
+    }
+
+    /// Gives planned rows, which references don't refuse, their other values at a time, later than that of
+    /// the last change. On `AllocError` nothing has changed.
+    pub fn commit_replace(
+        &mut self,
+        table: &str,
+        plan: ReplacePlan,
+        time: u32,
+    ) -> Result<(), AllocError>
+        requires plan { IsPlannedReplace self.old table.now plan }
+        requires later { self.old.time < time }
+        ensures ok { OnOk result
+            (self.new ≡ changed_at time table.now (table_with_values time plan.rows) self.old) }
+        ensures now { OnOk result (tables_now self.new
+            ≡ with_changed table.now (with_replaced plan.rows) (tables_now self.old)) }
+        ensures earlier { OnOk result (AreKeptBefore time self.old self.new) }
+        ensures err { OnErr result (self.new ≡ self.old) }
+    {
+        match place_in(&self.tables, table) {
+            None => unreachable!(),
+            Some(place) => {
+                replace_in(&mut self.tables, place, plan, time)?;
+                self.time = time;
+                Ok(())
             }
         }
     }
@@ -452,19 +558,6 @@ fn is_before(held: &TableStore, name: &str) -> bool
     held.name().cmp(name).is_lt()
 }
 
-// The new rows of the table at a place, and their keys.
-fn plan_in(tables: &Vec<TableStore>, place: usize, rows: RowList) -> Result<InsertPlan, StoreStop>
-    requires within { place < length tables.now.items }
-    requires shape { have_shape rows (table_now (slice_index_or tables.now.items place no_table)) ≡ true }
-    ensures stop { StopsAs (insert_stop rows (table_now (slice_index_or tables.now.items place no_table)))
-        result }
-    ensures plan { IfOk result (IsInsertPlan (slice_index_or tables.now.items place no_table)) }
-    ensures rows { IfOk result (λ plan. plan.rows ≡ rows) }
-{
-    let held = &tables[place];
-    held.plan_insert(rows)
-}
-
 // Adds planned rows to the table at a place.
 fn insert_in(
     tables: &mut Vec<TableStore>,
@@ -484,26 +577,6 @@ fn insert_in(
 {
     let held = &mut tables[place];
     held.commit_insert(plan, time)
-}
-
-// The other values of rows of the table at a place, and the numbers that keys get.
-fn plan_values_in(
-    tables: &Vec<TableStore>,
-    place: usize,
-    rows: TableRows,
-) -> Result<ReplacePlan, StoreStop>
-    requires within { place < length tables.now.items }
-    requires shape { have_shape (values_of rows) (table_now (slice_index_or tables.now.items place no_table))
-        ≡ true }
-    requires sorted { are_sorted_rows rows ≡ true }
-    requires stand { had_rows rows (table_now (slice_index_or tables.now.items place no_table)) ≡ true }
-    ensures stop { StopsAs (replace_stop rows (table_now (slice_index_or tables.now.items place no_table)))
-        result }
-    ensures plan { IfOk result (IsReplacePlan (slice_index_or tables.now.items place no_table)) }
-    ensures rows { IfOk result (λ plan. plan.rows ≡ rows) }
-{
-    let held = &tables[place];
-    held.plan_replace(rows)
 }
 
 // Gives planned rows of the table at a place their other values.

@@ -14,10 +14,10 @@ ghost use Rattle.sql_model.specs.Changes.{numbered_rows};
 ghost use Rattle.table_store.specs.KeyIndex.{AreIndexed};
 ghost use Rattle.table_store.specs.inner.ChildPairs.{no_foreign, pair_by, refers, AreReferred, IsNextOf};
 ghost use Rattle.table_store.specs.inner.ChildPairs.{first_number, is_child_in, KeepPairs};
-ghost use Rattle.table_store.specs.inner.GivenKeys.{with_claims, TakeOver};
-ghost use Rattle.table_store.specs.inner.NewKeys.{new_in, AreBelow, AreClaimed};
-ghost use Rattle.table_store.specs.inner.Plans.{IsInsertPlan, IsReplacePlan};
-ghost use Rattle.table_store.specs.inner.IndexView.{held_in};
+ghost use Rattle.table_store.specs.GivenKeys.{with_claims, TakeOver};
+ghost use Rattle.table_store.specs.NewKeys.{new_in, AreBelow, AreClaimed};
+ghost use Rattle.table_store.specs.Plans.{IsInsertPlan, IsReplacePlan};
+ghost use Rattle.table_store.specs.IndexView.{held_in};
 ghost use Rattle.table_store.specs.Types.{Null, RowKey};
 ghost use Rattle.table_store.specs.Histories.{history_of_new_row, table_with_rows, table_with_values, table_without, nexts_with, changed_by};
 ghost use Rattle.table_store.specs.Histories.{last_next_number, last_since, table_now, no_history, row_now};
@@ -305,6 +305,13 @@ impl TableStore {
             (find (has_key self.now.schema.key key.now.values) (rows_now self.now.slots)) }
     {
         self.by_key(&key.values)
+    }
+
+    /// The number of the next row.
+    pub(crate) fn next(&self) -> u32
+        ensures { result ≡ last_next_number self.now.nexts }
+    {
+        self.rows.next()
     }
 
     /// The number of the next row after a time, found by bisection. From the last change on it is that of

@@ -1,12 +1,12 @@
 -- The rows that a change needs and the versions that it makes, computed from the rows that it matches.
-use Rattle.std.specs.Prelude.{◌≡◌, ℕ, ◌+◌, ◌==◌, map, nat_lt, List, [], ◌∷◌, true, Option, Some, None, IfSome}
+use Rattle.std.specs.Prelude.{◌≡◌, ℕ, ◌+◌, ◌==◌, map, nat_lt, List, [], ◌∷◌, true, Option, Some, None}
 use Rattle.std.specs.Prelude.{if◌then◌else◌}
 use Rattle.std.specs.Option.{option_map}
 use Rattle.lineage.specs.Needing.{need_by, needs_in_order, union_of_needs}
 use Rattle.sql_model.specs.Needs.{Versions, needed_by, needed_row, read_of}
 use Rattle.sql_model.specs.Scope.{table_at}
 use Rattle.table_store.specs.Histories.{tables_now}
-use Rattle.table_store.specs.Referring.{are_apart, parents_in_db}
+use Rattle.table_store.specs.Referring.{parents_in_db}
 use Rattle.table_store.specs.Stops.{has_number}
 use Rattle.dml_versions.specs.inner.Finding.{version_of}
 use Rattle.dml_versions.specs.Types.{Member, Need, L, K, P, C, RowHistory, StoreHistory, Table, TableRow}
@@ -65,12 +65,6 @@ with_parent_rows parents needs = union_of_needs needs (needs_in_order (map (need
 abbrev pub parent_needs : StoreHistory → List TableRow → Table → List Need
 parent_needs store rows own =
     map (read_of (versions_now store)) (map (needed_by P) (parents_in_db rows (tables_now store) own))
-
--- needs with these beside them, where no two rows have one key then
-abbrev pub HaveParents : StoreHistory → List ℕ → List TableRow → List Need → List Need → Type 0
-HaveParents store name rows needs all = IfSome (table_at name (tables_now store))
-    (λ own. are_apart rows own ≡ true
-    → all ≡ union_of_needs needs (needs_in_order (parent_needs store rows own)))
 
 -- a table has a row of a number
 pub record IsRowThere (db : List Table) (name : List ℕ) (number : ℕ) : Type 0 where

@@ -6,10 +6,10 @@ ghost use Rattle.std.specs.Option.{option_map};
 ghost use Rattle.sql_model.specs.Changes.{clash_after, clash_by, numbered_rows};
 ghost use Rattle.sql_model.specs.Keys.{values_at};
 ghost use Rattle.sql_model.specs.References.{has_key};
-ghost use Rattle.table_store.specs.inner.Claims.{claim_stop, taken_stop};
+ghost use Rattle.table_store.specs.Claims.{claim_stop, taken_stop};
 ghost use Rattle.table_store.specs.Histories.{rows_now};
-ghost use Rattle.table_store.specs.inner.IndexView.{held_in};
-ghost use Rattle.table_store.specs.inner.NewKeys.{new_in, AddsKey, AreBelow, AreClaimed, AreNewKeys};
+ghost use Rattle.table_store.specs.IndexView.{held_in};
+ghost use Rattle.table_store.specs.NewKeys.{new_in, AddsKey, AreBelow, AreClaimed, AreNewKeys};
 ghost use Rattle.table_store.specs.KeyIndex.{AreHeld, AreIndexed};
 ghost use Rattle.table_store.specs.Stops.{StopsAs};
 

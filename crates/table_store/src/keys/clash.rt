@@ -1,7 +1,7 @@
 //! Two rows that have one key after given rows have replaced others.
 
 ghost use Rattle.std.specs.Prelude.{◌≡◌, ℕ, List, Option, Some, None, IfOk};
-ghost use Rattle.table_store.specs.inner.GivenKeys.{clash_of, earlier_clash, first_clash};
+ghost use Rattle.table_store.specs.GivenKeys.{clash_of, earlier_clash, first_clash};
 ghost use Rattle.table_store.specs.declared.error.StoreStop.TheVariants.{KeyTaken};
 
 use crate::error::StoreStop;

@@ -1,49 +1,102 @@
 //! Given rows, which are the rows of a change, by their keys and their numbers.
 
-ghost use Rattle.std.specs.Prelude.{◌≡◌, ◌==◌, List, IfOk, map, true};
+ghost use Rattle.std.specs.Prelude.{◌≡◌, ◌==◌, ◌+◌, ◌^◌, ◌<◌, IfOk, length, map, true};
 ghost use Rattle.std.specs.List.{list_any};
-ghost use Rattle.table_store.specs.inner.Afterwards.{has_values, in_set};
+ghost use Rattle.sql_model.specs.Changes.{numbered_rows};
+ghost use Rattle.table_store.specs.inner.Judging.{holds, AreGiven};
+ghost use Rattle.table_store.specs.inner.ParentRows.{number_in};
 ghost use Rattle.table_store.specs.Stops.{are_sorted_numbers};
-ghost use Rattle.table_store.specs.Types.{Value};
 
 use crate::keys::index::key_of;
-use ldv_value::Places;
-use sql_model::{HasValues, RowKey, TableRow};
+use ldv_value::{Places, Values};
+use sql_model::{RowKey, TableRow};
 use std::alloc::{AllocError, Global};
-use std::collections::BTreeSet;
+use std::collections::BTreeMap;
 
-// The keys of given rows.
-fn keys_of<R: HasValues>(
-    alloc: Global,
-    key: &Places,
-    rows: &[R],
-) -> Result<BTreeSet<RowKey>, AllocError>
-    ensures { IfOk result (λ keys. (wanted : List Value) → in_set keys wanted
-        ≡ list_any (λ row. has_values key.now wanted (R.cells row)) rows.now) }
-{
-    let mut keys = BTreeSet::new(alloc);
-    for row in rows {
-        let made = key_of(alloc, key, row.values())?;
-        keys.insert(made)?;
-    }
-    Ok(keys)
-}
-
-/// The keys of given rows if `asked` is true, and none otherwise.
-pub(crate) fn keys_if<R: HasValues>(
+/// The numbers of given rows by their keys if `asked` is true, and none otherwise.
+pub(crate) fn given_if(
     alloc: Global,
     asked: bool,
     key: &Places,
-    rows: &[R],
-) -> Result<BTreeSet<RowKey>, AllocError>
-    ensures { IfOk result (λ keys. asked ≡ true → (wanted : List Value) → in_set keys wanted
-        ≡ list_any (λ row. has_values key.now wanted (R.cells row)) rows.now) }
+    rows: &[TableRow],
+) -> Result<BTreeMap<RowKey, u32>, AllocError>
+    ensures { IfOk result (λ given. asked ≡ true → AreGiven given key.now rows.now) }
 {
     if !asked {
-        return Ok(BTreeSet::new(alloc));
+        return Ok(BTreeMap::new(alloc));
     }
-    let keys = keys_of(alloc, key, rows)?;
-    Ok(keys)
+    let given = given_keys(alloc, key, rows)?;
+    Ok(given)
+}
+
+// The numbers of given rows by their keys.
+fn given_keys(
+    alloc: Global,
+    key: &Places,
+    rows: &[TableRow],
+) -> Result<BTreeMap<RowKey, u32>, AllocError>
+    ensures { IfOk result (λ given. AreGiven given key.now rows.now) }
+{
+    let mut given = BTreeMap::new(alloc);
+    for row in rows {
+        let made = key_of(alloc, key, &row.values)?;
+        given.insert(made, row.number)?;
+    }
+    Ok(given)
+}
+
+/// The numbers of new rows, the first of which is `next`, by their keys if `asked` is true, and none
+/// otherwise.
+pub(crate) fn new_numbers_if(
+    alloc: Global,
+    asked: bool,
+    key: &Places,
+    rows: &[Values],
+    next: u32,
+) -> Result<BTreeMap<RowKey, u32>, AllocError>
+    requires { next + length rows.now < 2 ^ 32 }
+    ensures { IfOk result (λ given. asked ≡ true
+        → AreGiven given key.now (numbered_rows next rows.now)) }
+{
+    if !asked {
+        return Ok(BTreeMap::new(alloc));
+    }
+    let given = new_numbers(alloc, key, rows, next)?;
+    Ok(given)
+}
+
+// The numbers of new rows by their keys.
+fn new_numbers(
+    alloc: Global,
+    key: &Places,
+    rows: &[Values],
+    next: u32,
+) -> Result<BTreeMap<RowKey, u32>, AllocError>
+    requires { next + length rows.now < 2 ^ 32 }
+    ensures { IfOk result (λ given. AreGiven given key.now (numbered_rows next rows.now)) }
+{
+    let mut given = BTreeMap::new(alloc);
+    let mut number = next;
+    for row in rows {
+        let made = key_of(alloc, key, row)?;
+        given.insert(made, number)?;
+        number += 1;
+    }
+    Ok(given)
+}
+
+/// The number of the last given row that has a key.
+pub(crate) fn number_in(given: &BTreeMap<RowKey, u32>, key: &RowKey) -> Option<u32>
+    ensures { result ≡ number_in given.now key.now.values }
+{
+    given.get(key).copied()
+}
+
+/// Whether a given row has a key.
+pub(crate) fn holds(given: &BTreeMap<RowKey, u32>, key: &RowKey) -> bool
+    ensures { result ≡ holds given.now key.now.values }
+{
+    number_in(given, key).is_some()
 }
 
 /// The numbers of given rows.

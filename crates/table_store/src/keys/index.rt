@@ -14,8 +14,8 @@ ghost use Rattle.sql_model.specs.Keys.{values_at, key_at};
 ghost use Rattle.sql_model.specs.Tables.{are_keys_unique};
 ghost use Rattle.sql_model.specs.References.{has_key};
 ghost use Rattle.table_store.specs.Histories.{rows_now, row_now, no_history};
-ghost use Rattle.table_store.specs.inner.IndexView.{held_as, held_in};
-ghost use Rattle.table_store.specs.inner.NewKeys.{new_in, numbers_from, AreBelow};
+ghost use Rattle.table_store.specs.IndexView.{held_as, held_in};
+ghost use Rattle.table_store.specs.NewKeys.{new_in, numbers_from, AreBelow};
 ghost use Rattle.table_store.specs.KeyIndex.{int_of, int_key, last_under, AreHeld, AreIndexed};
 
 use crate::keys::key_map::KeyMap;

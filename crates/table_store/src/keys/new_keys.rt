@@ -5,7 +5,7 @@ ghost use Rattle.std.specs.BTreeMap.{get, is_at};
 ghost use Rattle.std.specs.Ordering.{int_cmp};
 ghost use Rattle.ldv_value.specs.Order.{values_order};
 ghost use Rattle.sql_model.specs.KeyOrder.{key_order};
-ghost use Rattle.table_store.specs.inner.NewKeys.{new_in, AreBelow};
+ghost use Rattle.table_store.specs.NewKeys.{new_in, AreBelow};
 ghost use Rattle.table_store.specs.Types.{RowKey, Value};
 
 use crate::keys::index::int_key;

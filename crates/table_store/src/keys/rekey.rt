@@ -6,10 +6,10 @@ ghost use Rattle.std.specs.Prelude.{map, take, slice_get, Err};
 ghost use Rattle.std.specs.List.{AllByRecursion, list_all, list_any};
 ghost use Rattle.std.specs.Option.{option_map};
 ghost use Rattle.sql_model.specs.Changes.{clash_after, clash_by};
-ghost use Rattle.table_store.specs.inner.Claims.{both_stop, KeepsKey};
-ghost use Rattle.table_store.specs.inner.GivenKeys.{with_claims, keeper, AreJudged, TakeOver};
+ghost use Rattle.table_store.specs.Claims.{both_stop, KeepsKey};
+ghost use Rattle.table_store.specs.GivenKeys.{with_claims, keeper, AreJudged, TakeOver};
 ghost use Rattle.table_store.specs.Histories.{rows_now};
-ghost use Rattle.table_store.specs.inner.IndexView.{held_in};
+ghost use Rattle.table_store.specs.IndexView.{held_in};
 ghost use Rattle.table_store.specs.KeyIndex.{HeldKeys, AreHeld, AreIndexed};
 ghost use Rattle.table_store.specs.Stops.{are_sorted_rows, replaced_by, StopsAs};
 

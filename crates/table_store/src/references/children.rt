@@ -10,6 +10,7 @@ ghost use Rattle.sql_model.specs.References.{child_of, has_key, orphan_by, refer
 ghost use Rattle.table_store.specs.inner.Afterwards.{in_set, loses, orphan_in_row, orphan_in_slot};
 ghost use Rattle.table_store.specs.inner.Afterwards.{orphan_in_table, orphan_in_tables, refers_to};
 ghost use Rattle.table_store.specs.inner.ChildPairs.{given_in};
+ghost use Rattle.table_store.specs.inner.Judging.{holds};
 ghost use Rattle.table_store.specs.Histories.{no_history, row_now, slot_of_row, table_now};
 ghost use Rattle.table_store.specs.Referring.{child_stop};
 ghost use Rattle.table_store.specs.Stops.{are_sorted_numbers, is_among};
@@ -19,14 +20,14 @@ ghost use Rattle.table_store.specs.Types.{Value};
 ghost use Rattle.table_store.specs.declared.error.StoreStop.TheVariants.{HasChild};
 
 use crate::error::StoreStop;
-use crate::keys::given::is_given;
+use crate::keys::given::{holds, is_given};
 use crate::keys::index::key_of;
 use crate::references::child_rows::first_child_in;
 use crate::table::TableStore;
 use ldv_value::Values;
 use sql_model::{Foreign, RowKey, refers_to_none};
 use std::alloc::{AllocError, Global};
-use std::collections::BTreeSet;
+use std::collections::{BTreeMap, BTreeSet};
 
 /// Whether some table has a foreign key whose parent is the table with a name.
 pub(crate) fn is_parent(tables: &[TableStore], target: &str) -> bool
@@ -51,19 +52,19 @@ fn has_parent(foreigns: &[Foreign], target: &str) -> bool
         .any(|foreign| foreign.parent.is_text(target))
 }
 
-/// The keys that rows, by their numbers, have now, without those in `keys`.
+/// The keys that rows, by their numbers, have now, without those of given rows.
 pub(crate) fn lost_keys(
     alloc: Global,
     held: &TableStore,
     numbers: &[u32],
-    keys: &BTreeSet<RowKey>,
+    given: &BTreeMap<RowKey, u32>,
 ) -> Result<BTreeSet<RowKey>, AllocError>
     ensures { IfOk result (λ lost. (key : List Value) → in_set lost key
-        ≡ loses (in_set keys.now) numbers.now (table_now held.now) key) }
+        ≡ loses (holds given.now) numbers.now (table_now held.now) key) }
 {
     let mut lost = BTreeSet::new(alloc);
     for number in numbers {
-        add_lost(alloc, held, *number, keys, &mut lost)?;
+        add_lost(alloc, held, *number, given, &mut lost)?;
     }
     Ok(lost)
 }
@@ -73,29 +74,29 @@ fn add_lost(
     alloc: Global,
     held: &TableStore,
     number: u32,
-    keys: &BTreeSet<RowKey>,
+    given: &BTreeMap<RowKey, u32>,
     lost: &mut BTreeSet<RowKey>,
 ) -> Result<(), AllocError>
     ensures { OnOk result ((key : List Value) → in_set lost.new key
-        ≡ (in_set lost.old key || loses (in_set keys.now) (number ∷ []) (table_now held.now) key)) }
+        ≡ (in_set lost.old key || loses (holds given.now) (number ∷ []) (table_now held.now) key)) }
 {
     let found = key_at(alloc, held, number)?;
     match found {
         None => Ok(()),
-        Some(key) => put_lost(keys, lost, key),
+        Some(key) => put_lost(given, lost, key),
     }
 }
 
 // Adds a key, unless it is among those of given rows.
 fn put_lost(
-    keys: &BTreeSet<RowKey>,
+    given: &BTreeMap<RowKey, u32>,
     lost: &mut BTreeSet<RowKey>,
     key: RowKey,
 ) -> Result<(), AllocError>
     ensures { OnOk result ((q : List Value) → in_set lost.new q
-        ≡ (in_set lost.old q || (same_values key.values q && not (in_set keys.now q)))) }
+        ≡ (in_set lost.old q || (same_values key.values q && not (holds given.now q)))) }
 {
-    if keys.contains(&key) {
+    if holds(given, &key) {
         return Ok(());
     }
     lost.insert(key)?;

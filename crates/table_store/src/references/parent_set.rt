@@ -23,7 +23,7 @@ ghost use Rattle.table_store.specs.inner.ParentSet.{name_stands, named_now, put_
 ghost use Rattle.table_store.specs.inner.ParentSet.{unless_put, RowName};
 
 use crate::keys::index::key_of;
-use crate::references::parents::is_own;
+use crate::references::parent_rows::is_own;
 use crate::store::Store;
 use crate::table::TableStore;
 use ldv_value::{List as Listed, Places, Utf8, Values};

@@ -9,5 +9,5 @@ pub returns : goal.returns
 returns c =
     let store = c.args.store.now in
     subst (λ (o : Option TableHistory). IfSome o (λ table. IsChildThere (tables_now store) c.args.stop
-    → refused_change (versions_now store) c.args.name.now table.slots c.args.needs c.args.change.needs c.args.stop ≡ Some c.in_ok-refused.refused))
+    → refused_change (versions_now store) c.args.name.now table.slots c.args.needs c.args.all c.args.stop ≡ Some c.in_ok-refused.refused))
     (sym c.table_of-table.ensures.found) c.in_ok-refused.ensures

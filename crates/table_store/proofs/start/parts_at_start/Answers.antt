@@ -2,7 +2,7 @@ use Rattle.std.proofs.Common.{◌≡◌, ◌∷◌, [], refl, subst, sym, List, 
 use Rattle.table_store.specs.Types.{Schema, TableRow}
 use Rattle.table_store.specs.inner.ChildPairs.{Pairs, AreReferred, pair_by}
 use Rattle.table_store.specs.Histories.{NextSince, history_of_new_row, rows_now}
-use Rattle.table_store.specs.inner.IndexView.{held_in}
+use Rattle.table_store.specs.IndexView.{held_in}
 use Rattle.table_store.specs.KeyIndex.{HeldKeys, AreIndexed}
 use Rattle.table_store.specs.inner.Nexts.{nexts_of}
 use Rattle.table_store.specs.inner.RowHistories.{RowsHistory}

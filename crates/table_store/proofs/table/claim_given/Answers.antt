@@ -4,7 +4,7 @@ use Rattle.std.specs.List.{list_any}
 use Rattle.std.specs.Option.{option_or}
 use Rattle.sql_model.specs.Changes.{has_null, clash_by}
 use Rattle.table_store.specs.Types.{Schema, TableRow}
-use Rattle.table_store.specs.inner.Claims.{both_stop}
+use Rattle.table_store.specs.Claims.{both_stop}
 use Rattle.table_store.specs.Histories.{RowHistory, TableHistory, rows_now, table_now}
 use Rattle.table_store.specs.Stops.{replaced_by, replace_stop, StopsAs}
 use Rattle.table_store.specs.declared.error.StoreStop.{StoreStop}

@@ -6,9 +6,9 @@ use Rattle.std.specs.Option.{option_or}
 use Rattle.ldv_value.specs.Limits.{max_next}
 use Rattle.sql_model.specs.Changes.{numbered_rows, refuses_null, clash_by}
 use Rattle.table_store.specs.Types.{Schema, Value}
-use Rattle.table_store.specs.inner.Claims.{claim_stop}
+use Rattle.table_store.specs.Claims.{claim_stop}
 use Rattle.table_store.specs.Histories.{RowHistory, TableHistory, rows_now, table_now}
-use Rattle.table_store.specs.inner.IndexView.{held_in}
+use Rattle.table_store.specs.IndexView.{held_in}
 use Rattle.table_store.specs.KeyIndex.{HeldKeys}
 use Rattle.table_store.specs.RowOrder.{AreInOrder}
 use Rattle.table_store.specs.Stops.{insert_stop, stop_if, StopsAs}

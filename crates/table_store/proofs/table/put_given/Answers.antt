@@ -1,10 +1,10 @@
 use Rattle.std.proofs.Common.{◌∙◌, ap, sym, subst, ℕ, List, [], Bool, map, refl}
 use Rattle.row_version.specs.History.{Change}
 use Rattle.table_store.specs.Types.{Schema, Table, TableRow}
-use Rattle.table_store.specs.inner.GivenKeys.{with_claims}
+use Rattle.table_store.specs.GivenKeys.{with_claims}
 use Rattle.table_store.specs.Histories.{NextSince, changed_by, nexts_with, rows_now}
 use Rattle.table_store.specs.inner.ChildPairs.{Pairs, AreReferred, StayReferred, pair_by}
-use Rattle.table_store.specs.inner.IndexView.{held_in}
+use Rattle.table_store.specs.IndexView.{held_in}
 use Rattle.table_store.specs.KeyIndex.{HeldKeys, AreIndexed}
 use Rattle.table_store.specs.inner.Nexts.{nexts_of}
 use Rattle.table_store.specs.inner.RowHistories.{RowsHistory}

@@ -2,9 +2,9 @@ use Rattle.std.proofs.Common.{rules, ◌≡◌, ◌≤◌, ◌∙◌, ◌+◌, �
 use Rattle.std.specs.Prelude.{◌^◌}
 use Rattle.sql_model.specs.Changes.{KeyClash, clash_by, clash_after, numbered_rows}
 use Rattle.table_store.specs.Types.{TableRow}
-use Rattle.table_store.specs.inner.Claims.{claim_stop}
+use Rattle.table_store.specs.Claims.{claim_stop}
 use Rattle.table_store.specs.Histories.{rows_now}
-use Rattle.table_store.specs.inner.IndexView.{held_in}
+use Rattle.table_store.specs.IndexView.{held_in}
 use Rattle.table_store.specs.KeyIndex.{HeldKeys, AreHeld, AreIndexed}
 use Rattle.table_store.specs.Stops.{StopsAs}
 use Rattle.table_store.proofs.ClaimLaws.{keyed_held, keyed_clash, on_ok}

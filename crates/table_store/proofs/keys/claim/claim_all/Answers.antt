@@ -5,8 +5,8 @@ use Rattle.sql_model.specs.Changes.{KeyClash, clash_or, clash_after, numbered_ro
 use Rattle.sql_model.specs.Keys.{values_at}
 use Rattle.sql_model.specs.References.{has_key}
 use Rattle.table_store.specs.Types.{Value, TableRow}
-use Rattle.table_store.specs.inner.Claims.{claim_stop}
-use Rattle.table_store.specs.inner.NewKeys.{new_in, AreNewKeys}
+use Rattle.table_store.specs.Claims.{claim_stop}
+use Rattle.table_store.specs.NewKeys.{new_in, AreNewKeys}
 use Rattle.table_store.specs.Histories.{rows_now}
 use Rattle.table_store.specs.Stops.{StopsAs}
 use Rattle.table_store.specs.declared.keys.new_keys.NewKeys.{NewKeys}

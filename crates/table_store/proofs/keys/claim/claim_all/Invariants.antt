@@ -1,6 +1,6 @@
 use Rattle.std.proofs.Common.{◌≡◌, ◌+◌, ◌++◌, take, drop, length}
 use Rattle.sql_model.specs.Changes.{clash_after, numbered_rows}
-use Rattle.table_store.specs.inner.NewKeys.{new_in, AreBelow, AreNewKeys}
+use Rattle.table_store.specs.NewKeys.{new_in, AreBelow, AreNewKeys}
 use Rattle.table_store.specs.Histories.{rows_now}
 use Rattle.table_store.proofs.keys.claim.claim_all.Given as goal
 

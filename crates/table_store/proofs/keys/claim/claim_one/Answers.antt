@@ -6,8 +6,8 @@ use Rattle.sql_model.specs.Changes.{numbered_rows}
 use Rattle.sql_model.specs.Keys.{key_at, values_at}
 use Rattle.sql_model.specs.References.{has_key}
 use Rattle.table_store.specs.Types.{Value, RowKey, TableRow}
-use Rattle.table_store.specs.inner.Claims.{taken_stop}
-use Rattle.table_store.specs.inner.NewKeys.{new_in, AreNewKeys}
+use Rattle.table_store.specs.Claims.{taken_stop}
+use Rattle.table_store.specs.NewKeys.{new_in, AreNewKeys}
 use Rattle.table_store.specs.Histories.{rows_now}
 use Rattle.table_store.specs.KeyIndex.{row_of_key}
 use Rattle.table_store.specs.RowOrder.{AreInOrder}

@@ -8,7 +8,7 @@ use Rattle.sql_model.specs.KeyOrder.{key_order}
 use Rattle.sql_model.specs.Keys.{values_at, key_at}
 use Rattle.sql_model.specs.References.{has_key}
 use Rattle.table_store.specs.Types.{TableRow, RowKey}
-use Rattle.table_store.specs.inner.IndexView.{held_as}
+use Rattle.table_store.specs.IndexView.{held_as}
 use Rattle.table_store.specs.KeyIndex.{AreHeld, HeldKeys, int_key, last_under}
 use Rattle.table_store.proofs.IndexLaws.{held_pushed, earlier_none}
 use Rattle.table_store.proofs.IndexViewLaws.{Ints, same_both}

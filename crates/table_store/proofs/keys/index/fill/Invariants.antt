@@ -1,7 +1,7 @@
 use Rattle.std.proofs.Common.{take}
 use Rattle.std.specs.BTreeMap.{get}
 use Rattle.ldv_value.specs.Order.{values_order}
-use Rattle.table_store.specs.inner.IndexView.{held_as}
+use Rattle.table_store.specs.IndexView.{held_as}
 use Rattle.table_store.specs.KeyIndex.{AreHeld, int_key, last_under}
 use Rattle.table_store.proofs.keys.index.fill.Given as goal
 

@@ -1,7 +1,7 @@
 use Rattle.std.proofs.Common.{◌∙◌, ap, sym, Some, None}
 use Rattle.std.specs.Prelude.{if◌then◌else◌}
 use Rattle.std.specs.Option.{option_map}
-use Rattle.table_store.specs.inner.IndexView.{held_in}
+use Rattle.table_store.specs.IndexView.{held_in}
 use Rattle.table_store.specs.Types.{TableRow, RowKey}
 use Rattle.table_store.specs.Histories.{rows_now}
 use Rattle.table_store.proofs.IndexLaws.{absent_key, held_key, index_alike}

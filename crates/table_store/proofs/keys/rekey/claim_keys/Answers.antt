@@ -3,10 +3,10 @@ use Rattle.std.specs.Prelude.{Err}
 use Rattle.std.proofs.lemmas.List.{take_all}
 use Rattle.sql_model.specs.Changes.{clash_after}
 use Rattle.table_store.specs.Types.{TableRow}
-use Rattle.table_store.specs.inner.Claims.{both_stop}
-use Rattle.table_store.specs.inner.GivenKeys.{AreJudged, with_claims}
+use Rattle.table_store.specs.Claims.{both_stop}
+use Rattle.table_store.specs.GivenKeys.{AreJudged, with_claims}
 use Rattle.table_store.specs.Histories.{rows_now}
-use Rattle.table_store.specs.inner.IndexView.{held_in}
+use Rattle.table_store.specs.IndexView.{held_in}
 use Rattle.table_store.specs.KeyIndex.{HeldKeys}
 use Rattle.table_store.specs.Stops.{replaced_by, StopsAs}
 use Rattle.table_store.specs.declared.keys.clash.Clash.{Clash}

@@ -1,6 +1,6 @@
 use Rattle.std.proofs.Common.{take}
-use Rattle.table_store.specs.inner.IndexView.{held_in}
-use Rattle.table_store.specs.inner.GivenKeys.{AreJudged}
+use Rattle.table_store.specs.IndexView.{held_in}
+use Rattle.table_store.specs.GivenKeys.{AreJudged}
 use Rattle.table_store.specs.Histories.{rows_now}
 use Rattle.table_store.proofs.keys.rekey.claim_keys.Given as goal
 

@@ -2,10 +2,10 @@ use Rattle.std.proofs.Common.{◌≡◌, ◌∙◌, ◌+◌, ap, sym, subst, tak
 use Rattle.std.specs.Prelude.{Err}
 use Rattle.sql_model.specs.Changes.{clash_after}
 use Rattle.table_store.specs.Types.{RowKey, TableRow}
-use Rattle.table_store.specs.inner.Claims.{both_stop}
-use Rattle.table_store.specs.inner.GivenKeys.{AreJudged, keeper, first_clash}
+use Rattle.table_store.specs.Claims.{both_stop}
+use Rattle.table_store.specs.GivenKeys.{AreJudged, keeper, first_clash}
 use Rattle.table_store.specs.Histories.{rows_now}
-use Rattle.table_store.specs.inner.IndexView.{held_in}
+use Rattle.table_store.specs.IndexView.{held_in}
 use Rattle.table_store.specs.KeyIndex.{HeldKeys}
 use Rattle.table_store.specs.Stops.{replaced_by, StopsAs}
 use Rattle.table_store.specs.declared.keys.clash.Clash.{Clash}

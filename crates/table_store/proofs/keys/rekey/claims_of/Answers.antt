@@ -1,10 +1,10 @@
 use Rattle.std.proofs.Common.{rules, ◌≡◌, ◌==◌, ap, sym, subst, List, length, true, false, map, Option}
 use Rattle.sql_model.specs.Changes.{KeyClash}
 use Rattle.table_store.specs.Types.{TableRow}
-use Rattle.table_store.specs.inner.Claims.{both_stop}
-use Rattle.table_store.specs.inner.GivenKeys.{with_claims, TakeOver}
+use Rattle.table_store.specs.Claims.{both_stop}
+use Rattle.table_store.specs.GivenKeys.{with_claims, TakeOver}
 use Rattle.table_store.specs.Histories.{rows_now}
-use Rattle.table_store.specs.inner.IndexView.{held_in}
+use Rattle.table_store.specs.IndexView.{held_in}
 use Rattle.table_store.specs.KeyIndex.{HeldKeys, AreHeld, AreIndexed}
 use Rattle.table_store.specs.Stops.{replaced_by, StopsAs}
 use Rattle.table_store.specs.declared.keys.index.Index.{Index}

@@ -2,7 +2,7 @@ use Rattle.std.proofs.Common.{rules, ◌≡◌, subst, List, true, arith}
 use Rattle.std.specs.List.{AllByRecursion}
 use Rattle.std.proofs.lemmas.List.{take_all}
 use Rattle.table_store.specs.Types.{TableRow}
-use Rattle.table_store.specs.inner.Claims.{KeepsKey}
+use Rattle.table_store.specs.Claims.{KeepsKey}
 use Rattle.table_store.specs.Histories.{rows_now}
 use Rattle.table_store.proofs.KeptKeyLaws.{all_more}
 use Rattle.table_store.proofs.keys.rekey.keep_keys.Goals as goal

@@ -1,6 +1,6 @@
 use Rattle.std.proofs.Common.{take}
 use Rattle.std.specs.List.{AllByRecursion}
-use Rattle.table_store.specs.inner.Claims.{KeepsKey}
+use Rattle.table_store.specs.Claims.{KeepsKey}
 use Rattle.table_store.specs.Histories.{rows_now}
 use Rattle.table_store.proofs.keys.rekey.keep_keys.Given as goal
 

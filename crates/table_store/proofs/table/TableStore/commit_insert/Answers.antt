@@ -7,15 +7,15 @@ use Rattle.table_store.specs.Types.{Value, RowKey, TableRow}
 use Rattle.table_store.specs.inner.Grid.{are_of_kinds, next_after}
 use Rattle.table_store.specs.Histories.{NextSince, TableHistory, history_of_new_row, table_with_rows, last_next_number, last_since, rows_now, table_now}
 use Rattle.table_store.specs.inner.ChildPairs.{Pairs, pair_by}
-use Rattle.table_store.specs.inner.IndexView.{held_in}
+use Rattle.table_store.specs.IndexView.{held_in}
 use Rattle.table_store.specs.KeyIndex.{HeldKeys, AreIndexed}
 use Rattle.table_store.specs.inner.Nexts.{nexts_of}
 use Rattle.table_store.specs.inner.RowHistories.{RowsHistory}
 use Rattle.table_store.specs.Stops.{has_shape, insert_stop, StopsAs}
 use Rattle.table_store.specs.TableView.{IsStored}
 use Rattle.table_store.specs.declared.error.StoreStop.{StoreStop}
-use Rattle.table_store.specs.inner.NewKeys.{new_in, numbers_from, AreClaimed}
-use Rattle.table_store.specs.inner.Plans.{IsInsertPlan}
+use Rattle.table_store.specs.NewKeys.{new_in, numbers_from, AreClaimed}
+use Rattle.table_store.specs.Plans.{IsInsertPlan}
 use Rattle.table_store.proofs.InsertLaws.{shapes_fit}
 use Rattle.table_store.proofs.NewKeyLaws.{entered_indexed, kept_indexed, not_full}
 use Rattle.table_store.proofs.TableChangeLaws.{referred_inserted, stored_claimed, stored_inserted, inserted_by}

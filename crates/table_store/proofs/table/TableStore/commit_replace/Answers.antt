@@ -3,14 +3,14 @@ use Rattle.std.specs.Prelude.{Err}
 use Rattle.std.specs.List.{list_all, list_any}
 use Rattle.std.specs.Option.{option_or}
 use Rattle.table_store.specs.Types.{TableRow}
-use Rattle.table_store.specs.inner.GivenKeys.{with_claims}
+use Rattle.table_store.specs.GivenKeys.{with_claims}
 use Rattle.table_store.specs.Histories.{TableHistory, last_since, table_with_values, rows_now, table_now}
-use Rattle.table_store.specs.inner.IndexView.{held_in}
+use Rattle.table_store.specs.IndexView.{held_in}
 use Rattle.table_store.specs.KeyIndex.{AreIndexed}
 use Rattle.table_store.specs.inner.Nexts.{nexts_of}
 use Rattle.table_store.specs.Stops.{have_shape, values_of, had_rows, replaced_by, with_replaced, replace_stop, StopsAs}
 use Rattle.table_store.specs.declared.keys.index.Index.{Index}
-use Rattle.table_store.specs.inner.Plans.{IsReplacePlan}
+use Rattle.table_store.specs.Plans.{IsReplacePlan}
 use Rattle.table_store.proofs.TableChangeLaws.{GivenStand, given_stand, replaced_now}
 use Rattle.table_store.proofs.table.TableStore.commit_replace.Goals as goal
 

@@ -2,9 +2,9 @@ use Rattle.std.proofs.Common.{◌≡◌, ◌∙◌, ap, sym, subst, ℕ, List, N
 use Rattle.std.specs.Prelude.{Err}
 use Rattle.table_store.specs.Types.{Value}
 use Rattle.table_store.specs.Histories.{TableHistory, last_next_number, rows_now, table_now}
-use Rattle.table_store.specs.inner.NewKeys.{new_in, AreBelow, AreClaimed}
+use Rattle.table_store.specs.NewKeys.{new_in, AreBelow, AreClaimed}
 use Rattle.table_store.specs.inner.Nexts.{nexts_of}
-use Rattle.table_store.specs.inner.Plans.{IsInsertPlan}
+use Rattle.table_store.specs.Plans.{IsInsertPlan}
 use Rattle.table_store.specs.Stops.{have_shape, insert_stop, StopsAs}
 use Rattle.table_store.specs.declared.keys.new_keys.NewKeys.{NewKeys}
 use Rattle.table_store.specs.declared.plans.InsertPlan.{InsertPlan}

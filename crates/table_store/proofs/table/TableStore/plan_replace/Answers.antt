@@ -3,10 +3,10 @@ use Rattle.std.specs.Prelude.{Err}
 use Rattle.std.specs.List.{list_all, list_any}
 use Rattle.table_store.specs.Types.{TableRow}
 use Rattle.table_store.specs.Histories.{TableHistory, rows_now, table_now}
-use Rattle.table_store.specs.inner.GivenKeys.{TakeOver}
-use Rattle.table_store.specs.inner.IndexView.{held_in}
+use Rattle.table_store.specs.GivenKeys.{TakeOver}
+use Rattle.table_store.specs.IndexView.{held_in}
 use Rattle.table_store.specs.inner.Nexts.{nexts_of}
-use Rattle.table_store.specs.inner.Plans.{IsReplacePlan}
+use Rattle.table_store.specs.Plans.{IsReplacePlan}
 use Rattle.table_store.specs.Stops.{have_shape, values_of, had_rows, replaced_by, replace_stop, StopsAs}
 use Rattle.table_store.specs.declared.keys.index.Index.{Index}
 use Rattle.table_store.specs.declared.plans.ReplacePlan.{ReplacePlan}

@@ -4,7 +4,7 @@ use Rattle.std.proofs.lemmas.Int.{to_z-of_z}
 use Rattle.std.specs.BTreeMap.{get}
 use Rattle.std.specs.Ordering.{int_cmp}
 use Rattle.ldv_value.specs.Order.{values_order}
-use Rattle.table_store.specs.inner.IndexView.{held_as}
+use Rattle.table_store.specs.IndexView.{held_as}
 use Rattle.table_store.specs.KeyIndex.{int_key}
 use Rattle.table_store.proofs.keys.index.Index.number_of.Goals as goal
 
