@@ -1,3 +1,5 @@
 pub mod NameSets
 pub mod Numbers
+pub mod Taking
+pub mod Parts
 pub mod Typed

@@ -110,8 +110,8 @@ fn foreign_of_parts(alloc: Global, columns: Json, parent: Json) -> Result<DraftF
     Ok(DraftForeign { columns, parent })
 }
 
-// Two texts, the name and the kind.
-fn column_of_texts(texts: &Names) -> Result<Column, ShapeStop>
+/// A column of two texts, its name and its kind.
+pub(crate) fn column_of_texts(texts: &Names) -> Result<Column, ShapeStop>
     requires { AllByRecursion IsUtf8 texts.now }
     ensures ok { IfOk result (λ column. column_from texts.now ≡ Some column) }
     ensures shape { result ≡ Err ShapeStop.Shape → column_from texts.now ≡ None }

@@ -1,7 +1,8 @@
 //! World documents: a JSON document gives a world or its first fault; and the worlds of `gen`.
 //!
-//! Bytes are read to a JSON value, the value to a `Document` of typed parts, the document to a world. Each
-//! step consumes the result of the one before, so memory is freed on the way.
+//! Most bytes are read token by token to a `Document` of typed parts (`src/fast.rt`), all others to a JSON
+//! value and this to the document; the document then to a world. Each step consumes the result of the one
+//! before, so memory is freed on the way.
 //!
 //! Entry: `world_of` in `src/world.rt`. Read first: `specs/Reading.antt`.
 #![tactic(auto)]
@@ -9,6 +10,7 @@
 mod cells;
 mod content;
 mod document;
+mod fast;
 mod fault;
 mod generator;
 mod keys;

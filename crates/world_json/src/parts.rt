@@ -89,7 +89,8 @@ fn read_number(value: &Value) -> Result<u64, ShapeStop>
     }
 }
 
-fn has_width(rows: &NumberedRows, width: usize) -> bool
+/// Whether each row has one value for each column.
+pub(crate) fn has_width(rows: &NumberedRows, width: usize) -> bool
     ensures { result ≡ is_width width rows.now }
 {
     have_width(rows.items(), width)

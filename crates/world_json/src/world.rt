@@ -12,6 +12,7 @@ ghost use Rattle.world_json.specs.SortedWorld.{is_sorted_world};
 ghost use Rattle.world_json.specs.inner.Typed.{TypedDocument};
 
 use crate::document::{Document, Draft, Drafts};
+use crate::fast::read_fast;
 use crate::fault::{WorldFault, WorldStop};
 use crate::keys::{foreign_keys, meets_keys, places_of_key};
 use crate::kinds::{meets_kinds, meets_not_null};
@@ -53,6 +54,29 @@ pub fn parsed_world_of(alloc: Global, bytes: &[u8]) -> Result<ParsedWorld, World
     ensures sorted { IfOk result (λ p. is_sorted_world p.world ≡ true) }
     ensures valid { IfOk result (λ p. ValidWorld p.world) }
     ensures runs { IfOk result (λ p. CanRun p.world) }
+    ensures parsed { IfOk result IsParsed }
+{
+    read_world(alloc, bytes)
+}
+
+// Token by token, or else by way of the tree of its JSON value, which alone tells the faults of the bytes.
+fn read_world(alloc: Global, bytes: &[u8]) -> Result<ParsedWorld, WorldStop>
+    ensures world { IfOk result (λ p. world_reading bytes.now ≡ Ok p.world) }
+    ensures fault { IfErr result (IsFaultOf (world_reading bytes.now)) }
+    ensures typed { IfOk result (λ p. TypedWorld p.world) }
+    ensures parsed { IfOk result IsParsed }
+{
+    match read_fast(alloc, bytes) {
+        Ok(document) => world_of_document(alloc, document),
+        Err(ShapeStop::Shape) => world_of_tree(alloc, bytes),
+        Err(ShapeStop::NoMemory) => Err(WorldStop::NoMemory),
+    }
+}
+
+fn world_of_tree(alloc: Global, bytes: &[u8]) -> Result<ParsedWorld, WorldStop>
+    ensures world { IfOk result (λ p. world_reading bytes.now ≡ Ok p.world) }
+    ensures fault { IfErr result (IsFaultOf (world_reading bytes.now)) }
+    ensures typed { IfOk result (λ p. TypedWorld p.world) }
     ensures parsed { IfOk result IsParsed }
 {
     match read_json(alloc, bytes) {
