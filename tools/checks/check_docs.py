@@ -17,8 +17,8 @@ docs/internals/ARCHITECTURE.md anew. Checked are
   crates (crate_map.py), and that the entry function and the first definition are where a head says;
 - its table of the kit's libraries against crates.txt, and that docs/internals/GUARANTEES.md names each of
   these among what is trusted, and in the table of each crate that uses it;
-- the rooms of specs: that the sources and the specs of a crate cite no file of another one's specs/inner, and
-  that what is meaning stands in specs, and everything else in specs/inner (spec_rooms.py says which is which);
+- the rooms of specs: that the sources and the specs of a crate cite no file of another one's specs/inner,
+  that what is meaning stands in specs, and all else in specs/inner (spec_rooms.py says which is which);
 - each relative link of each document, with its heading where it names one;
 - the pages of docs/ that a program names, in a message, its help or a comment;
 - the lengths of README.md, docs/internals/ARCHITECTURE.md and docs/internals/notes/gate.md, and that the
@@ -290,7 +290,8 @@ def check_rooms(root: str, crates: Dict[str, List[str]], differ: Differences) ->
     """Files of specs with a definition that is meaning stand in specs, all others in specs/inner."""
     for room in spec_rooms.rooms(root, list(crates)):
         if not room.is_right():
-            belongs = 'specs: a definition of it is meaning' if room.meaning else 'specs/inner: none of it is meaning'
+            belongs = ('specs: a definition of it is meaning' if room.meaning
+                       else 'specs/inner: none of it is meaning')
             differ.add(room.file(), 1, f'belongs to {belongs}')
 
 

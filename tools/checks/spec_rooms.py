@@ -23,7 +23,8 @@ Module = str
 LISTS = ('Lib', 'inner', 'Types')
 
 COMMENT = re.compile(r'^\s*(?://|--).*$', re.M)
-USE = re.compile(r'\buse Rattle\.(\w+)\.specs\.((?:[a-z]\w*\.)*[A-Z]\w*)(?:\.\{([^}]*)\}|\.([^\s.{;]+))?(?: as (\w+))?')
+USE = re.compile(r'\buse Rattle\.(\w+)\.specs\.((?:[a-z]\w*\.)*[A-Z]\w*)'
+                 r'(?:\.\{([^}]*)\}|\.([^\s.{;]+))?(?: as (\w+))?')
 PATH = re.compile(r'\bRattle\.(\w+)\.specs\.((?:[a-z]\w*\.)*[A-Z]\w*)')
 BROUGHT_OUT = re.compile(r'^pub use ([\w:]+)(?:::\{([^}]*)\})?;', re.M)
 CLAUSE = re.compile(r'\s*(?:requires|ensures|decreases|invariant)\b')
@@ -63,7 +64,8 @@ def specs_of(root: str, crate: str) -> Dict[Module, str]:
         for file in sorted(files):
             if file.endswith('.antt'):
                 path = os.path.join(folder, file)
-                found[os.path.relpath(path, top)[:-len('.antt')].replace(os.sep, '.')] = COMMENT.sub('', read(path))
+                module = os.path.relpath(path, top)[:-len('.antt')].replace(os.sep, '.')
+                found[module] = COMMENT.sub('', read(path))
     return found
 
 
@@ -226,7 +228,8 @@ def definitions_in(text: str) -> Dict[str, str]:
         if found:
             current = found[1] or found[2]
         elif re.match(r'\S', line):
-            current = names.get(WORD.match(line)[0] if WORD.match(line) else '', current)
+            word = WORD.match(line)
+            current = names.get(word[0] if word else '', current)
         if not current or re.match(r'(?:pub )?use ', line):
             continue
         names.setdefault(current, current)
@@ -339,5 +342,5 @@ def rooms(root: str, crates: List[str]) -> Iterator[Room]:
                 names = set(definitions_in(text))
                 if not names:
                     continue
-                yield Room(crate, module, len(names & {name for each, name in meaning[crate] if each == module}),
-                           len(names))
+                means = {name for each, name in meaning[crate] if each == module}
+                yield Room(crate, module, len(names & means), len(names))

@@ -349,10 +349,11 @@ class Layout(InFolder):
                                  "crates.txt:11: c10 ends a chain of 10 crates"])
 
     def rooms(self) -> str:
-        return self.differences(lambda root, differ: check_docs.check_rooms(root, check_docs.crates_in(root), differ))
+        return self.differences(
+            lambda root, differ: check_docs.check_rooms(root, check_docs.crates_in(root), differ))
 
     def test_rooms(self) -> None:
-        """What other crates or public calls cite, and what that is made of, is meaning, and nothing else is."""
+        """What other crates or public calls cite, and what that is made of, is meaning, nothing else is."""
         self.put("crates/low/specs/Adding.antt",
                  "use Rattle.low.specs.Digits.{digits}\nabbrev pub added : N\nadded = digits\n"
                  "abbrev pub left : N\nleft = 1\n")
@@ -370,7 +371,7 @@ class Layout(InFolder):
             self.assertEqual(self.rooms(), found, cited)
 
     def test_rooms_of_calls(self) -> None:
-        """A contract makes meaning of what it cites if its call is public, and a body or an invariant doesn't."""
+        """What a contract cites is meaning if its call is public; what a body or an invariant cites isn't."""
         os.makedirs(os.path.join(self.folder, "crates", "low", "specs", "inner"))
         self.put("crates/low/specs/inner/Sums.antt", "abbrev pub sum : N\nsum = 0\n")
         wrong = "crates/low/specs/inner/Sums.antt:1: belongs to specs: a definition of it is meaning\n"
@@ -387,7 +388,8 @@ class Layout(InFolder):
                 ("other", method % ("", clause), ""),
                 ("Heap", method % ("", clause.replace("pub fn", "pub(crate) fn")), ""),
                 ("Heap", method % (" Model for", "ghost Value = { sum };"), wrong),
-                ("Heap", method % (" Model for", "ghost Value = { N };\n\n    ghost invariant = { λ a. sum };"), ""),
+                ("Heap", method % (" Model for", "ghost Value = { N };\n\n"
+                                                 "    ghost invariant = { λ a. sum };"), ""),
                 ("Heap", method % (" Shown for", "ghost shown = { sum };"), wrong)):
             self.put("crates/low/src/heap.rt", use + source)
             self.put("crates/low/src/lib.rt", f"//! Low.\nmod heap;\npub use heap::{{{out}}};\n")
@@ -397,8 +399,9 @@ class Layout(InFolder):
         """Of a program that is meaning which its head says to read first."""
         os.remove(self.put("crates/high/src/lib.rt", ""))
         self.put("crates/high/specs/Sums.antt", "abbrev pub sum : N\nsum = 0\n")
-        for first, found in (("Sums", ""), ("Digits", "crates/high/specs/Sums.antt:1: belongs to specs/inner: "
-                                                       "none of it is meaning\n")):
+        for first, found in (("Sums", ""),
+                             ("Digits", "crates/high/specs/Sums.antt:1: belongs to specs/inner: "
+                                        "none of it is meaning\n")):
             self.put("crates/high/src/main.rt", f"//! High.\n//!\n//! Read first: `specs/{first}.antt`.\n")
             self.assertEqual(self.rooms(), found, first)
 
