@@ -76,8 +76,13 @@ def decimal(text: str) -> NotWhole:
     return NotWhole(text)
 
 
-def no_number(text: str) -> None:
-    raise Fault("not json", f"{text} is no number of JSON")
+CONSTANT = re.compile(r'"(?:[^"\\]|\\.)*"|(-?Infinity|NaN)', re.DOTALL)
+
+
+def no_number(text: str, word: str) -> None:
+    """The fault of the first word in a text that Python takes for a number and JSON doesn't."""
+    at = next(found.start() for found in CONSTANT.finditer(text) if found[1])
+    raise Fault("not json", f"{place_in(text, at)}: {word} is no number of JSON")
 
 
 DEPTH = re.compile(r'"(?:[^"\\]|\\.)*"|[][{}]', re.DOTALL)
@@ -133,7 +138,8 @@ def json_of(data: bytes) -> Any:
         raise Fault("not json", "it begins with a byte order mark: save it without one")
     check_depth(text)
     try:
-        found = json.loads(text, parse_int=whole, parse_float=decimal, parse_constant=no_number)
+        found = json.loads(text, parse_int=whole, parse_float=decimal,
+                           parse_constant=lambda word: no_number(text, word))
     except json.JSONDecodeError as fault:
         kind = other_kind(data)
         where = f"line {fault.lineno} column {fault.colno}: {said_of_json(fault.msg)}"

@@ -67,7 +67,10 @@ class Messages(InFolder):
                                               "column"),
                 (begin + '"key":["z"]}}}', 'the key of t names "z", which is no column'),
                 ("[" * 5000, "line 1 column 128: more than 127 arrays and objects in one another"),
-                ("9" * 5000, "is beyond the largest float"), ("NaN", "NaN is no number of JSON"),
+                ("9" * 5000, "is beyond the largest float"),
+                ("NaN", "line 1 column 1: NaN is no number of JSON"),
+                ('{"start":["NaN","\\""],\n"seed":-Infinity}',
+                 "line 2 column 8: -Infinity is no number of JSON"),
                 ('{"start":["m"],"files":{"m":"\\ud800"}}', "files.m has half a surrogate pair"),
                 ("\ufeff{}", "it begins with a byte order mark: save it without one"),
                 ('{"start":["m"', "line 1 column 14: a comma or a bracket is due")):
