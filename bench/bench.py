@@ -2,14 +2,15 @@
 """Measures what the program takes, and writes it as data.
 
     bench/bench.py [RUN ..] [--sizes N,..] [--lines NAME,..] [--runs N] [--program PROGRAM]
-                   [--against PROGRAM] [--beside WORK] [--least] [-o FILE]
+                   [--against PROGRAM] [--beside WORK] [--shared] [--least] [-o FILE]
 
 RUN is one of those below, by default all. Each makes its worlds, runs the program over them, and says in a
 table what it took; what is compared runs in turn. --sizes has other sizes for each run that is named, and
 --lines the names of the lines that are wanted. --program is the program, by default that of this checkout,
 and --against another one, which has to write the same bytes. --beside says what else was at work on other
-processors meanwhile, which the tables say too. --least takes each run at its least size, once,
-and however busy the host is: that shows whether it works.
+processors meanwhile, which the tables say too. --shared is for a host whose processors do other work all the
+time: runs count at its usual pace, which the tables say. --least takes each run at its least size, once, and
+however busy the host is: that shows whether it works.
 
 Each line is the least seconds of a processor of so many runs (5), and the greatest memory; quiet.py says
 which runs count. All are on one processor, if the system allows it, but for --least. -o writes them to FILE,
@@ -139,12 +140,12 @@ def sum_of(path: str) -> str:
 def facts_of(given: argparse.Namespace, programs: Dict[str, str]) -> Dict[str, Any]:
     return {'version': harness.version(), 'date': datetime.date.today().isoformat(),
             'host': harness.host()._asdict(), 'runs': given.runs, 'as_it_comes': given.least,
-            'beside': given.beside,
+            'beside': given.beside, 'shared': given.shared,
             'programs': {name: sum_of(path) for name, path in programs.items()}}
 
 
 # The facts that all lines of a file share.
-ALIKE = ('version', 'runs', 'as_it_comes', 'programs')
+ALIKE = ('version', 'runs', 'as_it_comes', 'shared', 'programs')
 
 
 def earlier_in(given: argparse.Namespace, programs: Dict[str, str]) -> Optional[Results]:
@@ -152,7 +153,7 @@ def earlier_in(given: argparse.Namespace, programs: Dict[str, str]) -> Optional[
     if not given.output or not os.path.exists(given.output):
         return None
     found, facts = results.read(given.output), facts_of(given, programs)
-    alike = all(found.facts[name] == facts[name] for name in ALIKE)
+    alike = all(found.facts.get(name, False) == facts[name] for name in ALIKE)
     if not alike or found.facts['host']['name'] != facts['host']['name']:
         harness.failed(f'{given.output} has results of another program, host or number of runs')
     return found
@@ -164,6 +165,8 @@ def measured(given: argparse.Namespace, programs: Dict[str, str]) -> Results:
     # On a busy host one processor may be the busiest.
     facts['pinned'] = not given.least and harness.pinned() is not None
     before = harness.pace()
+    if given.shared:
+        facts['usual'] = harness.usual_pace()
     lines = made(given, programs)
     facts['pace'] = {'before': round(before, 1), 'after': round(harness.pace(), 1)}
     return Results(facts, lines)
@@ -191,6 +194,7 @@ def arguments(words: Optional[Sequence[str]]) -> argparse.Namespace:
     parser.add_argument('--program', default=harness.BUILT)
     parser.add_argument('--against', metavar='PROGRAM')
     parser.add_argument('--beside', default='', metavar='WORK')
+    parser.add_argument('--shared', action='store_true')
     parser.add_argument('--least', action='store_true')
     parser.add_argument('-o', dest='output', metavar='FILE')
     given = parser.parse_args(words)

@@ -132,6 +132,11 @@ def pace(tries: int = 20) -> float:
     return min(quiet.pace() for _ in range(tries)) / quiet.TURNS * 1e9
 
 
+def usual_pace() -> float:
+    """Nanoseconds of a turn in the median, by which quiet.py judges the runs that follow."""
+    return round(quiet.settle() / quiet.TURNS * 1e9, 1)
+
+
 def pinned() -> Optional[int]:
     """Keeps this process and its children on one processor, and says on which; nothing where that isn't
     allowed."""

@@ -2,7 +2,7 @@
 """Measures the application of the paper that `ldv` follows, over data in the shape of TPC-H.
 
     bench/paper.py [--scale S] [--rows N,..] [--runs N] [--program PROGRAM] [--sqlite PROGRAM]
-                   [--beside WORK] [--least] [-o FILE]
+                   [--beside WORK] [--shared] [--least] [-o FILE]
 
 The paper is "LDV: Light-weight Database Virtualization" (CITATION.cff). The application makes 1,000
 INSERTs, asks one of eighteen queries ten times, and makes 100 UPDATEs. For each query it is run, recorded
@@ -17,9 +17,9 @@ than 64 MiB isn't written, which its row says.
 --scale is that of the data, by default the greatest of 0.01 to 0.07 whose world document has at most 64
 MiB. --rows names queries by their place, such as 1-5,18. --least takes the scale 0.0006 and a query of each
 form, once, and however busy the host is: that shows whether it works. --beside says what else was at work on
-other processors meanwhile. -o writes what was measured to FILE after each query, and adds it to what FILE has
-of the same program; without -o a run of all eighteen is written to bench/results/VERSION-HOST-paper.json.
-paper_report.py makes the page of it."""
+other processors meanwhile; --shared is that of bench.py. -o writes what was measured to FILE after each
+query, and adds it to what FILE has of the same program; without -o a run of all eighteen is written to
+bench/results/VERSION-HOST-paper.json. paper_report.py makes the page of it."""
 from __future__ import annotations
 
 import argparse
@@ -71,6 +71,8 @@ class Given(NamedTuple):
     runs: int
     as_it_comes: bool
     beside: str = ''
+    shared: bool = False
+    """Whether the host shares its processors all the time (quiet.py)."""
 
 
 class Copies(NamedTuple):
@@ -255,7 +257,8 @@ def queries(given: Given) -> Iterator[List[Line]]:
 
 def told_of(given: Given, output: Optional[str] = None) -> argparse.Namespace:
     """What bench.py asks of its words."""
-    return argparse.Namespace(runs=given.runs, least=given.as_it_comes, beside=given.beside, output=output)
+    return argparse.Namespace(runs=given.runs, least=given.as_it_comes, beside=given.beside,
+                              shared=given.shared, output=output)
 
 
 def measured(given: Given) -> Iterator[Results]:
@@ -264,6 +267,8 @@ def measured(given: Given) -> Iterator[Results]:
     facts['sqlite'] = harness.said([given.sqlite, '--version']).partition(' ')[0] if given.sqlite else ''
     facts['pinned'] = not given.as_it_comes and harness.pinned() is not None
     before = round(harness.pace(), 1)
+    if given.shared:
+        facts['usual'] = harness.usual_pace()
     found: List[Line] = []
     for lines in queries(given):
         found += lines
@@ -297,6 +302,7 @@ def arguments(words: Optional[Sequence[str]]) -> argparse.Namespace:
     parser.add_argument('--program', default=harness.BUILT)
     parser.add_argument('--sqlite', default=shutil.which('sqlite3'), metavar='PROGRAM')
     parser.add_argument('--beside', default='', metavar='WORK')
+    parser.add_argument('--shared', action='store_true')
     parser.add_argument('--least', action='store_true')
     parser.add_argument('-o', dest='output', metavar='FILE')
     given = parser.parse_args(words)
@@ -313,7 +319,7 @@ def given_of(words: argparse.Namespace) -> Given:
     scale = words.scale if words.scale is not None or not words.least else paper_worlds.LEAST_SCALE
     rows = words.rows or (LEAST_ROWS if words.least else range(1, len(QUERIES) + 1))
     return Given(os.path.abspath(words.program), words.sqlite or None, scale, list(rows),
-                 words.runs or (1 if words.least else 5), words.least, words.beside)
+                 words.runs or (1 if words.least else 5), words.least, words.beside, words.shared)
 
 
 def main(words: Optional[Sequence[str]] = None) -> int:

@@ -6,10 +6,15 @@ processor isn't judged by the others. A host can also run slower without telling
 timed after each run. A run is made again if more than 2 % of a processor was withheld, or if the loop took
 more than 1.25 times the least that it ever took here, at most ten times as often as runs are wanted; the
 rest is taken as it comes, and a line on standard error says so.
+
+A host whose processors do other work all the time is never quiet, but may be steady. `settle` takes what the
+loop takes there in the median: a run counts from then on if the loop took no more than 1.25 times as long,
+and no less than that divided by 1.25.
 """
 from __future__ import annotations
 
 import os
+import statistics
 import sys
 import time
 from typing import Callable, Set, Tuple, TypeVar
@@ -18,11 +23,14 @@ SHARE = 0.02
 PACE = 1.25
 TRIES = 10
 TURNS = 200_000
+SETTLES = 100
 
 T = TypeVar('T')
 
 # The least seconds of the loop, of all calls.
 least = [float('inf')]
+# The seconds of the loop in the median, or nothing where the least is what counts.
+usual = [0.0]
 
 
 def processors() -> Set[int]:
@@ -53,9 +61,17 @@ def pace() -> float:
     return min(took)
 
 
+def settle(looped: Callable[[], float] = pace) -> float:
+    """The seconds of the loop in the median, by which runs are judged from now on."""
+    usual[0] = statistics.median(looped() for _ in range(SETTLES))
+    return usual[0]
+
+
 def is_quiet(share: float, loop: float) -> bool:
     """Whether a run counts, by the share that was withheld and the seconds of the loop after it."""
     least[0] = min(least[0], loop)
+    if usual[0] > 0.0:
+        return share <= SHARE and usual[0] <= PACE * loop and loop <= PACE * usual[0]
     return share <= SHARE and loop <= PACE * least[0]
 
 

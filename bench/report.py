@@ -56,17 +56,26 @@ def table(head: Sequence[str], rows: Sequence[Sequence[str]]) -> List[str]:
 
 # ---- the host
 
+def pace_of(found: Results) -> str:
+    """What the fixed loop took, and what it takes where other machines use the same processors."""
+    pace, usual = found.facts['pace'], found.facts.get('usual')
+    least = f'{pace["before"]} ns before and {pace["after"]} after'
+    if usual is None:
+        return f'A turn of the loop of `quiet.py` took {least}.'
+    return (f'**The host shared its processors with other machines all the time**: a turn of the loop of '
+            f'`quiet.py` took {usual} ns in the median, by which runs are judged, and at least {least}.')
+
+
 def host_of(found: Results) -> List[str]:
     """Two lines that say where and with what it was measured."""
-    host, pace = found.facts['host'], found.facts['pace']
-    loop = f'{pace["before"]} ns before and {pace["after"]} after'
+    host = found.facts['host']
     return [f'Version {found.facts["version"]}, commit `{host["commit"][:12]}`, `{host["kit"]}`, on '
             f'{found.facts["date"]}: {host["processors"]} processors, {host["processor"]}, {host["system"]}.',
             f'Each line is the least of {found.facts["runs"]} runs'
             + (', on one processor' if found.facts['pinned'] else '')
             + (', however busy the host was' if found.facts['as_it_comes'] else '')
             + (f', beside {found.facts["beside"]}' if found.facts.get('beside') else '')
-            + f'. A turn of the loop of `quiet.py` took {loop}.']
+            + f'. {pace_of(found)}']
 
 
 # ---- aims

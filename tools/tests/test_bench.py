@@ -44,6 +44,15 @@ class QuietRuns(unittest.TestCase):
                 found = quiet.judged(lambda: "a", lambda: next(seconds), lambda: looped)
                 self.assertEqual(found, ("a", counts))
 
+    def test_settled(self) -> None:
+        """Where the loop is never as quick as it can be, a run counts at the pace that is usual there."""
+        loops = iter([7.0, 10.0, 30.0] * 33 + [10.0])
+        with mock.patch.object(quiet, "least", [float("inf")]), mock.patch.object(quiet, "usual", [0.0]):
+            self.assertEqual(quiet.settle(lambda: next(loops)), 10.0)
+            for loop, counts in (10.0, True), (12.5, True), (12.6, False), (8.0, True), (7.9, False):
+                self.assertEqual(quiet.is_quiet(0.02, loop), counts)
+            self.assertFalse(quiet.is_quiet(0.03, 10.0))
+
     def test_withheld(self) -> None:
         """The eighth numbers of the lines of those processors on which it may run, in ticks, or nothing."""
         with tempfile.TemporaryDirectory() as folder:
