@@ -1,29 +1,30 @@
 -- Each part of a document, as it is taken from tokens.
-use Rattle.std.proofs.Common.{◌≡◌, ℕ, ◌+◌, ◌-◌, ◌<◌, ◌≤◌, List, ◌∷◌, length, true, codes, bytes_eq, Option, Some, None, option_map, option_and_then, Result, Ok, Err, IfOk, String, Global, string_bytes, string_cmp, refl, sym, ap, ◌∙◌, subst, arith}
+use Rattle.std.proofs.Common.{◌≡◌, ℕ, ◌+◌, ◌-◌, ◌<◌, ◌≤◌, List, [], ◌∷◌, length, true, codes, bytes_eq, Option, Some, None, option_map, option_and_then, Result, Ok, Err, IfOk, String, Global, string_bytes, string_cmp, refl, sym, ap, ◌∙◌, subst, arith}
 use Rattle.std.specs.BTreeMap.{insert_entry}
 use Rattle.std.specs.List.{AllByRecursion}
 use Rattle.std.specs.Str.{IsUtf8}
 use Rattle.json.specs.Token.{Token}
 use Rattle.json.specs.Json.{after_end_array, value, parse_map}
 use Rattle.json.proofs.Grammar.{value_is}
-use Rattle.serde_json.specs.Data.{Num, Data, null, number, string, array, Items, no_items, item, Members, put}
-use Rattle.serde_json.specs.Find.{as_str, as_u64, as_i64}
+use Rattle.serde_json.specs.Data.{Num, Data, null, number, string, array, object, Items, no_items, item, Members, no_members, put}
+use Rattle.serde_json.specs.Find.{get_member, as_str, as_u64, as_i64}
 use Rattle.serde_json.specs.Read.{number_of, of_json, converted}
 use Rattle.run_model.specs.TypedPackage.{TypedColumn, TypedValues}
 use Rattle.ldv_value.specs.declared.file.File.{File}
 use Rattle.ldv_value.specs.declared.value.Value.{Value}
 use Rattle.ldv_value.specs.declared.value.Value.TheVariants.{Int}
 use Rattle.sql_model.specs.declared.table.Column.{Column}
-use Rattle.world_json.specs.Shape.{◌>>=◌, array_of, object_of, whole_of, content_of, file_of, cell_of, column_from, column_of, foreign_from, foreign_of, table_of, table_members, document_members}
+use Rattle.world_json.specs.Shape.{◌>>=◌, array_of, object_of, required_member, whole_of, hex_text, hex_of, content_in, content_of, file_of, cell_of, column_from, column_of, foreign_from, foreign_of, table_of, table_members, document_members}
 use Rattle.world_json.specs.declared.document.Draft.{Draft}
 use Rattle.world_json.specs.declared.document.DraftForeign.{DraftForeign}
+use Rattle.world_json.specs.declared.fast.file.HexParts.{HexParts}
 use Rattle.world_json.specs.declared.fast.table.TableParts.{TableParts}
 use Rattle.world_json.specs.declared.fast.document.DocumentParts.{DocumentParts}
-use Rattle.world_json.specs.inner.Parts.{AreTableParts, AreDocumentParts}
-use Rattle.world_json.specs.inner.Taking.{IsTaken, AreTaken, MemberTaken, AreNamed, IsCell}
+use Rattle.world_json.specs.inner.Parts.{AreHexParts, AreTableParts, AreDocumentParts}
+use Rattle.world_json.specs.inner.Taking.{IsTaken, AreTaken, MemberTaken, MembersTaken, MembersGive, IsPart, AreNamed, IsCell, IsContent}
 use Rattle.world_json.specs.inner.Typed.{TypedDocumentFile, TypedDraft, TypedDraftForeign}
 use Rattle.world_json.proofs.KeptMembers.{same_name, this_part, other_part, only_put, named_put}
-use Rattle.world_json.proofs.Taken.{converted_some, taken_by, going_on, item_read, items_over, array_read, array_taken}
+use Rattle.world_json.proofs.Taken.{converted_some, taken_by, going_on, item_read, items_over, array_read, array_taken, object_read}
 
 -- ---- what a second function gives by the first
 
@@ -50,8 +51,26 @@ number_read s n depth old new is gives =
 pub text_taken : (s copy : List ℕ) (old new : List Token) → old ≡ Token.string s ∷ new → copy ≡ s → IsTaken as_str 0 old copy new
 text_taken s copy old new is same = λ depth enough. taken_by as_str (string s) copy depth old new (text_read s depth old new is) (ap Some (sym same))
 
-pub content_taken : (s copy : List ℕ) (old new : List Token) → old ≡ Token.string s ∷ new → copy ≡ s → IsTaken content_of 0 old copy new
-content_taken s copy old new is same = λ depth enough. taken_by content_of (string s) copy depth old new (text_read s depth old new is) (ap Some (sym same))
+pub hex_taken : (s bytes : List ℕ) (old new : List Token) → old ≡ Token.string s ∷ new → hex_text s ≡ Some bytes → IsTaken hex_of 0 old bytes new
+hex_taken s bytes old new is gives = λ depth enough. taken_by hex_of (string s) bytes depth old new (text_read s depth old new is) gives
+
+pub content_taken : (t : Token) (bytes : List ℕ) (old mid new : List Token) → old ≡ t ∷ mid → IsContent t mid bytes new → IsTaken content_of 1 old bytes new
+content_taken Token.begin_object bytes old mid new is gives = λ depth enough.
+    let some : 0 < depth = omega arith in
+    let below : 0 ≤ depth - 1 = omega arith in
+    let read = gives (depth - 1) below in
+    taken_by content_of (object read.0) bytes depth old new (object_read old mid new depth read.0 is some read.1) read.2
+content_taken Token.end_object bytes old mid new is gives = absurd gives
+content_taken Token.begin_array bytes old mid new is gives = absurd gives
+content_taken Token.end_array bytes old mid new is gives = absurd gives
+content_taken (Token.key s) bytes old mid new is gives = absurd gives
+content_taken (Token.string s) bytes old mid new is gives = λ depth enough.
+    let first : old ≡ Token.string s ∷ new = is ∙ ap (λ (ts : List Token). Token.string s ∷ ts) (sym gives.1) in
+    taken_by content_of (string s) bytes depth old new (text_read s depth old new first) (ap Some (sym gives.0))
+content_taken (Token.number s) bytes old mid new is gives = absurd gives
+content_taken (Token.boolean b) bytes old mid new is gives = absurd gives
+content_taken Token.null bytes old mid new is gives = absurd gives
+content_taken Token.bad bytes old mid new is gives = absurd gives
 
 some_number : {A : Type 0} (g : Num → Option A) (o : Option Num) (a : A) → option_and_then g o ≡ Some a → (n : Num) × (o ≡ Some n) × (g n ≡ Some a)
 some_number g None a is = absurd (cc)
@@ -128,8 +147,8 @@ foreign_taken old a b c new columns parent is first less second lesser ends = λ
 abbrev pub file_by : List ℕ → List ℕ → File
 file_by path content = record { path = path; content = content }
 
-pub file_taken : (path content : List ℕ) (old new : List Token) → IsTaken content_of 0 old content new → IsTaken (file_of path) 0 old (file_by path content) new
-file_taken path content old new one = then_taken content_of (file_of path) content (file_by path content) 0 old new one (λ d e. ap (λ (o : Option (List ℕ)). o >>= λ c. Some (file_by path c)) e)
+pub file_taken : (path content : List ℕ) (old new : List Token) → IsTaken content_of 1 old content new → IsTaken (file_of path) 1 old (file_by path content) new
+file_taken path content old new one = then_taken content_of (file_of path) content (file_by path content) 1 old new one (λ d e. ap (λ (o : Option (List ℕ)). o >>= λ c. Some (file_by path c)) e)
 
 -- ---- members under any name
 
@@ -145,7 +164,7 @@ named_member f P levels name own key x old new before after own_is key_is one go
           (subst (λ es. AreNamed f P (put (string_bytes key) read.0 ms) es) (sym inserted) (named_put f P key read.0 x ms before gives good kept)),
     )
 
--- ---- the members of tables and documents
+-- ---- the members of files, tables and documents
 
 member_by : {K X : Type 0} (P : Members → K → Type 0) (levels l : ℕ) (f : Data → Option X) (x : X) (name k : List ℕ) (old new : List Token) (before after : K) → bytes_eq name k ≡ true → l ≤ levels → IsTaken f l old x new
     → ((d : Data) → f d ≡ Some x → (ms : Members) → P ms before → P (put k d ms) after) → MemberTaken P levels name old new before after
@@ -153,6 +172,25 @@ member_by P levels l f x name k old new before after is fewer one step = λ dept
     let fits : l ≤ depth = omega arith in
     let read = converted_some f (converted of_json (value depth old)) x new (one depth fits) in
     (read.0, read.1, λ ms kept. subst (λ n. P (put n read.0 ms) after) (sym (same_name name k is)) (step read.0 read.2 ms kept))
+
+abbrev pub hex_by : List ℕ → HexParts
+hex_by bytes = record { content = Some bytes }
+
+pub hex_member : (name : List ℕ) (old new : List Token) (before : HexParts) (bytes : List ℕ) → bytes_eq name (codes "hex") ≡ true → IsTaken hex_of 0 old bytes new → MemberTaken AreHexParts 0 name old new before (hex_by bytes)
+hex_member name old new before bytes is one =
+    let k = codes "hex" in
+    member_by AreHexParts 0 0 hex_of bytes name k old new before (hex_by bytes) is (omega arith) one (λ d e ms kept. record {
+      only = only_put (codes "hex" ∷ []) k d ms refl kept.only;
+      content = this_part hex_of k d ms bytes e;
+    })
+
+pub hex_given : (old new : List Token) (before after : HexParts) (bytes : List ℕ) → AreHexParts no_members before → MembersTaken AreHexParts 0 old new before after → after.content ≡ Some bytes
+    → MembersGive content_in 0 old bytes new
+hex_given old new before after bytes none all is = λ depth enough.
+    let read = all depth enough no_members none in
+    let kept : AreHexParts read.0 after = read.2 in
+    let gives : required_member hex_of (get_member (codes "hex") read.0) ≡ Some bytes = subst (λ (o : Option (List ℕ)). IsPart hex_of (get_member (codes "hex") read.0) o) is kept.content in
+    (read.0, read.1, rw kept.only gives)
 
 module _ (name : List ℕ) (old new : List Token) (before : TableParts) where
   pub columns_member : (xs : List Column) → bytes_eq name (codes "columns") ≡ true → IsTaken (array_of column_of) 2 old xs new → AllByRecursion TypedColumn xs
@@ -263,11 +301,11 @@ module _ (name : List ℕ) (old new : List Token) (before : DocumentParts) where
         typed_tables = kept.typed_tables;
       })
 
-  pub files_member : (xs : List File) → bytes_eq name (codes "files") ≡ true → IsTaken (object_of file_of) 1 old xs new → AllByRecursion TypedDocumentFile xs
+  pub files_member : (xs : List File) → bytes_eq name (codes "files") ≡ true → IsTaken (object_of file_of) 2 old xs new → AllByRecursion TypedDocumentFile xs
       → MemberTaken AreDocumentParts 5 name old new before (record before { files = Some xs })
   files_member xs is one typed =
       let k = codes "files" in
-      member_by AreDocumentParts 5 1 (object_of file_of) xs name k old new before (record before { files = Some xs }) is (omega arith) one (λ d e ms kept. record {
+      member_by AreDocumentParts 5 2 (object_of file_of) xs name k old new before (record before { files = Some xs }) is (omega arith) one (λ d e ms kept. record {
         only = only_put document_members k d ms refl kept.only;
         start = other_part (array_of as_str) (codes "start") k d ms before.start refl kept.start;
         seed = other_part whole_of (codes "seed") k d ms before.seed refl kept.seed;

@@ -63,7 +63,8 @@ fn read_hex(alloc: Global, value: Option<Value>) -> Result<Bytes, ShapeStop>
     }
 }
 
-fn decode_hex(alloc: Global, text: &str) -> Result<Bytes, ShapeStop>
+/// The bytes that hex digits write.
+pub(crate) fn decode_hex(alloc: Global, text: &str) -> Result<Bytes, ShapeStop>
     ensures ok { IfOk result (λ bytes. hex_text text.now ≡ Some bytes) }
     ensures shape { result ≡ Err ShapeStop.Shape → hex_text text.now ≡ None }
 {

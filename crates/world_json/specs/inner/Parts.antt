@@ -1,16 +1,21 @@
--- The parts of a table and of a document, beside the members that they were read of.
-use Rattle.std.specs.Prelude.{◌≡◌, true, codes, IfSome}
+-- The parts of a file, of a table and of a document, beside the members that they were read of.
+use Rattle.std.specs.Prelude.{◌≡◌, [], ◌∷◌, true, codes, IfSome}
 use Rattle.std.specs.List.{AllByRecursion}
 use Rattle.std.specs.Str.{IsUtf8}
 use Rattle.run_model.specs.TypedPackage.{TypedColumn, TypedValues}
 use Rattle.serde_json.specs.Data.{Members}
 use Rattle.serde_json.specs.Find.{get_member, as_str}
-use Rattle.world_json.specs.Shape.{array_of, object_of, only, whole_of, file_of, cell_of, column_of, foreign_of}
+use Rattle.world_json.specs.Shape.{array_of, object_of, only, whole_of, hex_of, file_of, cell_of, column_of, foreign_of}
 use Rattle.world_json.specs.Shape.{table_of, table_members, document_members}
+use Rattle.world_json.specs.declared.fast.file.HexParts.{HexParts}
 use Rattle.world_json.specs.declared.fast.table.TableParts.{TableParts}
 use Rattle.world_json.specs.declared.fast.document.DocumentParts.{DocumentParts}
 use Rattle.world_json.specs.inner.Taking.{IsPart}
 use Rattle.world_json.specs.inner.Typed.{TypedDocumentFile, TypedDraft, TypedDraftForeign}
+
+pub record AreHexParts (ms : Members) (parts : HexParts) : Type 0 where
+  pub only : only (codes "hex" ∷ []) ms ≡ true
+  pub content : IsPart hex_of (get_member (codes "hex") ms) parts.content
 
 pub record AreTableParts (ms : Members) (parts : TableParts) : Type 0 where
   pub only : only table_members ms ≡ true

@@ -9,7 +9,7 @@ use Rattle.serde_json.specs.Find.{as_i64}
 use Rattle.serde_json.specs.Read.{of_json, of_items, of_members, converted, max_depth, number_of}
 use Rattle.ldv_value.specs.declared.value.Value.{Value}
 use Rattle.ldv_value.specs.declared.value.Value.TheVariants.{Null, Int, Text}
-use Rattle.world_json.specs.Shape.{each, required_member}
+use Rattle.world_json.specs.Shape.{each, required_member, content_in}
 
 -- ---- a value, with arrays and objects nested no deeper than a number
 
@@ -48,6 +48,12 @@ MembersTaken P levels old new before after =
     (depth : ℕ) → levels ≤ depth → (first : Members) → P first before
     → (ms : Members) × (members_read first depth (length old) old ≡ Some (ms, new)) × P ms after
 
+-- f gives x of the members of an object, behind the brace that opens it
+abbrev pub MembersGive : {X : Type 0} → (Members → Option X) → ℕ → List Token → X → List Token → Type 0
+MembersGive f levels old x new =
+    (depth : ℕ) → levels ≤ depth → (ms : Members)
+    × (members_read no_members depth (length old) old ≡ Some (ms, new)) × (f ms ≡ Some x)
+
 -- what f gives of a member, where there is one
 abbrev pub IsPart : {X : Type 0} → (Data → Option X) → Option Data → Option X → Type 0
 IsPart f found None = found ≡ None
@@ -85,3 +91,18 @@ IsCell (Token.number s) v = option_map Int (option_and_then as_i64 (number_of s)
 IsCell (Token.boolean b) v = ⊥
 IsCell Token.null v = v ≡ Null
 IsCell Token.bad v = ⊥
+
+-- ---- contents
+
+-- the content that a token begins, behind that token
+abbrev pub IsContent : Token → List Token → List ℕ → List Token → Type 0
+IsContent Token.begin_object old bytes new = MembersGive content_in 0 old bytes new
+IsContent Token.end_object old bytes new = ⊥
+IsContent Token.begin_array old bytes new = ⊥
+IsContent Token.end_array old bytes new = ⊥
+IsContent (Token.key s) old bytes new = ⊥
+IsContent (Token.string s) old bytes new = (bytes ≡ s) × (new ≡ old)
+IsContent (Token.number s) old bytes new = ⊥
+IsContent (Token.boolean b) old bytes new = ⊥
+IsContent Token.null old bytes new = ⊥
+IsContent Token.bad old bytes new = ⊥
