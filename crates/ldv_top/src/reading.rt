@@ -21,7 +21,7 @@ use prov_export::{ProvStop, read_prov};
 use run_model::{Package, ParsedWorld};
 use std::alloc::Global;
 use trace_graph::Graph;
-use world_json::{WorldStop, parsed_world_of};
+use world_json::{WorldStop, parsed_world_of_bytes};
 
 /// The world of the input, a world document, with its first script. The input isn't kept.
 pub(crate) fn read_world(alloc: Global, input: Bytes) -> Result<ParsedWorld, WorldStop>
@@ -31,7 +31,7 @@ pub(crate) fn read_world(alloc: Global, input: Bytes) -> Result<ParsedWorld, Wor
     ensures runs { IfOk result (λ p. CanRun p.world) }
     ensures parsed { IfOk result IsParsed }
 {
-    parsed_world_of(alloc, input.as_slice())
+    parsed_world_of_bytes(alloc, input)
 }
 
 /// The package of the input. The input isn't kept.

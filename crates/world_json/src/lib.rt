@@ -26,4 +26,4 @@ mod world;
 
 pub use fault::{WorldFault, WorldStop};
 pub use generator::generate;
-pub use world::{parsed_world_of, world_of};
+pub use world::{parsed_world_of, parsed_world_of_bytes, world_of};

@@ -1,13 +1,15 @@
 //! The world of a document: its faults in their order, then its parts as a world.
 
-ghost use Rattle.std.specs.Prelude.{◌≡◌, IfOk, IfErr, Ok, Some, map, true};
+ghost use Rattle.std.specs.Prelude.{◌≡◌, IfOk, IfErr, Ok, Some, map, option_and_then, true};
 ghost use Rattle.std.specs.List.{list_all};
 ghost use Rattle.serde_json.specs.View.{view};
+ghost use Rattle.json_bytes.specs.Reading.{json_of};
 ghost use Rattle.run_model.specs.Start.{IsParsed};
 ghost use Rattle.run_model.specs.ValidWorld.{CanRun, TypedWorld, ValidWorld};
 ghost use Rattle.world_json.specs.Faults.{is_within, is_table_within};
 ghost use Rattle.world_json.specs.Reading.{world_reading, reading_of_json, reading_of, referring_of, have_references};
 ghost use Rattle.world_json.specs.Reading.{world_as, table_as, IsFaultOf};
+ghost use Rattle.world_json.specs.Shape.{document_of};
 ghost use Rattle.world_json.specs.SortedWorld.{is_sorted_world};
 ghost use Rattle.world_json.specs.inner.Typed.{TypedDocument};
 
@@ -22,7 +24,7 @@ use crate::parts::read_document;
 use crate::shape::ShapeStop;
 use crate::start::parse_start;
 use json_bytes::{JsonStop, read_json};
-use ldv_value::List;
+use ldv_value::{Bytes, List};
 use run_model::{ParsedWorld, World};
 use serde_json::Value;
 use sql_model::{Schema, Table, Tables, have_parents, references_hold};
@@ -59,41 +61,84 @@ pub fn parsed_world_of(alloc: Global, bytes: &[u8]) -> Result<ParsedWorld, World
     read_world(alloc, bytes)
 }
 
-// Token by token, or else by way of the tree of its JSON value, which alone tells the faults of the bytes.
+/// The same as `parsed_world_of`. The bytes are dropped once the parts of their document are read, before any
+/// rule is tried over these.
+pub fn parsed_world_of_bytes(alloc: Global, bytes: Bytes) -> Result<ParsedWorld, WorldStop>
+    ensures world { IfOk result (λ p. world_reading bytes ≡ Ok p.world) }
+    ensures fault { IfErr result (IsFaultOf (world_reading bytes)) }
+    ensures sorted { IfOk result (λ p. is_sorted_world p.world ≡ true) }
+    ensures valid { IfOk result (λ p. ValidWorld p.world) }
+    ensures runs { IfOk result (λ p. CanRun p.world) }
+    ensures parsed { IfOk result IsParsed }
+{
+    read_owned_world(alloc, bytes)
+}
+
 fn read_world(alloc: Global, bytes: &[u8]) -> Result<ParsedWorld, WorldStop>
     ensures world { IfOk result (λ p. world_reading bytes.now ≡ Ok p.world) }
     ensures fault { IfErr result (IsFaultOf (world_reading bytes.now)) }
     ensures typed { IfOk result (λ p. TypedWorld p.world) }
     ensures parsed { IfOk result IsParsed }
 {
-    match read_fast(alloc, bytes) {
+    match document_of_bytes(alloc, bytes) {
         Ok(document) => world_of_document(alloc, document),
-        Err(ShapeStop::Shape) => world_of_tree(alloc, bytes),
+        Err(stop) => Err(stop),
+    }
+}
+
+fn read_owned_world(alloc: Global, bytes: Bytes) -> Result<ParsedWorld, WorldStop>
+    ensures world { IfOk result (λ p. world_reading bytes ≡ Ok p.world) }
+    ensures fault { IfErr result (IsFaultOf (world_reading bytes)) }
+    ensures typed { IfOk result (λ p. TypedWorld p.world) }
+    ensures parsed { IfOk result IsParsed }
+{
+    match document_of_owned(alloc, bytes) {
+        Ok(document) => world_of_document(alloc, document),
+        Err(stop) => Err(stop),
+    }
+}
+
+// It drops the bytes as it returns.
+fn document_of_owned(alloc: Global, bytes: Bytes) -> Result<Document, WorldStop>
+    ensures read { IfOk result (λ document. option_and_then document_of (json_of bytes) ≡ Some document) }
+    ensures fault { IfErr result (IsFaultOf (world_reading bytes)) }
+    ensures typed { IfOk result (λ document. TypedDocument document) }
+{
+    document_of_bytes(alloc, bytes.as_slice())
+}
+
+// Token by token, or else by way of the tree of its JSON value, which alone tells the faults of its shape.
+fn document_of_bytes(alloc: Global, bytes: &[u8]) -> Result<Document, WorldStop>
+    ensures read { IfOk result (λ document. option_and_then document_of (json_of bytes.now) ≡ Some document) }
+    ensures fault { IfErr result (IsFaultOf (world_reading bytes.now)) }
+    ensures typed { IfOk result (λ document. TypedDocument document) }
+{
+    match read_fast(alloc, bytes) {
+        Ok(document) => Ok(document),
+        Err(ShapeStop::Shape) => document_of_tree(alloc, bytes),
         Err(ShapeStop::NoMemory) => Err(WorldStop::NoMemory),
     }
 }
 
-fn world_of_tree(alloc: Global, bytes: &[u8]) -> Result<ParsedWorld, WorldStop>
-    ensures world { IfOk result (λ p. world_reading bytes.now ≡ Ok p.world) }
+fn document_of_tree(alloc: Global, bytes: &[u8]) -> Result<Document, WorldStop>
+    ensures read { IfOk result (λ document. option_and_then document_of (json_of bytes.now) ≡ Some document) }
     ensures fault { IfErr result (IsFaultOf (world_reading bytes.now)) }
-    ensures typed { IfOk result (λ p. TypedWorld p.world) }
-    ensures parsed { IfOk result IsParsed }
+    ensures typed { IfOk result (λ document. TypedDocument document) }
 {
     match read_json(alloc, bytes) {
-        Ok(value) => world_of_value(alloc, value),
+        Ok(value) => document_of_value(alloc, value),
         Err(JsonStop::NotJson) => Err(WorldStop::Fault(WorldFault::NotJson)),
         Err(JsonStop::NoMemory) => Err(WorldStop::NoMemory),
     }
 }
 
-fn world_of_value(alloc: Global, value: Value) -> Result<ParsedWorld, WorldStop>
-    ensures world { IfOk result (λ p. reading_of_json (Some (view value)) ≡ Ok p.world) }
+fn document_of_value(alloc: Global, value: Value) -> Result<Document, WorldStop>
+    ensures read { IfOk result (λ document. document_of (view value) ≡ Some document) }
     ensures fault { IfErr result (IsFaultOf (reading_of_json (Some (view value)))) }
-    ensures typed { IfOk result (λ p. TypedWorld p.world) }
-    ensures parsed { IfOk result IsParsed }
+    ensures typed { IfOk result (λ document. TypedDocument document) }
 {
     match read_document(alloc, value) {
-        Ok(document) => world_of_document(alloc, document),
+        Ok(document) => Ok(document),
         Err(ShapeStop::Shape) => Err(WorldStop::Fault(WorldFault::Shape)),
         Err(ShapeStop::NoMemory) => Err(WorldStop::NoMemory),
     }
