@@ -1,6 +1,7 @@
 //! Rows of a document, numbered as they are read, so that a table takes them as they are.
 
-ghost use Rattle.std.specs.Prelude.{◌≡◌, ◌≤◌, ◌++◌, ◌∷◌, [], Some, None, IfOk, OnOk, length, map, option_map};
+ghost use Rattle.std.specs.Prelude.{◌≡◌, ◌<◌, ◌≤◌, ◌++◌, ◌∷◌, [], Some, None, IfOk, OnOk, length, map, option_map};
+ghost use Rattle.std.specs.Prelude.{vec_capacity, vec_len};
 ghost use Rattle.std.specs.List.{AllByRecursion};
 ghost use Rattle.ldv_value.specs.Limits.{max_rows};
 ghost use Rattle.run_model.specs.TypedPackage.{TypedValues};
@@ -18,7 +19,7 @@ use std::marker::Model;
 /// Rows with their numbers, 0, 1, 2 and on. Contracts see the values.
 #[derive(Drop)]
 pub(crate) struct NumberedRows {
-    rows: TableRows,
+    rows: Vec<TableRow>,
 }
 
 impl Model for NumberedRows {
@@ -28,9 +29,9 @@ impl Model for NumberedRows {
 
     ghost Value = { List (List Cell) };
 
-    ghost view = { λ a. map (λ row. row.values) a.rows };
+    ghost view = { λ a. map (λ row. row.values) a.rows.items };
 
-    ghost invariant = { λ a. AreNumberedFrom 0 a.rows };
+    ghost invariant = { λ a. AreNumberedFrom 0 a.rows.items };
 }
 
 impl NumberedRows {
@@ -39,7 +40,7 @@ impl NumberedRows {
         ensures { result ≡ [] }
     {
         NumberedRows {
-            rows: List::new(alloc),
+            rows: Vec::new(alloc),
         }
     }
 
@@ -48,7 +49,7 @@ impl NumberedRows {
         ensures { IfOk result (λ made. made ≡ []) }
     {
         Ok(NumberedRows {
-            rows: List::with_capacity(alloc, count)?,
+            rows: Vec::with_capacity(alloc, count)?,
         })
     }
 
@@ -63,7 +64,7 @@ impl NumberedRows {
     pub(crate) fn items(&self) -> &[TableRow]
         ensures { map (λ row. row.values) result.now ≡ self.now }
     {
-        self.rows.items()
+        self.rows.as_slice()
     }
 
     /// Appends a row.
@@ -71,7 +72,8 @@ impl NumberedRows {
         ensures { OnOk result (self.new ≡ self.old ++ values ∷ []) }
     {
         let number = number_at(self.rows.len());
-        self.rows.push(TableRow { number, values })?;
+        make_room(&mut self.rows)?;
+        self.rows.push_reserved(TableRow { number, values });
         Ok(())
     }
 
@@ -81,8 +83,20 @@ impl NumberedRows {
         ensures { result ≡ numbered_from 0 self }
     {
         let NumberedRows { rows } = self;
-        rows
+        List::of_vec(rows)
     }
+}
+
+// Makes room for a row. Full rows get room for an eighth more of them, while `push` would double it.
+fn make_room(rows: &mut Vec<TableRow>) -> Result<(), AllocError>
+    ensures items { rows.new.items ≡ rows.old.items }
+    ensures room { OnOk result (vec_len rows.new < vec_capacity rows.new) }
+{
+    let count = rows.len();
+    if count < rows.capacity() {
+        return Ok(());
+    }
+    rows.reserve_exact(count / 8 + 8)
 }
 
 // Only a document with more rows than the limit allows comes to `MAX_NEXT`. It has a fault, so that no table
